@@ -1,0 +1,83 @@
+-- Requests as a client sends them (RESP protocol, "Sending commands to a Redis server": an array of bulk strings).
+use Rattle.std.specs.Prelude.{◌≡◌, ◌≢◌, ◌<◌, ◌≤◌, ℕ, List, [], ◌∷◌, ◌++◌, length, decimal, All}
+use Rattle.resp2.specs.declared.fault.Fault.{Fault}
+use Rattle.resp2.specs.declared.fault.Fault.TheVariants.{Protocol, TooLong, Memory}
+use Rattle.resp2.specs.declared.limits.TheConstants.{MOST_WORDS, MOST_WORD_BYTES}
+
+-- the end of a line
+abbrev pub crlf : List ℕ
+crlf = 13 ∷ 10 ∷ []
+
+-- `<mark><number>\r\n`
+abbrev pub header_spelling : ℕ → ℕ → List ℕ
+header_spelling mark number = mark ∷ (decimal number ++ crlf)
+
+-- a bulk string: `$<length>\r\n<bytes>\r\n`
+abbrev pub bulk_spelling : List ℕ → List ℕ
+bulk_spelling word = header_spelling 36 (length word) ++ word ++ crlf
+
+-- bulk strings, one after another
+abbrev pub bulks_spelling : List (List ℕ) → List ℕ
+bulks_spelling [] = []
+bulks_spelling (word ∷ words) = bulk_spelling word ++ bulks_spelling words
+
+-- a request: `*<count>\r\n` and its words as bulk strings
+abbrev pub request_spelling : List (List ℕ) → List ℕ
+request_spelling words = header_spelling 42 (length words) ++ bulks_spelling words
+
+-- what a client sends: requests, one after another
+abbrev pub stream_spelling : List (List (List ℕ)) → List ℕ
+stream_spelling [] = []
+stream_spelling (words ∷ requests) = request_spelling words ++ stream_spelling requests
+
+-- as many words as a request may have
+abbrev pub HasCount : List (List ℕ) → Type 0
+HasCount words = (0 < length words) × (length words ≤ MOST_WORDS)
+
+-- the words of a request that keeps the limits
+pub record IsRequest (words : List (List ℕ)) : Type 0 where
+  pub count : HasCount words
+  pub short : All (λ word. length word ≤ MOST_WORD_BYTES) words
+
+-- more bytes may make a list of requests of these bytes, with words of any length
+pub record IsBeginning (bytes : List ℕ) : Type 0 where
+  pub requests : List (List (List ℕ))
+  pub rest : List ℕ
+  pub counts : All HasCount requests
+  pub spelled : bytes ++ rest ≡ stream_spelling requests
+
+-- the bytes end in the digit at which the length of a word passes its limit
+pub record PassesLimit (bytes : List ℕ) : Type 0 where
+  pub requests : List (List (List ℕ))
+  pub count : ℕ
+  pub words : List (List ℕ)
+  pub number : ℕ
+  pub wanted : length words < count
+  pub above : MOST_WORD_BYTES < number
+  pub spelled : bytes ≡ stream_spelling requests ++ header_spelling 42 count ++ bulks_spelling words ++ 36 ∷ decimal number
+
+-- the last of these bytes is bad, and this is what is wrong with it
+abbrev pub IsBad : Fault → List ℕ → Type 0
+IsBad Protocol bytes = ¬ IsBeginning bytes
+IsBad TooLong bytes = IsBeginning bytes × PassesLimit bytes
+IsBad Memory bytes = ⊥
+
+-- the last byte of `front` is the first bad one
+pub record HasFirstBadByte (fault : Fault) (bytes : List ℕ) : Type 0 where
+  pub front : List ℕ
+  pub rest : List ℕ
+  pub split : bytes ≡ front ++ rest
+  pub bad : IsBad fault front
+  pub first : (shorter : List ℕ) (more : List ℕ) → front ≡ shorter ++ more → 0 < length more → IsBeginning shorter × ¬ PassesLimit shorter
+
+-- no whole request stands in front of these bytes
+abbrev pub HasNoRequest : List ℕ → Type 0
+HasNoRequest bytes = (words : List (List ℕ)) (rest : List ℕ) → IsRequest words → bytes ≢ request_spelling words ++ rest
+
+-- more bytes, and at least one, make one request of these bytes
+pub record IsUnfinished (bytes : List ℕ) : Type 0 where
+  pub words : List (List ℕ)
+  pub rest : List ℕ
+  pub request : IsRequest words
+  pub wanted : 0 < length rest
+  pub spelled : bytes ++ rest ≡ request_spelling words

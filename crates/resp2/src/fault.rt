@@ -1,0 +1,16 @@
+//! Why a reader hands out no request.
+use thiserror::Error;
+
+/// What is wrong with the bytes that came, or what was refused.
+#[derive(Clone, Copy, PartialEq, Eq, Debug, Error)]
+pub enum Fault {
+    /// No request begins so: the peer doesn't speak the protocol.
+    #[error("protocol error")]
+    Protocol,
+    /// A word is longer than a request may carry.
+    #[error("too long")]
+    TooLong,
+    /// Memory was refused: nothing changed, and the call can be made again.
+    #[error("out of memory")]
+    Memory,
+}

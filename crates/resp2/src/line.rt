@@ -1,0 +1,77 @@
+//! The text of a simple string or of an error: bytes without CR and LF.
+ghost use Rattle.std.specs.Prelude.{◌≡◌, IsTrue, IfSome, IfNone, IsSome, ◌↔◌};
+ghost use Rattle.resp2.specs.Line.{is_one_line, is_text_byte};
+
+use bytes::Bytes;
+use std::alloc::AllocError;
+use std::marker::Model;
+
+/// A text on one line, as simple strings and errors carry it.
+#[derive(Debug, Drop)]
+pub struct Line {
+    text: Bytes,
+}
+
+impl Model for Line {
+    ghost use Rattle.std.specs.Prelude.{List, ℕ, IsTrue};
+    ghost use Rattle.resp2.specs.Line.{is_one_line};
+
+    ghost Value = { List ℕ };
+
+    ghost view = { λ line. line.text };
+
+    ghost invariant = { λ line. IsTrue (is_one_line line.text) };
+}
+
+impl Line {
+    /// A line of the program's own text.
+    pub fn from_static(text: &'static [u8]) -> Line
+        requires { IsTrue (is_one_line text.now) }
+        ensures { result ≡ text.now }
+    {
+        Line {
+            text: Bytes::from_static(text),
+        }
+    }
+
+    /// The line with this text, or None where a CR or an LF is in it.
+    pub fn new(text: Bytes) -> Option<Line>
+        ensures line { IfSome result (λ line. line ≡ text) }
+        ensures whole { IsSome result ↔ IsTrue (is_one_line text) }
+    {
+        if is_one_line(text.as_slice()) {
+            Some(Line { text })
+        } else {
+            None
+        }
+    }
+
+    /// The bytes of the line, without its end.
+    pub fn as_slice(&self) -> &[u8]
+        ensures text { result.now ≡ self.now }
+        ensures one_line { IsTrue (is_one_line self.now) }
+    {
+        self.text.as_slice()
+    }
+}
+
+impl Clone for Line {
+    ghost is_clone = { λ line copy. copy ≡ line };
+
+    fn clone(&self) -> Result<Line, AllocError> {
+        let text = self.text.clone()?;
+        Ok(Line { text })
+    }
+}
+
+fn is_one_line(text: &[u8]) -> bool
+    ensures { result ≡ is_one_line text.now }
+{
+    text.iter().all(|byte| is_text_byte(*byte))
+}
+
+fn is_text_byte(byte: u8) -> bool
+    ensures { result ≡ is_text_byte byte }
+{
+    !matches!(byte, b'\r' | b'\n')
+}

@@ -1,0 +1,35 @@
+//! What a node answers.
+ghost use Rattle.std.specs.Prelude.{◌≡◌};
+
+use crate::line::Line;
+use bytes::Bytes;
+use std::alloc::AllocError;
+
+/// A reply, by the kinds of the protocol.
+#[derive(Debug, Drop)]
+pub enum Reply {
+    /// A short text, as `+OK`.
+    Simple(Line),
+    /// An error, whose first word names its kind.
+    Error(Line),
+    /// A signed number of 64 bits.
+    Integer(i64),
+    /// Any bytes.
+    Bulk(Bytes),
+    /// The bulk string that isn't there.
+    Null,
+}
+
+impl Clone for Reply {
+    ghost is_clone = { λ reply copy. copy ≡ reply };
+
+    fn clone(&self) -> Result<Reply, AllocError> {
+        match self {
+            Reply::Simple(text) => Ok(Reply::Simple(text.clone()?)),
+            Reply::Error(text) => Ok(Reply::Error(text.clone()?)),
+            Reply::Integer(number) => Ok(Reply::Integer(*number)),
+            Reply::Bulk(bytes) => Ok(Reply::Bulk(bytes.clone()?)),
+            Reply::Null => Ok(Reply::Null),
+        }
+    }
+}
