@@ -1,0 +1,21 @@
+-- The texts of errors (RESP protocol, "Simple errors": the first word is the kind).
+use Rattle.std.specs.Prelude.{List, ℕ, ◌++◌, codes}
+use Rattle.command.specs.Table.{name_text}
+use Rattle.command.specs.declared.fault.CommandFault.{CommandFault}
+use Rattle.command.specs.declared.fault.CommandFault.TheVariants.{Unknown, Arity, Memory}
+use Rattle.command.specs.declared.error_line.ErrorLine.{ErrorLine}
+use Rattle.command.specs.declared.error_line.ErrorLine.TheVariants.{Protocol, OutOfMemory, Exhausted, UnknownCommand, WrongArity}
+
+-- what a client reads behind the `-`
+abbrev pub error_text : ErrorLine → List ℕ
+error_text Protocol = codes "ERR Protocol error"
+error_text OutOfMemory = codes "OOM out of memory"
+error_text Exhausted = codes "EXHAUSTED no next number"
+error_text UnknownCommand = codes "ERR unknown command"
+error_text (WrongArity name) = codes "ERR wrong number of arguments for '" ++ name_text name ++ codes "' command"
+
+-- which line tells a fault of the words
+abbrev pub line_of : CommandFault → ErrorLine
+line_of Unknown = UnknownCommand
+line_of (Arity name) = WrongArity name
+line_of Memory = OutOfMemory

@@ -1,0 +1,3 @@
+pub mod ErrorLine
+pub mod Keys
+pub mod Table
