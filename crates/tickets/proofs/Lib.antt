@@ -1,0 +1,4 @@
+pub mod Totals
+pub mod Moves
+pub mod Dealing
+pub mod Gathering
