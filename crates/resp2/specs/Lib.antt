@@ -1,3 +1,9 @@
+pub mod Counting
+pub mod Header
+pub mod Law
 pub mod Line
+pub mod Reader
+pub mod Reading
 pub mod Reply
 pub mod Request
+pub mod Steps

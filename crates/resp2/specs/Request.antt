@@ -1,5 +1,5 @@
 -- Requests as a client sends them (RESP protocol, "Sending commands to a Redis server": an array of bulk strings).
-use Rattle.std.specs.Prelude.{◌≡◌, ◌≢◌, ◌<◌, ◌≤◌, ℕ, List, [], ◌∷◌, ◌++◌, length, decimal, All}
+use Rattle.std.specs.Prelude.{◌≡◌, ◌≢◌, ◌<◌, ◌≤◌, ◌^◌, ℕ, List, [], ◌∷◌, ◌++◌, length, decimal, All}
 use Rattle.resp2.specs.declared.fault.Fault.{Fault}
 use Rattle.resp2.specs.declared.fault.Fault.TheVariants.{Protocol, TooLong, Memory}
 use Rattle.resp2.specs.declared.limits.TheConstants.{MOST_WORDS, MOST_WORD_BYTES}
@@ -39,11 +39,16 @@ pub record IsRequest (words : List (List ℕ)) : Type 0 where
   pub count : HasCount words
   pub short : All (λ word. length word ≤ MOST_WORD_BYTES) words
 
--- more bytes may make a list of requests of these bytes, with words of any length
+-- each word's length is a number of 64 bits, whatever its limit
+abbrev pub HasLengths : List (List ℕ) → Type 0
+HasLengths words = All (λ word. length word < 2 ^ 64) words
+
+-- more bytes may make a list of requests of these bytes, with words of any such length
 pub record IsBeginning (bytes : List ℕ) : Type 0 where
   pub requests : List (List (List ℕ))
   pub rest : List ℕ
   pub counts : All HasCount requests
+  pub lengths : All HasLengths requests
   pub spelled : bytes ++ rest ≡ stream_spelling requests
 
 -- the bytes end in the digit at which the length of a word passes its limit

@@ -1,5 +1,7 @@
 //! The text of a simple string or of an error: bytes without CR and LF.
-ghost use Rattle.std.specs.Prelude.{◌≡◌, IsTrue, IfSome, IfNone, IsSome, ◌↔◌};
+ghost use Rattle.std.specs.Prelude.{◌≡◌, IsTrue, IfSome, IfNone, IsSome, ◌↔◌, nat_eq};
+ghost use Rattle.std.specs.Cmp.{partial_equiv_from_equiv};
+ghost use Rattle.std.specs.Cmp.Lexicographic.{pointwise, nat_list_eq_equiv};
 ghost use Rattle.resp2.specs.Line.{is_one_line, is_text_byte};
 
 use bytes::Bytes;
@@ -53,6 +55,20 @@ impl Line {
     {
         self.text.as_slice()
     }
+}
+
+impl PartialEq for Line {
+    ghost eq = { pointwise nat_eq };
+
+    ghost laws = { partial_equiv_from_equiv nat_list_eq_equiv };
+
+    fn eq(&self, other: &Line) -> bool {
+        self.text == other.text
+    }
+}
+
+impl Eq for Line {
+    ghost laws = { nat_list_eq_equiv };
 }
 
 impl Clone for Line {

@@ -6,7 +6,7 @@ use bytes::Bytes;
 use std::alloc::AllocError;
 
 /// A reply, by the kinds of the protocol.
-#[derive(Debug, Drop)]
+#[derive(PartialEq, Eq, Debug, Drop)]
 pub enum Reply {
     /// A short text, as `+OK`.
     Simple(Line),

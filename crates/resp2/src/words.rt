@@ -49,6 +49,21 @@ impl Words {
         self.items.as_slice()
     }
 
+    /// The first word, which names the command.
+    pub fn name(&self) -> &Bytes
+        ensures { slice_get self.now 0 ≡ Some result.now }
+    {
+        &self.items[0]
+    }
+
+    /// The words, without the promise that they are a request.
+    pub fn into_vec(self) -> Vec<Bytes>
+        ensures words { result.items ≡ self }
+        ensures request { IsRequest self }
+    {
+        self.items
+    }
+
     /// The number of words.
     pub fn len(&self) -> usize
         ensures { result ≡ length self.now }

@@ -1,0 +1,10 @@
+pub mod Again
+pub mod Decisions
+pub mod FirstBad
+pub mod Going
+pub mod Headers
+pub mod Requests
+pub mod RequestsAgain
+pub mod Spellings
+pub mod StepLemmas
+pub mod Theorems

@@ -1,0 +1,109 @@
+//! The header of a request or of a word: a mark, a number, and the end of the line.
+ghost use Rattle.std.specs.Prelude.{◌≡◌, ◌<◌, ◌≤◌, ◌^◌, length, drop};
+ghost use Rattle.resp2.specs.Reading.{header_at, number_at, digits_at, after_cr};
+ghost use Rattle.resp2.specs.Header.{Gives};
+
+use crate::fault::Fault;
+
+/// A header that stands whole in front.
+#[derive(Clone, Copy)]
+pub struct Header {
+    /// Its number.
+    pub number: usize,
+    /// How many bytes it takes.
+    pub len: usize,
+}
+
+/// Which numbers a header may have.
+#[derive(Clone, Copy)]
+pub struct Bounds {
+    /// The least number.
+    pub least: usize,
+    /// The greatest number.
+    pub most: usize,
+    /// What a greater number is.
+    pub above: Fault,
+}
+
+/// The header in front of the bytes, or None where more bytes have to come.
+pub fn read_header(bytes: &[u8], mark: u8, bounds: Bounds) -> Result<Option<Header>, Fault>
+    requires { bounds.most < 2 ^ 60 }
+    ensures { Gives bytes.now result
+        (header_at mark bounds.above bounds.least bounds.most bytes.now) }
+{
+    if bytes.is_empty() {
+        return Ok(None);
+    }
+    if bytes[0] != mark {
+        return Err(Fault::Protocol);
+    }
+    read_number(bytes, bounds)
+}
+
+fn read_number(bytes: &[u8], bounds: Bounds) -> Result<Option<Header>, Fault>
+    requires small { bounds.most < 2 ^ 60 }
+    requires mark { 0 < length bytes.now }
+    ensures { Gives bytes.now result
+        (number_at bounds.above bounds.least bounds.most (drop 1 bytes.now)) }
+{
+    if bytes.len() == 1 {
+        return Ok(None);
+    }
+    let first = bytes[1];
+    if first < b'0' || first > b'9' {
+        return Err(Fault::Protocol);
+    }
+    let number = (first - b'0') as usize;
+    if number < bounds.least {
+        return Err(Fault::Protocol);
+    }
+    if number > bounds.most {
+        return Err(bounds.above);
+    }
+    read_digits(bytes, number, bounds)
+}
+
+fn read_digits(bytes: &[u8], first: usize, bounds: Bounds) -> Result<Option<Header>, Fault>
+    requires small { bounds.most < 2 ^ 60 }
+    requires first { first ≤ bounds.most }
+    requires mark { 2 ≤ length bytes.now }
+    ensures { Gives bytes.now result
+        (digits_at bounds.above bounds.most first (drop 2 bytes.now)) }
+{
+    let most = bounds.most;
+    let above = bounds.above;
+    let mut number = first;
+    let mut at = 2;
+    'digits: while at < bytes.len() {
+        let byte = bytes[at];
+        if byte == b'\r' {
+            return read_line_feed(bytes, at + 1, number);
+        }
+        if number == 0 || byte < b'0' || byte > b'9' {
+            return Err(Fault::Protocol);
+        }
+        let next = 10 * number + (byte - b'0') as usize;
+        if next > most {
+            return Err(above);
+        }
+        number = next;
+        at += 1;
+    }
+    Ok(None)
+}
+
+fn read_line_feed(bytes: &[u8], at: usize, number: usize) -> Result<Option<Header>, Fault>
+    requires { at ≤ length bytes.now }
+    ensures { Gives bytes.now result (after_cr number (drop at bytes.now)) }
+{
+    if at == bytes.len() {
+        return Ok(None);
+    }
+    if bytes[at] != b'\n' {
+        return Err(Fault::Protocol);
+    }
+    Ok(Some(Header {
+        number,
+        len: at + 1,
+    }))
+}

@@ -1,0 +1,14 @@
+//! Laws of the spellings: a stream of requests is read in one way.
+ghost use Rattle.resp2.specs.Law.{NoSpellingBeginsAnother, NoUnfinishedIsWhole};
+
+/// No request's bytes begin another's, so what stands in front of a stream is one request at most.
+pub fn no_spelling_begins_another()
+    ensures { NoSpellingBeginsAnother }
+{
+}
+
+/// Bytes that are the beginning of a request don't have a whole one in front.
+pub fn no_unfinished_is_whole()
+    ensures { NoUnfinishedIsWhole }
+{
+}
