@@ -1,0 +1,39 @@
+-- How many changes are made at once: places for the new keys first, for which memory may be refused, then the values.
+use Rattle.std.specs.Prelude.{◌≡◌, ℕ, List, [], ◌∷◌, Bool, true, false, not, ◌&&◌, Option, Some, None, is_some, if◌then◌else◌}
+use Rattle.std.specs.FinMap as map
+use Rattle.keyspace.specs.Keyspace.{Keyspace}
+use Rattle.keyspace.specs.Plan.{Changes}
+use Rattle.keyspace.specs.declared.value.Value.{Value}
+use Rattle.keyspace.specs.declared.value.Value.TheVariants.{Str}
+
+-- the change puts a value at a key that isn't there
+abbrev pub is_new : Keyspace → List ℕ × Option Value → Bool
+is_new keyspace change = is_some change.1 && not (is_some (map.get keyspace change.0))
+
+-- the keys that are new, in the order of the changes
+abbrev pub new_keys : Keyspace → List (List ℕ × Option Value) → List (List ℕ)
+new_keys keyspace [] = []
+new_keys keyspace (change ∷ changes) = if is_new keyspace change then change.0 ∷ new_keys keyspace changes else new_keys keyspace changes
+
+-- an empty string at each of the keys
+abbrev pub with_places : Keyspace → List (List ℕ) → Keyspace
+with_places keyspace [] = keyspace
+with_places keyspace (key ∷ keys) = with_places (map.insert keyspace key (Str [])) keys
+
+-- none of the keys
+abbrev pub without : Keyspace → List (List ℕ) → Keyspace
+without keyspace [] = keyspace
+without keyspace (key ∷ keys) = without (map.remove keyspace key) keys
+
+-- what changes have at a key is a value
+abbrev pub is_put : Option (Option Value) → Bool
+is_put None = false
+is_put (Some value) = is_some value
+
+-- each key at which a value is put is there
+pub record HasPlaces (keyspace : Keyspace) (changes : Changes) : Type 0 where
+  pub there : (key : List ℕ) → is_put (map.get changes key) ≡ true → is_some (map.get keyspace key) ≡ true
+
+-- the change puts no value, or its key is there
+abbrev pub HasPlace : Keyspace → List ℕ → Option Value → Type 0
+HasPlace keyspace key change = is_some change ≡ true → is_some (map.get keyspace key) ≡ true

@@ -1,0 +1,5 @@
+pub mod Commands
+pub mod Commit
+pub mod Keyspace
+pub mod Plan
+pub mod Rebuild
