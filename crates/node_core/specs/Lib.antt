@@ -1,0 +1,5 @@
+pub mod Config
+pub mod Connections
+pub mod Outputs
+pub mod State
+pub mod Step
