@@ -1,0 +1,156 @@
+//! A node with its journal and its seat at the tickets.
+ghost use Rattle.std.specs.Prelude.{◌≡◌, ◌<◌, ◌++◌, ◌∷◌, [], Err, IfOk, IfErr, OnErr, vec_len, vec_capacity};
+ghost use Rattle.tickets.specs.Tickets.{drawn, table_of, seats_of, IsFresh};
+ghost use Rattle.node_core.specs.Connections.{IsUsedUp};
+ghost use Rattle.node_core.specs.State.{first_state};
+ghost use Rattle.node_core.specs.Step.{NodeStep};
+ghost use Rattle.node_core.specs.declared.fault.StepFault.TheVariants.{Exhausted};
+ghost use Rattle.node_cell.specs.Journal.{Advances, Enters, IsRefused, IsHistory, Makes, Rises, Skips, tickets_of};
+
+use crate::deployment::Deployment;
+use crate::entered::Entered;
+use crate::entry::{Deed, Entry};
+use keyspace::TreeStore;
+use node_core::{Config, Copies, Core, Event, Outputs, StepFault};
+use std::alloc::{AllocError, Global};
+use std::marker::{Model, PhantomData};
+use tickets::Seat;
+
+/// A node of the cluster `K`, with all that it ever did.
+///
+/// The journal grows as long as the node lives: an entry a step.
+#[derive(Drop)]
+pub struct NodeCell<K: Deployment> {
+    config: Config,
+    node: usize,
+    core: Core,
+    journal: Vec<Entry>,
+    seat: Seat,
+    cluster: PhantomData<K>,
+}
+
+impl<K: Deployment> Model for NodeCell<K> {
+    ghost use Rattle.std.specs.Prelude.{◌≡◌, ℕ};
+    ghost use Rattle.std.specs.Coded.{Coded, codes, coded_list, coded_ℕ};
+    ghost use Rattle.std.specs.Ordering.{nat_cmp};
+    ghost use Rattle.std.specs.Cmp.Lexicographic.{slice_cmp};
+    ghost use Rattle.std.specs.FinMap as map;
+    ghost use Rattle.keyspace.specs.declared.value.Value.{Value as Stored};
+    ghost use Rattle.tickets.specs.Tickets.{drawn, table_of, seats_of};
+    ghost use Rattle.node_core.specs.State.{first_state};
+    ghost use Rattle.node_cell.specs.Journal.{CellView, IsJournal};
+
+    ghost Value = { CellView };
+
+    ghost coded = { Prim.hlevel (codes, let stored : Coded Stored = Prim.hlevel codes in map.code {R = slice_cmp nat_cmp} (coded_list coded_ℕ) stored) };
+
+    ghost view = { λ cell. record { config = cell.config; node = cell.node; state = cell.core; journal = cell.journal.items } };
+
+    ghost invariant = { λ cell. IsJournal (first_state cell.config cell.node) cell.journal.items cell.core (drawn cell.seat)
+        × (table_of cell.seat ≡ K.table) × (seats_of cell.seat ≡ K.seats) };
+}
+
+impl<K: Deployment> NodeCell<K> {
+    /// The node of this number, as it begins, with a seat of its cluster that has drawn nothing.
+    pub fn new(alloc: Global, config: &Config, node: usize, seat: Seat) -> Result<NodeCell<K>, AllocError>
+        requires { IsFresh K.table K.seats seat }
+        ensures { IfOk result (λ cell. cell ≡ record { config = config.now; node = node; state = first_state config.now node; journal = [] }) }
+    {
+        let core = Core::new(alloc, config.clone()?, node, TreeStore::new(alloc));
+        Ok(NodeCell {
+            config: config.clone()?,
+            node,
+            core,
+            journal: Vec::new(alloc),
+            seat,
+            cluster: PhantomData,
+        })
+    }
+
+    /// Makes the node's step for the event: one ticket, one step, one entry.
+    ///
+    /// Memory and Exhausted leave the node as it was. Where they come before a ticket was drawn nothing is entered, and
+    /// else a Skip under that ticket.
+    pub fn apply(&mut self, event: Event) -> Result<Entered<K>, StepFault>
+        ensures ok { IfOk result (λ entered. Enters self.old event entered self.new) }
+        ensures err { IfErr result (λ fault. IsRefused self.old event fault self.new) }
+    {
+        let to_enter = event.clone()?;
+        let to_answer = event.clone()?;
+        self.journal.reserve(1)?;
+        let Some(ticket) = self.seat.draw() else {
+            return Err(StepFault::Exhausted);
+        };
+        advance(&mut self.core, &mut self.journal, ticket, event, to_enter, to_answer)
+    }
+
+    /// The configuration, the node's number, its journal and its seat.
+    pub fn finish(self) -> (Config, usize, Vec<Entry>, Seat)
+        ensures parts { (result.0 ≡ self.config) × (result.1 ≡ self.node) × (result.2.items ≡ self.journal) }
+        ensures history { IsHistory (first_state self.config self.node) self.journal self.state }
+        ensures rises { Rises (tickets_of self.journal) }
+        ensures seat { (drawn result.3 ≡ tickets_of self.journal) × (table_of result.3 ≡ K.table) × (seats_of result.3 ≡ K.seats) }
+    {
+        let NodeCell {
+            config,
+            node,
+            core: _,
+            journal,
+            seat,
+            cluster: _,
+        } = self;
+        (config, node, journal, seat)
+    }
+}
+
+// Makes the step and enters it, or enters a Skip.
+fn advance<K: Deployment>(
+    core: &mut Core,
+    journal: &mut Vec<Entry>,
+    ticket: u64,
+    event: Event,
+    to_enter: Event,
+    to_answer: Event,
+) -> Result<Entered<K>, StepFault>
+    requires room { vec_len journal.old < vec_capacity journal.old }
+    requires same { (to_enter ≡ event) × (to_answer ≡ event) }
+    ensures entered { Advances core.old journal.old.items ticket core.new journal.new.items }
+    ensures ok { IfOk result (λ entered. Makes core.old journal.old.items ticket event entered core.new journal.new.items) }
+    ensures err { IfErr result (λ fault. Skips core.old journal.old.items ticket event fault core.new journal.new.items) }
+{
+    match step_apart(core, ticket, event) {
+        Ok((answer, outputs)) => {
+            let event = to_enter;
+            enter(journal, ticket, Deed::Step { event, outputs });
+            Ok(Entered::new(ticket, to_answer, answer))
+        }
+        Err(fault) => {
+            enter(journal, ticket, Deed::Skip);
+            Err(fault)
+        }
+    }
+}
+
+// The node's step, with its outputs to answer and to enter.
+fn step_apart(core: &mut Core, ticket: u64, event: Event) -> Result<(Outputs, Outputs), StepFault>
+    ensures step { IfOk result (λ outputs. (outputs.0 ≡ outputs.1) × NodeStep core.old event outputs.1 core.new) }
+    ensures err { OnErr result (core.new ≡ core.old) }
+    ensures exhausted { result ≡ Err Exhausted → (event ≡ Event.Open) × IsUsedUp core.old.connections }
+{
+    let Copies {
+        answer,
+        entry,
+        send: _,
+    } = core.step(ticket, event)?;
+    Ok((answer, entry))
+}
+
+// Adds a line to a journal that has room.
+fn enter(journal: &mut Vec<Entry>, ticket: u64, deed: Deed)
+    requires { vec_len journal.old < vec_capacity journal.old }
+    ensures { journal.new.items ≡ journal.old.items ++ (record { ticket = ticket; deed = deed }) ∷ [] }
+{
+    let Ok(()) = journal.push(Entry { ticket, deed }) else {
+        unreachable!()
+    };
+}

@@ -1,0 +1,24 @@
+//! What marks the parts of one running cluster.
+
+/// A running cluster, as its types name it: the table of its tickets, and how many seats that has.
+///
+/// Behind a lock only the type of a value is known, so a cell's type says of which cluster it is.
+pub trait Deployment {
+    ghost use Rattle.std.specs.Prelude.{ℕ};
+    ghost use Rattle.atomic_table.specs.Seated.{TableId};
+
+    ghost table: { TableId };
+
+    ghost seats: { ℕ };
+}
+
+/// The cluster that a program runs.
+pub struct Brand;
+
+impl Deployment for Brand {
+    ghost use Rattle.tickets.specs.Tickets.{no_table};
+
+    ghost table = { no_table };
+
+    ghost seats = { 0 };
+}

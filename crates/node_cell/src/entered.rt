@@ -1,0 +1,50 @@
+//! A step that stands in a journal.
+ghost use Rattle.std.specs.Prelude.{◌≡◌};
+
+use crate::deployment::Deployment;
+use node_core::{Event, Outputs};
+use std::marker::{Model, PhantomData};
+
+/// A step that a cell of this cluster made and entered. Only [`apply`](crate::NodeCell::apply) makes one.
+#[derive(Drop)]
+pub struct Entered<K: Deployment> {
+    ticket: u64,
+    event: Event,
+    outputs: Outputs,
+    cluster: PhantomData<K>,
+}
+
+impl<K: Deployment> Model for Entered<K> {
+    ghost use Rattle.node_cell.specs.Journal.{EnteredView};
+
+    ghost Value = { EnteredView };
+
+    ghost view = { λ entered. record { ticket = entered.ticket; event = entered.event; outputs = entered.outputs } };
+}
+
+impl<K: Deployment> Entered<K> {
+    pub(crate) fn new(ticket: u64, event: Event, outputs: Outputs) -> Entered<K>
+        ensures { result ≡ record { ticket = ticket; event = event; outputs = outputs } }
+    {
+        Entered {
+            ticket,
+            event,
+            outputs,
+            cluster: PhantomData,
+        }
+    }
+
+    /// The number of the step among the steps of all nodes.
+    pub fn ticket(&self) -> u64
+        ensures { result ≡ self.now.ticket }
+    {
+        self.ticket
+    }
+
+    /// What came out of the step.
+    pub fn outputs(&self) -> &Outputs
+        ensures { result.now ≡ self.now.outputs }
+    {
+        &self.outputs
+    }
+}

@@ -1,0 +1,47 @@
+//! How the threads of connections reach a node.
+ghost use Rattle.std.specs.Prelude.{◌≡◌, IfOk};
+
+use crate::deployment::Deployment;
+use crate::entered::Entered;
+use node_core::{Event, Outputs, StepFault};
+
+/// A step that was made, as the one who asked for it sees it.
+pub trait Answered {
+    ghost use Rattle.node_core.specs.declared.event.Event.{Event as NodeEvent};
+    ghost use Rattle.node_core.specs.declared.outputs.Outputs.{Outputs as NodeOutputs};
+
+    ghost event: { Self → NodeEvent };
+
+    ghost gave: { Self → NodeOutputs };
+
+    /// What came out of the step.
+    fn outputs(&self) -> &Outputs
+        ensures { result.now ≡ gave self.now };
+}
+
+/// A node that several threads may ask.
+pub trait NodeGate {
+    type Answer: Answered + Drop;
+
+    ghost use Rattle.node_core.specs.declared.event.Event.{Event as NodeEvent};
+    ghost use Rattle.node_core.specs.declared.outputs.Outputs.{Outputs as NodeOutputs};
+
+    ghost may: { NodeEvent → NodeOutputs → Type 0 };
+
+    /// Makes the node's step for the event: the answer is for this event, and one that the node may give.
+    ///
+    /// Memory and Exhausted leave the node as it was.
+    fn step(&self, event: Event) -> Result<Self::Answer, StepFault>
+        ensures event { IfOk result (λ answer. Self.Answer.event answer ≡ event) }
+        ensures may { IfOk result (λ answer. may event (Self.Answer.gave answer)) };
+}
+
+impl<K: Deployment> Answered for Entered<K> {
+    ghost event = { λ entered. entered.event };
+
+    ghost gave = { λ entered. entered.outputs };
+
+    fn outputs(&self) -> &Outputs {
+        Entered::outputs(self)
+    }
+}
