@@ -1,0 +1,4 @@
+pub mod ExchangeLemmas
+pub mod KnownBytesLemmas
+pub mod PutLemmas
+pub mod TalkLemmas
