@@ -1,5 +1,7 @@
 //! What marks the parts of one running cluster.
 
+use std::marker::Brand;
+
 /// A running cluster, as its types name it: the table of its tickets, and how many seats that has.
 ///
 /// Behind a lock only the type of a value is known, so a cell's type says of which cluster it is.
@@ -12,9 +14,7 @@ pub trait Deployment {
     ghost seats: { ℕ };
 }
 
-/// The cluster that a program runs.
-pub struct Brand;
-
+// The cluster that a program runs: a call that passes `Brand` says which one it is.
 impl Deployment for Brand {
     ghost use Rattle.tickets.specs.Tickets.{no_table};
 

@@ -8,7 +8,7 @@ mod entry;
 mod gate;
 
 pub use cell::NodeCell;
-pub use deployment::{Brand, Deployment};
+pub use deployment::Deployment;
 pub use entered::Entered;
 pub use entry::{Deed, Entry};
 pub use gate::{Answered, NodeGate};

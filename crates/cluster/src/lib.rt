@@ -1,0 +1,12 @@
+//! A cluster as a program runs it: its configuration, its nodes behind locks, and their clients.
+#![tactic(auto)]
+
+mod config_file;
+mod fault;
+mod node_gate;
+mod node_server;
+
+pub use config_file::read_config;
+pub use fault::ProgramFault;
+pub use node_gate::{Gate, Shared};
+pub use node_server::{run_node, serve_client};

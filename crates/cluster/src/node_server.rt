@@ -1,0 +1,46 @@
+//! The clients of a node, on sockets.
+ghost use Rattle.tickets.specs.Tickets.{IsFresh};
+
+use crate::fault::ProgramFault;
+use crate::node_gate::{Gate, Shared};
+use listener::serve_conn;
+use node_cell::{Deployment, NodeCell, NodeGate};
+use node_core::Config;
+use resp2::Counting;
+use std::alloc::Global;
+use std::net::{TcpListener, TcpStream};
+use std::sync::{Arc, Mutex, Wait};
+use tickets::Seat;
+
+/// Runs the node with this number, and serves who connects to the listener, one client after another.
+pub fn run_node<K: Deployment, R: Wait + Drop>(
+    rt: R,
+    alloc: Global,
+    config: &Config,
+    node: usize,
+    seat: Seat,
+    listener: &TcpListener,
+) -> Result<(), ProgramFault>
+    requires { IsFresh K.table K.seats seat }
+{
+    let cell = NodeCell::<K>::new(alloc, config, node, seat)?;
+    let shared = Shared {
+        cell: Mutex::new(cell),
+    };
+    let node = Arc::new(alloc, shared).map_err(|_| ProgramFault::Memory)?;
+    let gate = Gate { rt, node };
+    for stream in listener.incoming() {
+        if let Ok(stream) = stream {
+            serve_client(alloc, &gate, &stream);
+        }
+    }
+    Ok(())
+}
+
+/// Serves one client. What ends its conversation is the client's matter alone.
+pub fn serve_client<G: NodeGate>(alloc: Global, gate: &G, stream: &TcpStream) {
+    let _nodelay = stream.set_nodelay(true);
+    let mut reader = Counting::new(stream);
+    let mut writer = Counting::new(stream);
+    let _ended = serve_conn(alloc, gate, &mut reader, &mut writer);
+}
