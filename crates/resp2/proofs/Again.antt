@@ -1,14 +1,14 @@
 -- What is spelled is read, or is bad where a number passes its bounds.
-use Rattle.std.proofs.Common.{◌≡◌, ℕ, zero, suc, ◌+◌, ◌-◌, ◌*◌, ◌/◌, ◌%◌, ◌^◌, ◌<◌, ◌≤◌, ◌⊎◌, inl, inr, Bool, true, false, cond, ltb, eqb, ◌||◌, List, [], ◌∷◌, ◌++◌, length, take, drop, refl, sym, ap, subst, ◌∙◌, append_assoc, arith}
-use Rattle.std.proofs.Math.Nat.{pow-succ', mul-le-mul_left, mul-le-mul_right}
+use Rattle.std.proofs.Common.{◌≡◌, ℕ, zero, suc, ◌+◌, ◌-◌, ◌*◌, ◌/◌, ◌%◌, ◌^◌, ◌<◌, ◌≤◌, ◌⊎◌, inl, inr, false, cond, ltb, eqb, List, [], ◌∷◌, ◌++◌, length, refl, sym, ap, subst, ◌∙◌, append_assoc, arith}
+use Rattle.std.proofs.Math.Nat.{pow-succ', mul-le-mul_right}
 use Rattle.std.specs.Fmt.{digits, digits_onto, digit_glyph, decimal}
-use Rattle.std.proofs.lemmas.Bool.{ltb-true, ltb-false, lt-ltb, le-ltb, ne_eqb, eq-eqb, cases_lt}
+use Rattle.std.proofs.lemmas.Bool.{ltb-false, lt-ltb, le-ltb, ne_eqb, eq-eqb, cases_lt}
 use Rattle.std.proofs.lemmas.Fmt.{decimal_by_steps_wide}
 use Rattle.std.proofs.lemmas.List.{length-append, append-nil}
 use Rattle.resp2.specs.declared.fault.Fault.{Fault}
-use Rattle.resp2.specs.declared.fault.Fault.TheVariants.{Protocol, TooLong, Memory}
+use Rattle.resp2.specs.declared.fault.Fault.TheVariants.{Protocol}
 use Rattle.resp2.proofs.Headers.{by_test}
-use Rattle.resp2.specs.Reading.{Seen, Wants, Bad, Found, and_then, MatchSeen, after_cr, line_end_at, digits_at, number_at, header_at, header_onto}
+use Rattle.resp2.specs.Reading.{Seen, Wants, Bad, Found, MatchSeen, digits_at, number_at, header_at, header_onto}
 
 -- it is bad
 abbrev pub IsBad : {X : Type 0} → Seen X → Type 0
@@ -63,15 +63,15 @@ reads_more above least most n ds small large front =
     ∙ digit_step above most (n / 10) (n % 10) tail some digit
     ∙ ap (λ (v : ℕ). cond (ltb most v) (Bad above) (digits_at above most v tail)) value in
     record {
-  within = λ tail _ high. step tail (omega arith) ∙ rw (le-ltb most n high) refl;
-  past = λ tail out. elim out [
-    | inl below ↦ absurd (omega arith)
-    | inr over ↦ elim (cases_lt most (n / 10)) [
-      | inl before ↦ subst (λ (t : List ℕ). IsBad (number_at above least most t)) (sym (append_assoc ds ((48 + n % 10) ∷ []) tail)) (front.past ((48 + n % 10) ∷ tail) (inr before))
-      | inr high ↦ bad_is _ above (step tail high ∙ rw (lt-ltb most n over) refl)
-    ]
-  ];
-}
+      within = λ tail _ high. step tail (omega arith) ∙ rw (le-ltb most n high) refl;
+      past = λ tail out. elim out [
+        | inl below ↦ absurd (omega arith)
+        | inr over ↦ elim (cases_lt most (n / 10)) [
+          | inl before ↦ subst (λ (t : List ℕ). IsBad (number_at above least most t)) (sym (append_assoc ds ((48 + n % 10) ∷ []) tail)) (front.past ((48 + n % 10) ∷ tail) (inr before))
+          | inr high ↦ bad_is _ above (step tail high ∙ rw (lt-ltb most n over) refl)
+        ]
+      ];
+    }
 
 reads_decimal : (above : Fault) (least most n : ℕ) → least ≤ 1 → n < 10 ^ 64 → Reads above least most n (decimal n)
 reads_decimal above least most n small fits =
@@ -107,11 +107,11 @@ fills (suc k) n acc large =
     let more : eqb (n / 10) 0 ≡ false = ne_eqb (n / 10) 0 (λ e. omega arith) in
     let ih = fills k (n / 10) ((48 + n % 10) ∷ acc) front in
     record {
-  digits = ih.digits ++ ((48 + n % 10) ∷ []);
-  len = length-append ih.digits ((48 + n % 10) ∷ []) ∙ omega (arith, ih.len);
-  all = AreDigits-append ih.digits ((48 + n % 10) ∷ []) ih.all (n % 10, omega arith, refl, tt);
-  spelled = rw (more, glyph_is n) (ih.spelled ∙ sym (append_assoc ih.digits ((48 + n % 10) ∷ []) acc));
-}
+      digits = ih.digits ++ ((48 + n % 10) ∷ []);
+      len = length-append ih.digits ((48 + n % 10) ∷ []) ∙ omega (arith, ih.len);
+      all = AreDigits-append ih.digits ((48 + n % 10) ∷ []) ih.all (n % 10, omega arith, refl, tt);
+      spelled = rw (more, glyph_is n) (ih.spelled ∙ sym (append_assoc ih.digits ((48 + n % 10) ∷ []) acc));
+    }
   where
     pow_some : (k : ℕ) → 0 < 10 ^ k
     pow_some zero = omega arith
@@ -127,12 +127,12 @@ digits_pass above most n (b ∷ bs) tail some high all past =
     (elim (cases_lt most (10 * n + d)) [
       | inl over ↦ bad_is _ above (step ∙ rw (lt-ltb most (10 * n + d) over) refl)
       | inr fits ↦
-        subst (λ (u : Seen ℕ). IsBad u) (sym (step ∙ rw (le-ltb most (10 * n + d) fits) refl))
-        (digits_pass above most (10 * n + d) bs tail (omega arith) fits all.3
-        (let power : 10 ^ suc (length bs) ≡ 10 * 10 ^ length bs = pow-succ' 10 (length bs) in
-        let before : most < n * (10 * 10 ^ length bs) = subst (λ (p : ℕ). most < n * p) power past in
-        let grown : (10 * n) * 10 ^ length bs ≤ (10 * n + d) * 10 ^ length bs = mul-le-mul_right (10 ^ length bs) (omega arith) in
-        omega (arith, before, grown)))
+          subst (λ (u : Seen ℕ). IsBad u) (sym (step ∙ rw (le-ltb most (10 * n + d) fits) refl))
+          (digits_pass above most (10 * n + d) bs tail (omega arith) fits all.3
+          (let power : 10 ^ suc (length bs) ≡ 10 * 10 ^ length bs = pow-succ' 10 (length bs) in
+          let before : most < n * (10 * 10 ^ length bs) = subst (λ (p : ℕ). most < n * p) power past in
+          let grown : (10 * n) * 10 ^ length bs ≤ (10 * n + d) * 10 ^ length bs = mul-le-mul_right (10 ^ length bs) (omega arith) in
+          omega (arith, before, grown)))
     ])
 
 -- 64 digits are bad, whatever they write

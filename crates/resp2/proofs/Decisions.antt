@@ -1,22 +1,17 @@
 -- What the reading of bytes says of requests, and of the bytes that may come.
-use Rattle.std.proofs.Common.{◌≡◌, ◌≢◌, ℕ, zero, suc, ◌+◌, ◌-◌, ◌*◌, ◌^◌, ◌<◌, ◌≤◌, List, [], ◌∷◌, ◌++◌, length, refl, sym, ap, subst, ◌∙◌, append_assoc, arith, lit<}
+use Rattle.std.proofs.Common.{◌≡◌, ℕ, ◌+◌, ◌-◌, ◌*◌, ◌^◌, ◌<◌, ◌≤◌, List, [], ◌∷◌, ◌++◌, length, refl, sym, ap, subst, ◌∙◌, append_assoc, arith, lit<}
 use Rattle.std.specs.Prelude.{decimal, All, replicate}
-use Rattle.std.specs.List.{AllByRecursion}
 use Rattle.std.proofs.lemmas.List.{append-nil, length-append, length-replicate}
 use Rattle.std.proofs.lemmas.List.Elements.{All-cons, All-nil}
 use Rattle.resp2.specs.declared.fault.Fault.{Fault}
-use Rattle.resp2.specs.declared.fault.Fault.TheVariants.{Protocol, TooLong, Memory}
+use Rattle.resp2.specs.declared.fault.Fault.TheVariants.{Protocol}
 use Rattle.resp2.specs.declared.limits.TheConstants.{MOST_WORDS, MOST_WORD_BYTES}
-use Rattle.resp2.specs.Request.{crlf, header_spelling, bulk_spelling, bulks_spelling, request_spelling, stream_spelling, HasCount, HasLengths, IsRequest, IsBeginning, PassesLimit, HasNoRequest, IsUnfinished}
-use Rattle.resp2.specs.Reading.{Seen, Wants, Bad, Found, MatchSeen, words_at, request_at, header_onto, bulk_onto, bulks_onto, request_onto}
+use Rattle.resp2.specs.Request.{header_spelling, bulks_spelling, request_spelling, stream_spelling, HasCount, HasLengths, IsRequest, IsBeginning, PassesLimit, HasNoRequest, IsUnfinished}
+use Rattle.resp2.specs.Reading.{reading, Seen, Wants, Bad, Found, request_at, header_onto, bulk_onto, bulks_onto, request_onto}
 use Rattle.resp2.proofs.Going.{Goes, request_goes}
-use Rattle.resp2.proofs.Requests.{AreShort, RequestEnds, RequestPasses, RequestIs, RequestMeans, request_means, empty_words, empty_count, empty_short, header_onto-append, bulk_onto-append, bulks_onto-append, request_onto-append}
+use Rattle.resp2.proofs.Requests.{AreShort, RequestMeans, request_means, empty_words, empty_count, empty_short, header_onto-append, bulks_onto-append}
 use Rattle.resp2.proofs.RequestsAgain.{request_again, request_decided, length_decided, IsDecided}
-use Rattle.resp2.proofs.Spellings.{header_spelling-onto, bulk_spelling-onto, bulks_spelling-onto, request_spelling-onto, each_by_recursion, each_by_index}
-
--- the reading of a request within the limits
-abbrev pub reading : List ℕ → Seen (List (List ℕ))
-reading bytes = request_at MOST_WORDS MOST_WORD_BYTES bytes
+use Rattle.resp2.proofs.Spellings.{header_spelling-onto, bulks_spelling-onto, request_spelling-onto, each_by_recursion, each_by_index}
 
 -- the limits are numbers that the code can count with
 pub words_some : 0 < MOST_WORDS
@@ -58,12 +53,12 @@ pub waiting_is_unfinished : (bytes : List ℕ) → reading bytes ≡ Wants → I
 waiting_is_unfinished bytes e =
     let m = subst (RequestMeans MOST_WORDS MOST_WORD_BYTES bytes) e (reading_means bytes) in
     record {
-  words = m.words;
-  rest = m.more;
-  request = record { count = (m.some, m.few); short = each_by_index (λ (word : List ℕ). length word ≤ MOST_WORD_BYTES) m.words m.short };
-  wanted = m.wanted;
-  spelled = m.spelled ∙ sym (request_spelling-onto m.words []) ∙ append-nil (request_spelling m.words);
-}
+      words = m.words;
+      rest = m.more;
+      request = record { count = (m.some, m.few); short = each_by_index (λ (word : List ℕ). length word ≤ MOST_WORD_BYTES) m.words m.short };
+      wanted = m.wanted;
+      spelled = m.spelled ∙ sym (request_spelling-onto m.words []) ∙ append-nil (request_spelling m.words);
+    }
 
 short_has_lengths : (limit : ℕ) (words : List (List ℕ)) → limit < 2 ^ 64 → AreShort limit words → HasLengths words
 short_has_lengths limit words bound short k d lt =
@@ -94,8 +89,10 @@ passing_decided bytes p = subst (λ (t : List ℕ). IsDecided (reading t)) (sym 
   where
     small_words : MOST_WORDS < 10 ^ 62
     small_words = let b = words_bound in omega arith
+
     small_bytes : MOST_WORD_BYTES < 10 ^ 62
     small_bytes = let b = bytes_bound in omega arith
+
     behind : (requests : List (List (List ℕ))) → IsDecided (reading (stream_spelling requests ++ header_spelling 42 p.count ++ bulks_spelling p.words ++ 36 ∷ decimal p.number))
     behind [] =
         let left : ℕ = p.count - length p.words in
@@ -162,8 +159,8 @@ passing_passes count words number wanted above = record {
   wanted = wanted;
   above = above;
   spelled = sym (append_assoc (header_spelling 42 count) (bulks_spelling words) (36 ∷ decimal number)
-    ∙ ap (λ (t : List ℕ). header_spelling 42 count ++ t) (bulks_spelling-onto words (36 ∷ decimal number))
-    ∙ header_spelling-onto 42 count (bulks_onto words (36 ∷ decimal number)));
+      ∙ ap (λ (t : List ℕ). header_spelling 42 count ++ t) (bulks_spelling-onto words (36 ∷ decimal number))
+      ∙ header_spelling-onto 42 count (bulks_onto words (36 ∷ decimal number)));
 }
 
 -- ---- a byte after which no request comes
@@ -174,6 +171,7 @@ bad_is_no_beginning bytes e b = behind b.requests b.counts b.lengths b.spelled
     empty : (bytes rest : List ℕ) → reading bytes ≡ Bad Protocol → bytes ++ rest ≡ [] → ⊥
     empty [] rest e none = cc
     empty (x ∷ xs) rest e none = cc
+
     behind : (requests : List (List (List ℕ))) → All HasCount requests → All HasLengths requests → bytes ++ b.rest ≡ stream_spelling requests → ⊥
     behind [] counts lengths spelled = empty bytes b.rest e spelled
     behind (words ∷ requests) counts lengths spelled =

@@ -1,5 +1,5 @@
 -- The first bad byte: the shortest front of the bytes that decides.
-use Rattle.std.proofs.Common.{◌≡◌, ◌≢◌, ℕ, zero, suc, ◌+◌, ◌-◌, ◌<◌, ◌≤◌, ◌⊎◌, inl, inr, Bool, true, false, List, [], ◌∷◌, ◌++◌, length, take, drop, refl, sym, ap, subst, ◌∙◌, append_assoc, arith}
+use Rattle.std.proofs.Common.{◌≡◌, ℕ, zero, suc, ◌+◌, ◌<◌, ◌≤◌, ◌⊎◌, inl, inr, Bool, true, false, List, [], ◌∷◌, ◌++◌, length, take, drop, refl, sym, ap, subst, ◌∙◌, arith}
 use Rattle.std.specs.Prelude.{decimal}
 use Rattle.std.proofs.lemmas.Bool.{cases_lt}
 use Rattle.std.proofs.lemmas.List.{append-nil, length-append, length-take, take_at, take-take, take_all, take-append-drop}
@@ -7,10 +7,10 @@ use Rattle.resp2.specs.declared.fault.Fault.{Fault}
 use Rattle.resp2.specs.declared.fault.Fault.TheVariants.{Protocol, TooLong, Memory}
 use Rattle.resp2.specs.declared.limits.TheConstants.{MOST_WORDS, MOST_WORD_BYTES}
 use Rattle.resp2.specs.Request.{IsBeginning, PassesLimit, IsBad, HasFirstBadByte}
-use Rattle.resp2.specs.Reading.{Seen, Wants, Bad, Found, header_onto, bulks_onto}
+use Rattle.resp2.specs.Reading.{reading, Seen, Wants, Bad, Found, header_onto, bulks_onto}
 use Rattle.resp2.proofs.Going.{Goes, request_goes}
 use Rattle.resp2.proofs.Requests.{RequestPasses, RequestMeans, header_onto-append, bulks_onto-append}
-use Rattle.resp2.proofs.Decisions.{reading, reading_means, waiting_is_beginning, waiting_passes_no_limit, passing_is_beginning, passing_passes, bad_is_no_beginning}
+use Rattle.resp2.proofs.Decisions.{reading_means, waiting_is_beginning, waiting_passes_no_limit, passing_is_beginning, passing_passes, bad_is_no_beginning}
 
 -- ---- the least number that passes a test
 
@@ -25,7 +25,8 @@ least_below test zero = inl (λ j lt. absurd (omega arith))
 least_below test (suc k) = behind (least_below test k) (test k) refl
   where
     below : ((j : ℕ) → j < k → test j ≡ false) → test k ≡ false → (j : ℕ) → j < suc k → test j ≡ false
-    below none last j lt = elim (cases_lt j k) [ | inl less ↦ none j less | inr more ↦ let e : j ≡ k = omega arith in rw e last ]
+    below none last j lt = elim (cases_lt j k) [ inl less ↦ none j less | inr more ↦ let e : j ≡ k = omega arith in rw e last ]
+
     behind : ((j : ℕ) → j < k → test j ≡ false) ⊎ Least test k → (b : Bool) → test k ≡ b → ((j : ℕ) → j < suc k → test j ≡ false) ⊎ Least test (suc k)
     behind (inr l) b e = inr (record { at = l.at; within = (let w : l.at ≤ k = l.within in omega arith); passes = l.passes; before = l.before })
     behind (inl none) true e = inr (record { at = k; within = omega arith; passes = e; before = none })
@@ -33,9 +34,9 @@ least_below test (suc k) = behind (least_below test k) (test k) refl
 
 least : (test : ℕ → Bool) (k : ℕ) → test k ≡ true → Least test k
 least test k passes = elim (least_below test (suc k)) [
-    | inl none ↦ (let fails : test k ≡ false = none k (omega arith) in absurd cc)
-    | inr l ↦ behind l (cases_lt l.at (suc k))
-  ]
+  | inl none ↦ (let fails : test k ≡ false = none k (omega arith) in absurd cc)
+  | inr l ↦ behind l (cases_lt l.at (suc k))
+]
   where
     behind : (l : Least test (suc k)) → (l.at < suc k) ⊎ (suc k ≤ l.at) → Least test k
     behind l (inl less) = record { at = l.at; within = omega arith; passes = l.passes; before = l.before }
@@ -86,17 +87,17 @@ shortest_bad fault bytes e =
     let l = least test (length bytes) whole in
     let split : bytes ≡ take l.at bytes ++ drop l.at bytes = sym (take-append-drop l.at bytes) in
     record {
-  front = take l.at bytes;
-  rest = drop l.at bytes;
-  split = split;
-  bad = decided_so (take l.at bytes) (drop l.at bytes) fault (reading (take l.at bytes)) refl l.passes (ap reading (sym split) ∙ e);
-  first = λ shorter more parts wanted.
-    let within : l.at ≤ length bytes = l.within in
-    let size : length shorter + length more ≡ l.at = sym (length-append shorter more) ∙ sym (ap length parts) ∙ length-take l.at bytes ∙ omega arith in
-    let front_is : take (length shorter) bytes ≡ shorter =
-    sym (take-take (length shorter) l.at bytes (omega arith)) ∙ ap (take (length shorter)) parts ∙ take_at shorter more (length shorter) refl in
-    ap reading (sym front_is) ∙ undecided (reading (take (length shorter) bytes)) (l.before (length shorter) (omega arith));
-}
+      front = take l.at bytes;
+      rest = drop l.at bytes;
+      split = split;
+      bad = decided_so (take l.at bytes) (drop l.at bytes) fault (reading (take l.at bytes)) refl l.passes (ap reading (sym split) ∙ e);
+      first = λ shorter more parts wanted.
+          let within : l.at ≤ length bytes = l.within in
+          let size : length shorter + length more ≡ l.at = sym (length-append shorter more) ∙ sym (ap length parts) ∙ length-take l.at bytes ∙ omega arith in
+          let front_is : take (length shorter) bytes ≡ shorter =
+          sym (take-take (length shorter) l.at bytes (omega arith)) ∙ ap (take (length shorter)) parts ∙ take_at shorter more (length shorter) refl in
+          ap reading (sym front_is) ∙ undecided (reading (take (length shorter) bytes)) (l.before (length shorter) (omega arith));
+    }
 
 -- ---- what is wrong with the shortest front
 
@@ -111,9 +112,10 @@ too_long_is_bad front e first =
     behind p [] e =
         let whole : header_onto 42 p.count (bulks_onto p.words (36 ∷ decimal p.number)) ≡ front =
         sym (p.spelled ∙ ap (λ (t : List ℕ). header_onto 42 p.count (bulks_onto p.words (36 ∷ (decimal p.number ++ t)))) e
-        ∙ ap (λ (t : List ℕ). header_onto 42 p.count (bulks_onto p.words (36 ∷ t))) (append-nil (decimal p.number))) in
-        (subst IsBeginning whole (passing_is_beginning p.count p.words p.number p.few p.wanted p.short p.near),
-        subst PassesLimit whole (passing_passes p.count p.words p.number p.wanted p.above))
+        ∙ ap (λ (t : List ℕ). header_onto 42 p.count (bulks_onto p.words (36 ∷ t))) (append-nil (decimal p.number))) in (
+          subst IsBeginning whole (passing_is_beginning p.count p.words p.number p.few p.wanted p.short p.near),
+          subst PassesLimit whole (passing_passes p.count p.words p.number p.wanted p.above),
+        )
     behind p (b ∷ bs) e =
         let shorter : List ℕ = header_onto 42 p.count (bulks_onto p.words (36 ∷ decimal p.number)) in
         let parts : front ≡ shorter ++ (b ∷ bs) =
@@ -131,11 +133,11 @@ pub first_bad : (fault : Fault) (bytes : List ℕ) → (fault ≡ Memory → ⊥
 first_bad fault bytes known e =
     let s = shortest_bad fault bytes e in
     record {
-  front = s.front;
-  rest = s.rest;
-  split = s.split;
-  bad = shortest_is_bad fault s.front known s.bad s.first;
-  first = λ shorter more parts wanted.
-    let waits = s.first shorter more parts wanted in
-    (waiting_is_beginning shorter waits, waiting_passes_no_limit shorter waits);
-}
+      front = s.front;
+      rest = s.rest;
+      split = s.split;
+      bad = shortest_is_bad fault s.front known s.bad s.first;
+      first = λ shorter more parts wanted.
+          let waits = s.first shorter more parts wanted in
+          (waiting_is_beginning shorter waits, waiting_passes_no_limit shorter waits);
+    }

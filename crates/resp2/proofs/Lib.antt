@@ -1,4 +1,5 @@
 pub mod Again
+pub mod Callers
 pub mod Decisions
 pub mod FirstBad
 pub mod Going

@@ -1,11 +1,10 @@
 -- What a request that is read says of the bytes, and how those that wait go on.
-use Rattle.std.proofs.Common.{◌≡◌, ℕ, zero, suc, ◌+◌, ◌-◌, ◌*◌, ◌^◌, ◌<◌, ◌≤◌, Bool, true, false, cond, ltb, eqb, List, [], ◌∷◌, ◌++◌, length, take, drop, refl, sym, ap, subst, ◌∙◌, append_assoc, arith}
+use Rattle.std.proofs.Common.{◌≡◌, ℕ, zero, suc, ◌+◌, ◌-◌, ◌*◌, ◌^◌, ◌<◌, ◌≤◌, ltb, eqb, List, [], ◌∷◌, ◌++◌, length, take, drop, refl, sym, ap, subst, ◌∙◌, append_assoc, arith}
 use Rattle.std.specs.Prelude.{decimal, replicate}
 use Rattle.std.specs.List.{AllByRecursion}
 use Rattle.std.proofs.lemmas.Bool.{ltb-true, ltb-false, eqb-true}
 use Rattle.std.proofs.lemmas.List.{length-append, length-replicate, length-take, take-append-drop}
-use Rattle.resp2.specs.declared.fault.Fault.{Fault}
-use Rattle.resp2.specs.declared.fault.Fault.TheVariants.{Protocol, TooLong, Memory}
+use Rattle.resp2.specs.declared.fault.Fault.TheVariants.{Protocol, TooLong}
 use Rattle.resp2.specs.Reading.{Seen, Wants, Bad, Found, and_then, MatchSeen, after_cr, line_end_at, header_at, body_at, word_at, with_word, words_at, request_at, header_onto, bulk_onto, bulks_onto, request_onto}
 use Rattle.resp2.proofs.Headers.{by_test, HeaderMeans, header_means}
 
@@ -114,12 +113,12 @@ word_means limit bytes some bound = behind (header_at 36 TooLong 0 limit bytes) 
         let word : List ℕ = replicate number 0 in
         let len : length word ≡ number = length-replicate {A = ℕ} number 0 in
         record {
-      word = word;
-      more = m.1 ++ (word ++ (13 ∷ 10 ∷ []));
-      short = omega (arith, len, m.3);
-      wanted = omega (arith, length-append m.1 (word ++ (13 ∷ 10 ∷ [])), m.4);
-      spelled = sym (append_assoc bytes m.1 (word ++ (13 ∷ 10 ∷ []))) ∙ ap (λ (t : List ℕ). t ++ (word ++ (13 ∷ 10 ∷ []))) m.5 ∙ header_onto-append 36 number [] (word ++ (13 ∷ 10 ∷ [])) ∙ ap (λ (k : ℕ). header_onto 36 k (word ++ (13 ∷ 10 ∷ []))) (sym len);
-    }
+          word = word;
+          more = m.1 ++ (word ++ (13 ∷ 10 ∷ []));
+          short = omega (arith, len, m.3);
+          wanted = omega (arith, length-append m.1 (word ++ (13 ∷ 10 ∷ [])), m.4);
+          spelled = sym (append_assoc bytes m.1 (word ++ (13 ∷ 10 ∷ []))) ∙ ap (λ (t : List ℕ). t ++ (word ++ (13 ∷ 10 ∷ []))) m.5 ∙ header_onto-append 36 number [] (word ++ (13 ∷ 10 ∷ [])) ∙ ap (λ (k : ℕ). header_onto 36 k (word ++ (13 ∷ 10 ∷ []))) (sym len);
+        }
     behind (Bad fault) m = λ p. record { number = (m p).1; rest = (m p).2; above = (m p).3; near = (m p).4; spelled = (m p).5 }
     behind (Found n rest) m =
         subst (λ (t : List ℕ). WordMeans limit t (body_at n rest)) (sym m.2) (behind_header limit n rest (body_at n rest) m.1 (body_means n rest))
@@ -282,14 +281,14 @@ request_means most limit bytes words_some words_bound some bound = behind (heade
         let words = empty_words number in
         let count : length words ≡ number = empty_count number in
         record {
-      words = words;
-      more = m.1 ++ bulks_onto words [];
-      some = omega (arith, count, m.2);
-      few = omega (arith, count, m.3);
-      short = empty_short limit number;
-      wanted = omega (arith, length-append m.1 (bulks_onto words []), m.4);
-      spelled = sym (append_assoc bytes m.1 (bulks_onto words [])) ∙ ap (λ (t : List ℕ). t ++ bulks_onto words []) m.5 ∙ header_onto-append 42 number [] (bulks_onto words []) ∙ ap (λ (k : ℕ). header_onto 42 k (bulks_onto words [])) (sym count);
-    }
+          words = words;
+          more = m.1 ++ bulks_onto words [];
+          some = omega (arith, count, m.2);
+          few = omega (arith, count, m.3);
+          short = empty_short limit number;
+          wanted = omega (arith, length-append m.1 (bulks_onto words []), m.4);
+          spelled = sym (append_assoc bytes m.1 (bulks_onto words [])) ∙ ap (λ (t : List ℕ). t ++ bulks_onto words []) m.5 ∙ header_onto-append 42 number [] (bulks_onto words []) ∙ ap (λ (k : ℕ). header_onto 42 k (bulks_onto words [])) (sym count);
+        }
     behind (Bad fault) m = λ p. absurd (let e : Protocol ≡ TooLong = (m p).0 in cc)
     behind (Found n rest) m =
         subst (λ (t : List ℕ). RequestMeans most limit t (words_at limit n rest)) (sym m.2) (behind_count most limit n rest (words_at limit n rest) m.0 m.1 (words_mean limit n rest some bound))

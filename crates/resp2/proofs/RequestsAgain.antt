@@ -1,10 +1,9 @@
 -- What is spelled is read, and the bytes that spell a whole request decide.
-use Rattle.std.proofs.Common.{◌≡◌, ℕ, zero, suc, ◌+◌, ◌-◌, ◌*◌, ◌^◌, ◌<◌, ◌≤◌, Bool, true, false, cond, ltb, List, [], ◌∷◌, ◌++◌, length, take, drop, refl, sym, ap, subst, ◌∙◌, append_assoc, zero-add, arith}
+use Rattle.std.proofs.Common.{◌≡◌, ℕ, zero, suc, ◌+◌, ◌^◌, ◌<◌, ◌≤◌, false, ltb, List, [], ◌∷◌, ◌++◌, length, refl, sym, ap, ◌∙◌, zero-add, arith}
 use Rattle.std.specs.Prelude.{decimal}
 use Rattle.std.proofs.lemmas.Bool.{le-ltb}
 use Rattle.std.proofs.lemmas.List.{length-append, append-nil, take_at, drop_at}
-use Rattle.resp2.specs.declared.fault.Fault.{Fault}
-use Rattle.resp2.specs.declared.fault.Fault.TheVariants.{Protocol, TooLong, Memory}
+use Rattle.resp2.specs.declared.fault.Fault.TheVariants.{Protocol, TooLong}
 use Rattle.resp2.specs.Reading.{Seen, Wants, Bad, Found, and_then, MatchSeen, header_at, body_at, word_at, with_word, words_at, request_at, header_onto, bulk_onto, bulks_onto, request_onto}
 use Rattle.resp2.proofs.Again.{header_again, header_decides, header_passes, IsBad}
 use Rattle.resp2.proofs.Requests.{AreShort}

@@ -1,5 +1,5 @@
 -- Spellings, and the same with what follows them.
-use Rattle.std.proofs.Common.{◌≡◌, ℕ, zero, suc, ◌+◌, ◌<◌, ◌≤◌, List, [], ◌∷◌, ◌++◌, length, refl, sym, ap, ◌∙◌, append_assoc, arith}
+use Rattle.std.proofs.Common.{◌≡◌, ℕ, zero, suc, List, [], ◌∷◌, ◌++◌, length, refl, ap, ◌∙◌, append_assoc, arith}
 use Rattle.std.specs.Prelude.{decimal, All}
 use Rattle.std.specs.List.{AllByRecursion}
 use Rattle.resp2.specs.Request.{crlf, header_spelling, bulk_spelling, bulks_spelling, request_spelling}

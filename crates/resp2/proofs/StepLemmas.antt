@@ -1,15 +1,15 @@
 -- The steps of a reader, as facts on what they leave.
-use Rattle.std.proofs.Common.{◌≡◌, ℕ, zero, suc, ◌+◌, ◌-◌, ◌^◌, ◌<◌, ◌≤◌, List, [], ◌∷◌, ◌++◌, length, drop, Option, None, Some, Result, Ok, Err, refl, sym, ap, subst, ◌∙◌, append_assoc, zero-add, inl, inr, Bool, true, false, arith}
-use Rattle.std.specs.Prelude.{All, IfSome, IfNone, IfOk, IfErr, MatchBool}
+use Rattle.std.proofs.Common.{◌≡◌, ℕ, ◌+◌, ◌-◌, ◌^◌, ◌<◌, ◌≤◌, List, [], ◌∷◌, ◌++◌, length, drop, Option, None, Some, Result, Ok, Err, refl, sym, ap, subst, ◌∙◌, zero-add, inl, inr, Bool, true, false, arith}
+use Rattle.std.specs.Prelude.{All, IfSome, IfNone}
 use Rattle.std.proofs.lemmas.Bool.{ne_eqb, eq-eqb, cases_eq}
 use Rattle.std.proofs.lemmas.List.{length-append}
 use Rattle.resp2.specs.declared.fault.Fault.{Fault}
 use Rattle.resp2.specs.declared.fault.Fault.TheVariants.{Protocol, TooLong, Memory}
 use Rattle.resp2.specs.declared.header.Header.{Header}
 use Rattle.resp2.specs.declared.limits.TheConstants.{MOST_WORDS, MOST_WORD_BYTES}
-use Rattle.resp2.specs.Header.{Gives, GivesHeader}
-use Rattle.resp2.specs.Reading.{Seen, Wants, Bad, Found, header_at, body_at, word_at, words_at, request_at, header_onto, bulks_onto}
-use Rattle.resp2.specs.Steps.{Refuses, Takes, HasSize, HasParts, word_front, pending_of}
+use Rattle.resp2.specs.Header.{Gives}
+use Rattle.resp2.specs.Reading.{reading, Seen, Wants, Bad, Found, header_at, body_at, word_at, words_at, header_onto, bulks_onto}
+use Rattle.resp2.specs.Steps.{AnswersWords, AnswersRequest, Refuses, Takes, HasSize, HasParts, word_front, pending_of}
 use Rattle.resp2.proofs.Headers.{header_takes}
 use Rattle.resp2.proofs.Requests.{word_takes, header_onto-append, bulks_onto-append}
 use Rattle.resp2.proofs.RequestsAgain.{body_behind, request_behind, with_words}
@@ -57,19 +57,19 @@ goes_on words left size input now now_left now_size now_input taken word new_siz
     let count : length now + now_left ≡ length words + left = before.count in
     let longer : length more ≡ length now + 1 = ap length pushed ∙ length-append now (word ∷ []) in
     record {
-  parts = record {
-    few = omega arith;
-    short = subst (λ (ws : List (List ℕ)). All (λ word. length word ≤ MOST_WORD_BYTES) ws) (sym pushed) (AreShort-push now word before.parts.short w.short);
-    sized = subst HasSize (sym none) tt;
-    idle = λ _. none;
-  };
-  count = omega arith;
-  kept = ap (λ (o : Option ℕ). bulks_onto more (word_front o rest)) none
-    ∙ ap (λ (ws : List (List ℕ)). bulks_onto ws rest) pushed
-    ∙ bulks_onto-both now (word ∷ []) rest
-    ∙ ap (bulks_onto now) (sym w.spelled)
-    ∙ before.kept;
-}
+      parts = record {
+        few = omega arith;
+        short = subst (λ (ws : List (List ℕ)). All (λ word. length word ≤ MOST_WORD_BYTES) ws) (sym pushed) (AreShort-push now word before.parts.short w.short);
+        sized = subst HasSize (sym none) tt;
+        idle = λ _. none;
+      };
+      count = omega arith;
+      kept = ap (λ (o : Option ℕ). bulks_onto more (word_front o rest)) none
+          ∙ ap (λ (ws : List (List ℕ)). bulks_onto ws rest) pushed
+          ∙ bulks_onto-both now (word ∷ []) rest
+          ∙ ap (bulks_onto now) (sym w.spelled)
+          ∙ before.kept;
+    }
 
 -- ---- from the words of a request to the request
 
@@ -86,39 +86,31 @@ later_pending words left size input now now_left now_size now_input goes some =
     ∙ sym (begun_pending words left size input some)
 
 -- what the words decide, the request does
-request_is : (words : List (List ℕ)) (left : ℕ) (size : Option ℕ) (input : List ℕ) → HasParts words left size → 0 < length words + left → request_at MOST_WORDS MOST_WORD_BYTES (pending_of words left size input) ≡ with_words words (words_at MOST_WORD_BYTES left (word_front size input))
+request_is : (words : List (List ℕ)) (left : ℕ) (size : Option ℕ) (input : List ℕ) → HasParts words left size → 0 < length words + left → reading (pending_of words left size input) ≡ with_words words (words_at MOST_WORD_BYTES left (word_front size input))
 request_is words left size input parts some =
     let words_limit : MOST_WORDS < 2 ^ 60 = words_bound in
     let bytes_limit : MOST_WORD_BYTES < 2 ^ 60 = bytes_bound in
-    ap (request_at MOST_WORDS MOST_WORD_BYTES) (begun_pending words left size input some)
+    ap reading (begun_pending words left size input some)
     ∙ request_behind MOST_WORDS MOST_WORD_BYTES words left (word_front size input) (omega arith) (omega arith) some parts.few
     (each_by_recursion (λ (word : List ℕ). length word ≤ MOST_WORD_BYTES) words parts.short)
 
--- the words' answer, as the request's
-abbrev pub WordsDone : Result Bool Fault → ℕ → Seen (List (List ℕ)) → Type 0
-WordsDone result left seen = IfOk result (λ whole. MatchBool whole (left ≡ 0) (seen ≡ Wants))
-
-abbrev pub RequestDone : Result Bool Fault → List (List ℕ) → ℕ → Seen (List (List ℕ)) → Type 0
-RequestDone result words left seen = IfOk result (λ whole. MatchBool whole ((left ≡ 0) × (0 < length words)) (seen ≡ Wants))
-
-pub later_whole : (result : Result Bool Fault) (words : List (List ℕ)) (left : ℕ) (size : Option ℕ) (input : List ℕ) (now : List (List ℕ)) (now_left : ℕ) (now_size : Option ℕ) (now_input : List ℕ) (pending : List ℕ) → GoesOn words left size input now now_left now_size now_input → 0 < length words + left → pending ≡ pending_of words left size input → WordsDone result now_left (words_at MOST_WORD_BYTES now_left (word_front now_size now_input)) → RequestDone result now now_left (request_at MOST_WORDS MOST_WORD_BYTES pending)
-later_whole (Ok true) words left size input now now_left now_size now_input pending goes some is done =
+-- the words' answer is the request's
+pub later_answer : (result : Result Bool Fault) (words : List (List ℕ)) (left : ℕ) (size : Option ℕ) (input : List ℕ) (now : List (List ℕ)) (now_left : ℕ) (now_size : Option ℕ) (now_input : List ℕ) (pending : List ℕ) → GoesOn words left size input now now_left now_size now_input → 0 < length words + left → pending ≡ pending_of words left size input → AnswersWords result now_left (words_at MOST_WORD_BYTES now_left (word_front now_size now_input)) → AnswersRequest result now now_left (reading pending)
+later_answer result words left size input now now_left now_size now_input pending goes some is answer =
     let count : length now + now_left ≡ length words + left = goes.count in
-    (done, omega arith)
-later_whole (Ok false) words left size input now now_left now_size now_input pending goes some is done =
-    let count : length now + now_left ≡ length words + left = goes.count in
-    ap (request_at MOST_WORDS MOST_WORD_BYTES) (is ∙ sym (later_pending words left size input now now_left now_size now_input goes some))
-    ∙ request_is now now_left now_size now_input goes.parts (omega arith)
-    ∙ ap (with_words now) done
-later_whole (Err fault) words left size input now now_left now_size now_input pending goes some is done = tt
+    let same : reading pending ≡ with_words now (words_at MOST_WORD_BYTES now_left (word_front now_size now_input)) =
+    ap reading (is ∙ sym (later_pending words left size input now now_left now_size now_input goes some))
+    ∙ request_is now now_left now_size now_input goes.parts (omega arith) in
+    by_result result (words_at MOST_WORD_BYTES now_left (word_front now_size now_input)) (omega arith) same answer
+  where
+    by_result : (result : Result Bool Fault) (seen : Seen (List (List ℕ))) → 0 < length now + now_left → reading pending ≡ with_words now seen → AnswersWords result now_left seen → AnswersRequest result now now_left (reading pending)
+    by_result (Ok true) seen some same answer = (answer, omega arith)
+    by_result (Ok false) seen some same answer = same ∙ ap (with_words now) answer
+    by_result (Err fault) seen some same answer = λ known. same ∙ ap (with_words now) (answer known)
 
-pub later_err : (result : Result Bool Fault) (words : List (List ℕ)) (left : ℕ) (size : Option ℕ) (input : List ℕ) (now : List (List ℕ)) (now_left : ℕ) (now_size : Option ℕ) (now_input : List ℕ) (pending : List ℕ) → GoesOn words left size input now now_left now_size now_input → 0 < length words + left → pending ≡ pending_of words left size input → IfErr result (λ fault. Refuses fault (words_at MOST_WORD_BYTES now_left (word_front now_size now_input))) → IfErr result (λ fault. Refuses fault (request_at MOST_WORDS MOST_WORD_BYTES pending))
-later_err (Ok whole) words left size input now now_left now_size now_input pending goes some is refuses = tt
-later_err (Err fault) words left size input now now_left now_size now_input pending goes some is refuses = λ known.
-    let count : length now + now_left ≡ length words + left = goes.count in
-    ap (request_at MOST_WORDS MOST_WORD_BYTES) (is ∙ sym (later_pending words left size input now now_left now_size now_input goes some))
-    ∙ request_is now now_left now_size now_input goes.parts (omega arith)
-    ∙ ap (with_words now) (refuses known)
+-- the answer at a test of it
+pub answer_at : (whole is : Bool) (words : List (List ℕ)) (left : ℕ) (seen : Seen (List (List ℕ))) → whole ≡ is → AnswersRequest (Ok whole) words left seen → AnswersRequest (Ok is) words left seen
+answer_at whole is words left seen e answer = subst (λ (b : Bool). AnswersRequest (Ok b) words left seen) e answer
 
 -- ---- a count
 
@@ -140,13 +132,14 @@ begins words count size empty none some few = record {
 pub begun_is : (words : List (List ℕ)) (count : ℕ) (size : Option ℕ) (whole input : List ℕ) → words ≡ [] → size ≡ None → 1 ≤ count → whole ≡ header_onto 42 count input → (0 < length words + count) × (whole ≡ pending_of words count size input)
 begun_is words count size whole input empty none some spelled =
     let all : length words + count ≡ count = ap (λ (ws : List (List ℕ)). length ws + count) empty ∙ zero-add count in
-    let more : 0 < length words + count = omega arith in
-    (more,
-    spelled
-    ∙ ap (λ (k : ℕ). header_onto 42 k input) (sym all)
-    ∙ ap (λ (o : Option ℕ). header_onto 42 (length words + count) (word_front o input)) (sym none)
-    ∙ ap (λ (ws : List (List ℕ)). header_onto 42 (length words + count) (bulks_onto ws (word_front size input))) (sym empty)
-    ∙ sym (begun_pending words count size input more))
+    let more : 0 < length words + count = omega arith in (
+      more,
+      spelled
+          ∙ ap (λ (k : ℕ). header_onto 42 k input) (sym all)
+          ∙ ap (λ (o : Option ℕ). header_onto 42 (length words + count) (word_front o input)) (sym none)
+          ∙ ap (λ (ws : List (List ℕ)). header_onto 42 (length words + count) (bulks_onto ws (word_front size input))) (sym empty)
+          ∙ sym (begun_pending words count size input more),
+    )
 
 pub going : (words : List (List ℕ)) (left : ℕ) (size : Option ℕ) (input : List ℕ) (now : List (List ℕ)) (now_left : ℕ) (now_size : Option ℕ) (now_input : List ℕ) → HasParts now now_left now_size → length now + now_left ≡ length words + left → bulks_onto now (word_front now_size now_input) ≡ bulks_onto words (word_front size input) → GoesOn words left size input now now_left now_size now_input
 going words left size input now now_left now_size now_input parts count kept = record { parts = parts; count = count; kept = kept }
@@ -165,9 +158,9 @@ pending_of-append words left size input more =
     elim (cases_eq (length words + left) 0) [
       | inl none ↦ rw (eq-eqb (length words + left) 0 none) refl
       | inr some ↦ rw (ne_eqb (length words + left) 0 some)
-        (ap (λ (t : List ℕ). header_onto 42 (length words + left) (bulks_onto words t)) (word_front-append size input more)
-        ∙ ap (header_onto 42 (length words + left)) (sym (bulks_onto-append words (word_front size input) more))
-        ∙ sym (header_onto-append 42 (length words + left) (bulks_onto words (word_front size input)) more))
+          (ap (λ (t : List ℕ). header_onto 42 (length words + left) (bulks_onto words t)) (word_front-append size input more)
+          ∙ ap (header_onto 42 (length words + left)) (sym (bulks_onto-append words (word_front size input) more))
+          ∙ sym (header_onto-append 42 (length words + left) (bulks_onto words (word_front size input)) more))
     ]
 
 pub fed : (words : List (List ℕ)) (left : ℕ) (size : Option ℕ) (input bytes later : List ℕ) (fault : Option Fault) (old : ReaderState) → state (pending_of words left size input) fault ≡ old → later ≡ input ++ bytes → state (pending_of words left size later) fault ≡ state (old.pending ++ bytes) old.fault
@@ -177,13 +170,13 @@ fed words left size input bytes later fault old view_is grown =
     ∙ ap (λ (s : ReaderState). state (s.pending ++ bytes) s.fault) view_is
 
 -- a request that waits
-pub waits : (pending later : List ℕ) (fault : Option Fault) (old : ReaderState) → state pending fault ≡ old → fault ≡ None → later ≡ pending → request_at MOST_WORDS MOST_WORD_BYTES pending ≡ Wants → Waits old (state later fault)
+pub waits : (pending later : List ℕ) (fault : Option Fault) (old : ReaderState) → state pending fault ≡ old → fault ≡ None → later ≡ pending → reading pending ≡ Wants → Waits old (state later fault)
 waits pending later fault old view_is none kept wants =
     subst (λ (s : ReaderState). Waits s (state later fault)) view_is
     (record { sound = none; unfinished = waiting_is_unfinished pending wants; kept = ap (λ (t : List ℕ). state t fault) kept })
 
 -- a fault of the bytes
-breaks : (fault : Fault) (pending later : List ℕ) → (fault ≡ Memory → ⊥) → later ≡ pending → request_at MOST_WORDS MOST_WORD_BYTES pending ≡ Bad fault → Breaks fault (state pending None) (state later (Some fault))
+breaks : (fault : Fault) (pending later : List ℕ) → (fault ≡ Memory → ⊥) → later ≡ pending → reading pending ≡ Bad fault → Breaks fault (state pending None) (state later (Some fault))
 breaks fault pending later known kept bad =
     record { first = first_bad fault pending known bad; none = bad_has_no_request pending fault bad; kept = ap (λ (t : List ℕ). state t (Some fault)) kept }
 
@@ -191,13 +184,13 @@ anyway : (o : Option Fault) (P : Type 0) → P → IfNone o P
 anyway None P p = p
 anyway (Some fault) P p = tt
 
-pub fails : (fault : Fault) (pending later : List ℕ) (before after : Option Fault) (old : ReaderState) → state pending before ≡ old → before ≡ None → later ≡ pending → Refuses fault (request_at MOST_WORDS MOST_WORD_BYTES pending) → after ≡ remembered fault → IfNone old.fault (FailsBy fault old (state later after))
+pub fails : (fault : Fault) (pending later : List ℕ) (before after : Option Fault) (old : ReaderState) → state pending before ≡ old → before ≡ None → later ≡ pending → Refuses fault (reading pending) → after ≡ remembered fault → IfNone old.fault (FailsBy fault old (state later after))
 fails fault pending later before after old view_is none kept refuses remembers =
     anyway old.fault (FailsBy fault old (state later after))
     (subst (λ (o : Option Fault). FailsBy fault old (state later o)) (sym remembers)
     (subst (λ (s : ReaderState). FailsBy fault s (state later (remembered fault))) (ap (state pending) (sym none) ∙ view_is) (by_fault fault refuses)))
   where
-    by_fault : (f : Fault) → Refuses f (request_at MOST_WORDS MOST_WORD_BYTES pending) → FailsBy f (state pending None) (state later (remembered f))
+    by_fault : (f : Fault) → Refuses f (reading pending) → FailsBy f (state pending None) (state later (remembered f))
     by_fault Memory r = ap (λ (t : List ℕ). state t None) kept
     by_fault Protocol r = breaks Protocol pending later (λ e. cc) kept (r (λ e. cc))
     by_fault TooLong r = breaks TooLong pending later (λ e. cc) kept (r (λ e. cc))

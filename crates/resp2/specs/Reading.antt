@@ -1,7 +1,9 @@
--- Reading requests from the front of a list, with what the bytes so far decide.
-use Rattle.std.specs.Prelude.{◌≡◌, ◌<◌, ◌≤◌, ◌+◌, ◌-◌, ◌*◌, ◌==◌, nat_lt, ◌||◌, if◌then◌else◌, zero, suc, ℕ, List, [], ◌∷◌, ◌++◌, length, take, drop, decimal, All, Option, None, Some}
+-- Reading requests from the front of a list, with what the bytes so far decide. It ties the code to specs/Request.antt:
+-- no public clause speaks of it.
+use Rattle.std.specs.Prelude.{◌+◌, ◌-◌, ◌*◌, ◌==◌, nat_lt, ◌||◌, if◌then◌else◌, zero, suc, ℕ, List, [], ◌∷◌, ◌++◌, length, take, drop, decimal}
 use Rattle.resp2.specs.declared.fault.Fault.{Fault}
-use Rattle.resp2.specs.declared.fault.Fault.TheVariants.{Protocol, TooLong, Memory}
+use Rattle.resp2.specs.declared.limits.TheConstants.{MOST_WORDS, MOST_WORD_BYTES}
+use Rattle.resp2.specs.declared.fault.Fault.TheVariants.{Protocol, TooLong}
 
 -- ---- spellings with what follows them
 
@@ -84,3 +86,7 @@ words_at limit (suc k) bytes = and_then (word_at limit bytes) (λ word rest. wit
 
 abbrev pub request_at : ℕ → ℕ → List ℕ → Seen (List (List ℕ))
 request_at most limit bytes = and_then (header_at 42 Protocol 1 most bytes) (words_at limit)
+
+-- a request within the limits
+abbrev pub reading : List ℕ → Seen (List (List ℕ))
+reading bytes = request_at MOST_WORDS MOST_WORD_BYTES bytes

@@ -1,9 +1,9 @@
 -- What the steps of a reader take from the bytes that it holds.
-use Rattle.std.specs.Prelude.{◌≡◌, ◌<◌, ◌≤◌, ◌+◌, ◌==◌, if◌then◌else◌, ℕ, List, [], ◌∷◌, length, drop, All, IfSome, Option, None, Some, Result, Ok, Err}
+use Rattle.std.specs.Prelude.{◌≡◌, ◌<◌, ◌≤◌, ◌+◌, ◌==◌, if◌then◌else◌, Bool, true, false, ℕ, List, length, All, IfSome, Option, None, Some, Result, Ok, Err}
 use Rattle.resp2.specs.declared.fault.Fault.{Fault}
 use Rattle.resp2.specs.declared.fault.Fault.TheVariants.{Memory}
 use Rattle.resp2.specs.declared.limits.TheConstants.{MOST_WORDS, MOST_WORD_BYTES}
-use Rattle.resp2.specs.Reading.{Seen, Wants, Bad, Found, words_at, request_at, header_onto, bulks_onto}
+use Rattle.resp2.specs.Reading.{Seen, Wants, Bad, Found, header_onto, bulks_onto}
 
 -- memory may be refused at any time, a fault of the bytes is where they have it
 abbrev pub Refuses : {X : Type 0} → Fault → Seen X → Type 0
@@ -14,6 +14,18 @@ abbrev pub Takes : {X : Type 0} → Result (Option X) Fault → Seen X → List 
 Takes (Ok None) seen rest = seen ≡ Wants
 Takes (Ok (Some x)) seen rest = seen ≡ Found x rest
 Takes (Err fault) seen rest = Refuses fault seen
+
+-- whether all words are there: if not, what the bytes decide
+abbrev pub AnswersWords : Result Bool Fault → ℕ → Seen (List (List ℕ)) → Type 0
+AnswersWords (Ok true) left seen = left ≡ 0
+AnswersWords (Ok false) left seen = seen ≡ Wants
+AnswersWords (Err fault) left seen = Refuses fault seen
+
+-- the same of a request, which has a word at least
+abbrev pub AnswersRequest : Result Bool Fault → List (List ℕ) → ℕ → Seen (List (List ℕ)) → Type 0
+AnswersRequest (Ok true) words left seen = (left ≡ 0) × (0 < length words)
+AnswersRequest (Ok false) words left seen = seen ≡ Wants
+AnswersRequest (Err fault) words left seen = Refuses fault seen
 
 -- a word's length that was read before is spelled back in front
 abbrev pub word_front : Option ℕ → List ℕ → List ℕ

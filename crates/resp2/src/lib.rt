@@ -11,13 +11,15 @@ mod parts;
 mod reader;
 mod reply;
 mod request_reading;
+#[cfg(test)]
+mod tests;
 mod word_reading;
 mod words;
 mod writing;
 
 pub use counting::Counting;
 pub use fault::Fault;
-pub use law::{no_spelling_begins_another, no_unfinished_is_whole};
+pub use law::{a_stream_is_read_in_one_way, no_spelling_begins_another, no_unfinished_is_whole};
 pub use limits::{MOST_WORD_BYTES, MOST_WORDS};
 pub use line::Line;
 pub use reader::Reader;

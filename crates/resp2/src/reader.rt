@@ -38,8 +38,8 @@ impl Model for Reader {
     ghost use Rattle.resp2.specs.Steps.{pending_of, HasParts};
 
     ghost view = { λ reader. record {
-        pending = pending_of reader.words.items reader.left reader.size reader.input.items;
-        fault = reader.fault
+      pending = pending_of reader.words.items reader.left reader.size reader.input.items;
+      fault = reader.fault;
     } };
 
     ghost invariant = { λ reader. HasParts reader.words.items reader.left reader.size };
@@ -85,9 +85,11 @@ impl Reader {
     /// `Fault::Memory` changes nothing, and the call can be made again. Another error is what is
     /// wrong with the first byte after which no request can come, and it ends the reader.
     pub fn next(&mut self) -> Result<Option<Words>, Fault>
-        ensures request { IfOk result (λ found. IfSome found (λ words. HandsOut self.old words self.new)) }
+        ensures request { IfOk result
+            (λ found. IfSome found (λ words. HandsOut self.old words self.new)) }
         ensures unfinished { IfOk result (λ found. IfNone found (Waits self.old self.new)) }
-        ensures err { IfErr result (λ fault. IfNone self.old.fault (FailsBy fault self.old self.new)) }
+        ensures fault { IfErr result
+            (λ fault. IfNone self.old.fault (FailsBy fault self.old self.new)) }
         ensures again { IfErr result
             (λ fault. IfSome self.old.fault (λ kept. (fault ≡ kept) × (self.new ≡ self.old))) }
     {

@@ -1,7 +1,7 @@
 //! A request of the bytes that came: the count of its words, and the words.
-ghost use Rattle.std.specs.Prelude.{◌≡◌, ◌+◌, ◌<◌, [], length, Some, None, IfOk, IfErr, MatchBool};
-ghost use Rattle.resp2.specs.Reading.{Wants, bulks_onto, words_at, request_at};
-ghost use Rattle.resp2.specs.Steps.{Refuses, HasParts, word_front, pending_of};
+ghost use Rattle.std.specs.Prelude.{◌≡◌, ◌+◌, [], length, None};
+ghost use Rattle.resp2.specs.Reading.{bulks_onto, words_at, reading};
+ghost use Rattle.resp2.specs.Steps.{AnswersWords, AnswersRequest, HasParts, word_front, pending_of};
 
 use crate::fault::Fault;
 use crate::header::{Bounds, read_header};
@@ -19,10 +19,8 @@ pub fn take_request(
     size: &mut Option<usize>,
 ) -> Result<bool, Fault>
     requires { HasParts words.old.items left.old size.old }
-    ensures whole { IfOk result (λ whole. MatchBool whole ((left.new ≡ 0) × (0 < length words.new.items))
-        (request_at MOST_WORDS MOST_WORD_BYTES (pending_of words.old.items left.old size.old input.old.items) ≡ Wants)) }
-    ensures err { IfErr result (λ fault. Refuses fault
-        (request_at MOST_WORDS MOST_WORD_BYTES (pending_of words.old.items left.old size.old input.old.items))) }
+    ensures answer { AnswersRequest result words.new.items left.new
+        (reading (pending_of words.old.items left.old size.old input.old.items)) }
     ensures kept { pending_of words.new.items left.new size.new input.new.items
         ≡ pending_of words.old.items left.old size.old input.old.items }
     ensures parts { HasParts words.new.items left.new size.new }
@@ -43,10 +41,7 @@ fn begin_request(
     requires none { words.old.items ≡ [] }
     requires left { left.old ≡ 0 }
     requires size { size.old ≡ None }
-    ensures whole { IfOk result (λ whole. MatchBool whole ((left.new ≡ 0) × (0 < length words.new.items))
-        (request_at MOST_WORDS MOST_WORD_BYTES input.old.items ≡ Wants)) }
-    ensures err { IfErr result (λ fault. Refuses fault
-        (request_at MOST_WORDS MOST_WORD_BYTES input.old.items)) }
+    ensures answer { AnswersRequest result words.new.items left.new (reading input.old.items) }
     ensures kept { pending_of words.new.items left.new size.new input.new.items ≡ input.old.items }
     ensures parts { HasParts words.new.items left.new size.new }
 {
@@ -75,10 +70,8 @@ fn take_words(
     size: &mut Option<usize>,
 ) -> Result<bool, Fault>
     requires { HasParts words.old.items left.old size.old }
-    ensures whole { IfOk result (λ whole. MatchBool whole (left.new ≡ 0)
-        (words_at MOST_WORD_BYTES left.new (word_front size.new input.new.items) ≡ Wants)) }
-    ensures err { IfErr result (λ fault. Refuses fault
-        (words_at MOST_WORD_BYTES left.new (word_front size.new input.new.items))) }
+    ensures answer { AnswersWords result left.new
+        (words_at MOST_WORD_BYTES left.new (word_front size.new input.new.items)) }
     ensures kept { bulks_onto words.new.items (word_front size.new input.new.items)
         ≡ bulks_onto words.old.items (word_front size.old input.old.items) }
     ensures count { length words.new.items + left.new ≡ length words.old.items + left.old }

@@ -1,6 +1,7 @@
 //! A word of a request: its length, its bytes, and the end of its line.
-ghost use Rattle.std.specs.Prelude.{◌≡◌, ◌+◌, ◌≤◌, length, take, drop, Some, None, IfOk, IfErr, IfSome, IfNone, OnOk, OnErr, MatchResult, MatchBool, ⊤};
-ghost use Rattle.resp2.specs.Reading.{Wants, Bad, Found, body_at, line_end_at, word_at};
+ghost use Rattle.std.specs.Prelude.{◌≡◌, ◌+◌, ◌≤◌, length, take, drop, Some, None, IfOk, IfErr, IfSome, IfNone, OnOk, OnErr};
+ghost use Rattle.std.specs.Bool.{OnTrue, OnFalse};
+ghost use Rattle.resp2.specs.Reading.{Wants, Bad, Found, body_at, word_at};
 ghost use Rattle.resp2.specs.Steps.{Takes, HasSize, word_front};
 
 use crate::fault::Fault;
@@ -14,12 +15,10 @@ use std::alloc::AllocError;
 const LEAST_SHARED: usize = 4096;
 
 /// Takes the word in front, with its header and its end.
-pub fn take_word(
-    input: &mut BytesMut,
-    size: &mut Option<usize>,
-) -> Result<Option<Bytes>, Fault>
+pub fn take_word(input: &mut BytesMut, size: &mut Option<usize>) -> Result<Option<Bytes>, Fault>
     requires { HasSize size.old }
-    ensures takes { Takes result (word_at MOST_WORD_BYTES (word_front size.old input.old.items)) input.new.items }
+    ensures takes { Takes result
+        (word_at MOST_WORD_BYTES (word_front size.old input.old.items)) input.new.items }
     ensures next { IfOk result (λ found. IfSome found (λ _. size.new ≡ None)) }
     ensures unfinished { IfOk result (λ found. IfNone found
         (word_front size.new input.new.items ≡ word_front size.old input.old.items)) }
@@ -114,10 +113,11 @@ fn take_body(
 
 /// Whether the bytes begin with a word of this length and the end of its line.
 fn is_whole(bytes: &[u8], len: usize) -> Result<bool, Fault>
-    ensures whole { MatchResult result
-        (λ whole. MatchBool whole (body_at len bytes.now ≡ Found (take len bytes.now) (drop (len + 2) bytes.now)) (body_at len bytes.now ≡ Wants))
-        (λ fault. body_at len bytes.now ≡ Bad fault) }
-    ensures long { IfOk result (λ whole. MatchBool whole (len + 2 ≤ length bytes.now) ⊤) }
+    ensures whole { IfOk result (λ whole. OnTrue whole
+        (body_at len bytes.now ≡ Found (take len bytes.now) (drop (len + 2) bytes.now))) }
+    ensures long { IfOk result (λ whole. OnTrue whole (len + 2 ≤ length bytes.now)) }
+    ensures unfinished { IfOk result (λ whole. OnFalse whole (body_at len bytes.now ≡ Wants)) }
+    ensures err { IfErr result (λ fault. body_at len bytes.now ≡ Bad fault) }
 {
     if bytes.len() <= len {
         return Ok(false);

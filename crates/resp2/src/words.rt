@@ -56,12 +56,13 @@ impl Words {
         &self.items[0]
     }
 
-    /// The words, without the promise that they are a request.
+    /// The words in order, to be taken apart.
     pub fn into_vec(self) -> Vec<Bytes>
         ensures words { result.items ≡ self }
         ensures request { IsRequest self }
     {
-        self.items
+        let Words { items } = self;
+        items
     }
 
     /// The number of words.

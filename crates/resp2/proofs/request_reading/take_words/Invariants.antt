@@ -1,6 +1,3 @@
-use Rattle.std.proofs.Common.{◌≡◌, ◌+◌, length}
-use Rattle.resp2.specs.Reading.{bulks_onto}
-use Rattle.resp2.specs.Steps.{HasParts, word_front}
 use Rattle.resp2.proofs.StepLemmas.{GoesOn}
 use Rattle.resp2.proofs.request_reading.take_words.Given as goal
 
