@@ -13,7 +13,9 @@ use std::alloc::Global;
 const LAST_SLOT: u16 = 16_383;
 
 const MOST_TICKS: u32 = 1_000_000;
+
 const ID_LEN: usize = 40;
+
 const MOST_HOST_LEN: usize = 255;
 
 #[derive(Debug, Drop, Deserialize)]
@@ -112,7 +114,9 @@ fn is_id(id: &str) -> bool {
 fn is_host(host: &str) -> bool {
     !host.is_empty()
         && host.len() <= MOST_HOST_LEN
-        && host.bytes().all(|byte| byte.is_ascii_graphic() && byte != b':')
+        && host
+            .bytes()
+            .all(|byte| byte.is_ascii_graphic() && byte != b':')
 }
 
 fn votes_alone(voters: &[String], id: &str) -> bool {

@@ -5,6 +5,8 @@ mod config_file;
 mod fault;
 mod node_gate;
 mod node_server;
+#[cfg(test)]
+mod tests;
 
 pub use config_file::read_config;
 pub use fault::ProgramFault;

@@ -1,0 +1,3 @@
+pub mod Crc16
+pub mod HashTag
+pub mod Slot
