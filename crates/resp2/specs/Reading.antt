@@ -7,16 +7,20 @@ use Rattle.resp2.specs.declared.fault.Fault.TheVariants.{Protocol, TooLong}
 
 -- ---- spellings with what follows them
 
+-- a header, and the rest
 abbrev pub header_onto : ℕ → ℕ → List ℕ → List ℕ
 header_onto mark n rest = mark ∷ (decimal n ++ (13 ∷ 10 ∷ rest))
 
+-- a bulk string, and the rest
 abbrev pub bulk_onto : List ℕ → List ℕ → List ℕ
 bulk_onto word rest = header_onto 36 (length word) (word ++ (13 ∷ 10 ∷ rest))
 
+-- bulk strings, and the rest
 abbrev pub bulks_onto : List (List ℕ) → List ℕ → List ℕ
 bulks_onto [] rest = rest
 bulks_onto (word ∷ words) rest = bulk_onto word (bulks_onto words rest)
 
+-- a request, and the rest
 abbrev pub request_onto : List (List ℕ) → List ℕ → List ℕ
 request_onto words rest = header_onto 42 (length words) (bulks_onto words rest)
 
@@ -28,6 +32,7 @@ pub data Seen (X : Type 0) : Type 0 where
   Bad : Fault → Seen X
   Found : X → List ℕ → Seen X
 
+-- what is found next, where something was found
 abbrev pub and_then : {X Y : Type 0} → Seen X → (X → List ℕ → Seen Y) → Seen Y
 and_then Wants next = Wants
 and_then (Bad fault) next = Bad fault
@@ -74,16 +79,20 @@ header_at mark fault least most (b ∷ bs) = if b == mark then number_at fault l
 abbrev pub body_at : ℕ → List ℕ → Seen (List ℕ)
 body_at n bytes = if nat_lt (length bytes) n then Wants else line_end_at (take n bytes) (drop n bytes)
 
+-- a bulk string of at most `limit` bytes
 abbrev pub word_at : ℕ → List ℕ → Seen (List ℕ)
 word_at limit bytes = and_then (header_at 36 TooLong 0 limit bytes) body_at
 
+-- one more word in front of those that are found
 abbrev pub with_word : List ℕ → Seen (List (List ℕ)) → Seen (List (List ℕ))
 with_word word seen = and_then seen (λ words rest. Found (word ∷ words) rest)
 
+-- so many bulk strings
 abbrev pub words_at : ℕ → ℕ → List ℕ → Seen (List (List ℕ))
 words_at limit zero bytes = Found [] bytes
 words_at limit (suc k) bytes = and_then (word_at limit bytes) (λ word rest. with_word word (words_at limit k rest))
 
+-- at most `most` of them, behind their count
 abbrev pub request_at : ℕ → ℕ → List ℕ → Seen (List (List ℕ))
 request_at most limit bytes = and_then (header_at 42 Protocol 1 most bytes) (words_at limit)
 

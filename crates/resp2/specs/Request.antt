@@ -39,7 +39,7 @@ pub record IsRequest (words : List (List ℕ)) : Type 0 where
   pub count : HasCount words
   pub short : All (λ word. length word ≤ MOST_WORD_BYTES) words
 
--- each word's length is a number of 64 bits, whatever its limit
+-- each word's length is a number of 64 bits, whatever its limit (`decimal` writes 64 digits at most)
 abbrev pub HasLengths : List (List ℕ) → Type 0
 HasLengths words = All (λ word. length word < 2 ^ 64) words
 
