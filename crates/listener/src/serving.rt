@@ -15,7 +15,7 @@ use std::alloc::{AllocError, Global};
 use std::io::{Read, Write};
 
 // How many bytes are read at once.
-const READ_SIZE: usize = 16_384;
+const READ_SIZE: usize = 65_536;
 
 /// Serves one client: reads its requests, has the node answer them, and writes the replies, until the client ends it.
 ///

@@ -9,7 +9,7 @@ use Rattle.node_cell.specs.declared.entry.Entry.{Entry}
 
 -- a deed more leads on
 history-snoc : (first last new : NodeState) (entries : List Entry) (entry : Entry) → IsHistory first entries last → Leads last entry.deed new
-  → IsHistory first (entries ++ entry ∷ []) new
+    → IsHistory first (entries ++ entry ∷ []) new
 history-snoc first last new [] entry h leads = (new, subst (λ s. Leads s entry.deed new) h leads, refl)
 history-snoc first last new (e ∷ entries) entry h leads = (h.0, h.1, history-snoc h.0 last new entries entry h.2 leads)
 
@@ -25,12 +25,12 @@ rises-snoc (m ∷ ns) n rises above =
 
 -- the step stands at the end of the journal under a ticket above all others
 pub journal_adds : (first last new : NodeState) (entries : List Entry) (drawn now_drawn : List ℕ) (entry : Entry)
-  → IsJournal first entries last drawn → Leads last entry.deed new → now_drawn ≡ drawn ++ entry.ticket ∷ [] → All (λ n. n < entry.ticket) drawn
-  → IsJournal first (entries ++ entry ∷ []) new now_drawn
+    → IsJournal first entries last drawn → Leads last entry.deed new → now_drawn ≡ drawn ++ entry.ticket ∷ [] → All (λ n. n < entry.ticket) drawn
+    → IsJournal first (entries ++ entry ∷ []) new now_drawn
 journal_adds first last new entries drawn now_drawn entry journal leads draws above =
     record {
       history = history-snoc first last new entries entry journal.history leads;
       rises = subst Rises (sym (tickets-snoc entries entry)) (rises-snoc (tickets_of entries) entry.ticket journal.rises
           (subst (λ ns. All (λ n. n < entry.ticket) ns) (sym journal.drawn_are) above));
-      drawn_are = tickets-snoc entries entry ∙ ap (λ ns. ns ++ entry.ticket ∷ []) journal.drawn_are ∙ sym draws
+      drawn_are = tickets-snoc entries entry ∙ ap (λ ns. ns ++ entry.ticket ∷ []) journal.drawn_are ∙ sym draws;
     }

@@ -67,7 +67,7 @@ pub record Advances (old : NodeState) (before : List Entry) (ticket : ℕ) (new 
 
 -- a step was made and entered under the ticket
 pub record Makes (old : NodeState) (before : List Entry) (ticket : ℕ) (event : Event) (entered : EnteredView)
-  (new : NodeState) (after : List Entry) : Type 0 where
+    (new : NodeState) (after : List Entry) : Type 0 where
   pub under : entered.ticket ≡ ticket
   pub of : entered.event ≡ event
   pub step : NodeStep old event entered.outputs new
@@ -79,7 +79,7 @@ IsReason state event fault = (fault ≡ Memory) ⊎ ((fault ≡ Exhausted) × (e
 
 -- the node refused the event, and a Skip was entered under the ticket
 pub record Skips (old : NodeState) (before : List Entry) (ticket : ℕ) (event : Event) (fault : StepFault)
-  (new : NodeState) (after : List Entry) : Type 0 where
+    (new : NodeState) (after : List Entry) : Type 0 where
   pub unchanged : new ≡ old
   pub entry : after ≡ before ++ skip_of ticket ∷ []
   pub reason : IsReason old event fault

@@ -52,7 +52,12 @@ impl<K: Deployment> Model for NodeCell<K> {
 
 impl<K: Deployment> NodeCell<K> {
     /// The node of this number, as it begins, with a seat of its cluster that has drawn nothing.
-    pub fn new(alloc: Global, config: &Config, node: usize, seat: Seat) -> Result<NodeCell<K>, AllocError>
+    pub fn new(
+        alloc: Global,
+        config: &Config,
+        node: usize,
+        seat: Seat,
+    ) -> Result<NodeCell<K>, AllocError>
         requires { IsFresh K.table K.seats seat }
         ensures { IfOk result (λ cell. cell ≡ record { config = config.now; node = node; state = first_state config.now node; journal = [] }) }
     {
@@ -81,7 +86,14 @@ impl<K: Deployment> NodeCell<K> {
         let Some(ticket) = self.seat.draw() else {
             return Err(StepFault::Exhausted);
         };
-        advance(&mut self.core, &mut self.journal, ticket, event, to_enter, to_answer)
+        advance(
+            &mut self.core,
+            &mut self.journal,
+            ticket,
+            event,
+            to_enter,
+            to_answer,
+        )
     }
 
     /// The configuration, the node's number, its journal and its seat.

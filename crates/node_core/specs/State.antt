@@ -91,12 +91,12 @@ first_stream node =
 -- the state in which a node begins
 abbrev pub first_state : ClusterConfig → ℕ → NodeState
 first_state config node = record {
-    keyspace = fin_map.empty;
-    slots = first_slots config node;
-    current_epoch = 1;
-    last_vote_epoch = 0;
-    suspicions = [];
-    master = None;
-    stream = first_stream node;
-    connections = record { slots = []; opens = [] }
-  }
+  keyspace = fin_map.empty;
+  slots = first_slots config node;
+  current_epoch = 1;
+  last_vote_epoch = 0;
+  suspicions = [];
+  master = None;
+  stream = first_stream node;
+  connections = record { slots = []; opens = [] };
+}

@@ -117,10 +117,10 @@ impl Model for Config {
     ghost Value = { ClusterConfig };
 
     ghost view = { λ config. record {
-        tick_ms = config.tick_ms;
-        node_timeout = config.node_timeout;
-        nodes = config.nodes.items;
-        voters = config.voters.items
+      tick_ms = config.tick_ms;
+      node_timeout = config.node_timeout;
+      nodes = config.nodes.items;
+      voters = config.voters.items;
     } };
 }
 

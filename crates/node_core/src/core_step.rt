@@ -48,8 +48,8 @@ impl<S: Store> Model for NodeCore<S> {
     ghost coded = { Prim.hlevel (codes, let stored : Coded Stored = Prim.hlevel codes in map.code {R = slice_cmp nat_cmp} (coded_list coded_ℕ) stored) };
 
     ghost view = { λ core. record (first_state core.config core.node) {
-        keyspace = S.contents core.store;
-        connections = core.connections
+      keyspace = S.contents core.store;
+      connections = core.connections;
     } };
 }
 

@@ -1,21 +1,25 @@
 //! `rcluster serve`: the nodes of a configuration, on sockets.
 use cluster::{ProgramFault, read_config, run_node};
-
 use node_core::{Config, NodeConfig};
 use std::alloc::Global;
-use std::fs;
-use std::io;
 use std::io::ErrorKind;
 use std::marker::Brand;
 use std::net::{Net, TcpListener, TcpStream};
 use std::rt::Files;
 use std::sync::Wait;
+use std::{fs, io};
 use tickets::open;
 
 /// Serves the cluster that the file describes. It prints the address of each node once all listen.
 pub fn serve<R>(rt: R, path: &str) -> Result<(), ProgramFault>
 where
-    R: Files + AllocGlobal + Print + Net<Listener = TcpListener, Stream = TcpStream> + Wait + Copy + Drop,
+    R: Files
+        + AllocGlobal
+        + Print
+        + Net<Listener = TcpListener, Stream = TcpStream>
+        + Wait
+        + Copy
+        + Drop,
 {
     let alloc = rt.alloc();
     let config = read_file(&rt, path)?;

@@ -100,6 +100,7 @@ fn take_body(
         Ok(whole) => whole,
     };
     if !whole {
+        make_room(input, len);
         return Ok(None);
     }
     let word = match cut(input, len) {
@@ -109,6 +110,15 @@ fn take_body(
     input.advance(2);
     *size = None;
     Ok(Some(word))
+}
+
+/// Asks at once for the room that a whole word takes, so that a long one doesn't move as its bytes come. Where that is
+/// refused, the input grows with them.
+fn make_room(input: &mut BytesMut, len: usize)
+    ensures { input.new.items ≡ input.old.items }
+{
+    let missing = len.saturating_add(2).saturating_sub(input.len());
+    let _room = input.reserve(missing);
 }
 
 /// Whether the bytes begin with a word of this length and the end of its line.
