@@ -3,3 +3,4 @@ pub mod Maps
 pub mod Parts
 pub mod Pass
 pub mod Places
+mod WorkedValues

@@ -9,3 +9,4 @@ pub mod RequestsAgain
 pub mod Spellings
 pub mod StepLemmas
 pub mod Theorems
+mod WorkedValues

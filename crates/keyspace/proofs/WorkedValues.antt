@@ -1,0 +1,23 @@
+-- The definitions on worked values, by computation.
+use Rattle.std.proofs.Common.{◌≡◌, refl, [], ◌∷◌, rules}
+use Rattle.std.specs.Prelude.{codes}
+use Rattle.std.specs.FinMap.{gets}
+use Rattle.resp2.specs.declared.reply.Reply.{Reply}
+use Rattle.resp2.specs.declared.reply.Reply.TheVariants.{Simple, Error, Bulk, Null}
+use Rattle.keyspace.specs.Commands.{replay}
+
+-- a string is set and read, with names in any case
+set_and_get : (replay ((codes "SET" ∷ codes "a" ∷ codes "1" ∷ []) ∷ (codes "get" ∷ codes "a" ∷ []) ∷ [])).replies
+    ≡ Simple (codes "OK") ∷ Bulk (codes "1") ∷ []
+set_and_get = grind (gets, rules)
+
+-- the later string stands, and another key has none
+set_again : (replay ((codes "SET" ∷ codes "a" ∷ codes "1" ∷ []) ∷ (codes "SET" ∷ codes "a" ∷ codes "2" ∷ [])
+    ∷ (codes "GET" ∷ codes "a" ∷ []) ∷ (codes "GET" ∷ codes "b" ∷ []) ∷ [])).replies
+    ≡ Simple (codes "OK") ∷ Simple (codes "OK") ∷ Bulk (codes "2") ∷ Null ∷ []
+set_again = grind (gets, rules)
+
+-- what is no command changes nothing
+no_command : (replay ((codes "PING" ∷ []) ∷ (codes "GET" ∷ []) ∷ (codes "foo" ∷ []) ∷ [])).replies
+    ≡ Simple (codes "PONG") ∷ Error (codes "ERR wrong number of arguments for 'get' command") ∷ Error (codes "ERR unknown command") ∷ []
+no_command = refl
