@@ -1,6 +1,5 @@
 -- Requests that are answered one after another.
 use Rattle.std.proofs.Common.{◌≡◌, ℕ, List, [], ◌∷◌, ◌++◌, Option, append_assoc, append-nil, refl, sym, ◌∙◌, ap, ◌≢◌}
-use Rattle.std.specs.Io.KnownBytes.{Appends, Consumes}
 use Rattle.resp2.specs.Reply.{reply_spelling}
 use Rattle.resp2.specs.Request.{IsRequest, stream_spelling, request_spelling}
 use Rattle.resp2.specs.declared.reply.Reply.{Reply}
@@ -8,7 +7,7 @@ use Rattle.node_core.specs.declared.connections.Conn.{Conn}
 use Rattle.node_core.specs.declared.event.Event.{Event}
 use Rattle.node_core.specs.declared.outputs.Outputs.{Outputs}
 use Rattle.listener.specs.Serving.{MayAnswer, AnswersTo, Exchanges, replies_spelling}
-use Rattle.listener.specs.Stopping.{Answers, AnswersOne, Halts, LeavesAt, Puts}
+use Rattle.listener.specs.Stopping.{Answers, AnswersOne, LeavesAt, Puts}
 use Rattle.listener.specs.declared.stop.Stop.{Stop}
 use Rattle.listener.specs.declared.stop.Stop.TheVariants.{Device, BadByte, Memory, Exhausted, Unanswered}
 use Rattle.listener.proofs.PutLemmas.{puts_again}

@@ -1,8 +1,8 @@
 -- Replies that are put behind one another.
-use Rattle.std.proofs.Common.{◌≡◌, ℕ, List, [], ◌∷◌, ◌++◌, Option, append_assoc, append-nil, refl, sym, ◌∙◌, ap}
+use Rattle.std.proofs.Common.{◌≡◌, ℕ, List, [], ◌++◌, Option, append_assoc, append-nil, sym, ◌∙◌, ap}
 use Rattle.std.specs.Io.KnownBytes.{Appends}
 use Rattle.listener.specs.Stopping.{Puts}
-use Rattle.listener.proofs.KnownBytesLemmas.{appends_again, appends_nothing}
+use Rattle.listener.proofs.KnownBytesLemmas.{appends_again}
 
 -- first p and then q were put
 pub puts_again : (a b c : Option (List ℕ)) (x y z p q : List ℕ) → Puts a b x y p → Puts b c y z q → Puts a c x z (p ++ q)

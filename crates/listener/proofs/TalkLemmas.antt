@@ -1,15 +1,15 @@
 -- A conversation, read by read.
-use Rattle.std.proofs.Common.{◌≡◌, ◌<◌, ◌≤◌, ℕ, List, [], ◌∷◌, ◌++◌, Option, append-nil, refl, sym, ◌∙◌, ap, subst, length, arith, lit≤, ◌≢◌, append_assoc, inl, inr}
+use Rattle.std.proofs.Common.{◌≡◌, ◌≤◌, ℕ, List, [], ◌∷◌, ◌++◌, Option, append-nil, refl, sym, ◌∙◌, ap, subst, length, arith, lit≤, ◌≢◌, append_assoc, inl, inr}
 use Rattle.std.proofs.lemmas.List.Elements.{All-nil, All-cons}
 use Rattle.std.specs.Io.KnownBytes.{Appends, Consumes}
-use Rattle.resp2.specs.declared.limits.TheConstants.{MOST_WORDS, MOST_WORD_BYTES}
-use Rattle.resp2.specs.Request.{IsRequest, IsUnfinished, request_spelling}
+use Rattle.resp2.specs.declared.limits.TheConstants.{MOST_WORD_BYTES}
+use Rattle.resp2.specs.Request.{IsUnfinished, request_spelling}
 use Rattle.node_core.specs.declared.connections.Conn.{Conn}
 use Rattle.node_core.specs.declared.event.Event.{Event}
 use Rattle.node_core.specs.declared.outputs.Outputs.{Outputs}
-use Rattle.listener.specs.Serving.{Converses, EndsAtBadByte, EndsAtEnd, Exchanges, IsCutShort, IsServed, WasOpened, error_bytes}
+use Rattle.listener.specs.Serving.{Converses, Exchanges, IsCutShort, IsServed, error_bytes}
 use Rattle.command.specs.declared.error_line.ErrorLine.TheVariants as line
-use Rattle.listener.specs.Stopping.{Answers, CutsTalk, EndsTalk, Halts, HasTalked, LeavesAt, Puts, StopsTalking, Talks}
+use Rattle.listener.specs.Stopping.{Answers, CutsTalk, EndsTalk, Halts, HasTalked, Puts, StopsTalking, Talks}
 use Rattle.listener.specs.declared.stop.Stop.{Stop}
 use Rattle.listener.specs.declared.stop.Stop.TheVariants.{BadByte}
 use Rattle.listener.proofs.ExchangeLemmas.{exchanges_nothing, exchanges_again, exchanges_feed, leaves_any}

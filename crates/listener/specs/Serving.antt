@@ -1,9 +1,9 @@
 -- What a conversation with a client is: the requests that its bytes spell, and their replies as bytes.
-use Rattle.std.specs.Prelude.{◌≡◌, ℕ, List, [], ◌∷◌, ◌++◌, Option, Some, None, All, ◌⊎◌}
+use Rattle.std.specs.Prelude.{◌≡◌, ℕ, List, [], ◌∷◌, ◌++◌, Option, Some, ◌⊎◌}
 use Rattle.std.specs.Io.KnownBytes.{Appends, Consumes, IsAtEnd}
 use Rattle.resp2.specs.Counting.{HasRisen}
 use Rattle.resp2.specs.Reply.{reply_spelling}
-use Rattle.resp2.specs.Request.{IsRequest, stream_spelling, request_spelling, IsUnfinished, HasFirstBadByte, HasNoRequest}
+use Rattle.resp2.specs.Request.{IsRequest, stream_spelling, IsUnfinished, HasFirstBadByte, HasNoRequest}
 use Rattle.resp2.specs.declared.fault.Fault.{Fault}
 use Rattle.resp2.specs.declared.reply.Reply.{Reply}
 use Rattle.resp2.specs.declared.reply.Reply.TheVariants.{Error}

@@ -1,8 +1,7 @@
 -- How far a conversation got when it stopped.
-use Rattle.std.specs.Prelude.{◌≡◌, ℕ, List, [], ◌++◌, ◌⊎◌, Option, Some, None, length}
+use Rattle.std.specs.Prelude.{◌≡◌, ℕ, List, [], ◌++◌, ◌⊎◌, Option}
 use Rattle.std.specs.Io.KnownBytes.{Appends, Consumes, IsAtEnd}
-use Rattle.resp2.specs.Reader.{ReaderState}
-use Rattle.resp2.specs.Request.{IsUnfinished, HasFirstBadByte, HasNoRequest, request_spelling, IsRequest}
+use Rattle.resp2.specs.Request.{IsUnfinished, HasFirstBadByte, HasNoRequest}
 use Rattle.resp2.specs.Reply.{reply_spelling}
 use Rattle.resp2.specs.declared.reply.Reply.{Reply}
 use Rattle.resp2.specs.declared.fault.Fault.{Fault}

@@ -1,4 +1,4 @@
-use Rattle.std.proofs.Common.{rules, ◌≡◌, ap, sym, subst, Err, Some}
+use Rattle.std.proofs.Common.{rules, ap, Err}
 use Rattle.listener.proofs.ExchangeLemmas.{answers_one_more, leaves_any}
 use Rattle.listener.proofs.answering.answer_all.Goals as goal
 

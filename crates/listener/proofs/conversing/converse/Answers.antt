@@ -1,4 +1,4 @@
-use Rattle.std.proofs.Common.{rules, ◌≡◌, refl, sym, subst, [], ap, ◌∙◌}
+use Rattle.std.proofs.Common.{rules, refl, ap, ◌∙◌}
 use Rattle.resp2.specs.Reader.{ReaderState}
 use Rattle.listener.proofs.TalkLemmas.{nothing_is_unfinished, talks_nothing, talks_feed, talks_fed, talks_answer, talks_flush, talks_halt}
 use Rattle.listener.proofs.conversing.converse.Goals as goal

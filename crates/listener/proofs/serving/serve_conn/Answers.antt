@@ -1,4 +1,4 @@
-use Rattle.std.proofs.Common.{◌≡◌, refl, sym, ◌∙◌}
+use Rattle.std.proofs.Common.{◌≡◌, sym, ◌∙◌}
 use Rattle.listener.specs.declared.stop.Stop.TheVariants.{BadByte, Device}
 use Rattle.listener.proofs.TalkLemmas.{serves_to_a_bad_byte}
 use Rattle.listener.proofs.serving.serve_conn.Goals as goal

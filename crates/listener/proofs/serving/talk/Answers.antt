@@ -1,4 +1,3 @@
-use Rattle.std.proofs.Common.{◌≡◌, refl}
 use Rattle.listener.proofs.TalkLemmas.{cuts_nothing}
 use Rattle.listener.proofs.serving.talk.Goals as goal
 
