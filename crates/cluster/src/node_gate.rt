@@ -25,13 +25,17 @@ pub struct Gate<K: Deployment, R: Wait> {
 impl<K: Deployment, R: Wait> NodeGate for Gate<K, R> {
     type Answer = Entered<K>;
 
-    ghost use Rattle.cluster.specs.Answers.{MayAnswer};
+    ghost use Rattle.cluster.specs.Answers.{MayAnswer, MayRefuse};
 
     ghost may = { MayAnswer };
 
+    ghost may_refuse = { MayRefuse };
+
     fn step(&self, event: Event) -> Result<Entered<K>, StepFault> {
         let mut cell = self.node.cell.lock(&self.rt);
-        let entered = cell.apply(event)?;
-        Ok(entered)
+        match cell.apply(event) {
+            Ok(entered) => Ok(entered),
+            Err(fault) => Err(fault),
+        }
     }
 }

@@ -9,7 +9,7 @@ use Rattle.node_core.specs.declared.outputs.Outputs.{Outputs}
 use Rattle.listener.specs.Serving.{MayAnswer, AnswersTo, Exchanges, replies_spelling}
 use Rattle.listener.specs.Stopping.{Answers, AnswersOne, LeavesAt, Puts}
 use Rattle.listener.specs.declared.stop.Stop.{Stop}
-use Rattle.listener.specs.declared.stop.Stop.TheVariants.{Device, BadByte, Memory, Exhausted, Unanswered}
+use Rattle.listener.specs.declared.stop.Stop.TheVariants.{Device, BadByte, Memory, Exhausted, Unanswered, Endless}
 use Rattle.listener.proofs.PutLemmas.{puts_again}
 
 stream_spelling-append : (requests more : List (List (List ℕ))) → stream_spelling (requests ++ more) ≡ stream_spelling requests ++ stream_spelling more
@@ -31,6 +31,7 @@ leaves_any BadByte pending other = absurd (other refl)
 leaves_any Memory pending other = tt
 leaves_any Exhausted pending other = tt
 leaves_any Unanswered pending other = tt
+leaves_any Endless pending other = tt
 
 module _ (may : Event → Outputs → Type 0) (conn : Conn) where
   answered_again : (rs qs : List (List (List ℕ))) (xs ys : List Reply) → AnswersTo may conn rs xs → AnswersTo may conn qs ys

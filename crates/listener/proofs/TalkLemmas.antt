@@ -1,5 +1,5 @@
 -- A conversation, read by read.
-use Rattle.std.proofs.Common.{◌≡◌, ◌≤◌, ℕ, List, [], ◌∷◌, ◌++◌, Option, append-nil, refl, sym, ◌∙◌, ap, subst, length, arith, lit≤, ◌≢◌, append_assoc, inl, inr}
+use Rattle.std.proofs.Common.{◌≡◌, ◌<◌, ◌≤◌, ◌+◌, ℕ, List, [], ◌∷◌, ◌++◌, Option, append-nil, refl, sym, ◌∙◌, ap, subst, length, length-append, arith, lit≤, ◌≢◌, append_assoc, inl, inr, ◌⊎◌}
 use Rattle.std.proofs.lemmas.List.Elements.{All-nil, All-cons}
 use Rattle.std.specs.Io.KnownBytes.{Appends, Consumes}
 use Rattle.resp2.specs.declared.limits.TheConstants.{MOST_WORD_BYTES}
@@ -7,11 +7,15 @@ use Rattle.resp2.specs.Request.{IsUnfinished, request_spelling}
 use Rattle.node_core.specs.declared.connections.Conn.{Conn}
 use Rattle.node_core.specs.declared.event.Event.{Event}
 use Rattle.node_core.specs.declared.outputs.Outputs.{Outputs}
-use Rattle.listener.specs.Serving.{Converses, Exchanges, IsCutShort, IsServed, error_bytes}
+use Rattle.listener.specs.Serving.{Converses, Exchanges, HasFailed, IsCutBy, IsCutShort, IsServed, ReadsEndlessly, error_bytes}
 use Rattle.command.specs.declared.error_line.ErrorLine.TheVariants as line
-use Rattle.listener.specs.Stopping.{Answers, CutsTalk, EndsTalk, Halts, HasTalked, Puts, StopsTalking, Talks}
+use Rattle.listener.specs.Stopping.{Answers, CutsTalk, EndsBy, EndsTalk, HasReason, Halts, HasTalked, Puts, ReadsSo, StopsTalking, Talks}
 use Rattle.listener.specs.declared.stop.Stop.{Stop}
-use Rattle.listener.specs.declared.stop.Stop.TheVariants.{BadByte}
+use Rattle.listener.specs.declared.stop.Stop.TheVariants.{Device, BadByte, Memory, Exhausted, Unanswered, Endless}
+use Rattle.listener.specs.declared.fault.ConnFault.{ConnFault}
+use Rattle.listener.specs.declared.fault.ConnFault.TheVariants as fault
+use Rattle.node_core.specs.declared.fault.StepFault.{StepFault}
+use Rattle.resp2.specs.Counting.{HasRisen}
 use Rattle.listener.proofs.ExchangeLemmas.{exchanges_nothing, exchanges_again, exchanges_feed, leaves_any}
 use Rattle.listener.proofs.KnownBytesLemmas.{appends_nothing, appends_again, consumes_nothing, consumes_again}
 use Rattle.listener.proofs.PutLemmas.{puts_again}
@@ -25,6 +29,20 @@ nothing_is_unfinished pending none =
       request = record { count = (omega arith, lit≤ tt); short = All-cons (λ (word : List ℕ). length word ≤ MOST_WORD_BYTES) [] [] (omega arith) (All-nil (λ (word : List ℕ). length word ≤ MOST_WORD_BYTES)) };
       wanted = omega arith;
       spelled = ap (λ w. w ++ request_spelling ([] ∷ [])) none;
+    }
+
+-- nothing was read yet
+pub reads_nothing : (i : Option (List ℕ)) → ReadsSo i i 0
+reads_nothing i = record { input = []; read = consumes_nothing i; long = omega arith }
+
+-- at least one byte more was read
+pub reads_more : (i j k : Option (List ℕ)) (count : ℕ) (bytes : List ℕ) → ReadsSo i j count → Consumes j k bytes → 0 < length bytes
+    → ReadsSo i k (count + 1)
+reads_more i j k count bytes so_far reads some =
+    record {
+      input = so_far.input ++ bytes;
+      read = consumes_again i j k so_far.input bytes so_far.read reads;
+      long = omega (arith, length-append so_far.input bytes, so_far.long);
     }
 
 module _ (may : Event → Outputs → Type 0) (conn : Conn) where
@@ -146,3 +164,39 @@ pub is_cut_short : (may : Event → Outputs → Type 0) (stop : Stop) (i j o p q
     → Appends p q (after ++ last) → IsCutShort may i j o q last
 is_cut_short may stop i j o p q after last cuts wrote =
     record { rest = cuts.rest; converses = converses may i j o p q cuts.rest after last cuts.talked wrote }
+
+module _ (may : Event → Outputs → Type 0) (may_refuse : Event → StepFault → Type 0) where
+  -- a call failed, during the conversation or at its end
+  has_failed : (stop : Stop) (r r' w w' w'' : ℕ) → (stop ≡ Device → HasFailed r r' w w') → (stop ≢ Device → w' ≡ w) → (stop ≡ Device → w'' ≡ w')
+      → (stop ≡ Device) ⊎ HasRisen w' w'' → HasFailed r r' w w''
+  has_failed stop r r' w w' w'' failed kept quiet (inl e) = subst (λ n. HasFailed r r' w n) (sym (quiet e)) (failed e)
+  has_failed Device r r' w w' w'' failed kept quiet (inr risen) = subst (λ n. HasFailed r r' w n) (sym (quiet refl)) (failed refl)
+  has_failed BadByte r r' w w' w'' failed kept quiet (inr risen) = inr (subst (λ n. HasRisen n w'') (kept (λ e. cc)) risen)
+  has_failed Memory r r' w w' w'' failed kept quiet (inr risen) = inr (subst (λ n. HasRisen n w'') (kept (λ e. cc)) risen)
+  has_failed Exhausted r r' w w' w'' failed kept quiet (inr risen) = inr (subst (λ n. HasRisen n w'') (kept (λ e. cc)) risen)
+  has_failed Unanswered r r' w w' w'' failed kept quiet (inr risen) = inr (subst (λ n. HasRisen n w'') (kept (λ e. cc)) risen)
+  has_failed Endless r r' w w' w'' failed kept quiet (inr risen) = inr (subst (λ n. HasRisen n w'') (kept (λ e. cc)) risen)
+
+  -- the fault that is told is what ended the conversation
+  pub is_cut_by : (fault : ConnFault) (stop : Stop) (i j o p q : Option (List ℕ)) (after : List ℕ) (r r' w w' w'' : ℕ)
+      → (stop ≢ Device → CutsTalk may stop i j o p after) → HasReason may may_refuse stop → (stop ≡ Endless → ReadsEndlessly i j)
+      → (stop ≡ Device → HasFailed r r' w w') → (stop ≢ Device → w' ≡ w) → (stop ≡ Device → w'' ≡ w')
+      → EndsBy fault stop p q after w' w'' → IsCutBy fault may may_refuse i j o q r r' w w''
+  is_cut_by fault.Device stop i j o p q after r r' w w' w'' cuts reason endless failed kept quiet ends =
+      has_failed stop r r' w w' w'' failed kept quiet ends
+  is_cut_by fault.Memory stop i j o p q after r r' w w' w'' cuts reason endless failed kept quiet ends =
+      is_cut_short may stop i j o p q after (error_bytes line.OutOfMemory) (cuts (λ e. let both : Memory ≡ Device = sym ends.0 ∙ e in cc)) ends.1
+  is_cut_by fault.Exhausted stop i j o p q after r r' w w' w'' cuts reason endless failed kept quiet ends = (
+    is_cut_short may stop i j o p q after (error_bytes line.Exhausted) (cuts (λ e. let both : Exhausted ≡ Device = sym ends.0 ∙ e in cc)) ends.1,
+    subst (λ s. HasReason may may_refuse s) ends.0 reason,
+  )
+  is_cut_by fault.Unanswered stop i j o p q after r r' w w' w'' cuts reason endless failed kept quiet ends = (
+    is_cut_short may stop i j o p q after [] (cuts (λ e. let both : Unanswered ≡ Device = sym ends.0 ∙ e in cc))
+        (subst (λ bytes. Appends p q bytes) (sym (append-nil after)) ends.1),
+    subst (λ s. HasReason may may_refuse s) ends.0 reason,
+  )
+  is_cut_by fault.Endless stop i j o p q after r r' w w' w'' cuts reason endless failed kept quiet ends = (
+    is_cut_short may stop i j o p q after [] (cuts (λ e. let both : Endless ≡ Device = sym ends.0 ∙ e in cc))
+        (subst (λ bytes. Appends p q bytes) (sym (append-nil after)) ends.1),
+    endless ends.0,
+  )

@@ -1,5 +1,5 @@
 -- What a conversation with a client is: the requests that its bytes spell, and their replies as bytes.
-use Rattle.std.specs.Prelude.{◌≡◌, ℕ, List, [], ◌∷◌, ◌++◌, Option, Some, ◌⊎◌}
+use Rattle.std.specs.Prelude.{◌≡◌, ◌≤◌, ◌-◌, ◌^◌, ℕ, List, [], ◌∷◌, ◌++◌, Option, Some, None, ◌⊎◌, length}
 use Rattle.std.specs.Io.KnownBytes.{Appends, Consumes, IsAtEnd}
 use Rattle.resp2.specs.Counting.{HasRisen}
 use Rattle.resp2.specs.Reply.{reply_spelling}
@@ -15,9 +15,11 @@ use Rattle.node_core.specs.declared.answer.Answer.{Answer}
 use Rattle.node_core.specs.declared.connections.Conn.{Conn}
 use Rattle.node_core.specs.declared.event.Event.{Event}
 use Rattle.node_core.specs.declared.event.Event.TheVariants.{Open, Request}
+use Rattle.node_core.specs.declared.fault.StepFault.{StepFault}
+use Rattle.node_core.specs.declared.fault.StepFault.TheVariants as refused
 use Rattle.node_core.specs.declared.outputs.Outputs.{Outputs}
 use Rattle.listener.specs.declared.fault.ConnFault.{ConnFault}
-use Rattle.listener.specs.declared.fault.ConnFault.TheVariants.{Device, Memory, Exhausted, Unanswered}
+use Rattle.listener.specs.declared.fault.ConnFault.TheVariants.{Device, Memory, Exhausted, Unanswered, Endless}
 
 -- the bytes of replies, one after another
 abbrev pub replies_spelling : List Reply → List ℕ
@@ -96,14 +98,32 @@ pub record IsCutShort (may : Event → Outputs → Type 0) (old_in new_in old_ou
 abbrev pub HasFailed : ℕ → ℕ → ℕ → ℕ → Type 0
 HasFailed old_reader new_reader old_writer new_writer = HasRisen old_reader new_reader ⊎ HasRisen old_writer new_writer
 
+-- the node refused an event with this fault
+pub record WasRefused (may_refuse : Event → StepFault → Type 0) (fault : StepFault) : Type 0 where
+  pub event : Event
+  pub refused : may_refuse event fault
+
+-- the node gave no reply to a request, or no connection
+pub data IsSilent (may : Event → Outputs → Type 0) : Type 0 where
+  no_reply : (conn : Conn) (words : List (List ℕ)) (outputs : Outputs) → may (Request conn words) outputs → outputs.answer ≡ None → IsSilent may
+  no_connection : (outputs : Outputs) → may Open outputs → outputs.opened ≡ None → IsSilent may
+
+-- as much was read as can be counted
+pub record ReadsEndlessly (old_in new_in : Option (List ℕ)) : Type 0 where
+  pub input : List ℕ
+  pub read : Consumes old_in new_in input
+  pub long : 2 ^ 64 - 1 ≤ length input
+
 -- why a conversation was cut short: a call of the reader or the writer failed, or the client was told
-abbrev pub IsCutBy : ConnFault → (Event → Outputs → Type 0) → Option (List ℕ) → Option (List ℕ) → Option (List ℕ) → Option (List ℕ)
-    → ℕ → ℕ → ℕ → ℕ → Type 0
-IsCutBy Device may old_in new_in old_out new_out old_reader new_reader old_writer new_writer =
+abbrev pub IsCutBy : ConnFault → (Event → Outputs → Type 0) → (Event → StepFault → Type 0)
+    → Option (List ℕ) → Option (List ℕ) → Option (List ℕ) → Option (List ℕ) → ℕ → ℕ → ℕ → ℕ → Type 0
+IsCutBy Device may may_refuse old_in new_in old_out new_out old_reader new_reader old_writer new_writer =
     HasFailed old_reader new_reader old_writer new_writer
-IsCutBy Memory may old_in new_in old_out new_out old_reader new_reader old_writer new_writer =
+IsCutBy Memory may may_refuse old_in new_in old_out new_out old_reader new_reader old_writer new_writer =
     IsCutShort may old_in new_in old_out new_out (error_bytes line.OutOfMemory)
-IsCutBy Exhausted may old_in new_in old_out new_out old_reader new_reader old_writer new_writer =
-    IsCutShort may old_in new_in old_out new_out (error_bytes line.Exhausted)
-IsCutBy Unanswered may old_in new_in old_out new_out old_reader new_reader old_writer new_writer =
-    IsCutShort may old_in new_in old_out new_out []
+IsCutBy Exhausted may may_refuse old_in new_in old_out new_out old_reader new_reader old_writer new_writer =
+    IsCutShort may old_in new_in old_out new_out (error_bytes line.Exhausted) × WasRefused may_refuse refused.Exhausted
+IsCutBy Unanswered may may_refuse old_in new_in old_out new_out old_reader new_reader old_writer new_writer =
+    IsCutShort may old_in new_in old_out new_out [] × IsSilent may
+IsCutBy Endless may may_refuse old_in new_in old_out new_out old_reader new_reader old_writer new_writer =
+    IsCutShort may old_in new_in old_out new_out [] × ReadsEndlessly old_in new_in

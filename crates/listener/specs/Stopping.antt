@@ -1,5 +1,5 @@
 -- How far a conversation got when it stopped.
-use Rattle.std.specs.Prelude.{◌≡◌, ℕ, List, [], ◌++◌, ◌⊎◌, Option}
+use Rattle.std.specs.Prelude.{◌≡◌, ◌≤◌, ℕ, List, [], ◌++◌, ◌⊎◌, length, Option}
 use Rattle.std.specs.Io.KnownBytes.{Appends, Consumes, IsAtEnd}
 use Rattle.resp2.specs.Request.{IsUnfinished, HasFirstBadByte, HasNoRequest}
 use Rattle.resp2.specs.Reply.{reply_spelling}
@@ -12,11 +12,11 @@ use Rattle.node_core.specs.declared.fault.StepFault.TheVariants as refused
 use Rattle.node_core.specs.declared.outputs.Outputs.{Outputs}
 use Rattle.resp2.specs.Counting.{HasRisen}
 use Rattle.command.specs.declared.error_line.ErrorLine.TheVariants as line
-use Rattle.listener.specs.Serving.{Exchanges, MayAnswer, WasOpened, error_bytes}
+use Rattle.listener.specs.Serving.{Exchanges, IsSilent, MayAnswer, WasOpened, WasRefused, error_bytes}
 use Rattle.listener.specs.declared.fault.ConnFault.{ConnFault}
 use Rattle.listener.specs.declared.fault.ConnFault.TheVariants as fault
 use Rattle.listener.specs.declared.stop.Stop.{Stop}
-use Rattle.listener.specs.declared.stop.Stop.TheVariants.{Device, BadByte, Memory, Exhausted, Unanswered}
+use Rattle.listener.specs.declared.stop.Stop.TheVariants.{Device, BadByte, Memory, Exhausted, Unanswered, Endless}
 
 -- what a refused step ends a conversation with
 abbrev pub stop_of : StepFault → Stop
@@ -65,6 +65,22 @@ LeavesAt BadByte pending = IsSpoilt pending
 LeavesAt Memory pending = Unit {0}
 LeavesAt Exhausted pending = Unit {0}
 LeavesAt Unanswered pending = Unit {0}
+LeavesAt Endless pending = Unit {0}
+
+-- at least so many bytes were read
+pub record ReadsSo (old_in new_in : Option (List ℕ)) (count : ℕ) : Type 0 where
+  pub input : List ℕ
+  pub read : Consumes old_in new_in input
+  pub long : count ≤ length input
+
+-- why a conversation stops
+abbrev pub HasReason : (Event → Outputs → Type 0) → (Event → StepFault → Type 0) → Stop → Type 0
+HasReason may may_refuse Device = Unit {0}
+HasReason may may_refuse BadByte = Unit {0}
+HasReason may may_refuse Memory = Unit {0}
+HasReason may may_refuse Exhausted = WasRefused may_refuse refused.Exhausted
+HasReason may may_refuse Unanswered = IsSilent may
+HasReason may may_refuse Endless = Unit {0}
 
 -- a conversation stops, and what was read but for `rest` is answered
 pub record StopsTalking (may : Event → Outputs → Type 0) (conn : Conn) (stop : Stop)
@@ -106,3 +122,4 @@ EndsBy fault.Device stop old_out new_out before old_failures new_failures = (sto
 EndsBy fault.Memory stop old_out new_out before old_failures new_failures = (stop ≡ Memory) × Appends old_out new_out (before ++ error_bytes line.OutOfMemory)
 EndsBy fault.Exhausted stop old_out new_out before old_failures new_failures = (stop ≡ Exhausted) × Appends old_out new_out (before ++ error_bytes line.Exhausted)
 EndsBy fault.Unanswered stop old_out new_out before old_failures new_failures = (stop ≡ Unanswered) × Appends old_out new_out before
+EndsBy fault.Endless stop old_out new_out before old_failures new_failures = (stop ≡ Endless) × Appends old_out new_out before

@@ -1,9 +1,9 @@
 //! From whole requests to replies.
-ghost use Rattle.std.specs.Prelude.{◌≡◌, ◌≢◌, ◌++◌, Some, None, Err, IfOk, IfErr, IfSome, IfNone, OnOk, OnErr};
+ghost use Rattle.std.specs.Prelude.{◌≡◌, ◌≢◌, ◌⊎◌, ◌++◌, Some, None, Err, IfOk, IfErr, IfSome, IfNone, OnOk, OnErr};
 ghost use Rattle.resp2.specs.Counting.{device_of, failures_of, HasRisen};
 ghost use Rattle.resp2.specs.Request.{IsRequest, IsUnfinished, request_spelling};
 ghost use Rattle.listener.specs.Serving.{MayAnswer};
-ghost use Rattle.listener.specs.Stopping.{Answers, AnswersOne, Halts, LeavesAt, stop_of};
+ghost use Rattle.listener.specs.Stopping.{Answers, AnswersOne, Halts, HasReason, LeavesAt, stop_of};
 
 use crate::batch::put;
 use crate::stop::{Stop, stop_at};
@@ -21,7 +21,7 @@ pub fn next_request(requests: &mut Reader) -> Result<Option<Words>, Stop>
         ((requests.new.pending ≡ requests.old.pending) × IsUnfinished requests.old.pending)) }
     ensures good { OnOk result (requests.new.fault ≡ None) }
     ensures stop { IfErr result (λ stop. (stop ≢ Stop.Device) × (requests.new.pending ≡ requests.old.pending)
-        × LeavesAt stop requests.old.pending) }
+        × LeavesAt stop requests.old.pending × ((stop ≡ Stop.Memory) ⊎ (stop ≡ Stop.BadByte))) }
 {
     match requests.next() {
         Ok(found) => Ok(found),
@@ -46,6 +46,8 @@ pub fn answer<W: Write, G: NodeGate>(
     ensures stop { IfErr result (λ stop. stop ≢ Stop.Device
         → (writer.new ≡ writer.old) × (buffer.new.items ≡ buffer.old.items)) }
     ensures bad { result ≢ Err Stop.BadByte }
+    ensures reason { IfErr result (HasReason G.may G.may_refuse) }
+    ensures ends { result ≢ Err Stop.Endless }
 {
     let step = match gate.step(Event::Request(conn, words)) {
         Ok(step) => step,
@@ -74,6 +76,8 @@ pub fn answer_all<W: Write, G: NodeGate>(
     ensures wants { OnOk result ((requests.new.fault ≡ None) × IsUnfinished requests.new.pending) }
     ensures stop { IfErr result (λ stop. stop ≢ Stop.Device → Halts G.may conn stop requests.old.pending
         (W.contents (device_of writer.old)) (W.contents (device_of writer.new)) buffer.old.items buffer.new.items) }
+    ensures reason { IfErr result (HasReason G.may G.may_refuse) }
+    ensures ends { result ≢ Err Stop.Endless }
     ensures device { result ≡ Err Stop.Device → HasRisen (failures_of writer.old) (failures_of writer.new) }
     ensures ok { result ≢ Err Stop.Device → failures_of writer.new ≡ failures_of writer.old }
 {

@@ -3,8 +3,8 @@ ghost use Rattle.std.specs.Prelude.{◌≡◌, ◌≢◌, ◌<◌, [], length, E
 ghost use Rattle.std.specs.Io.KnownBytes.{IsAtEnd};
 ghost use Rattle.resp2.specs.Counting.{device_of, failures_of};
 ghost use Rattle.resp2.specs.Request.{IsUnfinished};
-ghost use Rattle.listener.specs.Serving.{HasFailed};
-ghost use Rattle.listener.specs.Stopping.{StopsTalking, Talks};
+ghost use Rattle.listener.specs.Serving.{HasFailed, ReadsEndlessly};
+ghost use Rattle.listener.specs.Stopping.{HasReason, StopsTalking, Talks};
 
 use crate::answering::answer_all;
 use crate::batch::flush;
@@ -34,6 +34,9 @@ pub fn converse<R: Read, W: Write, G: NodeGate>(
     ensures stop { IfErr result (λ stop. stop ≢ Stop.Device → StopsTalking G.may conn stop
         (R.remaining (device_of reader.old)) (R.remaining (device_of reader.new))
         (W.contents (device_of writer.old)) (W.contents (device_of writer.new)) [] buffer.new.items) }
+    ensures reason { IfErr result (HasReason G.may G.may_refuse) }
+    ensures endless { result ≡ Err Stop.Endless → ReadsEndlessly
+        (R.remaining (device_of reader.old)) (R.remaining (device_of reader.new)) }
     ensures device { result ≡ Err Stop.Device → HasFailed (failures_of reader.old) (failures_of reader.new)
         (failures_of writer.old) (failures_of writer.new) }
     ensures ok { result ≢ Err Stop.Device → failures_of writer.new ≡ failures_of writer.old }
@@ -57,5 +60,5 @@ pub fn converse<R: Read, W: Write, G: NodeGate>(
             return Err(Stop::Device);
         };
     }
-    Err(Stop::Exhausted)
+    Err(Stop::Endless)
 }

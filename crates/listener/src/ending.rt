@@ -43,6 +43,10 @@ pub fn end<W: Write>(
             Ok(()) => Err(ConnFault::Unanswered),
             Err(_) => Err(ConnFault::Device),
         },
+        Stop::Endless => match flush_all(buffer, writer) {
+            Ok(()) => Err(ConnFault::Endless),
+            Err(_) => Err(ConnFault::Device),
+        },
     }
 }
 

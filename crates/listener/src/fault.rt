@@ -16,4 +16,7 @@ pub enum ConnFault {
     /// The node gave no reply.
     #[error("no reply")]
     Unanswered,
+    /// The client sent more than can be counted: at least 2^64 - 1 bytes.
+    #[error("too many reads")]
+    Endless,
 }

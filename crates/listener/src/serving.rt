@@ -1,8 +1,8 @@
 //! A conversation from its beginning to its end.
 ghost use Rattle.std.specs.Prelude.{◌≡◌, ◌≢◌, ◌<◌, [], vec_len, Err, Some, IfErr, IfOk, OnOk};
 ghost use Rattle.resp2.specs.Counting.{device_of, failures_of};
-ghost use Rattle.listener.specs.Serving.{HasFailed, IsCutBy, IsServed, WasOpened};
-ghost use Rattle.listener.specs.Stopping.{CutsTalk, EndsTalk};
+ghost use Rattle.listener.specs.Serving.{HasFailed, IsCutBy, IsServed, ReadsEndlessly, WasOpened};
+ghost use Rattle.listener.specs.Stopping.{CutsTalk, EndsTalk, HasReason};
 
 use crate::conversing::converse;
 use crate::ending::end;
@@ -29,7 +29,7 @@ pub fn serve_conn<R: Read, W: Write, G: NodeGate>(
 ) -> Result<(), ConnFault>
     ensures served { OnOk result (IsServed G.may (R.remaining (device_of reader.old)) (R.remaining (device_of reader.new))
         (W.contents (device_of writer.old)) (W.contents (device_of writer.new))) }
-    ensures cut { IfErr result (λ fault. IsCutBy fault G.may
+    ensures cut { IfErr result (λ fault. IsCutBy fault G.may G.may_refuse
         (R.remaining (device_of reader.old)) (R.remaining (device_of reader.new))
         (W.contents (device_of writer.old)) (W.contents (device_of writer.new))
         (failures_of reader.old) (failures_of reader.new) (failures_of writer.old) (failures_of writer.new)) }
@@ -37,10 +37,10 @@ pub fn serve_conn<R: Read, W: Write, G: NodeGate>(
     let mut buffer = Vec::new(alloc);
     match talk(alloc, gate, &mut buffer, reader, writer) {
         Ok(()) => Ok(()),
-        Err(stop) => {
-            end(stop, &mut buffer, writer)?;
-            Ok(())
-        }
+        Err(stop) => match end(stop, &mut buffer, writer) {
+            Ok(()) => Ok(()),
+            Err(fault) => Err(fault),
+        },
     }
 }
 
@@ -58,6 +58,9 @@ fn talk<R: Read, W: Write, G: NodeGate>(
     ensures stop { IfErr result (λ stop. stop ≢ Stop.Device → CutsTalk G.may stop
         (R.remaining (device_of reader.old)) (R.remaining (device_of reader.new))
         (W.contents (device_of writer.old)) (W.contents (device_of writer.new)) buffer.new.items) }
+    ensures reason { IfErr result (HasReason G.may G.may_refuse) }
+    ensures endless { result ≡ Err Stop.Endless → ReadsEndlessly
+        (R.remaining (device_of reader.old)) (R.remaining (device_of reader.new)) }
     ensures device { result ≡ Err Stop.Device → HasFailed (failures_of reader.old) (failures_of reader.new)
         (failures_of writer.old) (failures_of writer.new) }
     ensures ok { result ≢ Err Stop.Device → failures_of writer.new ≡ failures_of writer.old }
@@ -101,7 +104,8 @@ fn read_buffer(alloc: Global) -> Result<Vec<u8>, AllocError>
 // A new connection at the node.
 fn open<G: NodeGate>(gate: &G) -> Result<Conn, Stop>
     ensures opened { IfOk result (λ conn. WasOpened G.may conn) }
-    ensures stop { IfErr result (λ stop. (stop ≢ Stop.Device) × (stop ≢ Stop.BadByte)) }
+    ensures stop { IfErr result (λ stop. (stop ≢ Stop.Device) × (stop ≢ Stop.BadByte) × (stop ≢ Stop.Endless)) }
+    ensures reason { IfErr result (HasReason G.may G.may_refuse) }
 {
     let step = match gate.step(Event::Open) {
         Ok(step) => step,

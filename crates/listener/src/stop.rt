@@ -17,6 +17,8 @@ pub enum Stop {
     Exhausted,
     /// The node gave no reply.
     Unanswered,
+    /// As many reads were made as can be counted.
+    Endless,
 }
 
 /// What a step that was refused ends the conversation with.

@@ -1,5 +1,5 @@
 //! How the threads of connections reach a node.
-ghost use Rattle.std.specs.Prelude.{◌≡◌, IfOk};
+ghost use Rattle.std.specs.Prelude.{◌≡◌, IfOk, IfErr};
 
 use crate::deployment::Deployment;
 use crate::entered::Entered;
@@ -25,15 +25,19 @@ pub trait NodeGate {
 
     ghost use Rattle.node_core.specs.declared.event.Event.{Event as NodeEvent};
     ghost use Rattle.node_core.specs.declared.outputs.Outputs.{Outputs as NodeOutputs};
+    ghost use Rattle.node_core.specs.declared.fault.StepFault.{StepFault as Refusal};
 
     ghost may: { NodeEvent → NodeOutputs → Type 0 };
 
+    ghost may_refuse: { NodeEvent → Refusal → Type 0 };
+
     /// Makes the node's step for the event: the answer is for this event, and one that the node may give.
     ///
-    /// Memory and Exhausted leave the node as it was.
+    /// Memory and Exhausted leave the node as it was, and come where the node may refuse the event so.
     fn step(&self, event: Event) -> Result<Self::Answer, StepFault>
         ensures event { IfOk result (λ answer. Self.Answer.event answer ≡ event) }
-        ensures may { IfOk result (λ answer. may event (Self.Answer.gave answer)) };
+        ensures may { IfOk result (λ answer. may event (Self.Answer.gave answer)) }
+        ensures refused { IfErr result (λ fault. may_refuse event fault) };
 }
 
 impl<K: Deployment> Answered for Entered<K> {
