@@ -7,6 +7,8 @@ mod fault;
 mod key_words;
 mod parsing;
 mod table;
+#[cfg(test)]
+mod tests;
 
 pub use command::Command;
 pub use error_line::ErrorLine;

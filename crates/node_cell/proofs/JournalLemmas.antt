@@ -1,10 +1,9 @@
 -- One more entry in a journal.
-use Rattle.std.proofs.Common.{◌≡◌, ℕ, List, [], ◌∷◌, ◌++◌, ◌<◌, map, refl, sym, ◌∙◌, ap, subst}
+use Rattle.std.proofs.Common.{◌≡◌, ℕ, List, [], ◌∷◌, ◌++◌, ◌<◌, refl, sym, ◌∙◌, ap, subst}
 use Rattle.std.specs.Prelude.{All}
 use Rattle.std.proofs.lemmas.List.Elements.{All-nil, All-head, All-tail, All-push}
 use Rattle.node_core.specs.State.{NodeState}
 use Rattle.node_cell.specs.Journal.{IsHistory, IsJournal, Leads, Rises, tickets_of}
-use Rattle.node_cell.specs.declared.entry.Deed.{Deed}
 use Rattle.node_cell.specs.declared.entry.Entry.{Entry}
 
 -- a deed more leads on

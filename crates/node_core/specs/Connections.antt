@@ -45,9 +45,9 @@ pub record Closes (old new : ConnectionTable) (conn : Conn) : Type 0 where
   pub others : (key : ℕ) → key ≢ conn.key → open_at new key ≡ open_at old key
   pub counts : new.opens ≡ old.opens
 
--- a key was opened as often as can be counted
+-- a free key was opened as often as can be counted
 abbrev pub IsUsedUp : ConnectionTable → Type 0
-IsUsedUp table = (key : ℕ) × (opens_at table key ≡ 2 ^ 64 - 1)
+IsUsedUp table = (key : ℕ) × (open_at table key ≡ None) × (opens_at table key ≡ 2 ^ 64 - 1)
 
 -- a connection that waits for no reply may send a request
 abbrev pub may_ask : Option Connection → Bool

@@ -71,7 +71,7 @@ impl<S: Store> NodeCore<S> {
     /// Makes one step. `ticket` is its number among the steps of all nodes.
     ///
     /// The outputs come three times, so that nothing can fail once the state has changed.
-    /// Memory and Exhausted leave the node as it was; Exhausted comes only at an Open whose key was opened 2^64 - 1 times.
+    /// Memory and Exhausted leave the node as it was; Exhausted comes only at an Open, where a free key was opened 2^64 - 1 times.
     pub fn step(&mut self, _ticket: u64, event: Event) -> Result<Copies, StepFault>
         ensures step { IfOk result (λ copies. StepsTo self.old event copies self.new) }
         ensures err { OnErr result (self.new ≡ self.old) }

@@ -9,6 +9,8 @@ mod core_step;
 mod event;
 mod fault;
 mod outputs;
+#[cfg(test)]
+mod tests;
 
 pub use answer::Answer;
 pub use config::{Config, NodeConfig, Role, SlotRange, SlotRanges};

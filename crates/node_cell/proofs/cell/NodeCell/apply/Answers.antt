@@ -1,4 +1,4 @@
-use Rattle.std.proofs.Common.{rules, ◌≡◌}
+use Rattle.std.proofs.Common.{rules}
 use Rattle.node_cell.proofs.JournalLemmas.{journal_adds}
 use Rattle.node_cell.proofs.cell.NodeCell.apply.Goals as goal
 
