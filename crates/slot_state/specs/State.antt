@@ -1,0 +1,27 @@
+-- The states of the slots at a node (Redis Cluster specification, "Cluster live reconfiguration").
+use Rattle.std.specs.Prelude.{◌≡◌, ℕ, ◌==◌, if◌then◌else◌, List, Option, Some, None, length, slice_index_or}
+use Rattle.slot_state.specs.declared.state.SlotState.{SlotState}
+use Rattle.slot_state.specs.declared.state.SlotState.TheVariants.{Owned, Foreign}
+
+-- for each slot its state, and the greatest number of a move of it that the node took part in
+pub record States : Type 0 where
+  pub states : List SlotState
+  pub last_moves : List ℕ
+
+-- there is one of each for each slot
+pub record IsWhole (all : States) : Type 0 where
+  pub states : length all.states ≡ 16384
+  pub last_moves : length all.last_moves ≡ 16384
+
+-- the state of a slot
+abbrev pub state_at : States → ℕ → SlotState
+state_at all slot = slice_index_or all.states slot Foreign
+
+-- the greatest number of a move of the slot
+abbrev pub last_move_at : States → ℕ → ℕ
+last_move_at all slot = slice_index_or all.last_moves slot 0
+
+-- the state at the start, by the owner of the slot
+abbrev pub first_state : ℕ → Option ℕ → SlotState
+first_state node None = Foreign
+first_state node (Some owner) = if owner == node then Owned else Foreign

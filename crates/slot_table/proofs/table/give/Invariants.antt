@@ -1,0 +1,9 @@
+use Rattle.std.proofs.Common.{◌≡◌, ◌<◌, ◌&&◌, nat_lt, ℕ, length, Some, if◌then◌else◌}
+use Rattle.slot_table.specs.Table.{entry_at, is_in}
+use Rattle.slot_table.proofs.table.give.Given as goal
+
+abbrev pub invariant-loop-at : goal.invariant-loop-at
+invariant-loop-at l = record {
+  whole : length l.entries ≡ 16384;
+  given : (slot : ℕ) → slot < 16384 → entry_at l.entries slot ≡ (if is_in l.fn.run slot && nat_lt slot l.at then Some (record { epoch = 1; owner = l.fn.run.value }) else entry_at l.initial.entries slot);
+}

@@ -1,0 +1,16 @@
+//! Who owns each of the 16384 slots of a cluster, as a node knows it.
+#![tactic(auto)]
+
+mod claim;
+mod entry;
+mod node_no;
+mod owner;
+mod run;
+mod table;
+#[cfg(test)]
+mod tests;
+
+pub use entry::{Epoch, SlotEntry};
+pub use node_no::NodeNo;
+pub use run::Run;
+pub use table::SlotTable;
