@@ -1,0 +1,6 @@
+pub mod KeyLemmas
+pub mod NodeLemmas
+pub mod OutcomeLemmas
+pub mod PongLemmas
+pub mod RequestLemmas
+pub mod TurnLemmas

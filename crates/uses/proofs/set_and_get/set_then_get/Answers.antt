@@ -1,0 +1,24 @@
+use Rattle.std.proofs.Common.{arith, sym, ap, ◌∙◌}
+use Rattle.node_core.specs.declared.outputs.Outputs.{Outputs}
+use Rattle.uses.proofs.NodeLemmas.{set_is_got, one_entry}
+use Rattle.uses.proofs.OutcomeLemmas.{if_ok, on_ok_from_if_ok}
+use Rattle.uses.proofs.set_and_get.set_then_get.Goals as goal
+
+pub returns-clause-answer : goal.returns-clause-answer
+returns-clause-answer g c =
+    let opened = c.in_ok-opened.ensures.ok in
+    let set = c.in_ok-_set.ensures.ok in
+    let conn = ap (λ (o : Outputs). o.opened) c.outputs.ensures in
+    if_ok c.apply-3.result c.apply-3.ensures.ok (λ entered got.
+    let a = opened.makes.step in
+    let b = rw c.in_ok-set.ensures at set.makes.step in
+    let d = rw c.in_ok-get.ensures at got.makes.step in
+    set_is_got _ _ _ _ c.in-Some.conn c.args.key.now c.args.value.now _ _ _ a (sym conn ∙ c.in-Some.is) b d)
+
+pub returns-clause-entered : goal.returns-clause-entered
+returns-clause-entered g c =
+    let opened = one_entry _ _ _ _ c.in_ok-opened.ensures.ok in
+    let set = one_entry _ _ _ _ c.in_ok-_set.ensures.ok in
+    on_ok_from_if_ok c.apply-3.result c.apply-3.ensures.ok (λ entered got.
+    let third = one_entry _ _ _ _ got in
+    omega (arith, opened, set, third))

@@ -1,0 +1,2 @@
+pub mod Pongs
+pub mod WholeRequests

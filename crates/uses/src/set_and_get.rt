@@ -1,0 +1,52 @@
+//! A value that is set at a node is what the next GET is answered.
+ghost use Rattle.std.specs.Prelude.{◌≡◌, ◌≤◌, ◌∷◌, [], ℕ, List, length, ◌+◌, IfOk, OnOk, codes};
+ghost use Rattle.resp2.specs.Request.{IsRequest};
+ghost use Rattle.resp2.specs.declared.limits.TheConstants.{MOST_WORD_BYTES};
+ghost use Rattle.resp2.specs.declared.reply.Reply.TheVariants.{Bulk};
+ghost use Rattle.node_core.specs.Outputs.{answered};
+ghost use Rattle.node_core.specs.declared.answer.Answer.TheVariants.{Served};
+
+use bytes::Bytes;
+use node_cell::{Deployment, Entered, NodeCell};
+use node_core::{Event, StepFault};
+use resp2::Words;
+use std::alloc::{AllocError, Global};
+
+/// Sets the key on a connection of its own, and asks for it.
+pub fn set_then_get<K: Deployment>(
+    alloc: Global,
+    cell: &mut NodeCell<K>,
+    key: &Bytes,
+    value: &Bytes,
+) -> Result<Entered<K>, StepFault>
+    requires key { length key.now ≤ MOST_WORD_BYTES }
+    requires value { length value.now ≤ MOST_WORD_BYTES }
+    ensures answer { IfOk result (λ entered. entered.outputs ≡ answered (Served (Bulk value.now))) }
+    ensures entered { OnOk result (length cell.new.journal ≡ length cell.old.journal + 3) }
+{
+    let set = set_words(alloc, key, value)?;
+    let get = get_words(alloc, key)?;
+    let opened = cell.apply(Event::Open)?;
+    let Some(conn) = opened.outputs().opened else {
+        unreachable!()
+    };
+    let _set = cell.apply(Event::Request(conn, set))?;
+    cell.apply(Event::Request(conn, get))
+}
+
+fn set_words(alloc: Global, key: &Bytes, value: &Bytes) -> Result<Words, AllocError>
+    requires key { length key.now ≤ MOST_WORD_BYTES }
+    requires value { length value.now ≤ MOST_WORD_BYTES }
+    ensures { IfOk result (λ words. words ≡ codes "SET" ∷ key.now ∷ value.now ∷ []) }
+{
+    let items = vec![in alloc; Bytes::from_static(b"SET"), key.clone()?, value.clone()?]?;
+    Ok(Words::new(items).unwrap())
+}
+
+fn get_words(alloc: Global, key: &Bytes) -> Result<Words, AllocError>
+    requires { length key.now ≤ MOST_WORD_BYTES }
+    ensures { IfOk result (λ words. words ≡ codes "GET" ∷ key.now ∷ []) }
+{
+    let items = vec![in alloc; Bytes::from_static(b"GET"), key.clone()?]?;
+    Ok(Words::new(items).unwrap())
+}
