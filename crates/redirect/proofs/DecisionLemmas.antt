@@ -7,7 +7,7 @@ use Rattle.key_slot.specs.Slot.{hash_slot}
 use Rattle.slot_table.specs.declared.entry.SlotEntry.{SlotEntry}
 use Rattle.slot_table.specs.Table.{owner_at}
 use Rattle.slot_state.specs.declared.state.SlotState.{SlotState}
-use Rattle.slot_state.specs.declared.state.SlotState.TheVariants.{Owned, Migrating, Importing, Foreign}
+use Rattle.slot_state.specs.declared.state.SlotState.TheVariants.{Owned, Foreign}
 use Rattle.slot_state.specs.State.{States, state_at}
 use Rattle.redirect.specs.declared.decision.Decision.{Decision}
 use Rattle.redirect.specs.declared.decision.Decision.TheVariants.{Serve, CrossSlot, Moved}
@@ -66,8 +66,6 @@ other-from_two_slots key keys two =
 one_slot-decision : (slot : ℕ) (owner : Option ℕ) (state : SlotState) → decision_in slot owner state ≢ CrossSlot
 one_slot-decision slot None state same = cc
 one_slot-decision slot (Some owner) Owned same = cc
-one_slot-decision slot (Some owner) (Migrating to move_no frozen) same = cc
-one_slot-decision slot (Some owner) (Importing from move_no last drained) same = cc
 one_slot-decision slot (Some owner) Foreign same = cc
 
 -- a command is refused for its slots exactly where two of its keys are in different ones
@@ -101,15 +99,11 @@ decision-in_one_slot table states key keys made is other =
 serves-owned : (slot : ℕ) (owner : Option ℕ) (state : SlotState) → Serve ≡ decision_in slot owner state → IsSome owner × (state ≡ Owned)
 serves-owned slot None state same = absurd (cc)
 serves-owned slot (Some owner) Owned same = (refl, refl)
-serves-owned slot (Some owner) (Migrating to move_no frozen) same = absurd (cc)
-serves-owned slot (Some owner) (Importing from move_no last drained) same = absurd (cc)
 serves-owned slot (Some owner) Foreign same = absurd (cc)
 
 moves-to_owner : (slot : ℕ) (owner : Option ℕ) (state : SlotState) (named to : ℕ) → Moved named to ≡ decision_in slot owner state → (slot ≡ named) × (owner ≡ Some to)
 moves-to_owner slot None state named to same = absurd (cc)
 moves-to_owner slot (Some owner) Owned named to same = absurd (cc)
-moves-to_owner slot (Some owner) (Migrating other move_no frozen) named to same = ((cc), (cc))
-moves-to_owner slot (Some owner) (Importing from move_no last drained) named to same = ((cc), (cc))
 moves-to_owner slot (Some owner) Foreign named to same = ((cc), (cc))
 
 -- what is served is owned here, all of it

@@ -6,7 +6,7 @@ use Rattle.key_slot.specs.Slot.{hash_slot}
 use Rattle.slot_table.specs.declared.entry.SlotEntry.{SlotEntry}
 use Rattle.slot_table.specs.Table.{owner_at}
 use Rattle.slot_state.specs.declared.state.SlotState.{SlotState}
-use Rattle.slot_state.specs.declared.state.SlotState.TheVariants.{Owned, Migrating, Importing, Foreign}
+use Rattle.slot_state.specs.declared.state.SlotState.TheVariants.{Owned, Foreign}
 use Rattle.slot_state.specs.State.{States, state_at}
 use Rattle.redirect.specs.declared.decision.Decision.{Decision}
 use Rattle.redirect.specs.declared.decision.Decision.TheVariants.{Serve, CrossSlot, Down, Moved}
@@ -32,8 +32,6 @@ has_other_slot slot keys = list_any (λ key. not (hash_slot key == slot)) keys
 abbrev pub decision_in : ℕ → Option ℕ → SlotState → Decision
 decision_in slot None state = Down
 decision_in slot (Some owner) Owned = Serve
-decision_in slot (Some owner) (Migrating to move_no frozen) = Moved slot owner
-decision_in slot (Some owner) (Importing from move_no last drained) = Moved slot owner
 decision_in slot (Some owner) Foreign = Moved slot owner
 
 -- a command without keys is served anywhere; one with keys in two slots nowhere; else their one slot decides

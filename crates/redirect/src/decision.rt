@@ -46,9 +46,7 @@ pub fn decide(table: &SlotTable, states: &SlotStates, keys: &[&[u8]]) -> Decisio
     };
     match states.state(slot) {
         SlotState::Owned => Decision::Serve,
-        SlotState::Migrating { .. } | SlotState::Importing { .. } | SlotState::Foreign => {
-            Decision::Moved { slot, to: owner }
-        }
+        SlotState::Foreign => Decision::Moved { slot, to: owner },
     }
 }
 

@@ -25,8 +25,8 @@ returns-in-Owned c =
     let says = decision-says c.args.table.now c.args.states.now (map (λ key. key.now) c.args.keys.now) _ (search rules) in
     record { value = says.value; crossed = says.crossed; served = says.served; moved = says.moved }
 
-pub returns-in-Migrating : goal.returns-in-Migrating
-returns-in-Migrating c =
+pub returns-in-Foreign : goal.returns-in-Foreign
+returns-in-Foreign c =
     let other : c.has_other_slot.result ≡ has_other_slot c.slot-slot.result (map (λ key. key.now) c.in-Some.others.now) =
     c.has_other_slot.ensures ∙ sym (any_of_mapped (λ key. not (hash_slot key == c.slot-slot.result)) (λ key. key.now) c.in-Some.others.now) in
     let says = decision-says c.args.table.now c.args.states.now (map (λ key. key.now) c.args.keys.now) _ (search rules) in
