@@ -11,4 +11,4 @@ mod tests;
 pub use config_file::read_config;
 pub use fault::ProgramFault;
 pub use node_gate::{Gate, Shared};
-pub use node_server::{run_node, serve_client};
+pub use node_server::run_node;

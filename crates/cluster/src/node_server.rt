@@ -1,5 +1,7 @@
 //! The clients of a node, on sockets.
+ghost use Rattle.std.specs.Prelude.{◌≡◌, IfErr};
 ghost use Rattle.tickets.specs.Tickets.{IsFresh};
+ghost use Rattle.cluster.specs.declared.fault.ProgramFault.TheVariants.{Memory};
 
 use crate::fault::ProgramFault;
 use crate::node_gate::{Gate, Shared};
@@ -13,6 +15,8 @@ use std::sync::{Arc, Mutex, Wait};
 use tickets::Seat;
 
 /// Runs the node with this number, and serves who connects to the listener, one client after another.
+///
+/// Memory is refused before the first client, or not at all: what a conversation lacks is that client's matter alone.
 pub fn run_node<K: Deployment, R: Wait + Drop>(
     rt: R,
     alloc: Global,
@@ -22,6 +26,7 @@ pub fn run_node<K: Deployment, R: Wait + Drop>(
     listener: &TcpListener,
 ) -> Result<(), ProgramFault>
     requires { IsFresh K.table K.seats seat }
+    ensures { IfErr result (λ fault. fault ≡ Memory) }
 {
     let cell = NodeCell::<K>::new(alloc, config, node, seat)?;
     let shared = Shared {
@@ -37,8 +42,8 @@ pub fn run_node<K: Deployment, R: Wait + Drop>(
     Ok(())
 }
 
-/// Serves one client. What ends its conversation is the client's matter alone.
-pub fn serve_client<G: NodeGate>(alloc: Global, gate: &G, stream: &TcpStream) {
+// Serves one client. What ends its conversation is the client's matter alone.
+fn serve_client<G: NodeGate>(alloc: Global, gate: &G, stream: &TcpStream) {
     let _nodelay = stream.set_nodelay(true);
     let mut reader = Counting::new(stream);
     let mut writer = Counting::new(stream);
