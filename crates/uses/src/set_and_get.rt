@@ -1,5 +1,6 @@
 //! A value that is set at a node is what the next GET is answered.
-ghost use Rattle.std.specs.Prelude.{◌≡◌, ◌≤◌, ◌∷◌, [], length, ◌+◌, IfOk, OnOk, codes};
+ghost use Rattle.std.specs.Prelude.{◌≡◌, ◌≤◌, ◌∷◌, [], ℕ, List, length, ◌+◌, IfOk, OnOk, codes};
+ghost use Rattle.resp2.specs.Request.{IsRequest};
 ghost use Rattle.resp2.specs.declared.limits.TheConstants.{MOST_WORD_BYTES};
 ghost use Rattle.resp2.specs.declared.reply.Reply.TheVariants.{Bulk};
 ghost use Rattle.node_core.specs.Outputs.{answered};
