@@ -1,5 +1,8 @@
 -- The states of the slots at a node (Redis Cluster specification, "Cluster live reconfiguration").
-use Rattle.std.specs.Prelude.{◌≡◌, ℕ, ◌==◌, if◌then◌else◌, List, Option, Some, None, length, slice_index_or}
+use Rattle.std.specs.Prelude.{◌≡◌, ℕ, ◌==◌, if◌then◌else◌, List, Option, Some, None, length, map, replicate, slice_index_or}
+use Rattle.std.specs.List.{range_with_len}
+use Rattle.slot_table.specs.declared.entry.SlotEntry.{SlotEntry}
+use Rattle.slot_table.specs.Table.{owner_at}
 use Rattle.slot_state.specs.declared.state.SlotState.{SlotState}
 use Rattle.slot_state.specs.declared.state.SlotState.TheVariants.{Owned, Foreign}
 
@@ -25,3 +28,10 @@ last_move_at all slot = slice_index_or all.last_moves slot 0
 abbrev pub first_state : ℕ → Option ℕ → SlotState
 first_state node None = Foreign
 first_state node (Some owner) = if owner == node then Owned else Foreign
+
+-- the states of all slots at the start, none of which was moved
+unfoldable pub first_states : ℕ → List (Option SlotEntry) → States
+first_states node table = record {
+  states = map (λ slot. first_state node (owner_at table slot)) (range_with_len 0 16384);
+  last_moves = replicate 16384 0;
+}

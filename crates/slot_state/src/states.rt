@@ -1,6 +1,6 @@
 //! The states of all slots at one node.
 ghost use Rattle.std.specs.Prelude.{◌≡◌, ◌<◌, ℕ, IfOk, length};
-ghost use Rattle.slot_state.specs.State.{state_at, last_move_at, first_state, IsWhole};
+ghost use Rattle.slot_state.specs.State.{state_at, last_move_at, first_state, first_states, IsWhole};
 ghost use Rattle.slot_table.specs.Table.{owner_at};
 
 use crate::move_no::MoveNo;
@@ -34,6 +34,7 @@ impl SlotStates {
         ensures states { IfOk result (λ states. (slot : ℕ) → slot < 16384 → state_at states slot ≡ first_state node (owner_at table.now slot)) }
         ensures moves { IfOk result (λ states. (slot : ℕ) → slot < 16384 → last_move_at states slot ≡ 0) }
         ensures whole { IfOk result IsWhole }
+        ensures value { IfOk result (λ states. states ≡ first_states node table.now) }
     {
         let mut states = Vec::with_capacity(alloc, Slot::COUNT)?;
         for number in 0..Slot::COUNT as u16 {

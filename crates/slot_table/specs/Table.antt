@@ -1,6 +1,7 @@
 -- The owners of the slots (Redis Cluster specification, "Clients first connection and handling of redirections",
 -- "Hash slots configuration propagation").
-use Rattle.std.specs.Prelude.{ℕ, ◌&&◌, ◌==◌, nat_le, if◌then◌else◌, Bool, List, [], ◌∷◌, Option, Some, None, slice_index_or}
+use Rattle.std.specs.Prelude.{ℕ, ◌&&◌, ◌==◌, nat_le, if◌then◌else◌, Bool, List, [], ◌∷◌, map, Option, Some, None, slice_index_or}
+use Rattle.std.specs.List.{range_with_len}
 use Rattle.slot_table.specs.declared.entry.SlotEntry.{SlotEntry}
 use Rattle.slot_table.specs.declared.run.Run.{Run}
 
@@ -34,3 +35,7 @@ is_in run slot = nat_le run.first slot && nat_le slot run.last
 abbrev pub first_entry : List (Run ℕ) → ℕ → Option SlotEntry
 first_entry [] slot = None
 first_entry (run ∷ runs) slot = if is_in run slot then Some (record { epoch = 1; owner = run.value }) else first_entry runs slot
+
+-- the table at the start: the slots from 0 to 16383
+unfoldable pub first_table : List (Run ℕ) → List (Option SlotEntry)
+first_table owners = map (first_entry owners) (range_with_len 0 16384)

@@ -1,6 +1,6 @@
 //! The table of all slots with their owners.
 ghost use Rattle.std.specs.Prelude.{◌≡◌, ◌<◌, ℕ, length, IfOk, Some, None, if◌then◌else◌};
-ghost use Rattle.slot_table.specs.Table.{entry_at, owner_at, claim_at, first_entry, is_in};
+ghost use Rattle.slot_table.specs.Table.{entry_at, owner_at, claim_at, first_entry, first_table, is_in};
 ghost use Rattle.slot_table.specs.Runs.{AreRunsOf};
 
 use crate::claim::claimed_runs;
@@ -36,9 +36,9 @@ impl SlotTable {
     pub fn new(alloc: Global, owners: &[Run<NodeNo>]) -> Result<SlotTable, AllocError>
         ensures entries { IfOk result (λ table. (slot : ℕ) → slot < 16384 → entry_at table slot ≡ first_entry owners.now slot) }
         ensures whole { IfOk result (λ table. length table ≡ 16384) }
+        ensures value { IfOk result (λ table. table ≡ first_table owners.now) }
     {
-        let mut entries = Vec::from_elem(alloc, None, Slot::COUNT)?;
-        give_all(entries.as_mut_slice(), owners);
+        let entries = first_entries(alloc, owners)?;
         Ok(SlotTable { entries })
     }
 
@@ -69,6 +69,19 @@ impl SlotTable {
     {
         claimed_runs(alloc, self.entries.as_slice(), node)
     }
+}
+
+// For each slot its entry at the start.
+fn first_entries(
+    alloc: Global,
+    owners: &[Run<NodeNo>],
+) -> Result<Vec<Option<SlotEntry>>, AllocError>
+    ensures entries { IfOk result (λ entries. (slot : ℕ) → slot < 16384 → entry_at entries.items slot ≡ first_entry owners.now slot) }
+    ensures whole { IfOk result (λ entries. length entries.items ≡ 16384) }
+{
+    let mut entries = Vec::from_elem(alloc, None, Slot::COUNT)?;
+    give_all(entries.as_mut_slice(), owners);
+    Ok(entries)
 }
 
 // Each slot has the owner of the first run that has the slot.

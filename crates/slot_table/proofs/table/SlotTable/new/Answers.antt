@@ -1,9 +1,7 @@
-use Rattle.std.proofs.Common.{◌∙◌, ap, refl, Some, None}
-use Rattle.std.proofs.lemmas.List.{get_or-replicate}
-use Rattle.slot_table.specs.Table.{entry_at}
+use Rattle.slot_table.proofs.TableLemmas.{is_first_table}
 use Rattle.slot_table.proofs.table.SlotTable.new.Goals as goal
 
-pub give_all-requires-clause-free : goal.give_all-requires-clause-free
-give_all-requires-clause-free c slot lt =
-    let none = c.in_ok-entries.ensures.items_if_clones_equal (elim [ None ↦ λ copied. refl | Some entry ↦ λ copied. absurd copied ]) in
-    ap (λ entries. entry_at entries slot) (c.as_mut_slice.ensures.value ∙ none) ∙ get_or-replicate 16384 slot None None lt
+pub returns-clause-value : goal.returns-clause-value
+returns-clause-value c =
+    let entries = c.in_ok-entries.entries.items in
+    is_first_table c.args.owners.now entries c.in_ok-entries.ensures.whole c.in_ok-entries.ensures.entries

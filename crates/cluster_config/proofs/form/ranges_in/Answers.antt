@@ -1,0 +1,13 @@
+use Rattle.std.proofs.Common.{sym, ◌∙◌, arith}
+use Rattle.cluster_config.specs.Format.{range_in}
+use Rattle.cluster_config.proofs.FormLemmas.{read_more, read_none}
+use Rattle.cluster_config.proofs.form.ranges_in.Goals as goal
+
+pub loop-item-preserved : goal.loop-item-preserved
+loop-item-preserved c =
+    let more = read_more range_in c.args.items.now _ c.loop-item.ranges c.loop-item.item-index c.item-item.result c.in-Some.range c.loop-item.invariant (omega arith) c.item-item.is (sym c.range_in.ensures ∙ c.in-Some.is) in
+    rw c.in_ok-push.ensures more
+
+pub returns-in_default : goal.returns-in_default
+returns-in_default c =
+    sym (read_none range_in c.args.items.now _ c.loop-item.ranges c.loop-item.item-index c.item-item.result c.loop-item.invariant (omega arith) c.item-item.is (sym c.range_in.ensures ∙ c.in_default.is))

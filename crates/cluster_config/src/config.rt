@@ -1,0 +1,239 @@
+//! What a cluster consists of from its start.
+ghost use Rattle.std.specs.Prelude.{◌≡◌, ◌++◌, IfOk, OnOk, slice_get, option_copied};
+ghost use Rattle.cluster_config.specs.Config.{IsCluster, first_owners, runs_of};
+
+use crate::host::Host;
+use crate::node_id::NodeId;
+use key_slot::Slot;
+use slot_table::{NodeNo, Run};
+use std::alloc::{AllocError, Global};
+use std::marker::Model;
+
+/// The slots from `first` to `last`, both included.
+#[derive(Clone, Copy, PartialEq, Eq, Debug)]
+pub struct SlotRange {
+    /// The first slot.
+    pub first: Slot,
+    /// The last slot.
+    pub last: Slot,
+}
+
+/// The slots that a master has at the start.
+#[derive(Debug, Drop)]
+pub struct SlotRanges {
+    ranges: Vec<SlotRange>,
+}
+
+impl Model for SlotRanges {
+    ghost use Rattle.std.specs.Prelude.{List};
+    ghost use Rattle.cluster_config.specs.declared.config.SlotRange.{SlotRange};
+
+    ghost Value = { List SlotRange };
+
+    ghost view = { λ slots. slots.ranges.items };
+}
+
+impl SlotRanges {
+    /// The ranges in order.
+    pub fn new(ranges: Vec<SlotRange>) -> SlotRanges
+        ensures { result ≡ ranges.items }
+    {
+        SlotRanges { ranges }
+    }
+
+    /// The ranges in order.
+    pub fn as_slice(&self) -> &[SlotRange]
+        ensures { result.now ≡ self.now }
+    {
+        self.ranges.as_slice()
+    }
+}
+
+impl Clone for SlotRanges {
+    ghost is_clone = { λ slots copy. copy ≡ slots };
+
+    fn clone(&self) -> Result<SlotRanges, AllocError> {
+        let ranges = self.ranges.clone()?;
+        Ok(SlotRanges { ranges })
+    }
+}
+
+/// What a node is at the start.
+#[derive(Debug, Drop)]
+pub enum Role {
+    /// It owns these slots, which may be none.
+    Master {
+        /// The slots.
+        slots: SlotRanges,
+    },
+    /// It copies a master.
+    Replica {
+        /// The number of that master.
+        of: NodeNo,
+    },
+}
+
+impl Clone for Role {
+    ghost is_clone = { λ role copy. copy ≡ role };
+
+    fn clone(&self) -> Result<Role, AllocError> {
+        match self {
+            Role::Master { slots } => Ok(Role::Master {
+                slots: slots.clone()?,
+            }),
+            Role::Replica { of } => Ok(Role::Replica { of: *of }),
+        }
+    }
+}
+
+/// A node of the cluster.
+#[derive(Debug, Drop)]
+pub struct NodeConfig {
+    /// Its id.
+    pub id: NodeId,
+    /// Where clients reach it.
+    pub host: Host,
+    /// The port there.
+    pub port: u16,
+    /// What it is at the start.
+    pub role: Role,
+}
+
+impl Clone for NodeConfig {
+    ghost is_clone = { λ node copy. copy ≡ node };
+
+    fn clone(&self) -> Result<NodeConfig, AllocError> {
+        Ok(NodeConfig {
+            id: self.id.clone()?,
+            host: self.host.clone()?,
+            port: self.port,
+            role: self.role.clone()?,
+        })
+    }
+}
+
+/// A cluster: its nodes by their numbers, who votes, and its times.
+#[derive(Debug, Drop)]
+pub struct Config {
+    tick_ms: u32,
+    node_timeout: u32,
+    nodes: Vec<NodeConfig>,
+    voters: Vec<NodeNo>,
+}
+
+impl Model for Config {
+    ghost use Rattle.cluster_config.specs.Config.{ClusterConfig, IsCluster};
+
+    ghost Value = { ClusterConfig };
+
+    ghost view = { λ config. record {
+      tick_ms = config.tick_ms;
+      node_timeout = config.node_timeout;
+      nodes = config.nodes.items;
+      voters = config.voters.items;
+    } };
+
+    ghost invariant = { λ config. IsCluster config.nodes.items config.voters.items };
+}
+
+impl Config {
+    pub(crate) fn new(
+        tick_ms: u32,
+        node_timeout: u32,
+        nodes: Vec<NodeConfig>,
+        voters: Vec<NodeNo>,
+    ) -> Config
+        requires { IsCluster nodes.items voters.items }
+        ensures { result ≡ record { tick_ms = tick_ms; node_timeout = node_timeout; nodes = nodes.items; voters = voters.items } }
+    {
+        Config {
+            tick_ms,
+            node_timeout,
+            nodes,
+            voters,
+        }
+    }
+
+    /// The length of a tick, in milliseconds.
+    pub fn tick_ms(&self) -> u32
+        ensures { result ≡ self.now.tick_ms }
+    {
+        self.tick_ms
+    }
+
+    /// How many ticks a node may be silent.
+    pub fn node_timeout(&self) -> u32
+        ensures { result ≡ self.now.node_timeout }
+    {
+        self.node_timeout
+    }
+
+    /// The nodes by their numbers, 1 to 16 of them.
+    pub fn nodes(&self) -> &[NodeConfig]
+        ensures nodes { result.now ≡ self.now.nodes }
+        ensures cluster { IsCluster self.now.nodes self.now.voters }
+    {
+        self.nodes.as_slice()
+    }
+
+    /// The node of that number, if there is one.
+    pub fn node(&self, number: NodeNo) -> Option<&NodeConfig>
+        ensures { option_copied result ≡ slice_get self.now.nodes number }
+    {
+        self.nodes.get(number.index())
+    }
+
+    /// The numbers of the nodes that vote, in the order of the text.
+    pub fn voters(&self) -> &[NodeNo]
+        ensures voters { result.now ≡ self.now.voters }
+        ensures cluster { IsCluster self.now.nodes self.now.voters }
+    {
+        self.voters.as_slice()
+    }
+
+    /// Who owns which slots as the cluster starts: node by node, and range by range as the text has them.
+    pub fn first_owners(&self, alloc: Global) -> Result<Vec<Run<NodeNo>>, AllocError>
+        ensures { IfOk result (λ runs. runs.items ≡ first_owners self.now) }
+    {
+        let mut runs = Vec::new(alloc);
+        for (at, node) in self.nodes.iter().enumerate() {
+            let Some(owner) = NodeNo::new(at as u8) else {
+                unreachable!();
+            };
+            add_runs(&mut runs, owner, &node.role)?;
+        }
+        Ok(runs)
+    }
+}
+
+// The slots of the node go to the end of the list.
+fn add_runs(runs: &mut Vec<Run<NodeNo>>, owner: NodeNo, role: &Role) -> Result<(), AllocError>
+    ensures { OnOk result (runs.new.items ≡ runs.old.items ++ runs_of owner role.now) }
+{
+    match role {
+        Role::Master { slots } => {
+            for range in slots.as_slice() {
+                runs.push(Run {
+                    first: range.first,
+                    last: range.last,
+                    value: owner,
+                })?;
+            }
+            Ok(())
+        }
+        Role::Replica { of: _ } => Ok(()),
+    }
+}
+
+impl Clone for Config {
+    ghost is_clone = { λ config copy. copy ≡ config };
+
+    fn clone(&self) -> Result<Config, AllocError> {
+        Ok(Config {
+            tick_ms: self.tick_ms,
+            node_timeout: self.node_timeout,
+            nodes: self.nodes.clone()?,
+            voters: self.voters.clone()?,
+        })
+    }
+}
