@@ -1,4 +1,6 @@
 pub mod Again
+pub mod Appending
+pub mod Arrays
 pub mod Callers
 pub mod Decisions
 pub mod FirstBad

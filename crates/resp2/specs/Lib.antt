@@ -1,7 +1,9 @@
+pub mod Array
 pub mod Counting
 pub mod Header
 pub mod Law
 pub mod Line
+pub mod Parts
 pub mod Reader
 pub mod Reading
 pub mod Reply

@@ -1,14 +1,52 @@
 -- Replies as a server sends them (RESP protocol, "RESP protocol description").
-use Rattle.std.specs.Prelude.{ℕ, List, ◌∷◌, ◌++◌}
+use Rattle.std.specs.Prelude.{ℕ, ℤ, List, [], ◌∷◌, ◌++◌, length}
 use Rattle.std.specs.Fmt.{signed_decimal}
-use Rattle.resp2.specs.Request.{crlf, bulk_spelling}
+use Rattle.std.specs.List.{flat_map}
+use Rattle.resp2.specs.Request.{crlf, header_spelling, bulk_spelling}
+use Rattle.resp2.specs.declared.array.Element.{Element}
+use Rattle.resp2.specs.declared.array.Element.TheVariants as element
 use Rattle.resp2.specs.declared.reply.Reply.{Reply}
-use Rattle.resp2.specs.declared.reply.Reply.TheVariants.{Simple, Error, Integer, Bulk, Null}
+use Rattle.resp2.specs.declared.reply.Reply.TheVariants.{Simple, Error, Integer, Bulk, Null, Array}
 
--- `+<text>\r\n`, `-<text>\r\n`, `:<number>\r\n`, `$<length>\r\n<bytes>\r\n`, and `$-1\r\n` for no bytes
+-- `+<text>\r\n` and `-<text>\r\n`
+abbrev pub line_spelling : ℕ → List ℕ → List ℕ
+line_spelling mark text = mark ∷ (text ++ crlf)
+
+-- `:<number>\r\n`
+abbrev pub integer_spelling : ℤ → List ℕ
+integer_spelling number = 58 ∷ (signed_decimal number ++ crlf)
+
+-- `$-1\r\n`: no bytes
+abbrev pub null_spelling : List ℕ
+null_spelling = 36 ∷ 45 ∷ 49 ∷ crlf
+
+-- an element of an array; one that is an array itself is its header `*<number of elements>\r\n`, before its elements
+abbrev pub element_spelling : Element → List ℕ
+element_spelling (element.Simple text) = line_spelling 43 text
+element_spelling (element.Error text) = line_spelling 45 text
+element_spelling (element.Integer number) = integer_spelling number
+element_spelling (element.Bulk bytes) = bulk_spelling bytes
+element_spelling element.Null = null_spelling
+element_spelling (element.Array len) = header_spelling 42 len
+
+-- the six kinds of a reply
 abbrev pub reply_spelling : Reply → List ℕ
-reply_spelling (Simple text) = 43 ∷ (text ++ crlf)
-reply_spelling (Error text) = 45 ∷ (text ++ crlf)
-reply_spelling (Integer number) = 58 ∷ (signed_decimal number ++ crlf)
+reply_spelling (Simple text) = line_spelling 43 text
+reply_spelling (Error text) = line_spelling 45 text
+reply_spelling (Integer number) = integer_spelling number
 reply_spelling (Bulk bytes) = bulk_spelling bytes
-reply_spelling Null = 36 ∷ 45 ∷ 49 ∷ crlf
+reply_spelling Null = null_spelling
+reply_spelling (Array elements) = flat_map element_spelling elements
+
+-- a reply as it stands in an array
+abbrev pub elements_of : Reply → List Element
+elements_of (Simple text) = element.Simple text ∷ []
+elements_of (Error text) = element.Error text ∷ []
+elements_of (Integer number) = element.Integer number ∷ []
+elements_of (Bulk bytes) = element.Bulk bytes ∷ []
+elements_of Null = element.Null ∷ []
+elements_of (Array elements) = elements
+
+-- the array of these replies
+abbrev pub array_of : List Reply → List Element
+array_of replies = element.Array (length replies) ∷ flat_map elements_of replies

@@ -1,6 +1,7 @@
 //! RESP2, the serialization protocol between Redis clients and servers.
 #![tactic(auto)]
 
+mod array;
 mod counting;
 mod fault;
 mod header;
@@ -17,6 +18,7 @@ mod word_reading;
 mod words;
 mod writing;
 
+pub use array::{Array, Element};
 pub use counting::Counting;
 pub use fault::Fault;
 pub use law::{a_stream_is_read_in_one_way, no_spelling_begins_another, no_unfinished_is_whole};

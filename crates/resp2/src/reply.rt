@@ -1,6 +1,7 @@
 //! What a node answers.
 ghost use Rattle.std.specs.Prelude.{◌≡◌};
 
+use crate::array::Array;
 use crate::line::Line;
 use bytes::Bytes;
 use std::alloc::AllocError;
@@ -18,6 +19,8 @@ pub enum Reply {
     Bulk(Bytes),
     /// The bulk string that isn't there.
     Null,
+    /// Replies in a row.
+    Array(Array),
 }
 
 impl Clone for Reply {
@@ -30,6 +33,7 @@ impl Clone for Reply {
             Reply::Integer(number) => Ok(Reply::Integer(*number)),
             Reply::Bulk(bytes) => Ok(Reply::Bulk(bytes.clone()?)),
             Reply::Null => Ok(Reply::Null),
+            Reply::Array(array) => Ok(Reply::Array(array.clone()?)),
         }
     }
 }

@@ -1,9 +1,13 @@
 //! What no clause says: exact bytes, that calls succeed, and what a refusal leaves.
-use crate::{Counting, Fault, Line, MOST_WORD_BYTES, Reader, Reply, Words, write_reply};
+use crate::{
+    Array, Counting, Element, Fault, Line, MOST_WORD_BYTES, Reader, Reply, Words, append_reply,
+    send_reply, write_reply,
+};
 use bytes::Bytes;
-use std::alloc::Global;
+use std::alloc::{AllocError, Global};
 use std::io;
 use std::io::{ErrorKind, Read, Write};
+use std::process::Abort;
 use std::test::Fail;
 
 const PING: &[u8] = b"*1\r\n$4\r\nPING\r\n";
@@ -131,11 +135,96 @@ fn replies_are_spelled_so(rt: HostRuntime) -> Result<(), Fail> {
         (Reply::Null, b"$-1\r\n"),
     ];
     for (reply, bytes) in rows {
-        let mut out = Vec::new(rt.alloc());
-        write_reply(&reply, &mut out)?;
-        assert_eq!(rt; out.as_slice(), bytes);
-        assert!(rt; reply.clone()? == reply);
+        assert_written(&rt, rt.alloc(), &reply, bytes)?;
     }
+    Ok(())
+}
+
+#[test]
+fn arrays_are_spelled_so(rt: HostRuntime) -> Result<(), Fail> {
+    let alloc = rt.alloc();
+    assert_written(&rt, alloc, &array(Vec::new(alloc))?, b"*0\r\n")?;
+    assert_written(&rt, alloc, &nulls(alloc)?, b"*2\r\n$-1\r\n$-1\r\n")?;
+    let bytes = b"*4\r\n+OK\r\n*2\r\n$-1\r\n$-1\r\n-ERR x\r\n$0\r\n\r\n";
+    assert_written(&rt, alloc, &mixed(alloc)?, bytes)?;
+    assert_written(&rt, alloc, &slots(alloc)?, SLOTS)
+}
+
+fn array(replies: Vec<Reply>) -> Result<Reply, AllocError> {
+    let alloc = *replies.allocator();
+    Ok(Reply::Array(Array::of(alloc, replies)?))
+}
+
+fn nulls(alloc: Global) -> Result<Reply, AllocError> {
+    array(vec![in alloc; Reply::Null, Reply::Null]?)
+}
+
+fn mixed(alloc: Global) -> Result<Reply, AllocError> {
+    let nulls = nulls(alloc)?;
+    array(vec![in alloc;
+        Reply::Simple(Line::from_static(b"OK")),
+        nulls,
+        Reply::Error(Line::from_static(b"ERR x")),
+        Reply::Bulk(Bytes::new()),
+    ]?)
+}
+
+const SLOTS: &[u8] = b"*1\r\n*3\r\n:0\r\n:5460\r\n*3\r\n$9\r\n127.0.0.1\r\n:7000\r\n$1\r\n0\r\n";
+
+// The first and the last slot of a node, and where it is reached.
+fn slots(alloc: Global) -> Result<Reply, AllocError> {
+    let node = array(vec![in alloc;
+        Reply::Bulk(Bytes::from_static(b"127.0.0.1")),
+        Reply::Integer(7000),
+        Reply::Bulk(Bytes::from_static(b"0")),
+    ]?)?;
+    let entry = array(vec![in alloc; Reply::Integer(0), Reply::Integer(5460), node]?)?;
+    array(vec![in alloc; entry]?)
+}
+
+#[test]
+fn an_array_is_one_list(rt: HostRuntime) -> Result<(), Fail> {
+    let Reply::Array(slots) = slots(rt.alloc())? else {
+        return Err(Fail::from("no array"));
+    };
+    let elements = slots.as_slice();
+    assert_eq!(rt; elements.len(), 8);
+    assert!(rt; matches!(elements, [Element::Array(1), Element::Array(3), ..]));
+    assert!(rt; matches!(elements[4], Element::Array(3)));
+    Ok(())
+}
+
+// Each of the writers puts these bytes of the reply and of its copy behind what is there.
+fn assert_written(rt: &impl Abort, alloc: Global, reply: &Reply, bytes: &[u8]) -> Result<(), Fail> {
+    let copy = reply.clone()?;
+    assert!(rt; copy == *reply);
+    let mut expected = Vec::from_slice(alloc, b"before")?;
+    expected.extend_from_slice(bytes)?;
+
+    let mut written = Vec::from_slice(alloc, b"before")?;
+    write_reply(reply, &mut written)?;
+    assert_eq!(rt; written.as_slice(), expected.as_slice());
+
+    let mut sent = Counting::new(Vec::from_slice(alloc, b"before")?);
+    send_reply(&copy, &mut sent)?;
+    assert_eq!(rt; sent.device().as_slice(), expected.as_slice());
+
+    let mut appended = Vec::from_slice(alloc, b"before")?;
+    append_reply(&copy, &mut appended)?;
+    assert_eq!(rt; appended.as_slice(), expected.as_slice());
+    Ok(())
+}
+
+#[test]
+fn a_refused_array_leaves_the_buffer(rt: HostRuntime) -> Result<(), Fail> {
+    let slots = slots(rt.alloc())?;
+    let mut out = Vec::from_slice(rt.alloc(), b"+OK\r\n")?;
+    if append_reply(&slots, &mut out).is_err() {
+        assert_eq!(rt; out.as_slice(), b"+OK\r\n".as_slice());
+        append_reply(&slots, &mut out)?;
+    }
+    assert_eq!(rt; out.len(), 5 + SLOTS.len());
+    assert_eq!(rt; &out.as_slice()[5..], SLOTS);
     Ok(())
 }
 

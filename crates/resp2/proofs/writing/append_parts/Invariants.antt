@@ -1,10 +1,9 @@
-use Rattle.std.proofs.Common.{◌≡◌, ◌++◌, ℕ, List, length, take}
+use Rattle.std.proofs.Common.{◌≡◌, ◌++◌, ℕ, List, take}
 use Rattle.std.specs.Borrow.{Bor}
 use Rattle.std.specs.List.{flat_map}
 use Rattle.resp2.proofs.writing.append_parts.Given as goal
 
--- the parts so far are at the end, and `before` is where they begin
+-- the parts so far are at the end
 abbrev pub invariant-loop-part : goal.invariant-loop-part
 invariant-loop-part l =
-    (l.out.items ≡ l.fn.out.items ++ flat_map (λ (part : Bor (List ℕ)). part.now) (take l.part-index l.parts))
-    × (l.before ≡ length l.fn.out.items)
+    l.out.items ≡ l.fn.out.items ++ flat_map (λ (part : Bor (List ℕ)). part.now) (take l.part-index l.parts)

@@ -1,0 +1,13 @@
+use Rattle.std.proofs.Common.{◌≡◌, take}
+use Rattle.std.specs.List.{flat_map}
+use Rattle.std.specs.Io.KnownBytes.{Appends}
+use Rattle.resp2.specs.Counting.{device_of, failures_of}
+use Rattle.resp2.specs.Reply.{element_spelling}
+use Rattle.resp2.proofs.writing.send_elements.Given as goal
+
+-- the elements so far are written, and no call failed
+abbrev pub invariant-loop-element : goal.invariant-loop-element
+invariant-loop-element g l =
+    Appends (g.W.Write.contents (device_of l.fn.out)) (g.W.Write.contents (device_of l.out))
+    (flat_map element_spelling (take l.element-index l.elements))
+    × (failures_of l.out ≡ failures_of l.fn.out)
