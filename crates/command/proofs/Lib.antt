@@ -1,1 +1,2 @@
-pub mod WorkedValues
+pub mod LineLemmas
+mod WorkedValues

@@ -1,10 +1,10 @@
 -- The texts of errors (RESP protocol, "Simple errors": the first word is the kind).
-use Rattle.std.specs.Prelude.{List, ℕ, ◌++◌, codes}
+use Rattle.std.specs.Prelude.{List, ℕ, ◌++◌, codes, decimal}
 use Rattle.command.specs.Table.{name_text}
 use Rattle.command.specs.declared.fault.CommandFault.{CommandFault}
-use Rattle.command.specs.declared.fault.CommandFault.TheVariants.{Unknown, Arity, Memory}
+use Rattle.command.specs.declared.fault.CommandFault.TheVariants.{Unknown, UnknownSubcommand, Arity, Memory}
 use Rattle.command.specs.declared.error_line.ErrorLine.{ErrorLine}
-use Rattle.command.specs.declared.error_line.ErrorLine.TheVariants.{Protocol, OutOfMemory, Exhausted, UnknownCommand, WrongArity}
+use Rattle.command.specs.declared.error_line.ErrorLine.TheVariants.{Protocol, OutOfMemory, Exhausted, UnknownCommand, UnknownSubcommand as UnknownWord, WrongArity, CrossSlot, SlotDown}
 
 -- what a client reads behind the `-`
 abbrev pub error_text : ErrorLine → List ℕ
@@ -12,10 +12,18 @@ error_text Protocol = codes "ERR Protocol error"
 error_text OutOfMemory = codes "OOM out of memory"
 error_text Exhausted = codes "EXHAUSTED no next number"
 error_text UnknownCommand = codes "ERR unknown command"
+error_text UnknownWord = codes "ERR unknown subcommand"
+error_text CrossSlot = codes "CROSSSLOT Keys in request don't hash to the same slot"
+error_text SlotDown = codes "CLUSTERDOWN Hash slot not served"
 error_text (WrongArity name) = codes "ERR wrong number of arguments for '" ++ name_text name ++ codes "' command"
 
 -- which line tells a fault of the words
 abbrev pub line_of : CommandFault → ErrorLine
 line_of Unknown = UnknownCommand
+line_of UnknownSubcommand = UnknownWord
 line_of (Arity name) = WrongArity name
 line_of Memory = OutOfMemory
+
+-- and where another node has the slot: which slot, and where that node is reached (Redis Cluster specification, "MOVED Redirection")
+abbrev pub moved_text : ℕ → List ℕ → ℕ → List ℕ
+moved_text slot host port = codes "MOVED " ++ decimal slot ++ codes " " ++ host ++ codes ":" ++ decimal port

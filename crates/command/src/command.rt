@@ -1,26 +1,19 @@
 //! What a request asks for.
-ghost use Rattle.std.specs.Prelude.{◌≡◌};
-ghost use Rattle.command.specs.Keys.{is_write};
+ghost use Rattle.std.specs.Prelude.{◌≡◌, ◌∷◌, [], IfSome};
+ghost use Rattle.std.specs.Option.{option_copied};
+ghost use Rattle.command.specs.Keys.{is_write, keys_of, only_key};
 
+use crate::cluster_command::ClusterCommand;
+use crate::data_command::DataCommand;
 use bytes::Bytes;
 
 /// A command with its arguments.
 #[derive(Debug, Drop)]
 pub enum Command {
-    /// Answers `PONG`.
-    Ping,
-    /// The string at a key.
-    Get {
-        /// The key.
-        key: Bytes,
-    },
-    /// Puts a string at a key, in the place of whatever is there.
-    Set {
-        /// The key.
-        key: Bytes,
-        /// The string.
-        value: Bytes,
-    },
+    /// It reads or writes keys.
+    Data(DataCommand),
+    /// It asks the node about the cluster.
+    Cluster(ClusterCommand),
 }
 
 impl Command {
@@ -29,8 +22,19 @@ impl Command {
         ensures { result ≡ is_write self.now }
     {
         match self {
-            Command::Ping | Command::Get { .. } => false,
-            Command::Set { .. } => true,
+            Command::Data(command) => command.is_write(),
+            Command::Cluster(_) => false,
+        }
+    }
+
+    /// The key of a command whose syntax has one and no more, without a list of them.
+    pub fn only_key(&self) -> Option<&Bytes>
+        ensures key { option_copied result ≡ only_key self.now }
+        ensures alone { IfSome result (λ key. keys_of self.now ≡ key.now ∷ []) }
+    {
+        match self {
+            Command::Data(command) => command.only_key(),
+            Command::Cluster(_) => None,
         }
     }
 }

@@ -1,4 +1,4 @@
-//! The texts of all errors that a node sends.
+//! The texts of the errors that a node sends, but for the one that names another node.
 ghost use Rattle.std.specs.Prelude.{◌≡◌};
 ghost use Rattle.command.specs.ErrorLine.{error_text};
 
@@ -16,8 +16,14 @@ pub enum ErrorLine {
     Exhausted,
     /// No command has the name.
     UnknownCommand,
+    /// CLUSTER has no subcommand of that name.
+    UnknownSubcommand,
     /// The command doesn't take so many arguments.
     WrongArity(Name),
+    /// The keys of the command are in more than one slot.
+    CrossSlot,
+    /// No node has the slot of the keys.
+    SlotDown,
 }
 
 impl ErrorLine {
@@ -35,6 +41,15 @@ impl ErrorLine {
             }
             ErrorLine::WrongArity(Name::Get) => b"ERR wrong number of arguments for 'get' command",
             ErrorLine::WrongArity(Name::Set) => b"ERR wrong number of arguments for 'set' command",
+            ErrorLine::WrongArity(Name::Mget) => {
+                b"ERR wrong number of arguments for 'mget' command"
+            }
+            ErrorLine::WrongArity(Name::Cluster) => {
+                b"ERR wrong number of arguments for 'cluster' command"
+            }
+            ErrorLine::UnknownSubcommand => b"ERR unknown subcommand",
+            ErrorLine::CrossSlot => b"CROSSSLOT Keys in request don't hash to the same slot",
+            ErrorLine::SlotDown => b"CLUSTERDOWN Hash slot not served",
         }
     }
 

@@ -14,6 +14,9 @@ pub enum CommandFault {
     /// No command has the name.
     #[error("unknown command")]
     Unknown,
+    /// CLUSTER has no such subcommand.
+    #[error("unknown subcommand")]
+    UnknownSubcommand,
     /// The command doesn't take so many arguments.
     #[error("wrong number of arguments")]
     Arity(Name),
@@ -29,6 +32,7 @@ impl CommandFault {
     {
         match self {
             CommandFault::Unknown => ErrorLine::UnknownCommand,
+            CommandFault::UnknownSubcommand => ErrorLine::UnknownSubcommand,
             CommandFault::Arity(name) => ErrorLine::WrongArity(name),
             CommandFault::Memory => ErrorLine::OutOfMemory,
         }

@@ -1,6 +1,6 @@
 //! The names of the commands.
 ghost use Rattle.std.specs.Prelude.{◌≡◌};
-ghost use Rattle.command.specs.Table.{name_of, name_text};
+ghost use Rattle.command.specs.Table.{name_of, name_text, subcommand_of};
 
 /// A command's name, read without regard to ASCII case.
 #[derive(Clone, Copy, PartialEq, Eq, Debug)]
@@ -11,6 +11,10 @@ pub enum Name {
     Get,
     /// SET key value
     Set,
+    /// MGET key [key ...]
+    Mget,
+    /// CLUSTER subcommand [argument ...]
+    Cluster,
 }
 
 impl Name {
@@ -24,6 +28,10 @@ impl Name {
             Some(Name::Get)
         } else if word.eq_ignore_ascii_case(b"set") {
             Some(Name::Set)
+        } else if word.eq_ignore_ascii_case(b"mget") {
+            Some(Name::Mget)
+        } else if word.eq_ignore_ascii_case(b"cluster") {
+            Some(Name::Cluster)
         } else {
             None
         }
@@ -37,6 +45,36 @@ impl Name {
             Name::Ping => b"ping",
             Name::Get => b"get",
             Name::Set => b"set",
+            Name::Mget => b"mget",
+            Name::Cluster => b"cluster",
+        }
+    }
+}
+
+/// The word after CLUSTER, read without regard to ASCII case.
+#[derive(Clone, Copy, PartialEq, Eq, Debug)]
+pub enum Subcommand {
+    /// CLUSTER KEYSLOT key
+    KeySlot,
+    /// CLUSTER MYID
+    MyId,
+    /// CLUSTER SLOTS
+    Slots,
+}
+
+impl Subcommand {
+    /// The subcommand that a word spells, or None where it spells none.
+    pub fn of(word: &[u8]) -> Option<Subcommand>
+        ensures { result ≡ subcommand_of word.now }
+    {
+        if word.eq_ignore_ascii_case(b"keyslot") {
+            Some(Subcommand::KeySlot)
+        } else if word.eq_ignore_ascii_case(b"myid") {
+            Some(Subcommand::MyId)
+        } else if word.eq_ignore_ascii_case(b"slots") {
+            Some(Subcommand::Slots)
+        } else {
+            None
         }
     }
 }

@@ -1,5 +1,8 @@
 //! Words from outside: which of them are commands, and the exact texts that answer those that are none.
-use crate::{Command, CommandFault, ErrorLine, Name, keys, parse};
+use crate::{
+    ClusterCommand, Command, CommandFault, DataCommand, ErrorLine, KeyList, Name, Subcommand, keys,
+    moved_reply, parse,
+};
 use bytes::Bytes;
 use resp2::{Reply, Words};
 use std::alloc::Global;
@@ -18,60 +21,113 @@ fn words(alloc: Global, texts: &[&'static [u8]]) -> Result<Words, Fail> {
 fn names_are_read_in_any_case(rt: HostRuntime) -> Result<(), Fail> {
     let alloc = rt.alloc();
     for name in ["get", "GET", "GeT"] {
-        let command = parse(&words(alloc, &[name.as_bytes(), b"a"])?)?;
-        assert!(rt; matches!(&command, Command::Get { key } if key.as_slice() == b"a".as_slice()));
-        assert!(rt; !command.is_write());
+        let command = parse(alloc, &words(alloc, &[name.as_bytes(), b"a"])?)?;
+        assert!(rt;
+            matches!(&command, Command::Data(DataCommand::Get { key }) if key.as_slice() == b"a".as_slice())
+        );
+        assert!(rt; !command.is_write() && is_only_key(&command, b"a"));
         let keys = keys(alloc, &command)?;
         assert!(rt; keys.len() == 1 && keys[0] == b"a".as_slice());
     }
     for name in ["set", "SET", "sEt"] {
-        let command = parse(&words(alloc, &[name.as_bytes(), b"a", b""])?)?;
+        let command = parse(alloc, &words(alloc, &[name.as_bytes(), b"a", b""])?)?;
         assert!(rt;
-            matches!(&command, Command::Set { key, value } if key.as_slice() == b"a".as_slice() && value.is_empty())
+            matches!(&command, Command::Data(DataCommand::Set { key, value }) if key.as_slice() == b"a".as_slice() && value.is_empty())
         );
-        assert!(rt; command.is_write());
+        assert!(rt; command.is_write() && is_only_key(&command, b"a"));
         let keys = keys(alloc, &command)?;
         assert!(rt; keys.len() == 1 && keys[0] == b"a".as_slice());
     }
-    let command = parse(&words(alloc, &[b"pINg"])?)?;
-    assert!(rt; matches!(&command, Command::Ping));
+    let command = parse(alloc, &words(alloc, &[b"pINg"])?)?;
+    assert!(rt; matches!(&command, Command::Data(DataCommand::Ping)));
     assert!(rt; !command.is_write() && keys(alloc, &command)?.is_empty());
+    assert!(rt; command.only_key().is_none());
+    Ok(())
+}
+
+fn is_only_key(command: &Command, key: &[u8]) -> bool {
+    command
+        .only_key()
+        .is_some_and(|only| only.as_slice() == key)
+}
+
+#[test]
+fn mget_takes_any_number_of_keys(rt: HostRuntime) -> Result<(), Fail> {
+    let alloc = rt.alloc();
+    let command = parse(alloc, &words(alloc, &[b"mGet", b"a", b"a"])?)?;
+    let Command::Data(DataCommand::Mget { keys: list }) = &command else {
+        return Err(Fail::from("no MGET"));
+    };
+    assert_eq!(rt; list.as_slice().len(), 2);
+    assert!(rt; !command.is_write() && command.only_key().is_none());
+    let keys = keys(alloc, &command)?;
+    assert!(rt; keys.len() == 2 && keys[0] == b"a".as_slice() && keys[1] == b"a".as_slice());
+    let one = parse(alloc, &words(alloc, &[b"MGET", b"a"])?)?;
+    assert!(rt; one.only_key().is_none());
+    assert!(rt; KeyList::new(Vec::new(alloc)).is_none());
+    Ok(())
+}
+
+#[test]
+fn cluster_has_three_subcommands(rt: HostRuntime) -> Result<(), Fail> {
+    let alloc = rt.alloc();
+    let keyslot = parse(alloc, &words(alloc, &[b"CLUSTER", b"KeySlot", b"foo"])?)?;
+    assert!(rt;
+        matches!(&keyslot, Command::Cluster(ClusterCommand::KeySlot { key }) if key.as_slice() == b"foo".as_slice())
+    );
+    assert!(rt; !keyslot.is_write() && keyslot.only_key().is_none());
+    assert!(rt; keys(alloc, &keyslot)?.is_empty());
+    let myid = parse(alloc, &words(alloc, &[b"cluster", b"MYID"])?)?;
+    assert!(rt; matches!(&myid, Command::Cluster(ClusterCommand::MyId)));
+    let slots = parse(alloc, &words(alloc, &[b"Cluster", b"slots"])?)?;
+    assert!(rt; matches!(&slots, Command::Cluster(ClusterCommand::Slots)));
+    assert!(rt; Subcommand::of(b"keyslots").is_none());
     Ok(())
 }
 
 #[test]
 fn other_words_are_no_command(rt: HostRuntime) -> Result<(), Fail> {
-    let alloc = rt.alloc();
-    let unknown = [
-        words(alloc, &[b""])?,
-        words(alloc, &[b"GETT", b"a"])?,
-        words(alloc, &[b"GET ", b"a"])?,
-        words(alloc, &[b"GE", b"a"])?,
-        words(alloc, &[b"GET\0", b"a"])?,
-        words(alloc, &[b"a", b"GET"])?,
-        words(alloc, &[b"\xc7\x45\x54", b"a"])?,
+    let rows: [(&[&'static [u8]], CommandFault); 21] = [
+        (&[b""], CommandFault::Unknown),
+        (&[b"GETT", b"a"], CommandFault::Unknown),
+        (&[b"GET ", b"a"], CommandFault::Unknown),
+        (&[b"GE", b"a"], CommandFault::Unknown),
+        (&[b"GET\0", b"a"], CommandFault::Unknown),
+        (&[b"a", b"GET"], CommandFault::Unknown),
+        (&[b"\xc7\x45\x54", b"a"], CommandFault::Unknown),
+        (&[b"KEYSLOT", b"a"], CommandFault::Unknown),
+        (&[b"PING", b"hello"], CommandFault::Arity(Name::Ping)),
+        (&[b"GET"], CommandFault::Arity(Name::Get)),
+        (&[b"get", b"a", b"b"], CommandFault::Arity(Name::Get)),
+        (&[b"SET"], CommandFault::Arity(Name::Set)),
+        (&[b"SET", b"a"], CommandFault::Arity(Name::Set)),
+        (&[b"MGET"], CommandFault::Arity(Name::Mget)),
+        (&[b"CLUSTER"], CommandFault::Arity(Name::Cluster)),
+        (
+            &[b"CLUSTER", b"KEYSLOT"],
+            CommandFault::Arity(Name::Cluster),
+        ),
+        (
+            &[b"CLUSTER", b"MYID", b"a"],
+            CommandFault::Arity(Name::Cluster),
+        ),
+        (
+            &[b"CLUSTER", b"SLOTS", b"a"],
+            CommandFault::Arity(Name::Cluster),
+        ),
+        (&[b"CLUSTER", b"NODES"], CommandFault::UnknownSubcommand),
+        (
+            &[b"CLUSTER", b"NODES", b"a"],
+            CommandFault::UnknownSubcommand,
+        ),
+        (&[b"CLUSTER", b"SLOTS "], CommandFault::UnknownSubcommand),
     ];
-    for (at, words) in unknown.iter().enumerate() {
-        assert!(rt;
-            matches!(parse(words), Err(CommandFault::Unknown)),
-            "at {at}"
-        );
+    for (at, (texts, fault)) in rows.into_iter().enumerate() {
+        let read = parse(rt.alloc(), &words(rt.alloc(), texts)?);
+        assert_eq!(rt; read.err(), Some(fault), "at {at}");
     }
-    let long = Vec::from_elem(alloc, b'g', 100_000)?;
+    let long = Vec::from_elem(rt.alloc(), b'g', 100_000)?;
     assert!(rt; Name::of(long.as_slice()).is_none());
-    let wrong = [
-        (words(alloc, &[b"PING", b"hello"])?, Name::Ping),
-        (words(alloc, &[b"GET"])?, Name::Get),
-        (words(alloc, &[b"get", b"a", b"b"])?, Name::Get),
-        (words(alloc, &[b"SET"])?, Name::Set),
-        (words(alloc, &[b"SET", b"a"])?, Name::Set),
-    ];
-    for (at, (words, name)) in wrong.iter().enumerate() {
-        assert!(rt;
-            matches!(parse(words), Err(CommandFault::Arity(told)) if told == *name),
-            "at {at}"
-        );
-    }
     Ok(())
 }
 
@@ -82,6 +138,15 @@ fn errors_are_told_by_these_lines(rt: HostRuntime) -> Result<(), Fail> {
         (CommandFault::Memory.line(), "OOM out of memory"),
         (ErrorLine::Exhausted, "EXHAUSTED no next number"),
         (CommandFault::Unknown.line(), "ERR unknown command"),
+        (
+            CommandFault::UnknownSubcommand.line(),
+            "ERR unknown subcommand",
+        ),
+        (
+            ErrorLine::CrossSlot,
+            "CROSSSLOT Keys in request don't hash to the same slot",
+        ),
+        (ErrorLine::SlotDown, "CLUSTERDOWN Hash slot not served"),
         (
             CommandFault::Arity(Name::Ping).line(),
             "ERR wrong number of arguments for 'ping' command",
@@ -94,6 +159,14 @@ fn errors_are_told_by_these_lines(rt: HostRuntime) -> Result<(), Fail> {
             CommandFault::Arity(Name::Set).line(),
             "ERR wrong number of arguments for 'set' command",
         ),
+        (
+            CommandFault::Arity(Name::Mget).line(),
+            "ERR wrong number of arguments for 'mget' command",
+        ),
+        (
+            CommandFault::Arity(Name::Cluster).line(),
+            "ERR wrong number of arguments for 'cluster' command",
+        ),
     ];
     for (line, text) in lines {
         assert!(rt; line.text() == text.as_bytes(), "{text}");
@@ -102,18 +175,48 @@ fn errors_are_told_by_these_lines(rt: HostRuntime) -> Result<(), Fail> {
             "{text}"
         );
     }
-    for (name, text) in [(Name::Ping, "ping"), (Name::Get, "get"), (Name::Set, "set")] {
+    Ok(())
+}
+
+#[test]
+fn a_client_is_sent_to_the_node_that_has_the_slot(rt: HostRuntime) -> Result<(), Fail> {
+    let rows = [
+        (12182, "127.0.0.1", 7002, "MOVED 12182 127.0.0.1:7002"),
+        (0, "a.example", 1, "MOVED 0 a.example:1"),
+        (16383, "h", 65535, "MOVED 16383 h:65535"),
+    ];
+    for (slot, host, port, text) in rows {
+        let reply = moved_reply(rt.alloc(), slot, host.as_bytes(), port)?;
+        assert!(rt;
+            matches!(&reply, Reply::Error(told) if told.as_slice() == text.as_bytes()),
+            "{text}"
+        );
+    }
+    Ok(())
+}
+
+#[test]
+fn names_and_faults_are_printed_so(rt: HostRuntime) -> Result<(), Fail> {
+    let names = [
+        (Name::Ping, "ping"),
+        (Name::Get, "get"),
+        (Name::Set, "set"),
+        (Name::Mget, "mget"),
+        (Name::Cluster, "cluster"),
+    ];
+    for (name, text) in names {
         assert!(rt; Name::of(text.as_bytes()) == Some(name) && name.text() == text.as_bytes());
     }
     let printed = format!(in rt.alloc();
-        "{}, {}, {}",
+        "{}, {}, {}, {}",
         CommandFault::Unknown,
+        CommandFault::UnknownSubcommand,
         CommandFault::Arity(Name::Get),
         CommandFault::Memory
     )?;
     assert_eq!(rt;
         printed.as_str(),
-        "unknown command, wrong number of arguments, out of memory"
+        "unknown command, unknown subcommand, wrong number of arguments, out of memory"
     );
     Ok(())
 }

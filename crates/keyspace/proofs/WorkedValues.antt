@@ -2,8 +2,8 @@
 use Rattle.std.proofs.Common.{◌≡◌, refl, [], ◌∷◌, rules}
 use Rattle.std.specs.Prelude.{codes}
 use Rattle.std.specs.FinMap.{gets}
-use Rattle.resp2.specs.declared.reply.Reply.{Reply}
-use Rattle.resp2.specs.declared.reply.Reply.TheVariants.{Simple, Error, Bulk, Null}
+use Rattle.resp2.specs.Reply.{array_of}
+use Rattle.resp2.specs.declared.reply.Reply.TheVariants.{Simple, Error, Bulk, Null, Array}
 use Rattle.keyspace.specs.Commands.{replay}
 
 -- a string is set and read, with names in any case
@@ -16,6 +16,15 @@ set_again : (replay ((codes "SET" ∷ codes "a" ∷ codes "1" ∷ []) ∷ (codes
     ∷ (codes "GET" ∷ codes "a" ∷ []) ∷ (codes "GET" ∷ codes "b" ∷ []) ∷ [])).replies
     ≡ Simple (codes "OK") ∷ Simple (codes "OK") ∷ Bulk (codes "2") ∷ Null ∷ []
 set_again = grind (gets, rules)
+
+-- several strings at once: of a key that is there, one that is missing, and the first again
+several : (replay ((codes "SET" ∷ codes "a" ∷ codes "1" ∷ []) ∷ (codes "MGET" ∷ codes "a" ∷ codes "b" ∷ codes "a" ∷ []) ∷ [])).replies
+    ≡ Simple (codes "OK") ∷ Array (array_of (Bulk (codes "1") ∷ Null ∷ Bulk (codes "1") ∷ [])) ∷ []
+several = grind (gets, rules)
+
+-- a keyspace by itself knows no command about a cluster
+no_cluster : (replay ((codes "CLUSTER" ∷ codes "MYID" ∷ []) ∷ [])).replies ≡ Error (codes "ERR unknown command") ∷ []
+no_cluster = refl
 
 -- what is no command changes nothing
 no_command : (replay ((codes "PING" ∷ []) ∷ (codes "GET" ∷ []) ∷ (codes "foo" ∷ []) ∷ [])).replies

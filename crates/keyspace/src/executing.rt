@@ -1,15 +1,16 @@
 //! Commands on a store.
-ghost use Rattle.std.specs.Prelude.{◌≡◌, OnErr, IfOk, codes};
+ghost use Rattle.std.specs.Prelude.{◌≡◌, OnErr, IfOk, codes, map};
 ghost use Rattle.std.specs.Option.{option_copied};
-ghost use Rattle.std.specs.FinMap as map;
-ghost use Rattle.keyspace.specs.Commands.{exec, replies_of, keyspace_after, bulk_or_null};
+ghost use Rattle.keyspace.specs.Commands.{exec, replies_of, keyspace_after, bulk_or_null, string_at};
 ghost use Rattle.keyspace.specs.Plan.{applied};
+ghost use Rattle.resp2.specs.Reply.{array_of};
 
 use crate::planning::Plan;
 use crate::store::Store;
 use crate::value::Value;
-use command::Command;
-use resp2::{Line, Reply};
+use bytes::Bytes;
+use command::DataCommand;
+use resp2::{Array, Line, Reply};
 use std::alloc::{AllocError, Global};
 
 #[tactic(auto, using(crate::proofs::Applied::applied_empty))]
@@ -17,13 +18,13 @@ use std::alloc::{AllocError, Global};
 pub fn plan_command<S: Store>(
     alloc: Global,
     store: &S,
-    command: &Command,
+    command: &DataCommand,
 ) -> Result<(Reply, Plan), AllocError>
     ensures reply { IfOk result (λ planned. planned.0 ≡ (exec (S.contents store.now) command.now).reply) }
     ensures after { IfOk result (λ planned. applied (S.contents store.now) planned.1 ≡ (exec (S.contents store.now) command.now).after) }
 {
     let mut plan = Plan::new(alloc);
-    let reply = plan_next(store, &mut plan, command)?;
+    let reply = plan_next(alloc, store, &mut plan, command)?;
     Ok((reply, plan))
 }
 
@@ -32,7 +33,7 @@ pub fn plan_command<S: Store>(
 pub fn plan<S: Store>(
     alloc: Global,
     store: &S,
-    commands: &[Command],
+    commands: &[DataCommand],
 ) -> Result<(Vec<Reply>, Plan), AllocError>
     ensures replies { IfOk result (λ planned. planned.0.items ≡ replies_of (S.contents store.now) commands.now) }
     ensures after { IfOk result (λ planned. applied (S.contents store.now) planned.1 ≡ keyspace_after (S.contents store.now) commands.now) }
@@ -40,42 +41,70 @@ pub fn plan<S: Store>(
     let mut replies = Vec::with_capacity(alloc, commands.len())?;
     let mut plan = Plan::new(alloc);
     for command in commands {
-        let reply = plan_next(store, &mut plan, command)?;
+        let reply = plan_next(alloc, store, &mut plan, command)?;
         replies.push(reply)?;
     }
     Ok((replies, plan))
 }
 
 /// Executes the command at once, all of it, or nothing where memory is refused: one walk down the store.
-pub fn exec<S: Store>(_alloc: Global, store: &mut S, command: &Command) -> Result<Reply, AllocError>
+pub fn exec<S: Store>(
+    alloc: Global,
+    store: &mut S,
+    command: &DataCommand,
+) -> Result<Reply, AllocError>
     ensures reply { IfOk result (λ reply. record { reply = reply; after = S.contents store.new } ≡ exec (S.contents store.old) command.now) }
     ensures err { OnErr result (S.contents store.new ≡ S.contents store.old) }
 {
     match command {
-        Command::Ping => Ok(pong()),
-        Command::Get { key } => bulk_or_null(store.get(key)),
-        Command::Set { key, value } => {
+        DataCommand::Ping => Ok(pong()),
+        DataCommand::Get { key } => bulk_or_null(store.get(key)),
+        DataCommand::Set { key, value } => {
             let (key, value) = (key.clone()?, value.clone()?);
             store.insert(key, Value::Str(value))?;
             Ok(ok())
         }
+        DataCommand::Mget { keys } => strings_at(alloc, store, &Plan::new(alloc), keys.as_slice()),
     }
 }
 
 #[tactic(auto, using(crate::proofs::Applied::applied_insert))]
 // The command after those whose changes are in the plan.
-fn plan_next<S: Store>(store: &S, plan: &mut Plan, command: &Command) -> Result<Reply, AllocError>
+fn plan_next<S: Store>(
+    alloc: Global,
+    store: &S,
+    plan: &mut Plan,
+    command: &DataCommand,
+) -> Result<Reply, AllocError>
     ensures { IfOk result (λ reply. record { reply = reply; after = applied (S.contents store.now) plan.new } ≡ exec (applied (S.contents store.now) plan.old) command.now) }
 {
     match command {
-        Command::Ping => Ok(pong()),
-        Command::Get { key } => bulk_or_null(plan.look(store, key)),
-        Command::Set { key, value } => {
+        DataCommand::Ping => Ok(pong()),
+        DataCommand::Get { key } => bulk_or_null(plan.look(store, key)),
+        DataCommand::Set { key, value } => {
             let (key, value) = (key.clone()?, value.clone()?);
             plan.insert(key, Some(Value::Str(value)))?;
             Ok(ok())
         }
+        DataCommand::Mget { keys } => strings_at(alloc, store, plan, keys.as_slice()),
     }
+}
+
+#[tactic(auto, using(crate::proofs::Applied::applied_empty))]
+// The string at each of the keys, once the changes of the plan are made.
+fn strings_at<S: Store>(
+    alloc: Global,
+    store: &S,
+    plan: &Plan,
+    keys: &[Bytes],
+) -> Result<Reply, AllocError>
+    ensures { IfOk result (λ reply. reply ≡ Reply.Array (array_of (map (string_at (applied (S.contents store.now) plan.now)) keys.now))) }
+{
+    let mut strings = Vec::with_capacity(alloc, keys.len())?;
+    for key in keys {
+        strings.push(bulk_or_null(plan.look(store, key))?)?;
+    }
+    Ok(Reply::Array(Array::of(alloc, strings)?))
 }
 
 fn pong() -> Reply

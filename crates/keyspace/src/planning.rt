@@ -2,6 +2,7 @@
 ghost use Rattle.std.specs.Prelude.{◌≡◌, OnOk, OnErr};
 ghost use Rattle.std.specs.Option.{option_copied};
 ghost use Rattle.std.specs.FinMap as map;
+ghost use Rattle.keyspace.specs.Keyspace.{Keyspace};
 ghost use Rattle.keyspace.specs.Plan.{changes_of, applied};
 
 use crate::committing::{change_all, change_key};
@@ -37,9 +38,11 @@ impl Model for Plan {
 }
 
 impl Plan {
-    // A plan that changes nothing.
-    pub(crate) fn new(alloc: Global) -> Plan
-        ensures { result ≡ map.empty }
+    /// A plan that changes nothing.
+    #[tactic(auto, using(crate::proofs::Applied::applied_empty))]
+    pub fn new(alloc: Global) -> Plan
+        ensures empty { result ≡ map.empty }
+        ensures nothing { (keyspace : Keyspace) → applied keyspace result ≡ keyspace }
     {
         Plan {
             first: None,

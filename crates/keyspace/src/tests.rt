@@ -3,9 +3,9 @@ ghost use Rattle.std.specs.Prelude.{◌≡◌};
 
 use super::*;
 use bytes::Bytes;
-use command::Command;
-use resp2::Reply;
-use std::alloc::AllocError;
+use command::{DataCommand, KeyList};
+use resp2::{Array, Line, Reply};
+use std::alloc::{AllocError, Global};
 use std::test::Fail;
 
 // A store that has room for so many new keys.
@@ -43,23 +43,40 @@ fn word(text: &'static [u8]) -> Bytes
     Bytes::from_static(text)
 }
 
-fn get(key: &'static [u8]) -> Command {
-    Command::Get { key: word(key) }
+fn get(key: &'static [u8]) -> DataCommand {
+    DataCommand::Get { key: word(key) }
 }
 
-fn set(key: &'static [u8], value: &'static [u8]) -> Command {
-    Command::Set {
+fn set(key: &'static [u8], value: &'static [u8]) -> DataCommand {
+    DataCommand::Set {
         key: word(key),
         value: word(value),
     }
 }
 
-fn is_simple(reply: &Reply, text: &[u8]) -> bool {
-    matches!(reply, Reply::Simple(line) if line.as_slice() == text)
+fn mget(alloc: Global, keys: &[&'static [u8]]) -> Result<DataCommand, Fail> {
+    let mut words = Vec::new(alloc);
+    for key in keys {
+        words.push(word(key))?;
+    }
+    let keys = KeyList::new(words).ok_or("there is no key")?;
+    Ok(DataCommand::Mget { keys })
 }
 
-fn is_bulk(reply: &Reply, text: &[u8]) -> bool {
-    matches!(reply, Reply::Bulk(bytes) if bytes.as_slice() == text)
+fn ok() -> Reply {
+    Reply::Simple(Line::from_static(b"OK"))
+}
+
+fn pong() -> Reply {
+    Reply::Simple(Line::from_static(b"PONG"))
+}
+
+fn string(text: &'static [u8]) -> Reply {
+    Reply::Bulk(word(text))
+}
+
+fn array(alloc: Global, replies: Vec<Reply>) -> Result<Reply, Fail> {
+    Ok(Reply::Array(Array::of(alloc, replies)?))
 }
 
 fn has<S: Store>(store: &S, key: &'static [u8], text: &[u8]) -> bool {
@@ -72,15 +89,25 @@ fn has_none<S: Store>(store: &S, key: &'static [u8]) -> bool {
 
 #[test]
 fn what_is_set_is_got(rt: HostRuntime) -> Result<(), Fail> {
-    let mut store = TreeStore::new(rt.alloc());
-    let reply = exec(rt.alloc(), &mut store, &get(b"a"))?;
-    assert!(rt; matches!(reply, Reply::Null));
-    let reply = exec(rt.alloc(), &mut store, &set(b"a", b"1"))?;
-    assert!(rt; is_simple(&reply, b"OK"));
-    let reply = exec(rt.alloc(), &mut store, &get(b"a"))?;
-    assert!(rt; is_bulk(&reply, b"1"));
-    let reply = exec(rt.alloc(), &mut store, &Command::Ping)?;
-    assert!(rt; is_simple(&reply, b"PONG"));
+    let alloc = rt.alloc();
+    let mut store = TreeStore::new(alloc);
+    let steps = [
+        (get(b"a"), Reply::Null),
+        (set(b"a", b"1"), ok()),
+        (get(b"a"), string(b"1")),
+        (
+            mget(alloc, &[b"a", b"b", b"a"])?,
+            array(
+                alloc,
+                vec![in alloc; string(b"1"), Reply::Null, string(b"1")]?,
+            )?,
+        ),
+        (DataCommand::Ping, pong()),
+    ];
+    for (at, (command, expected)) in steps.iter().enumerate() {
+        let reply = exec(alloc, &mut store, command)?;
+        assert!(rt; &reply == expected, "command {at}");
+    }
     store.remove(&word(b"a"));
     assert!(rt; has_none(&store, b"a"));
     Ok(())
@@ -90,25 +117,34 @@ fn what_is_set_is_got(rt: HostRuntime) -> Result<(), Fail> {
 fn a_command_is_planned_and_committed(rt: HostRuntime) -> Result<(), Fail> {
     let mut store = TreeStore::new(rt.alloc());
     let (reply, planned) = plan_command(rt.alloc(), &store, &set(b"a", b"1"))?;
-    assert!(rt; is_simple(&reply, b"OK"));
+    assert!(rt; reply == ok());
     assert!(rt; has_none(&store, b"a"));
     commit(rt.alloc(), &mut store, planned)?;
+    assert!(rt; has(&store, b"a", b"1"));
+    let nothing = Plan::new(rt.alloc());
+    commit(rt.alloc(), &mut store, nothing)?;
     assert!(rt; has(&store, b"a", b"1"));
     Ok(())
 }
 
 #[test]
 fn a_later_command_reads_what_is_planned(rt: HostRuntime) -> Result<(), Fail> {
-    let mut store = TreeStore::new(rt.alloc());
-    let commands = [set(b"a", b"1"), get(b"a"), set(b"a", b"2"), Command::Ping];
-    let (replies, planned) = plan(rt.alloc(), &store, &commands)?;
-    assert_eq!(rt; replies.len(), 4);
-    assert!(rt; is_simple(&replies[0], b"OK"));
-    assert!(rt; is_bulk(&replies[1], b"1"));
-    assert!(rt; is_simple(&replies[2], b"OK"));
-    assert!(rt; is_simple(&replies[3], b"PONG"));
+    let alloc = rt.alloc();
+    let mut store = TreeStore::new(alloc);
+    store.insert(word(b"b"), Value::Str(word(b"0")))?;
+    let commands = [
+        set(b"a", b"1"),
+        get(b"a"),
+        set(b"a", b"2"),
+        mget(alloc, &[b"a", b"b", b"c", b"a"])?,
+        DataCommand::Ping,
+    ];
+    let several = vec![in alloc; string(b"2"), string(b"0"), Reply::Null, string(b"2")]?;
+    let expected = [ok(), string(b"1"), ok(), array(alloc, several)?, pong()];
+    let (replies, planned) = plan(alloc, &store, &commands)?;
+    assert!(rt; replies.as_slice() == expected.as_slice());
     assert!(rt; has_none(&store, b"a"));
-    commit(rt.alloc(), &mut store, planned)?;
+    commit(alloc, &mut store, planned)?;
     assert!(rt; has(&store, b"a", b"2"));
     Ok(())
 }

@@ -1,0 +1,23 @@
+-- Texts that numbers stand in are on one line.
+use Rattle.std.proofs.Common.{◌≡◌, ℕ, ◌+◌, ◌<◌, ◌^◌, ◌%◌, List, [], ◌∷◌, ◌++◌, true, refl, arith}
+use Rattle.std.specs.Prelude.{decimal}
+use Rattle.std.proofs.lemmas.Fmt.{decimal_by_steps}
+use Rattle.std.proofs.lemmas.List.Folds.{list_all-append}
+use Rattle.resp2.specs.Line.{is_one_line, is_text_byte}
+use Rattle.command.specs.ErrorLine.{moved_text}
+
+one_line-append : (front rest : List ℕ) → is_one_line front ≡ true → is_one_line rest ≡ true → is_one_line (front ++ rest) ≡ true
+one_line-append front rest one other = rw (list_all-append is_text_byte front rest, one, other) refl
+
+-- CR and LF stand before the digits
+digit_is_text : (digit : ℕ) → is_text_byte (48 + digit) ≡ true
+digit_is_text digit = grind arith
+
+number_is_one_line : (n : ℕ) → n < 2 ^ 64 → is_one_line (decimal n) ≡ true
+number_is_one_line =
+    decimal_by_steps (λ _ text. is_one_line text ≡ true) (λ n _. rw (digit_is_text n) refl)
+    (λ n text _ front. one_line-append text ((48 + n % 10) ∷ []) front (rw (digit_is_text (n % 10)) refl))
+
+pub moved_is_one_line : (slot port : ℕ) (host : List ℕ) → slot < 2 ^ 64 → port < 2 ^ 64 → is_one_line host ≡ true → is_one_line (moved_text slot host port) ≡ true
+moved_is_one_line slot port host slot_fits port_fits one =
+    simp (list_all-append is_text_byte, number_is_one_line slot slot_fits, number_is_one_line port port_fits, one)
