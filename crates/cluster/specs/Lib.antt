@@ -1,2 +1,2 @@
 pub mod Answers
-pub mod ConfigFile
+pub mod Faults

@@ -5,10 +5,11 @@ ghost use Rattle.cluster.specs.declared.fault.ProgramFault.TheVariants.{Memory};
 
 use crate::fault::ProgramFault;
 use crate::node_gate::{Gate, Shared};
+use cluster_config::Config;
 use listener::serve_conn;
 use node_cell::{Deployment, NodeCell, NodeGate};
-use node_core::Config;
 use resp2::Counting;
+use slot_table::NodeNo;
 use std::alloc::Global;
 use std::net::{TcpListener, TcpStream};
 use std::sync::{Arc, Mutex, Wait};
@@ -21,7 +22,7 @@ pub fn run_node<K: Deployment, R: Wait + Drop>(
     rt: R,
     alloc: Global,
     config: &Config,
-    node: usize,
+    node: NodeNo,
     seat: Seat,
     listener: &TcpListener,
 ) -> Result<(), ProgramFault>

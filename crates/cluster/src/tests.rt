@@ -2,10 +2,12 @@
 ghost use Rattle.tickets.specs.Tickets.{IsFresh};
 
 use crate::{Gate, ProgramFault, Shared, read_config};
+use cluster_config::Config;
 use listener::{ConnFault, serve_conn};
 use node_cell::{Deed, Deployment, NodeCell};
-use node_core::{Config, Event};
+use node_core::Event;
 use resp2::Counting;
+use slot_table::NodeNo;
 use std::alloc::{AllocError, Global};
 use std::io;
 use std::io::{Read, Write};
@@ -14,9 +16,16 @@ use std::sync::{Arc, Mutex, Wait};
 use std::test::Fail;
 use tickets::{Seat, open};
 
-const ONE_NODE: &str = "{\"tick_ms\":100,\"node_timeout\":20,\"nodes\":[{\"id\":\
-\"0000000000000000000000000000000000000000\",\"host\":\"127.0.0.1\",\"port\":7000,\
-\"slots\":[[0,16383]]}],\"voters\":[\"0000000000000000000000000000000000000000\"]}";
+// Three masters with a third of the slots each, and a replica of each.
+const SIX_NODES: &str = "\
+{\"tick_ms\":100,\"node_timeout\":20,\"nodes\":[\
+{\"id\":\"0000000000000000000000000000000000000000\",\"host\":\"127.0.0.1\",\"port\":7000,\"slots\":[[0,5460]]},\
+{\"id\":\"0000000000000000000000000000000000000001\",\"host\":\"127.0.0.1\",\"port\":7001,\"slots\":[[5461,10922]]},\
+{\"id\":\"0000000000000000000000000000000000000002\",\"host\":\"127.0.0.1\",\"port\":7002,\"slots\":[[10923,16383]]},\
+{\"id\":\"0000000000000000000000000000000000000003\",\"host\":\"127.0.0.1\",\"port\":7003,\"replica_of\":\"0000000000000000000000000000000000000000\"},\
+{\"id\":\"0000000000000000000000000000000000000004\",\"host\":\"127.0.0.1\",\"port\":7004,\"replica_of\":\"0000000000000000000000000000000000000001\"},\
+{\"id\":\"0000000000000000000000000000000000000005\",\"host\":\"127.0.0.1\",\"port\":7005,\"replica_of\":\"0000000000000000000000000000000000000002\"}\
+],\"voters\":[\"0000000000000000000000000000000000000000\",\"0000000000000000000000000000000000000001\",\"0000000000000000000000000000000000000002\"]}";
 
 /// Bytes that come in two pieces.
 #[derive(Drop)]
@@ -65,13 +74,14 @@ fn converse<K: Deployment, R: Wait + Drop>(
     rt: R,
     alloc: Global,
     seat: Seat,
+    node: NodeNo,
     front: &[u8],
     back: &[u8],
 ) -> Result<Held, Fail>
     requires { IsFresh K.table K.seats seat }
 {
-    let config = read_config(alloc, ONE_NODE.as_bytes())?;
-    let cell = NodeCell::<K>::new(alloc, &config, 0, seat)?;
+    let config = read_config(alloc, SIX_NODES.as_bytes())?;
+    let cell = NodeCell::<K>::new(alloc, &config, node, seat)?;
     let shared = Shared {
         cell: Mutex::new(cell),
     };
@@ -109,15 +119,42 @@ fn converse<K: Deployment, R: Wait + Drop>(
     })
 }
 
+// A conversation with the node of that number among the six.
 fn hold<R: Wait + AllocGlobal + Copy + Drop>(
     rt: R,
+    node: u8,
     front: &[u8],
     back: &[u8],
 ) -> Result<Held, Fail> {
     let alloc = rt.alloc();
     let (_table, mut seats) = open(alloc, 1)?;
     let seat = seats.pop().ok_or("no seat")?;
-    converse::<Brand, R>(rt, alloc, seat, front, back)
+    let node = NodeNo::new(node).ok_or("no node")?;
+    converse::<Brand, R>(rt, alloc, seat, node, front, back)
+}
+
+// The bytes that the node writes for this command.
+fn answered<R: Wait + AllocGlobal + Copy + Drop>(
+    rt: R,
+    node: u8,
+    words: &[&[u8]],
+) -> Result<Vec<u8>, Fail> {
+    let request = spelled(rt.alloc(), words)?;
+    let held = hold(rt, node, request.as_slice(), b"")?;
+    Ok(held.written.bytes)
+}
+
+fn spelled(alloc: Global, words: &[&[u8]]) -> Result<Vec<u8>, Fail> {
+    let mut request = Vec::new(alloc);
+    let count = words.len();
+    write!(request, "*{count}\r\n")?;
+    for word in words {
+        let len = word.len();
+        write!(request, "${len}\r\n")?;
+        request.extend_from_slice(word)?;
+        request.extend_from_slice(b"\r\n")?;
+    }
+    Ok(request)
 }
 
 #[test]
@@ -125,7 +162,7 @@ fn a_ping_is_answered_once_however_it_is_cut(rt: HostRuntime) -> Result<(), Fail
     let ping = b"*1\r\n$4\r\nPING\r\n";
     for cut in 0..ping.len() {
         let (front, back) = ping.split_at(cut);
-        let held = hold(rt, front, back)?;
+        let held = hold(rt, 2, front, back)?;
         assert!(rt; held.ended.is_ok());
         assert_eq!(rt;
             held.written.bytes.as_slice(),
@@ -138,7 +175,7 @@ fn a_ping_is_answered_once_however_it_is_cut(rt: HostRuntime) -> Result<(), Fail
 
 #[test]
 fn a_request_that_never_becomes_whole_is_not_answered(rt: HostRuntime) -> Result<(), Fail> {
-    let held = hold(rt, b"*2\r\n$3\r\nGET\r\n$3\r\nfo", b"")?;
+    let held = hold(rt, 2, b"*2\r\n$3\r\nGET\r\n$3\r\nfo", b"")?;
     assert!(rt; held.ended.is_ok());
     assert!(rt; held.written.bytes.is_empty());
     assert_eq!(rt;
@@ -152,7 +189,7 @@ fn a_request_that_never_becomes_whole_is_not_answered(rt: HostRuntime) -> Result
 fn a_bad_byte_ends_the_conversation(rt: HostRuntime) -> Result<(), Fail> {
     let rows: [&[u8]; 3] = [b"*1\r\n$03\r\nGET\r\n", b"*65537\r\n", b"PING\r\n"];
     for row in rows {
-        let held = hold(rt, row, b"*1\r\n$4\r\nPING\r\n")?;
+        let held = hold(rt, 2, row, b"*1\r\n$4\r\nPING\r\n")?;
         assert!(rt; held.ended.is_ok());
         assert_eq!(rt;
             held.written.bytes.as_slice(),
@@ -166,6 +203,7 @@ fn a_bad_byte_ends_the_conversation(rt: HostRuntime) -> Result<(), Fail> {
 fn a_string_is_set_and_read(rt: HostRuntime) -> Result<(), Fail> {
     let held = hold(
         rt,
+        2,
         b"*3\r\n$3\r\nSET\r\n$1\r\na\r\n$1\r\n1\r\n*2\r\n$3\r\nget\r\n$1\r\na\r\n",
         b"",
     )?;
@@ -183,6 +221,7 @@ fn a_string_is_set_and_read(rt: HostRuntime) -> Result<(), Fail> {
 fn errors_are_told_and_the_conversation_goes_on(rt: HostRuntime) -> Result<(), Fail> {
     let held = hold(
         rt,
+        2,
         b"*1\r\n$3\r\nGET\r\n*1\r\n$3\r\nfoo\r\n*2\r\n$3\r\nGET\r\n$1\r\nx\r\n",
         b"*1\r\n$4\r\nping\r\n",
     )?;
@@ -201,7 +240,7 @@ fn sixteen_requests_of_one_read_are_answered_by_one_write(rt: HostRuntime) -> Re
         requests.extend_from_slice(b"*1\r\n$4\r\nPING\r\n")?;
         answers.extend_from_slice(b"+PONG\r\n")?;
     }
-    let held = hold(rt, requests.as_slice(), b"")?;
+    let held = hold(rt, 2, requests.as_slice(), b"")?;
     assert!(rt; held.ended.is_ok());
     assert_eq!(rt; held.written.bytes.as_slice(), answers.as_slice());
     assert_eq!(rt; held.written.calls, 1);
@@ -217,60 +256,125 @@ fn a_long_value_comes_back_whole(rt: HostRuntime) -> Result<(), Fail> {
     let mut answers = Vec::from_slice(rt.alloc(), b"+OK\r\n$100000\r\n")?;
     answers.extend_from_slice(value.as_slice())?;
     answers.extend_from_slice(b"\r\n")?;
-    let held = hold(rt, requests.as_slice(), b"")?;
+    let held = hold(rt, 2, requests.as_slice(), b"")?;
     assert!(rt; held.ended.is_ok());
     assert_eq!(rt; held.written.bytes.as_slice(), answers.as_slice());
     Ok(())
 }
 
 #[test]
-fn a_lone_master_is_read(rt: HostRuntime) -> Result<(), Fail> {
-    let config: Config = read_config(rt.alloc(), ONE_NODE.as_bytes())?;
-    let node = config.nodes().first().ok_or("no node")?;
-    assert_eq!(rt; node.host.as_slice(), b"127.0.0.1".as_slice());
-    assert_eq!(rt; node.port, 7000);
+fn a_key_of_another_node_is_there(rt: HostRuntime) -> Result<(), Fail> {
+    let rows: [(u8, &[&[u8]], &[u8]); 5] = [
+        (
+            0,
+            &[b"SET", b"foo", b"v"],
+            b"-MOVED 12182 127.0.0.1:7002\r\n",
+        ),
+        (0, &[b"GET", b""], b"$-1\r\n"),
+        (5, &[b"GET", b"x"], b"-MOVED 16287 127.0.0.1:7002\r\n"),
+        (3, &[b"GET", b""], b"-MOVED 0 127.0.0.1:7000\r\n"),
+        (
+            1,
+            &[b"MGET", b"{b}1", b"{b}2"],
+            b"-MOVED 3300 127.0.0.1:7000\r\n",
+        ),
+    ];
+    for (node, words, reply) in rows {
+        assert_eq!(rt; answered(rt, node, words)?.as_slice(), reply);
+    }
+    Ok(())
+}
+
+#[test]
+fn several_keys_are_read_where_they_share_a_slot(rt: HostRuntime) -> Result<(), Fail> {
+    let crossed = b"-CROSSSLOT Keys in request don't hash to the same slot\r\n";
     assert_eq!(rt;
-        node.id.as_slice(),
-        b"0000000000000000000000000000000000000000".as_slice()
+        answered(rt, 2, &[b"MGET", b"a", b"b"])?.as_slice(),
+        crossed.as_slice()
+    );
+    let nothing = b"*2\r\n$-1\r\n$-1\r\n";
+    let found = answered(rt, 2, &[b"MGET", b"{a}1", b"{a}2"])?;
+    assert_eq!(rt; found.as_slice(), nothing.as_slice());
+    let requests =
+        b"*3\r\n$3\r\nSET\r\n$4\r\n{a}1\r\n$1\r\nx\r\n*3\r\n$4\r\nMGET\r\n$4\r\n{a}1\r\n$4\r\n{a}2\r\n";
+    let held = hold(rt, 2, requests, b"")?;
+    assert_eq!(rt;
+        held.written.bytes.as_slice(),
+        b"+OK\r\n*2\r\n$1\r\nx\r\n$-1\r\n".as_slice()
     );
     Ok(())
 }
 
 #[test]
-fn another_text_is_no_configuration(rt: HostRuntime) -> Result<(), Fail> {
-    let changes = [
-        ("{\"tick_ms\"", "[\"tick_ms\""),
-        ("\"tick_ms\":100,", ""),
-        ("\"tick_ms\":100", "\"tick_ms\":0"),
-        ("\"tick_ms\":100", "\"tick_ms\":1000001"),
-        ("\"tick_ms\":100", "\"tick_ms\":1e2"),
-        ("\"node_timeout\":20", "\"node_timeout\":\"20\""),
-        ("\"port\":7000", "\"port\":0"),
-        ("\"port\":7000", "\"port\":65536"),
-        ("127.0.0.1", "127.0.0.1:1"),
-        ("127.0.0.1", ""),
-        ("[[0,16383]]", "[[0,16382]]"),
-        ("[[0,16383]]", "[[0,16384]]"),
-        ("\"voters\":[\"0", "\"voters\":[\"1"),
-        ("\"id\":\"0", "\"id\":\"G"),
-        ("\"id\":\"0", "\"id\":\"00"),
-        ("\"port\":7000", "\"port\":7000,\"port\":7000"),
-        ("\"port\":7000", "\"port\":7000,\"weight\":1"),
+fn a_key_has_the_slot_of_its_tag(rt: HostRuntime) -> Result<(), Fail> {
+    let rows: [(&[u8], &[u8]); 4] = [
+        (b"{a}x", b":15495\r\n"),
+        (b"foo{}{bar}", b":8363\r\n"),
+        (b"foo{{bar}}zap", b":4015\r\n"),
+        (b"foo{bar}{zap}", b":5061\r\n"),
     ];
-    for (old, new) in changes {
-        let (front, back) = ONE_NODE.split_once(old).ok_or("no such text")?;
-        let text = format!(in rt.alloc(); "{front}{new}{back}")?;
-        let refused = matches!(
-            read_config(rt.alloc(), text.as_str().as_bytes()),
-            Err(ProgramFault::ConfigSyntax)
-        );
-        assert!(rt; refused, "{new}");
+    for (key, reply) in rows {
+        let found = answered(rt, 4, &[b"CLUSTER", b"KEYSLOT", key])?;
+        assert_eq!(rt; found.as_slice(), reply);
     }
-    assert!(rt;
-        matches!(
-            read_config(rt.alloc(), b""),
-            Err(ProgramFault::ConfigSyntax)
-        )
-    );
+    Ok(())
+}
+
+#[test]
+fn each_node_tells_which_slots_the_masters_have(rt: HostRuntime) -> Result<(), Fail> {
+    let told = b"*3\r\n\
+*3\r\n:0\r\n:5460\r\n*3\r\n$9\r\n127.0.0.1\r\n:7000\r\n$40\r\n0000000000000000000000000000000000000000\r\n\
+*3\r\n:5461\r\n:10922\r\n*3\r\n$9\r\n127.0.0.1\r\n:7001\r\n$40\r\n0000000000000000000000000000000000000001\r\n\
+*3\r\n:10923\r\n:16383\r\n*3\r\n$9\r\n127.0.0.1\r\n:7002\r\n$40\r\n0000000000000000000000000000000000000002\r\n";
+    for node in 0..6u8 {
+        let slots = answered(rt, node, &[b"cluster", b"slots"])?;
+        assert_eq!(rt; slots.as_slice(), told.as_slice());
+        let id = answered(rt, node, &[b"CLUSTER", b"MyId"])?;
+        let expected = format!(in rt.alloc();
+            "$40\r\n000000000000000000000000000000000000000{node}\r\n"
+        )?;
+        assert_eq!(rt; id.as_slice(), expected.as_str().as_bytes());
+    }
+    Ok(())
+}
+
+#[test]
+fn other_words_about_the_cluster_are_refused(rt: HostRuntime) -> Result<(), Fail> {
+    let wrong_number = b"-ERR wrong number of arguments for 'cluster' command\r\n".as_slice();
+    let unknown = b"-ERR unknown subcommand\r\n".as_slice();
+    let rows: [(&[&[u8]], &[u8]); 6] = [
+        (&[b"CLUSTER"], wrong_number),
+        (&[b"CLUSTER", b"KEYSLOT"], wrong_number),
+        (&[b"CLUSTER", b"MYID", b"x"], wrong_number),
+        (&[b"CLUSTER", b"SLOTS", b"x"], wrong_number),
+        (&[b"CLUSTER", b"NODES"], unknown),
+        (&[b"CLUSTER", b"", b"x"], unknown),
+    ];
+    for (words, reply) in rows {
+        assert_eq!(rt; answered(rt, 0, words)?.as_slice(), reply);
+    }
+    Ok(())
+}
+
+#[test]
+fn a_text_that_is_no_configuration_is_refused_with_a_code(rt: HostRuntime) -> Result<(), Fail> {
+    let rows = [
+        ("{\"tick_ms\"", "[\"tick_ms\"", "fault K1"),
+        ("\"id\":\"0", "\"id\":\"G", "fault K2"),
+        ("[[0,5460]]", "[[0,5461]]", "fault K3"),
+        ("\"replica_of\":\"0", "\"replica_of\":\"1", "fault K4"),
+        ("\"voters\":[\"0", "\"voters\":[\"1", "fault K5"),
+        ("\"port\":7001", "\"port\":7000", "fault K7"),
+        ("\"port\":7001", "\"port\":0", "fault K8"),
+    ];
+    for (old, new, code) in rows {
+        let (front, back) = SIX_NODES.split_once(old).ok_or("no such text")?;
+        let text = format!(in rt.alloc(); "{front}{new}{back}")?;
+        let Err(fault) = read_config(rt.alloc(), text.as_str().as_bytes()) else {
+            return Err(Fail::from("the text is read"));
+        };
+        let told = format!(in rt.alloc(); "{fault}")?;
+        assert_eq!(rt; told.as_str(), code);
+    }
     Ok(())
 }

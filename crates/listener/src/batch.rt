@@ -4,7 +4,7 @@ ghost use Rattle.resp2.specs.Counting.{device_of, failures_of, HasRisen};
 ghost use Rattle.resp2.specs.Reply.{reply_spelling};
 ghost use Rattle.listener.specs.Stopping.{Puts};
 
-use resp2::{Counting, Reply, append_reply, send_reply};
+use resp2::{Counting, Element, Reply, append_reply, send_reply};
 use std::io;
 use std::io::Write;
 
@@ -62,6 +62,11 @@ pub fn flush<W: Write>(buffer: &mut Vec<u8>, writer: &mut Counting<W>) -> io::Re
 fn is_long(reply: &Reply) -> bool {
     match reply {
         Reply::Bulk(bytes) => bytes.len() > LONG_VALUE,
+        Reply::Array(array) => array.as_slice().iter().any(has_long_value),
         Reply::Simple(_) | Reply::Error(_) | Reply::Integer(_) | Reply::Null => false,
     }
+}
+
+fn has_long_value(element: &Element) -> bool {
+    matches!(element, Element::Bulk(bytes) if bytes.len() > LONG_VALUE)
 }

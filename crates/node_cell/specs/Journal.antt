@@ -1,6 +1,6 @@
 -- The journal of a node: what it did, in order, each under the ticket that was drawn for it.
 use Rattle.std.specs.Prelude.{◌≡◌, ◌<◌, ◌≤◌, ◌^◌, ◌⊎◌, ℕ, List, [], ◌∷◌, ◌++◌, map, length, All}
-use Rattle.node_core.specs.Config.{ClusterConfig}
+use Rattle.cluster_config.specs.Config.{ClusterConfig}
 use Rattle.node_core.specs.Connections.{IsUsedUp}
 use Rattle.node_core.specs.State.{NodeState}
 use Rattle.node_core.specs.Step.{NodeStep}

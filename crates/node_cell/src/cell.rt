@@ -10,8 +10,10 @@ ghost use Rattle.node_cell.specs.Journal.{Advances, Enters, IsRefused, IsHistory
 use crate::deployment::Deployment;
 use crate::entered::Entered;
 use crate::entry::{Deed, Entry};
+use cluster_config::Config;
 use keyspace::TreeStore;
-use node_core::{Config, Copies, Core, Event, Outputs, StepFault};
+use node_core::{Copies, Core, Event, Outputs, StepFault};
+use slot_table::NodeNo;
 use std::alloc::{AllocError, Global};
 use std::marker::{Model, PhantomData};
 use tickets::Seat;
@@ -22,7 +24,7 @@ use tickets::Seat;
 #[derive(Drop)]
 pub struct NodeCell<K: Deployment> {
     config: Config,
-    node: usize,
+    node: NodeNo,
     core: Core,
     journal: Vec<Entry>,
     seat: Seat,
@@ -55,13 +57,13 @@ impl<K: Deployment> NodeCell<K> {
     pub fn new(
         alloc: Global,
         config: &Config,
-        node: usize,
+        node: NodeNo,
         seat: Seat,
     ) -> Result<NodeCell<K>, AllocError>
         requires { IsFresh K.table K.seats seat }
         ensures { IfOk result (λ cell. cell ≡ record { config = config.now; node = node; state = first_state config.now node; journal = [] }) }
     {
-        let core = Core::new(alloc, config.clone()?, node, TreeStore::new(alloc));
+        let core = Core::new(alloc, config.clone()?, node, TreeStore::new(alloc))?;
         Ok(NodeCell {
             config: config.clone()?,
             node,
@@ -97,7 +99,7 @@ impl<K: Deployment> NodeCell<K> {
     }
 
     /// The configuration, the node's number, its journal and its seat.
-    pub fn finish(self) -> (Config, usize, Vec<Entry>, Seat)
+    pub fn finish(self) -> (Config, NodeNo, Vec<Entry>, Seat)
         ensures parts { (result.0 ≡ self.config) × (result.1 ≡ self.node) × (result.2.items ≡ self.journal) }
         ensures history { IsHistory (first_state self.config self.node) self.journal self.state }
         ensures rises { Rises (tickets_of self.journal) }

@@ -1,4 +1,4 @@
-pub mod Config
+pub mod ClusterRequests
 pub mod Connections
 pub mod Outputs
 pub mod State

@@ -2,7 +2,7 @@
 use Rattle.std.specs.Prelude.{Some, None}
 use Rattle.resp2.specs.declared.reply.Reply.{Reply}
 use Rattle.node_core.specs.declared.answer.Answer.{Answer}
-use Rattle.node_core.specs.declared.answer.Answer.TheVariants.{Served, Refused}
+use Rattle.node_core.specs.declared.answer.Answer.TheVariants.{Served, Told, Refused}
 use Rattle.node_core.specs.declared.connections.Conn.{Conn}
 use Rattle.node_core.specs.declared.outputs.Copies.{Copies}
 use Rattle.node_core.specs.declared.outputs.Outputs.{Outputs}
@@ -10,6 +10,7 @@ use Rattle.node_core.specs.declared.outputs.Outputs.{Outputs}
 -- what the client reads
 abbrev pub reply_of : Answer → Reply
 reply_of (Served reply) = reply
+reply_of (Told reply) = reply
 reply_of (Refused reply) = reply
 
 -- nothing at all

@@ -1,32 +1,16 @@
 -- The state of a node (Redis Cluster specification, "Redis Cluster nodes attributes", "Cluster live reconfiguration",
 -- "Cluster current epoch", "Failure detection").
-use Rattle.std.specs.Prelude.{ℕ, zero, suc, ◌&&◌, Bool, List, [], ◌∷◌, ◌++◌, Option, Some, None, map, nat_le, position, if◌then◌else◌, ◌==◌}
+use Rattle.std.specs.Prelude.{ℕ, List, [], Option, Some, None, slice_get}
 use Rattle.std.specs.FinMap as fin_map
-use Rattle.std.specs.List.{list_any}
 use Rattle.keyspace.specs.Keyspace.{Keyspace}
-use Rattle.node_core.specs.Config.{ClusterConfig}
+use Rattle.slot_table.specs.declared.entry.SlotEntry.{SlotEntry}
+use Rattle.slot_table.specs.Table.{first_table}
+use Rattle.slot_state.specs.State.{States, first_states}
+use Rattle.cluster_config.specs.Config.{ClusterConfig, first_owners}
+use Rattle.cluster_config.specs.declared.config.NodeConfig.{NodeConfig}
+use Rattle.cluster_config.specs.declared.config.Role.{Role}
+use Rattle.cluster_config.specs.declared.config.Role.TheVariants.{Master, Replica}
 use Rattle.node_core.specs.Connections.{ConnectionTable}
-use Rattle.node_core.specs.declared.config.Role.{Role}
-use Rattle.node_core.specs.declared.config.Role.TheVariants.{Master}
-
--- what a node does with the keys of a slot: it serves them; moves them to another node, with the key that
--- stands still while its copy is under way; takes them from another node; or leaves them to their owner
-pub data SlotState : Type 0 where
-  owned : SlotState
-  migrating : (to number : ℕ) → (frozen : Option (List ℕ)) → SlotState
-  importing : (from number last : ℕ) → (drained : Bool) → SlotState
-  foreign : SlotState
-
--- who owns a slot, as a node was told, and in which epoch
-pub record SlotEntry : Type 0 where
-  pub epoch : ℕ
-  pub owner : ℕ
-
--- a slot at a node; the greatest number of a move of it that the node took part in
-pub record SlotView : Type 0 where
-  pub state : SlotState
-  pub last_move : ℕ
-  pub entry : Option SlotEntry
 
 -- a node that was reported, by whom, and how many ticks ago
 pub record Suspicion : Type 0 where
@@ -49,10 +33,14 @@ pub record StreamView : Type 0 where
   pub received : List ℕ
   pub former : Option (StreamId × ℕ)
 
--- what a node knows and holds
+-- what a node knows and holds: the cluster's configuration and its own number there; its keys; who owns each slot, and what
+-- it does itself with the keys of each; epochs, votes and suspicions; its master, if it is a replica; its stream; its clients
 pub record NodeState : Type 0 where
+  pub config : ClusterConfig
+  pub number : ℕ
   pub keyspace : Keyspace
-  pub slots : List SlotView
+  pub table : List (Option SlotEntry)
+  pub states : States
   pub current_epoch : ℕ
   pub last_vote_epoch : ℕ
   pub suspicions : List Suspicion
@@ -60,43 +48,40 @@ pub record NodeState : Type 0 where
   pub stream : StreamView
   pub connections : ConnectionTable
 
--- the slot is in one of the ranges of a master
-abbrev pub is_in_ranges : ℕ → Role → Bool
-is_in_ranges slot (Master ranges) = list_any (λ range. nat_le range.start slot && nat_le slot range.end) ranges
+-- the master that a node copies at the start, if it is a replica
+abbrev pub master_in : Role → Option ℕ
+master_in (Master slots) = None
+master_in (Replica of) = Some of
 
--- the node that has a slot at the start
-abbrev pub first_owner : ClusterConfig → ℕ → Option ℕ
-first_owner config slot = position (λ node. is_in_ranges slot node.role) config.nodes
+abbrev pub first_master : Option NodeConfig → Option ℕ
+first_master None = None
+first_master (Some node) = master_in node.role
 
--- a slot as a node sees it at the start: in epoch 1 the owner's, if there is one
-abbrev pub slot_seen_by : ℕ → Option ℕ → SlotView
-slot_seen_by node None = record { state = foreign; last_move = 0; entry = None }
-slot_seen_by node (Some owner) =
-    record { state = (if owner == node then owned else foreign); last_move = 0; entry = Some (record { epoch = 1; owner = owner }) }
+-- the stream at the start: a master's own, or that of a replica's master
+abbrev pub stream_node : ℕ → Option ℕ → ℕ
+stream_node number None = number
+stream_node number (Some master) = master
 
--- 0, 1, 2 and so on, so many
-unfoldable pub numbers_below : ℕ → List ℕ
-numbers_below zero = []
-numbers_below (suc n) = numbers_below n ++ n ∷ []
-
--- the slots from 0 to 16383 at the start
-unfoldable pub first_slots : ClusterConfig → ℕ → List SlotView
-first_slots config node = map (λ slot. slot_seen_by node (first_owner config slot)) (numbers_below 16384)
-
--- the stream of a master at the start
 abbrev pub first_stream : ℕ → StreamView
 first_stream node =
     record { id = record { node = node; epoch = 0 }; first_kept = 0; bytes = []; offset = 0; received = []; former = None }
 
--- the state in which a node begins
+-- the table of all nodes at the start
+abbrev pub table_of : ClusterConfig → List (Option SlotEntry)
+table_of config = first_table (first_owners config)
+
+-- the state in which the node of that number begins
 abbrev pub first_state : ClusterConfig → ℕ → NodeState
-first_state config node = record {
+first_state config number = record {
+  config = config;
+  number = number;
   keyspace = fin_map.empty;
-  slots = first_slots config node;
+  table = table_of config;
+  states = first_states number (table_of config);
   current_epoch = 1;
   last_vote_epoch = 0;
   suspicions = [];
-  master = None;
-  stream = first_stream node;
+  master = first_master (slice_get config.nodes number);
+  stream = first_stream (stream_node number (first_master (slice_get config.nodes number)));
   connections = record { slots = []; opens = [] };
 }

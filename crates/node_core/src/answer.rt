@@ -10,7 +10,9 @@ use std::alloc::AllocError;
 pub enum Answer {
     /// The words are a data command, and it was executed.
     Served(Reply),
-    /// The words are no command: nothing was executed.
+    /// The words ask about the cluster, and that was told: nothing was executed.
+    Told(Reply),
+    /// The words are no command, or none for this node: nothing was executed.
     Refused(Reply),
 }
 
@@ -20,7 +22,7 @@ impl Answer {
         ensures { result.now ≡ reply_of self.now }
     {
         match self {
-            Answer::Served(reply) | Answer::Refused(reply) => reply,
+            Answer::Served(reply) | Answer::Told(reply) | Answer::Refused(reply) => reply,
         }
     }
 }
@@ -31,6 +33,7 @@ impl Clone for Answer {
     fn clone(&self) -> Result<Answer, AllocError> {
         match self {
             Answer::Served(reply) => Ok(Answer::Served(reply.clone()?)),
+            Answer::Told(reply) => Ok(Answer::Told(reply.clone()?)),
             Answer::Refused(reply) => Ok(Answer::Refused(reply.clone()?)),
         }
     }

@@ -3,7 +3,7 @@
 #![tactic(auto)]
 
 mod answer;
-mod config;
+mod cluster_requests;
 mod connections;
 mod core_step;
 mod event;
@@ -13,7 +13,6 @@ mod outputs;
 mod tests;
 
 pub use answer::Answer;
-pub use config::{Config, NodeConfig, Role, SlotRange, SlotRanges};
 pub use connections::{Asking, Conn, Connection, Connections};
 pub use core_step::{Core, NodeCore};
 pub use event::Event;

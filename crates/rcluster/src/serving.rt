@@ -1,6 +1,7 @@
 //! `rcluster serve`: the nodes of a configuration, on sockets.
 use cluster::{ProgramFault, read_config, run_node};
-use node_core::{Config, NodeConfig};
+use cluster_config::{Config, NodeConfig};
+use slot_table::NodeNo;
 use std::alloc::Global;
 use std::io::ErrorKind;
 use std::marker::Brand;
@@ -23,7 +24,7 @@ where
 {
     let alloc = rt.alloc();
     let config = read_file(&rt, path)?;
-    let Some(node) = config.nodes().first() else {
+    let (Some(number), Some(node)) = (NodeNo::new(0), config.nodes().first()) else {
         return Err(ProgramFault::ConfigSyntax);
     };
     let address = address_of(alloc, node)?;
@@ -37,7 +38,7 @@ where
     if println!(rt; "node 0 {address}").is_err() {
         return Err(ProgramFault::Output);
     }
-    run_node::<Brand, R>(rt, alloc, &config, 0, seat, &listener)
+    run_node::<Brand, R>(rt, alloc, &config, number, seat, &listener)
 }
 
 // The configuration in a file.

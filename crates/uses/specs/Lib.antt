@@ -1,2 +1,3 @@
 pub mod Pongs
+pub mod Serving
 pub mod WholeRequests

@@ -4,7 +4,7 @@ ghost use Rattle.std.specs.FinMap as map;
 ghost use Rattle.keyspace.specs.declared.value.Value.TheVariants.{Str};
 
 use bytes::Bytes;
-use command::Command;
+use command::DataCommand;
 use keyspace::{Store, commit, plan};
 use std::alloc::{AllocError, Global};
 
@@ -21,11 +21,11 @@ pub fn set_both<S: Store>(
     ensures err { OnErr result (S.contents store.new ≡ S.contents store.old) }
 {
     let commands = [
-        Command::Set {
+        DataCommand::Set {
             key: first.0,
             value: first.1,
         },
-        Command::Set {
+        DataCommand::Set {
             key: second.0,
             value: second.1,
         },

@@ -5,6 +5,7 @@ ghost use Rattle.resp2.specs.declared.limits.TheConstants.{MOST_WORD_BYTES};
 ghost use Rattle.resp2.specs.declared.reply.Reply.TheVariants.{Bulk};
 ghost use Rattle.node_core.specs.Outputs.{answered};
 ghost use Rattle.node_core.specs.declared.answer.Answer.TheVariants.{Served};
+ghost use Rattle.uses.specs.Serving.{IsServedBy};
 
 use bytes::Bytes;
 use node_cell::{Deployment, Entered, NodeCell};
@@ -12,7 +13,7 @@ use node_core::{Event, StepFault};
 use resp2::Words;
 use std::alloc::{AllocError, Global};
 
-/// Sets the key on a connection of its own, and asks for it.
+/// Sets the key on a connection of its own, and asks for it. A node that serves the key answers its value.
 pub fn set_then_get<K: Deployment>(
     alloc: Global,
     cell: &mut NodeCell<K>,
@@ -21,7 +22,7 @@ pub fn set_then_get<K: Deployment>(
 ) -> Result<Entered<K>, StepFault>
     requires key { length key.now ≤ MOST_WORD_BYTES }
     requires value { length value.now ≤ MOST_WORD_BYTES }
-    ensures answer { IfOk result (λ entered. entered.outputs ≡ answered (Served (Bulk value.now))) }
+    ensures answer { IfOk result (λ entered. IsServedBy cell.old.state (key.now ∷ []) → entered.outputs ≡ answered (Served (Bulk value.now))) }
     ensures entered { OnOk result (length cell.new.journal ≡ length cell.old.journal + 3) }
 {
     let set = set_words(alloc, key, value)?;

@@ -3,14 +3,21 @@ ghost use Rattle.tickets.specs.Tickets.{IsFresh};
 
 use super::*;
 use bytes::Bytes;
+use cluster_config::read_config;
 use keyspace::{Store, TreeStore, Value};
 use node_cell::{Deployment, NodeCell};
-use node_core::{Answer, Config};
+use node_core::Answer;
 use resp2::Reply;
+use slot_table::NodeNo;
 use std::alloc::Global;
 use std::marker::Brand;
 use std::test::Fail;
 use tickets::Seat;
+
+// One master, which has all slots.
+const ONE_NODE: &[u8] = b"{\"tick_ms\":100,\"node_timeout\":20,\"nodes\":[{\"id\":\
+\"0000000000000000000000000000000000000000\",\"host\":\"127.0.0.1\",\"port\":7000,\
+\"slots\":[[0,16383]]}],\"voters\":[\"0000000000000000000000000000000000000000\"]}";
 
 #[test]
 fn requests_are_read_up_to_the_beginning_of_one(rt: HostRuntime) -> Result<(), Fail> {
@@ -55,8 +62,9 @@ fn both_keys_are_set(rt: HostRuntime) -> Result<(), Fail> {
 fn answer_of<K: Deployment>(alloc: Global, seat: Seat) -> Result<(u64, bool), Fail>
     requires { IsFresh K.table K.seats seat }
 {
-    let config = Config::new(100, 20, Vec::new(alloc), Vec::new(alloc));
-    let mut cell = NodeCell::<K>::new(alloc, &config, 0, seat)?;
+    let config = read_config(alloc, ONE_NODE)?;
+    let node = NodeNo::new(0).ok_or("no node")?;
+    let mut cell = NodeCell::<K>::new(alloc, &config, node, seat)?;
     let key = Bytes::from_static(b"a");
     let value = Bytes::from_static(b"1");
     let entered = set_then_get(alloc, &mut cell, &key, &value)?;

@@ -9,11 +9,11 @@ returns-clause-answer g c =
     let opened = c.in_ok-opened.ensures.ok in
     let set = c.in_ok-_set.ensures.ok in
     let conn = ap (λ (o : Outputs). o.opened) c.outputs.ensures in
-    if_ok c.apply-3.result c.apply-3.ensures.ok (λ entered got.
+    if_ok c.apply-3.result c.apply-3.ensures.ok (λ entered got serves.
     let a = opened.makes.step in
     let b = rw c.in_ok-set.ensures at set.makes.step in
     let d = rw c.in_ok-get.ensures at got.makes.step in
-    set_is_got _ _ _ _ c.in-Some.conn c.args.key.now c.args.value.now _ _ _ a (sym conn ∙ c.in-Some.is) b d)
+    set_is_got _ _ _ _ c.in-Some.conn c.args.key.now c.args.value.now _ _ _ a (sym conn ∙ c.in-Some.is) b d serves)
 
 pub returns-clause-entered : goal.returns-clause-entered
 returns-clause-entered g c =
