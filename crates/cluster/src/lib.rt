@@ -5,8 +5,6 @@ mod config_reading;
 mod fault;
 mod node_gate;
 mod node_server;
-#[cfg(test)]
-mod tests;
 
 pub use config_reading::read_config;
 pub use fault::ProgramFault;

@@ -17,8 +17,6 @@ mod node_id;
 mod reading;
 mod seq;
 mod slots;
-#[cfg(test)]
-mod tests;
 mod votes;
 
 pub use config::{Config, NodeConfig, Role, SlotRange, SlotRanges};

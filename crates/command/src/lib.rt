@@ -11,8 +11,6 @@ mod key_words;
 mod moved_line;
 mod parsing;
 mod table;
-#[cfg(test)]
-mod tests;
 
 pub use cluster_command::ClusterCommand;
 pub use command::Command;

@@ -5,8 +5,6 @@ mod crc16_table;
 mod hash_slot;
 mod hash_tag;
 mod slots;
-#[cfg(test)]
-mod tests;
 
 pub use hash_slot::slot;
 pub use hash_tag::tag;

@@ -7,8 +7,6 @@ mod law;
 mod planning;
 mod rebuilding;
 mod store;
-#[cfg(test)]
-mod tests;
 mod tree_store;
 mod value;
 

@@ -6,8 +6,6 @@ mod deployment;
 mod entered;
 mod entry;
 mod gate;
-#[cfg(test)]
-mod tests;
 
 pub use cell::NodeCell;
 pub use deployment::Deployment;

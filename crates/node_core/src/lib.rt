@@ -9,8 +9,6 @@ mod core_step;
 mod event;
 mod fault;
 mod outputs;
-#[cfg(test)]
-mod tests;
 
 pub use answer::Answer;
 pub use connections::{Asking, Conn, Connection, Connections};

@@ -2,7 +2,5 @@
 #![tactic(auto)]
 
 mod decision;
-#[cfg(test)]
-mod tests;
 
 pub use decision::{Decision, decide};

@@ -1,6 +1,9 @@
 //! A conversation over memory. Whichever allocation is refused, the client reads what it would read otherwise, up to
-//! the line that tells of refused memory, or to the end of the connection.
+//! the line that tells of refused memory, or to the end of the connection. And what was refused once succeeds at a
+//! second try.
 #![tactic(auto)]
+
+mod second_tries;
 
 ghost use Rattle.tickets.specs.Tickets.{IsFresh};
 
@@ -8,6 +11,7 @@ use cluster::{Gate, ProgramFault, Shared, read_config};
 use listener::serve_conn;
 use node_cell::{Deployment, NodeCell};
 use resp2::Counting;
+use second_tries::{buffer_is_kept, reader_loses_nothing};
 use slot_table::NodeNo;
 use std::alloc::Global;
 use std::io;
@@ -41,6 +45,12 @@ const REPLIES: [&[u8]; 5] = [
 const REFUSED: &[u8] = b"-OOM out of memory\r\n";
 
 fn main(rt: HostRuntime) -> io::Result<()> {
+    if !reader_loses_nothing(rt.alloc()) {
+        return println!(rt; "a reader lost a request");
+    }
+    if matches!(buffer_is_kept(rt.alloc()), Ok(false)) {
+        return println!(rt; "a refused reply changed a buffer");
+    }
     match answers(rt) {
         Ok(answers) if !may_be_read(answers.as_slice()) => {
             println!(rt; "another answer: {answers:?}")

@@ -12,8 +12,6 @@ mod parts;
 mod reader;
 mod reply;
 mod request_reading;
-#[cfg(test)]
-mod tests;
 mod word_reading;
 mod words;
 mod writing;

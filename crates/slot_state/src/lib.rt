@@ -4,8 +4,6 @@
 mod move_no;
 mod state;
 mod states;
-#[cfg(test)]
-mod tests;
 
 pub use move_no::MoveNo;
 pub use state::SlotState;

@@ -7,8 +7,6 @@ mod node_no;
 mod owner;
 mod run;
 mod table;
-#[cfg(test)]
-mod tests;
 
 pub use entry::{Epoch, SlotEntry};
 pub use node_no::NodeNo;

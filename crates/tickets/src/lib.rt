@@ -9,8 +9,6 @@ mod opening;
 mod rule;
 mod seat;
 mod table;
-#[cfg(test)]
-mod tests;
 
 pub use closing::close;
 pub use opening::open;

@@ -5,8 +5,6 @@ mod both_keys;
 mod pongs;
 mod set_and_get;
 mod shared_slots;
-#[cfg(test)]
-mod tests;
 mod turns;
 mod whole_requests;
 

@@ -1,0 +1,156 @@
+//! Commands of words, and the error lines that answer words that are none.
+use crate::script::{bytes_of, push_bytes, push_word, shared_bytes_of, verb_of, words_of};
+use anyhow::{Context, Result, bail};
+use command::{
+    ClusterCommand, Command, CommandFault, DataCommand, ErrorLine, Name, keys, moved_reply, parse,
+};
+use resp2::{Line, Reply, Words, append_reply};
+use std::alloc::{AllocError, Global};
+
+/// `parse WORDS` gives the command with its keys, or the error that answers the words; `name WORD` and `long-name COUNT`,
+/// which is so many `g`, the name that is spelled. `fault` and `error` give what is told of a fault and of an error, and
+/// `moved SLOT HOST PORT` what is told of a slot that another node has.
+pub fn play(alloc: Global, script: &str) -> Result<String> {
+    let mut given = String::new(alloc);
+    for command in script.lines() {
+        match verb_of(command) {
+            ("parse", words) => push_parsed(&mut given, words)?,
+            ("name", word) => push_name(&mut given, bytes_of(alloc, word)?.as_slice())?,
+            ("long-name", count) => {
+                let word = Vec::from_elem(alloc, b'g', count.parse::<usize>()?)?;
+                push_name(&mut given, word.as_slice())?;
+            }
+            ("fault", fault) => push_fault(&mut given, fault_of(fault)?)?,
+            ("error", line) => push_reply(&mut given, &line_of(line)?.reply())?,
+            ("moved", place) => push_moved(&mut given, place)?,
+            _ => bail!("no such command"),
+        }
+        given.push('\n')?;
+    }
+    Ok(given)
+}
+
+fn push_parsed(given: &mut String, words: &str) -> Result<()> {
+    let alloc = *given.allocator();
+    let Some(words) = Words::new(words_of(alloc, words)?) else {
+        return Ok(given.push_str("no request")?);
+    };
+    match parse(alloc, &words) {
+        Ok(command) => Ok(push_command(given, &command)?),
+        Err(fault) => Ok(push_bytes(given, fault.line().text())?),
+    }
+}
+
+// The command, its keys, the only one of them, and whether it writes.
+fn push_command(given: &mut String, command: &Command) -> Result<(), AllocError> {
+    let alloc = *given.allocator();
+    match command {
+        Command::Data(command) => push_data(given, command)?,
+        Command::Cluster(command) => push_cluster(given, command)?,
+    }
+    let keys = keys(alloc, command)?;
+    given.push_str(if keys.is_empty() {
+        "; no keys"
+    } else {
+        "; keys"
+    })?;
+    for key in keys {
+        given.push(' ')?;
+        push_word(given, key)?;
+    }
+    if let Some(key) = command.only_key() {
+        given.push_str("; only ")?;
+        push_word(given, key.as_slice())?;
+    }
+    if command.is_write() {
+        given.push_str("; a write")?;
+    }
+    Ok(())
+}
+
+fn push_data(given: &mut String, command: &DataCommand) -> Result<(), AllocError> {
+    match command {
+        DataCommand::Ping => push_words(given, "PING", &[]),
+        DataCommand::Get { key } => push_words(given, "GET", &[key.as_slice()]),
+        DataCommand::Set { key, value } => {
+            push_words(given, "SET", &[key.as_slice(), value.as_slice()])
+        }
+        DataCommand::Mget { keys } => {
+            given.push_str("MGET")?;
+            for key in keys.as_slice() {
+                given.push(' ')?;
+                push_word(given, key.as_slice())?;
+            }
+            Ok(())
+        }
+    }
+}
+
+fn push_cluster(given: &mut String, command: &ClusterCommand) -> Result<(), AllocError> {
+    match command {
+        ClusterCommand::KeySlot { key } => push_words(given, "CLUSTER KEYSLOT", &[key.as_slice()]),
+        ClusterCommand::MyId => push_words(given, "CLUSTER MYID", &[]),
+        ClusterCommand::Slots => push_words(given, "CLUSTER SLOTS", &[]),
+    }
+}
+
+fn push_words(given: &mut String, name: &str, arguments: &[&[u8]]) -> Result<(), AllocError> {
+    given.push_str(name)?;
+    for argument in arguments {
+        given.push(' ')?;
+        push_word(given, argument)?;
+    }
+    Ok(())
+}
+
+fn push_name(given: &mut String, word: &[u8]) -> Result<(), AllocError> {
+    match Name::of(word) {
+        Some(name) => push_bytes(given, name.text()),
+        None => given.push_str("no name"),
+    }
+}
+
+fn push_fault(given: &mut String, fault: CommandFault) -> Result<()> {
+    write!(given, "{fault}: ")?;
+    push_reply(given, &fault.line().reply())
+}
+
+fn push_reply(given: &mut String, reply: &Reply) -> Result<()> {
+    let mut bytes = Vec::new(*given.allocator());
+    append_reply(reply, &mut bytes)?;
+    Ok(push_bytes(given, bytes.as_slice())?)
+}
+
+fn fault_of(text: &str) -> Result<CommandFault> {
+    Ok(match verb_of(text) {
+        ("Unknown", "") => CommandFault::Unknown,
+        ("UnknownSubcommand", "") => CommandFault::UnknownSubcommand,
+        ("Arity", name) => {
+            CommandFault::Arity(Name::of(name.as_bytes()).context("no such command")?)
+        }
+        ("Memory", "") => CommandFault::from(AllocError),
+        _ => bail!("no such fault"),
+    })
+}
+
+fn line_of(text: &str) -> Result<ErrorLine> {
+    Ok(match text {
+        "Protocol" => ErrorLine::Protocol,
+        "OutOfMemory" => ErrorLine::OutOfMemory,
+        "Exhausted" => ErrorLine::Exhausted,
+        "CrossSlot" => ErrorLine::CrossSlot,
+        "SlotDown" => ErrorLine::SlotDown,
+        _ => bail!("no such error"),
+    })
+}
+
+fn push_moved(given: &mut String, place: &str) -> Result<()> {
+    let alloc = *given.allocator();
+    let (slot, address) = verb_of(place);
+    let (host, port) = verb_of(address);
+    let host = Line::new(shared_bytes_of(alloc, host)?).context("more than a line")?;
+    let slot = slot.parse::<u16>()?;
+    let port = port.parse::<u16>()?;
+    let reply = moved_reply(alloc, slot, host.as_slice(), port)?;
+    push_reply(given, &reply)
+}

@@ -1,0 +1,70 @@
+//! Words of requests, and replies, as the files have them.
+use crate::script::{push_bytes, push_word, words_of};
+use anyhow::{Context, Result, bail};
+use bytes::Bytes;
+use command::{Command, DataCommand, KeyList, parse};
+use keyspace::{Store, Value};
+use resp2::{Reply, Words, append_reply};
+use std::alloc::Global;
+
+/// The request of these words.
+pub fn request_of(alloc: Global, text: &str) -> Result<Words> {
+    let words = words_of(alloc, text)?;
+    Words::new(words).context("the words are no request")
+}
+
+/// The command of these words. Its MGET takes more keys than one request carries.
+pub fn command_of(alloc: Global, text: &str) -> Result<DataCommand> {
+    if let Some(keys) = text.strip_prefix("MGET ") {
+        let keys = words_of(alloc, keys)?;
+        let keys = KeyList::new(keys).context("there is no key")?;
+        return Ok(DataCommand::Mget { keys });
+    }
+    match parse(alloc, &request_of(alloc, text)?)? {
+        Command::Data(command) => Ok(command),
+        Command::Cluster(_) => bail!("this command has no keys"),
+    }
+}
+
+/// Puts the bytes of the reply behind the text, as a line.
+pub fn push_reply(alloc: Global, text: &mut String, reply: &Reply) -> Result<()> {
+    let mut bytes = Vec::new(alloc);
+    append_reply(reply, &mut bytes)?;
+    push_bytes(text, bytes.as_slice())?;
+    text.push('\n')?;
+    Ok(())
+}
+
+/// Puts the words behind the text, with blanks between them.
+pub fn push_words(text: &mut String, words: &[Bytes]) -> Result<()> {
+    let mut is_first = true;
+    for word in words {
+        if !is_first {
+            text.push(' ')?;
+        }
+        is_first = false;
+        push_word(text, word.as_slice())?;
+    }
+    Ok(())
+}
+
+/// Puts behind the text what the store has at each of the keys, line by line.
+pub fn push_values<S: Store>(
+    alloc: Global,
+    text: &mut String,
+    store: &S,
+    keys: &str,
+) -> Result<()> {
+    for key in words_of(alloc, keys)? {
+        push_word(text, key.as_slice())?;
+        match store.get(&key) {
+            Some(Value::Str(bytes)) => {
+                text.push_str(" has ")?;
+                push_word(text, bytes.as_slice())?;
+                text.push('\n')?;
+            }
+            None => text.push_str(" isn't there\n")?,
+        }
+    }
+    Ok(())
+}
