@@ -1,4 +1,5 @@
 //! Short callers of the libraries.
+ghost use Rattle.std.specs.Prelude.{◌≡◌};
 ghost use Rattle.tickets.specs.Tickets.{IsFresh};
 
 use crate::clusters::node_of;
@@ -88,7 +89,8 @@ fn push_got_of<K: Deployment>(
     key: &Bytes,
     value: &Bytes,
 ) -> Result<()>
-    requires { IsFresh K.table K.seats seat }
+    requires cluster { config.now ≡ K.config }
+    requires seat { IsFresh K.table K.seats seat }
 {
     if key.len() > MOST_WORD_BYTES || value.len() > MOST_WORD_BYTES {
         bail!("the word is too long");

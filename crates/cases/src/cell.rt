@@ -1,11 +1,12 @@
 //! A node with its journal.
+ghost use Rattle.std.specs.Prelude.{◌≡◌};
 ghost use Rattle.tickets.specs.Tickets.{IsFresh};
 
 use crate::clusters::node_of;
 use crate::events::{event_of, push_event, push_outputs};
 use anyhow::{Context, Result};
 use cluster_config::Config;
-use node_cell::{Deed, Deployment, Entry, NodeCell};
+use node_cell::{Deployment, Entry, NodeCell};
 use node_core::Event;
 use slot_table::NodeNo;
 use std::alloc::Global;
@@ -41,7 +42,8 @@ fn hold<K: Deployment>(
     seat: Seat,
     events: Vec<Event>,
 ) -> Result<String>
-    requires { IsFresh K.table K.seats seat }
+    requires cluster { config.now ≡ K.config }
+    requires seat { IsFresh K.table K.seats seat }
 {
     let mut cell = NodeCell::<K>::new(alloc, config, node, seat)?;
     let mut given = String::new(alloc);
@@ -77,10 +79,10 @@ fn push_ticket(text: &mut String, ticket: u64) -> Result<()> {
 }
 
 fn push_entry(alloc: Global, text: &mut String, entry: &Entry) -> Result<()> {
-    push_ticket(text, entry.ticket)?;
-    match &entry.deed {
-        Deed::Skip => text.push_str("skip\n")?,
-        Deed::Step { event, outputs } => {
+    push_ticket(text, entry.ticket())?;
+    match entry {
+        Entry::Skipped { ticket: _ } => text.push_str("skipped\n")?,
+        Entry::Step { event, outputs } => {
             push_event(text, event)?;
             text.push_str(": ")?;
             push_outputs(alloc, text, outputs)?;

@@ -1,7 +1,6 @@
 //! The clusters of the cases, each in a file `NAME.json` beside them.
 use anyhow::{Context, Result};
-use cluster::read_config;
-use cluster_config::Config;
+use cluster_config::{Config, read_config};
 use slot_table::NodeNo;
 use std::fs;
 use std::rt::Files;

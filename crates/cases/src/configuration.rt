@@ -20,7 +20,7 @@ const ADDRESS_START: &[u8] = b"\"host\":\"127.0.0.1\",\"port\":700";
 /// - `nodes NODES | VOTERS` of these nodes and voters with sound times;
 /// - `masters COUNT MORE | VOTERS` of so many masters, more nodes and these voters;
 /// - `ports PORTS` of a node with each of these ports, and `two-ports PORT PORT` of two nodes at one host with these;
-/// - `last-slots SLOTS` of a range that begins at -0 and ends at each of these;
+/// - `last-slots SLOTS` of a range that begins at 0 and ends at each of these;
 /// - `times TIMES` of a cluster with each of these as its tick, and as its timeout.
 ///
 /// `id` and `host` give the id and the host that a word is, and `long-host COUNT` that of so many letters.
@@ -162,7 +162,7 @@ fn push_fault_of_two_ports(given: &mut String, ports: &str) -> Result<(), AllocE
 
 fn push_faults_of_last_slots(given: &mut String, slots: &str) -> Result<(), AllocError> {
     for last in slots.split(' ') {
-        let node = format!(in *given.allocator(); "{{\"id\":\"#0\",@0,\"slots\":[[-0,{last}]]}}")?;
+        let node = format!(in *given.allocator(); "{{\"id\":\"#0\",@0,\"slots\":[[0,{last}]]}}")?;
         push_fault_of(given, node.as_str(), "\"#0\"")?;
     }
     Ok(())

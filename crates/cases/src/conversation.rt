@@ -1,4 +1,5 @@
 //! Conversations over memory.
+ghost use Rattle.std.specs.Prelude.{◌≡◌};
 ghost use Rattle.tickets.specs.Tickets.{IsFresh};
 
 use crate::client::Client;
@@ -6,10 +7,10 @@ use crate::clusters::node_of;
 use crate::devices::{Pieces, Written};
 use crate::script::push_bytes;
 use anyhow::{Context, Result, bail};
-use cluster::{Gate, Shared};
+use cluster::Gate;
 use cluster_config::Config;
 use listener::{ConnFault, serve_conn};
-use node_cell::{Deed, Deployment, Entry, NodeCell};
+use node_cell::{Deployment, Entry, NodeCell};
 use node_core::Event;
 use resp2::Counting;
 use slot_table::NodeNo;
@@ -122,20 +123,16 @@ fn hold<K: Deployment, R: Wait + Drop>(
     reader: Pieces<'_>,
     writer: Written,
 ) -> Result<Held>
-    requires { IsFresh K.table K.seats seat }
+    requires cluster { config.now ≡ K.config }
+    requires seat { IsFresh K.table K.seats seat }
 {
     let cell = NodeCell::<K>::new(alloc, config, node, seat)?;
-    let shared = Shared {
-        cell: Mutex::new(cell),
-    };
-    let node = Arc::new(alloc, shared).map_err(AllocError::from)?;
-    let gate = Gate { rt, node };
+    let node = Arc::new(alloc, Mutex::new(cell)).map_err(AllocError::from)?;
+    let mut gate = Gate::new(rt, node);
     let mut reader = Counting::new(reader);
     let mut writer = Counting::new(writer);
-    let ended = serve_conn(alloc, &gate, &mut reader, &mut writer);
-    let Gate { rt: _, node } = gate;
-    let shared = Arc::into_inner(node).context("the node is still shared")?;
-    let Shared { cell } = shared;
+    let ended = serve_conn(alloc, &mut gate, &mut reader, &mut writer);
+    let cell = Arc::into_inner(gate.into_node()).context("the node is still shared")?;
     let (_config, _node, journal, _seat) = cell.into_inner().finish();
     Ok(Held {
         ended,
@@ -209,11 +206,11 @@ fn push_journal(text: &mut String, journal: &[Entry]) -> Result<()> {
     text.push_str("journal")?;
     for run in journal.chunk_by(follows) {
         if let [first, .., last] = run {
-            let (first, last, name) = (first.ticket, last.ticket, name_of(first));
+            let (first, last, name) = (first.ticket(), last.ticket(), name_of(first));
             let run = format!(in *text.allocator(); " {first}-{last} {name}")?;
             text.push_str(run.as_str())?;
         } else if let [only] = run {
-            let (ticket, name) = (only.ticket, name_of(only));
+            let (ticket, name) = (only.ticket(), name_of(only));
             let run = format!(in *text.allocator(); " {ticket} {name}")?;
             text.push_str(run.as_str())?;
         }
@@ -223,13 +220,13 @@ fn push_journal(text: &mut String, journal: &[Entry]) -> Result<()> {
 }
 
 fn follows(entry: &Entry, next: &Entry) -> bool {
-    name_of(entry) == name_of(next) && entry.ticket.checked_add(1) == Some(next.ticket)
+    name_of(entry) == name_of(next) && entry.ticket().checked_add(1) == Some(next.ticket())
 }
 
 fn name_of(entry: &Entry) -> &'static str {
-    match &entry.deed {
-        Deed::Skip => "skip",
-        Deed::Step { event, outputs: _ } => match event {
+    match entry {
+        Entry::Skipped { ticket: _ } => "skipped",
+        Entry::Step { event, outputs: _ } => match event {
             Event::Open => "open",
             Event::Close(_) => "close",
             Event::Request(_, _) => "request",

@@ -2,7 +2,9 @@
 use crate::script::verb_of;
 use crate::words::{push_reply, push_words, request_of};
 use anyhow::{Result, bail};
-use node_core::{Answer, Conn, Event, Outputs};
+use command::CommandFault;
+use node_core::{Conn, Event, Outputs, Response, Why};
+use redirect::Decision;
 use std::alloc::Global;
 
 /// The event that a command names: `open`, `close KEY GENERATION`, `request KEY GENERATION WORD..` or `tick`.
@@ -54,19 +56,18 @@ pub fn push_event(text: &mut String, event: &Event) -> Result<()> {
 
 /// Puts the outputs behind the text, as a line.
 pub fn push_outputs(alloc: Global, text: &mut String, outputs: &Outputs) -> Result<()> {
-    match (outputs.opened, &outputs.answer) {
-        (None, None) => text.push_str("nothing\n")?,
-        (Some(conn), None) => {
+    match &outputs.response {
+        Response::Nothing => text.push_str("nothing\n")?,
+        Response::Opened(conn) => {
             text.push_str("opened")?;
-            push_conn(text, conn)?;
+            push_conn(text, *conn)?;
             text.push('\n')?;
         }
-        (None, Some(answer)) => {
-            text.push_str(decision_of(answer))?;
+        Response::Replied(answer) => {
+            text.push_str(name_of(answer.why))?;
             text.push(' ')?;
-            push_reply(alloc, text, answer.reply())?;
+            push_reply(alloc, text, &answer.reply)?;
         }
-        (Some(_), Some(_)) => bail!("no event both opens a connection and is answered"),
     }
     Ok(())
 }
@@ -79,10 +80,16 @@ pub fn push_conn(text: &mut String, conn: Conn) -> Result<()> {
     Ok(())
 }
 
-fn decision_of(answer: &Answer) -> &'static str {
-    match answer {
-        Answer::Served(_) => "served",
-        Answer::Told(_) => "told",
-        Answer::Refused(_) => "refused",
+fn name_of(why: Why) -> &'static str {
+    match why {
+        Why::Decided(Decision::Serve) => "executed",
+        Why::Decided(Decision::CrossSlot) => "cross-slot",
+        Why::Decided(Decision::Down) => "down",
+        Why::Decided(Decision::Moved { .. }) => "moved",
+        Why::Reported => "reported",
+        Why::NotACommand(CommandFault::Unknown) => "unknown-command",
+        Why::NotACommand(CommandFault::UnknownSubcommand) => "unknown-subcommand",
+        Why::NotACommand(CommandFault::Arity(_)) => "wrong-arity",
+        Why::NotACommand(CommandFault::Memory) => "out-of-memory",
     }
 }

@@ -6,7 +6,6 @@ mod callers;
 mod cell;
 mod client;
 mod clusters;
-mod codes;
 mod commands;
 mod configuration;
 mod connections;
@@ -74,7 +73,6 @@ where
     match topic {
         "callers" => callers::play(rt, script),
         "cell" => cell::play(rt, script),
-        "codes" => codes::play(rt, script),
         "commands" => commands::play(alloc, script),
         "configuration" => configuration::play(alloc, script),
         "connections" => connections::play(alloc, script),

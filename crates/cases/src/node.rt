@@ -36,13 +36,13 @@ fn step(alloc: Global, core: &mut Core, command: &str) -> Result<String> {
 
 // What all three copies are.
 fn the_same(alloc: Global, copies: &Copies) -> Result<String> {
-    let answer = text_of(alloc, &copies.answer)?;
-    let entry = text_of(alloc, &copies.entry)?;
-    let send = text_of(alloc, &copies.send)?;
-    if answer != entry || answer != send {
+    let to_sender = text_of(alloc, &copies.to_sender)?;
+    let to_journal = text_of(alloc, &copies.to_journal)?;
+    let to_peers = text_of(alloc, &copies.to_peers)?;
+    if to_sender != to_journal || to_sender != to_peers {
         bail!("the outputs differ");
     }
-    Ok(answer)
+    Ok(to_sender)
 }
 
 fn text_of(alloc: Global, outputs: &Outputs) -> Result<String> {

@@ -85,7 +85,7 @@ impl<S: Store> Bench<S> {
 
     fn plan_command(&mut self, words: &str) -> Result<()> {
         let command = command_of(self.alloc, words)?;
-        let (reply, planned) = plan_command(self.alloc, &self.store, &command)?;
+        let (reply, planned) = plan_command(self.alloc, &self.store, command)?;
         self.planned = planned;
         push_reply(self.alloc, &mut self.given, &reply)
     }

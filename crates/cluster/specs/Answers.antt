@@ -1,16 +1,26 @@
--- What a node may answer, and refuse.
-use Rattle.node_core.specs.State.{NodeState}
+-- What a node of a cluster may answer, and refuse.
+use Rattle.std.specs.Prelude.{ℕ, List}
+use Rattle.cluster_config.specs.Config.{ClusterConfig}
+use Rattle.node_core.specs.State.{NodeState, first_state}
 use Rattle.node_core.specs.Step.{NodeStep}
 use Rattle.node_core.specs.declared.event.Event.{Event}
 use Rattle.node_core.specs.declared.fault.StepFault.{StepFault}
 use Rattle.node_core.specs.declared.outputs.Outputs.{Outputs}
-use Rattle.node_cell.specs.Journal.{CellView, IsRefused}
+use Rattle.node_cell.specs.Journal.{CellView, IsHistory, IsRefused}
+use Rattle.node_cell.specs.declared.entry.Entry.{Entry}
 
--- these are the outputs of a step that some state of a node has for the event
-pub record MayAnswer (event : Event) (outputs : Outputs) : Type 0 where
+-- a state that a node of the cluster comes to from its first one
+pub record IsReachable (config : ClusterConfig) (state : NodeState) : Type 0 where
+  pub number : ℕ
+  pub journal : List Entry
+  pub history : IsHistory (first_state config number) journal state
+
+-- these are the outputs of a step for the event, from a state that a node of the cluster comes to
+pub record MayAnswer (config : ClusterConfig) (event : Event) (outputs : Outputs) : Type 0 where
   pub old : NodeState
   pub new : NodeState
-  pub step : NodeStep old event outputs new
+  pub reachable : IsReachable config old
+  pub step : NodeStep outputs.ticket old event outputs new
 
 -- some cell refuses the event with this fault
 pub record MayRefuse (event : Event) (fault : StepFault) : Type 0 where

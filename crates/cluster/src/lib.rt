@@ -1,12 +1,8 @@
-//! A cluster as a program runs it: its configuration, its nodes behind locks, and their clients.
+//! The nodes of a cluster behind locks, and their clients on sockets.
 #![tactic(auto)]
 
-mod config_reading;
-mod fault;
-mod node_gate;
-mod node_server;
+mod gate;
+mod server;
 
-pub use config_reading::read_config;
-pub use fault::ProgramFault;
-pub use node_gate::{Gate, Shared};
-pub use node_server::run_node;
+pub use gate::Gate;
+pub use server::run_node;

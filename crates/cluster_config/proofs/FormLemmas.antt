@@ -1,61 +1,53 @@
--- The members of an object and the items of an array, as the code has them.
-use Rattle.std.proofs.Common.{◌≡◌, sym, ◌∙◌, ap, refl, rules, ℕ, ◌+◌, ◌<◌, ◌≤◌, List, [], ◌∷◌, ◌++◌, length, get_or, drop, append_assoc, append-nil, suc, Option, Some, None}
-use Rattle.std.specs.Option.{option_map, option_and_then}
-use Rattle.std.specs.Borrow.{Bor}
-use Rattle.std.proofs.lemmas.List.{at_drop_more, at_drop_all}
-use Rattle.std.specs.Prelude.{Vec}
-use Rattle.json.specs.Json.{Json, object}
-use Rattle.json.specs.Strict.{keys}
-use Rattle.json.specs.Value.{value_view, items_view, members_view}
-use Rattle.json.specs.declared.value.Value.{Value, Object, the_lemmas}
-use Rattle.cluster_config.specs.Format.{read_each, member_count}
+-- The items of an array and the members of an object, as the code has them.
+use Rattle.std.proofs.Common.{◌≡◌, refl, ap, sym, ◌∙◌, ℕ, ◌==◌, arith, Bool, false, List, [], ◌∷◌, map, length, Option, Some, None}
+use Rattle.std.specs.List.{list_all, filter_map, cons_option}
+use Rattle.std.specs.Option.{option_map_or, unwrap_or}
+use Rattle.std.specs.Prelude.{String, ℤ}
+use Rattle.std.specs.declared.alloc.Global.{Global}
+use Rattle.std.proofs.lemmas.List.Folds.{list_all-map}
+use Rattle.std.proofs.lemmas.Simd.{map-map}
+use Rattle.serde_json.specs.Data.{Data, Members}
+use Rattle.serde_json.specs.View.{view, items_of, members_view}
+use Rattle.serde_json.specs.declared.value.Value.{Value}
+use Rattle.cluster_config.specs.Faults.{range_from, is_range, ranges_from}
+use Rattle.cluster_config.specs.Form.{list_of, count_of, pair_of}
 
--- an object has as many names as members
-length-keys : {A : Type 0} (members : List (Bor (List ℕ) × Value A)) → length (keys (members_view members)) ≡ length members
-length-keys [] = refl
-length-keys (member ∷ members) = ap (λ (n : ℕ). suc n) (length-keys members)
+pub list_of-items_of : (values : List Data) → list_of (items_of values) ≡ values
+list_of-items_of [] = refl
+list_of-items_of (value ∷ values) = ap (λ (rest : List Data). value ∷ rest) (list_of-items_of values)
 
--- a value that is an object is seen as one
-view-Object : {A : Type 0} (members : Vec (Bor (List ℕ) × Value A) A) → value_view (Object members) ≡ object (members_view members.items)
-view-Object members = search (rules, the_lemmas)
+count_of-members_view : (members : List (String Global × Value)) → count_of (members_view members) ≡ length members
+count_of-members_view [] = refl
+count_of-members_view (member ∷ members) = omega (arith, count_of-members_view members)
 
-pub member_count-Object : {A : Type 0} (members : Vec (Bor (List ℕ) × Value A) A) → member_count (value_view (Object members)) ≡ length members.items
-member_count-Object members = ap member_count (view-Object members) ∙ length-keys members.items
+-- an object is tested by the number of its members
+pub four_members : (count : ℕ) (members : List (String Global × Value)) (found : Option Members) → count ≡ length members → Some (members_view members) ≡ found
+    → (count == 4) ≡ option_map_or (λ (ms : Members). count_of ms == 4) found false
+four_members count members found counted is =
+    ap (λ (n : ℕ). n == 4) (counted ∙ sym (count_of-members_view members)) ∙ ap (λ (o : Option Members). option_map_or (λ (ms : Members). count_of ms == 4) o false) is
 
-module _ {A X : Type 0} (read : Json → Option X) (items : List (Value A)) where
-  -- what is read of the items from the i-th on, behind what was read before
-  abbrev pub read_from : List X → ℕ → Option (List X)
-  read_from done i = option_map (λ rest. done ++ rest) (read_each read (items_view (drop i items)))
+-- an array is tested by its items
+pub each_item : (test : Data → Bool) (values : List Value) (found : Option (List Data)) (passed : Bool) → passed ≡ list_all (λ value. test (view value)) values → Some (map view values) ≡ found
+    → passed ≡ option_map_or (list_all test) found false
+each_item test values found passed all is = all ∙ sym (list_all-map test view values) ∙ ap (λ (o : Option (List Data)). option_map_or (list_all test) o false) is
 
-  read_at : (done : List X) (i : ℕ) (item : Value A) → i < length items → item ≡ get_or items i item
-      → read_from done i ≡ option_map (λ rest. done ++ rest) (option_and_then (λ x. option_map (λ rest. x ∷ rest) (read_each read (items_view (drop (i + 1) items)))) (read (value_view item)))
-  read_at done i item lt is =
-      at_drop_more (λ (vs : List (Value A)). option_map (λ rest. done ++ rest) (read_each read (items_view vs))) items i item lt
-      ∙ ap (λ (v : Value A). option_map (λ rest. done ++ rest) (option_and_then (λ x. option_map (λ rest. x ∷ rest) (read_each read (items_view (drop (i + 1) items)))) (read (value_view v)))) (sym is)
+filter_map-map : {A B C : Type 0} (f : B → Option C) (g : A → B) (xs : List A) → filter_map f (map g xs) ≡ filter_map (λ x. f (g x)) xs
+filter_map-map f g [] = refl
+filter_map-map {C = C} f g (x ∷ xs) = ap (λ (rest : List C). cons_option (f (g x)) rest) (filter_map-map f g xs)
 
-  push_rest : (done : List X) (x : X) (rest : Option (List X)) → option_map (λ r. done ++ r) (option_map (λ r. x ∷ r) rest) ≡ option_map (λ r. (done ++ x ∷ []) ++ r) rest
-  push_rest done x None = refl
-  push_rest done x (Some rest) = ap Some (sym (append_assoc done (x ∷ []) rest))
+-- the pairs of a node are tested, and read, by its values
+pub pairs_tested : (values : List Value) (pairs : List (ℤ × ℤ)) → map pair_of (map view values) ≡ pairs → list_all (λ value. is_range (pair_of (view value))) values ≡ list_all is_range pairs
+pairs_tested values pairs is = sym (list_all-map is_range pair_of (map view values) ∙ list_all-map (λ (value : Data). is_range (pair_of value)) view values) ∙ ap (λ (ps : List (ℤ × ℤ)). list_all is_range ps) is
 
-  -- one more item
-  pub read_more : (whole : Option (List X)) (done : List X) (i : ℕ) (item : Value A) (x : X) → whole ≡ read_from done i → i < length items → item ≡ get_or items i item
-      → read (value_view item) ≡ Some x → whole ≡ read_from (done ++ x ∷ []) (i + 1)
-  read_more whole done i item x so_far lt is found =
-      let rest = read_each read (items_view (drop (i + 1) items)) in
-      so_far ∙ read_at done i item lt is
-      ∙ ap (λ (o : Option X). option_map (λ r. done ++ r) (option_and_then (λ x. option_map (λ r. x ∷ r) rest) o)) found
-      ∙ push_rest done x rest
+ranges_of-slots : (slots : Option (List (ℤ × ℤ))) → filter_map range_from (unwrap_or slots []) ≡ ranges_from slots
+ranges_of-slots None = refl
+ranges_of-slots (Some slots) = refl
 
-  -- an item of another kind
-  pub read_none : (whole : Option (List X)) (done : List X) (i : ℕ) (item : Value A) → whole ≡ read_from done i → i < length items → item ≡ get_or items i item
-      → read (value_view item) ≡ None → whole ≡ None
-  read_none whole done i item so_far lt is none =
-      let rest = read_each read (items_view (drop (i + 1) items)) in
-      so_far ∙ read_at done i item lt is
-      ∙ ap (λ (o : Option X). option_map (λ r. done ++ r) (option_and_then (λ x. option_map (λ r. x ∷ r) rest) o)) none
+pub pairs_read : (values : List Value) (slots : Option (List (ℤ × ℤ))) → map pair_of (map view values) ≡ unwrap_or slots [] → filter_map (λ value. range_from (pair_of (view value))) values ≡ ranges_from slots
+pairs_read values slots is =
+    sym (filter_map-map range_from pair_of (map view values) ∙ filter_map-map (λ (value : Data). range_from (pair_of value)) view values)
+    ∙ ap (λ (ps : List (ℤ × ℤ)). filter_map range_from ps) is ∙ ranges_of-slots slots
 
-  -- no item is left
-  pub read_all : (whole : Option (List X)) (done : List X) (i : ℕ) → whole ≡ read_from done i → length items ≤ i → whole ≡ Some done
-  read_all whole done i so_far le =
-      so_far ∙ at_drop_all (λ (vs : List (Value A)). option_map (λ rest. done ++ rest) (read_each read (items_view vs))) items i le
-      ∙ ap Some (append-nil done)
+-- what is read of each item
+pub each_read : {B : Type 0} (read : Data → B) (values : List Value) (items : List Data) → map view values ≡ items → map (λ value. read (view value)) values ≡ map read items
+each_read read values items is = sym (map-map read view values) ∙ ap (λ (vs : List Data). map read vs) is

@@ -1,78 +1,64 @@
--- Tests of each element of a list with the next one, and with each later one.
-use Rattle.std.proofs.Common.{◌≡◌, sym, ◌∙◌, ap, ap₂, refl, ℕ, zero, suc, ◌+◌, ◌<◌, ◌≤◌, Bool, true, false, ◌&&◌, List, [], ◌∷◌, length, get_or, drop, arith}
-use Rattle.std.specs.List.{list_all}
-use Rattle.std.proofs.lemmas.Bool.{and_parts}
-use Rattle.std.proofs.lemmas.List.{at_drop_more}
-use Rattle.cluster_config.specs.Faults.{all_pairs, all_neighbours}
+-- Tests of each element of a list with those behind it.
+use Rattle.std.proofs.Common.{◌≡◌, sym, ◌∙◌, ap, ap₂, refl, inl, inr, arith, ℕ, ◌+◌, ◌<◌, ◌≤◌, Bool, true, false, cond, ◌&&◌, ltb, List, [], ◌∷◌, length, get_or, drop, map, Some, None}
+use Rattle.std.specs.List.{list_all, slice_range, position_or_len}
+use Rattle.std.specs.Option.{unwrap_or}
+use Rattle.std.proofs.lemmas.Bool.{and_parts, cases_Bool, cases_lt, lt-ltb, le-ltb}
+use Rattle.std.proofs.lemmas.List.{at_drop_more, take_rest}
+use Rattle.std.proofs.lemmas.List.Folds.{list_all-map}
+use Rattle.cluster_config.specs.Config.{all_pairs}
 
 module _ {A : Type 0} (test : A → A → Bool) where
-  -- from an element on: that element with each later one, and the later ones
-  pub pairs_at : (xs : List A) (i : ℕ) (x : A) → i < length xs → x ≡ get_or xs i x
-      → all_pairs test (drop i xs) ≡ (list_all (test x) (drop (i + 1) xs) && all_pairs test (drop (i + 1) xs))
-  pairs_at xs i x lt is =
+  -- from an element on: that element with those behind it, and these
+  pub pairs_at : (xs : List A) (i : ℕ) (x : A) (passed : Bool) → i < length xs → x ≡ get_or xs i x → passed ≡ list_all (test x) (slice_range xs (i + 1) (length xs))
+      → all_pairs test (drop i xs) ≡ (passed && all_pairs test (drop (i + 1) xs))
+  pairs_at xs i x passed lt is tested =
       at_drop_more (all_pairs test) xs i x lt
       ∙ ap (λ (y : A). list_all (test y) (drop (i + 1) xs) && all_pairs test (drop (i + 1) xs)) (sym is)
+      ∙ ap (λ (b : Bool). b && all_pairs test (drop (i + 1) xs)) (sym (tested ∙ ap (λ (ys : List A). list_all (test x) ys) (take_rest xs (i + 1))))
 
-  -- from an element on: that element with the next, and the later ones
-  pub neighbours_at : (xs : List A) (i : ℕ) (x y : A) → i + 1 < length xs → x ≡ get_or xs i x → y ≡ get_or xs (i + 1) y
-      → all_neighbours test (drop i xs) ≡ (test x y && all_neighbours test (drop (i + 1) xs))
-  neighbours_at [] i x y lt is next = absurd (omega arith)
-  neighbours_at (a ∷ []) i x y lt is next = absurd (omega arith)
-  neighbours_at (a ∷ b ∷ xs) zero x y lt is next = ap₂ (λ (p : A) (q : A). test p q && all_neighbours test (b ∷ xs)) (sym is) (sym next)
-  neighbours_at (a ∷ b ∷ xs) (suc i) x y lt is next =
-      let suc_add : suc i + 1 ≡ suc (i + 1) = omega arith in
-      rw suc_add (neighbours_at (b ∷ xs) i x y (omega arith) is (rw suc_add at next))
+  -- so far, and one more element
+  pub pair_more : (whole : Bool) (xs : List A) (i : ℕ) (x : A) (passed : Bool) → whole ≡ all_pairs test (drop i xs) → i < length xs → x ≡ get_or xs i x
+      → passed ≡ list_all (test x) (slice_range xs (i + 1) (length xs)) → passed ≡ true → whole ≡ all_pairs test (drop (i + 1) xs)
+  pair_more whole xs i x passed so_far lt is tested does = so_far ∙ pairs_at xs i x passed lt is tested ∙ ap (λ (b : Bool). b && all_pairs test (drop (i + 1) xs)) does
 
-  -- from the last element on there are no neighbours
-  pub neighbours_end : (xs : List A) (i : ℕ) → length xs ≤ i + 1 → all_neighbours test (drop i xs) ≡ true
-  neighbours_end [] zero le = refl
-  neighbours_end [] (suc i) le = refl
-  neighbours_end (x ∷ []) zero le = refl
-  neighbours_end (x ∷ y ∷ xs) zero le = absurd (omega arith)
-  neighbours_end (x ∷ xs) (suc i) le = neighbours_end xs i (omega arith)
+  pub pair_fails : (whole : Bool) (xs : List A) (i : ℕ) (x : A) (passed : Bool) → whole ≡ all_pairs test (drop i xs) → i < length xs → x ≡ get_or xs i x
+      → passed ≡ list_all (test x) (slice_range xs (i + 1) (length xs)) → passed ≡ false → false ≡ whole
+  pair_fails whole xs i x passed so_far lt is tested fails = sym (so_far ∙ pairs_at xs i x passed lt is tested ∙ ap (λ (b : Bool). b && all_pairs test (drop (i + 1) xs)) fails)
 
-  -- each passes with the next
-  pub neighbours_pass : (xs : List A) (i : ℕ) (d : A) → all_neighbours test xs ≡ true → i + 1 < length xs → test (get_or xs i d) (get_or xs (i + 1) d) ≡ true
-  neighbours_pass [] i d all lt = absurd (omega arith)
-  neighbours_pass (a ∷ []) i d all lt = absurd (omega arith)
-  neighbours_pass (a ∷ b ∷ xs) zero d all lt = (and_parts (test a b) (all_neighbours test (b ∷ xs)) all).0
-  neighbours_pass (a ∷ b ∷ xs) (suc i) d all lt =
-      let suc_add : suc i + 1 ≡ suc (i + 1) = omega arith in
-      rw suc_add (neighbours_pass (b ∷ xs) i d (and_parts (test a b) (all_neighbours test (b ∷ xs)) all).1 (omega arith))
+  -- a test that follows from another, for elements that pass a third one
+  all_again : (holds : A → Bool) (t u : A → Bool) → ((y : A) → holds y ≡ true → t y ≡ true → u y ≡ true) → (xs : List A) → list_all holds xs ≡ true → list_all t xs ≡ true → list_all u xs ≡ true
+  all_again holds t u follows [] all passed = refl
+  all_again holds t u follows (x ∷ xs) all passed =
+      let held = and_parts (holds x) (list_all holds xs) all in
+      let does = and_parts (t x) (list_all t xs) passed in
+      ap₂ (λ (a : Bool) (b : Bool). a && b) (follows x held.0 does.0) (all_again holds t u follows xs held.1 does.1)
 
-and_both : (a b c d : Bool) → ((a && b) && (c && d)) ≡ ((a && c) && (b && d))
-and_both true true true d = refl
-and_both true true false d = refl
-and_both true false true d = refl
-and_both true false false d = refl
-and_both false b c d = refl
+  pub all_pairs-again : (holds : A → Bool) (other : A → A → Bool) → ((x y : A) → holds x ≡ true → holds y ≡ true → test x y ≡ true → other x y ≡ true)
+      → (xs : List A) → list_all holds xs ≡ true → all_pairs test xs ≡ true → all_pairs other xs ≡ true
+  all_pairs-again holds other follows [] all passed = refl
+  all_pairs-again holds other follows (x ∷ xs) all passed =
+      let held = and_parts (holds x) (list_all holds xs) all in
+      let does = and_parts (list_all (test x) xs) (all_pairs test xs) passed in
+      ap₂ (λ (a : Bool) (b : Bool). a && b) (all_again holds (test x) (other x) (λ y at. follows x y held.0 at) xs held.1 does.0) (all_pairs-again holds other follows xs held.1 does.1)
 
-and_assoc : (a b c : Bool) → (a && (b && c)) ≡ ((a && b) && c)
-and_assoc true b c = refl
-and_assoc false b c = refl
+  pub all_pairs-map : {B : Type 0} (f : B → A) (ys : List B) → all_pairs test (map f ys) ≡ all_pairs (λ x y. test (f x) (f y)) ys
+  all_pairs-map f [] = refl
+  all_pairs-map f (y ∷ ys) = ap₂ (λ (a : Bool) (b : Bool). a && b) (list_all-map (test (f y)) f ys) (all_pairs-map f ys)
 
--- two tests at once
-list_all-both : {A : Type 0} (p q r : A → Bool) → ((x : A) → r x ≡ (p x && q x)) → (xs : List A) → list_all r xs ≡ (list_all p xs && list_all q xs)
-list_all-both p q r same [] = refl
-list_all-both p q r same (x ∷ xs) = ap₂ (λ (a : Bool) (b : Bool). a && b) (same x) (list_all-both p q r same xs) ∙ and_both (p x) (q x) (list_all p xs) (list_all q xs)
+-- a place in a list isn't behind it
+position-le : {A : Type 0} (passes : A → Bool) (xs : List A) → position_or_len passes xs ≤ length xs
+position-le passes [] = omega arith
+position-le passes (x ∷ xs) =
+    elim (cases_Bool (passes x)) [
+      | inl is ↦ grind (arith, is)
+      | inr isnt ↦ grind (arith, isnt, position-le passes xs)
+    ]
 
-pub list_all-same : {A : Type 0} (p q : A → Bool) → ((x : A) → p x ≡ q x) → (xs : List A) → list_all p xs ≡ list_all q xs
-list_all-same p q same [] = refl
-list_all-same p q same (x ∷ xs) = ap₂ (λ (a : Bool) (b : Bool). a && b) (same x) (list_all-same p q same xs)
-
--- what is claimed one after another, where each claim leaves a state in which less is free
-module _ {S A : Type 0} (free : S → A → Bool) (apart : A → A → Bool) where
-  -- all can be claimed: each is free, and no two want the same
-  abbrev pub can_claim : S → List A → Bool
-  can_claim s xs = list_all (free s) xs && all_pairs apart xs
-
-  -- the first is claimed
-  pub claim_first : (s t : S) (x : A) (xs : List A) → free s x ≡ true → ((y : A) → free t y ≡ (free s y && apart x y)) → can_claim s (x ∷ xs) ≡ can_claim t xs
-  claim_first s t x xs is_free less =
-      ap (λ (b : Bool). (b && list_all (free s) xs) && (list_all (apart x) xs && all_pairs apart xs)) is_free
-      ∙ and_assoc (list_all (free s) xs) (list_all (apart x) xs) (all_pairs apart xs)
-      ∙ ap (λ (b : Bool). b && all_pairs apart xs) (sym (list_all-both (free s) (apart x) (free t) less xs))
-
-  -- the first isn't free
-  pub claim_none : (s : S) (x : A) (xs : List A) → free s x ≡ false → can_claim s (x ∷ xs) ≡ false
-  claim_none s x xs is_taken = ap (λ (b : Bool). (b && list_all (free s) xs) && (list_all (apart x) xs && all_pairs apart xs)) is_taken
+-- the first place, or the length
+pub first_place : {A : Type 0} (passes : A → Bool) (xs : List A)
+    → unwrap_or (cond (ltb (position_or_len passes xs) (length xs)) (Some (position_or_len passes xs)) None) (length xs) ≡ position_or_len passes xs
+first_place passes xs =
+    elim (cases_lt (position_or_len passes xs) (length xs)) [
+      | inl lt ↦ rw (lt-ltb (position_or_len passes xs) (length xs) lt) refl
+      | inr le ↦ rw (le-ltb (position_or_len passes xs) (length xs) le) (omega (arith, position-le passes xs))
+    ]

@@ -1,16 +1,18 @@
--- The draft of a text that is UTF-8, and of one that isn't.
-use Rattle.std.proofs.Common.{◌≡◌, List, ℕ, None}
-use Rattle.std.specs.Option.{option_and_then}
+-- The JSON value of a text that is UTF-8, and of one that isn't.
+use Rattle.std.proofs.Common.{◌≡◌, ◌∙◌, inl, inr, List, ℕ, None}
 use Rattle.std.specs.Str.{IsUtf8, is_utf8}
-use Rattle.std.proofs.lemmas.Bool.{cond-true, cond-false, false_from_ne_true}
+use Rattle.std.proofs.lemmas.Bool.{cases_Bool, cond-true, cond-false}
 use Rattle.std.proofs.lemmas.Str.{IsUtf8-from_is_utf8, is_utf8-from_IsUtf8}
-use Rattle.json.specs.Json.{document}
-use Rattle.cluster_config.specs.Format.{draft_in}
-use Rattle.cluster_config.specs.Reading.{draft_of}
+use Rattle.serde_json.specs.Read as json
+use Rattle.cluster_config.specs.Reading.{value_of}
 
-pub draft_of-text : (text : List ℕ) → IsUtf8 text → draft_of text ≡ option_and_then draft_in (document text)
-draft_of-text text utf8 = cond-true (is_utf8 text) (option_and_then draft_in (document text)) None (is_utf8-from_IsUtf8 text utf8)
+pub value_of-utf8 : (text : List ℕ) → IsUtf8 text → value_of text ≡ json.read text
+value_of-utf8 text utf8 = cond-true (is_utf8 text) (json.read text) None (is_utf8-from_IsUtf8 text utf8)
 
-pub draft_of-other : (text : List ℕ) → (IsUtf8 text → ⊥) → draft_of text ≡ None
-draft_of-other text other =
-    cond-false (is_utf8 text) (option_and_then draft_in (document text)) None (false_from_ne_true (is_utf8 text) (λ is. other (IsUtf8-from_is_utf8 text is)))
+-- a text that is none as UTF-8 is none
+pub value_of-none : (text : List ℕ) → (IsUtf8 text → json.read text ≡ None) → value_of text ≡ None
+value_of-none text none =
+    elim (cases_Bool (is_utf8 text)) [
+      | inl is ↦ cond-true (is_utf8 text) (json.read text) None is ∙ none (IsUtf8-from_is_utf8 text is)
+      | inr isnt ↦ cond-false (is_utf8 text) (json.read text) None isnt
+    ]

@@ -2,8 +2,7 @@
 ghost use Rattle.std.specs.Prelude.{◌≡◌, ◌++◌, IfOk, OnOk, slice_get, option_copied};
 ghost use Rattle.cluster_config.specs.Config.{IsCluster, first_owners, runs_of};
 
-use crate::host::Host;
-use crate::node_id::NodeId;
+use crate::names::{Host, NodeId};
 use key_slot::Slot;
 use slot_table::{NodeNo, Run};
 use std::alloc::{AllocError, Global};
@@ -19,7 +18,7 @@ pub struct SlotRange {
 }
 
 /// The slots that a master has at the start.
-#[derive(Debug, Drop)]
+#[derive(Clone, Debug, Drop)]
 pub struct SlotRanges {
     ranges: Vec<SlotRange>,
 }
@@ -49,17 +48,8 @@ impl SlotRanges {
     }
 }
 
-impl Clone for SlotRanges {
-    ghost is_clone = { λ slots copy. copy ≡ slots };
-
-    fn clone(&self) -> Result<SlotRanges, AllocError> {
-        let ranges = self.ranges.clone()?;
-        Ok(SlotRanges { ranges })
-    }
-}
-
 /// What a node is at the start.
-#[derive(Debug, Drop)]
+#[derive(Clone, Debug, Drop)]
 pub enum Role {
     /// It owns these slots, which may be none.
     Master {
@@ -73,21 +63,8 @@ pub enum Role {
     },
 }
 
-impl Clone for Role {
-    ghost is_clone = { λ role copy. copy ≡ role };
-
-    fn clone(&self) -> Result<Role, AllocError> {
-        match self {
-            Role::Master { slots } => Ok(Role::Master {
-                slots: slots.clone()?,
-            }),
-            Role::Replica { of } => Ok(Role::Replica { of: *of }),
-        }
-    }
-}
-
 /// A node of the cluster.
-#[derive(Debug, Drop)]
+#[derive(Clone, Debug, Drop)]
 pub struct NodeConfig {
     /// Its id.
     pub id: NodeId,
@@ -97,19 +74,6 @@ pub struct NodeConfig {
     pub port: u16,
     /// What it is at the start.
     pub role: Role,
-}
-
-impl Clone for NodeConfig {
-    ghost is_clone = { λ node copy. copy ≡ node };
-
-    fn clone(&self) -> Result<NodeConfig, AllocError> {
-        Ok(NodeConfig {
-            id: self.id.clone()?,
-            host: self.host.clone()?,
-            port: self.port,
-            role: self.role.clone()?,
-        })
-    }
 }
 
 /// A cluster: its nodes by their numbers, who votes, and its times.
@@ -133,7 +97,12 @@ impl Model for Config {
       voters = config.voters.items;
     } };
 
-    ghost invariant = { λ config. IsCluster config.nodes.items config.voters.items };
+    ghost invariant = { λ config. IsCluster (record {
+      tick_ms = config.tick_ms;
+      node_timeout = config.node_timeout;
+      nodes = config.nodes.items;
+      voters = config.voters.items;
+    }) };
 }
 
 impl Config {
@@ -143,7 +112,7 @@ impl Config {
         nodes: Vec<NodeConfig>,
         voters: Vec<NodeNo>,
     ) -> Config
-        requires { IsCluster nodes.items voters.items }
+        requires { IsCluster (record { tick_ms = tick_ms; node_timeout = node_timeout; nodes = nodes.items; voters = voters.items }) }
         ensures { result ≡ record { tick_ms = tick_ms; node_timeout = node_timeout; nodes = nodes.items; voters = voters.items } }
     {
         Config {
@@ -171,7 +140,7 @@ impl Config {
     /// The nodes by their numbers, 1 to 16 of them.
     pub fn nodes(&self) -> &[NodeConfig]
         ensures nodes { result.now ≡ self.now.nodes }
-        ensures cluster { IsCluster self.now.nodes self.now.voters }
+        ensures cluster { IsCluster self.now }
     {
         self.nodes.as_slice()
     }
@@ -186,7 +155,7 @@ impl Config {
     /// The numbers of the nodes that vote, in the order of the text.
     pub fn voters(&self) -> &[NodeNo]
         ensures voters { result.now ≡ self.now.voters }
-        ensures cluster { IsCluster self.now.nodes self.now.voters }
+        ensures cluster { IsCluster self.now }
     {
         self.voters.as_slice()
     }

@@ -9,7 +9,7 @@ use thiserror::Error;
 /// memory was refused.
 #[derive(Clone, Copy, PartialEq, Eq, Debug, Error)]
 pub enum ConfigFault {
-    /// It is no JSON text in UTF-8, or a member is missing, strange, repeated or of the wrong kind, or a host is none.
+    /// It is no JSON text in UTF-8, or a member is missing, strange or of the wrong kind, or a host is none.
     #[error("not a configuration")]
     Syntax,
     /// An id isn't 40 hexadecimal digits in lower case, or isn't above the id of the node before it.

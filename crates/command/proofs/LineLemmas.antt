@@ -1,4 +1,4 @@
--- Texts that numbers stand in are on one line.
+-- The text of MOVED is on one line.
 use Rattle.std.proofs.Common.{◌≡◌, ℕ, ◌+◌, ◌<◌, ◌^◌, ◌%◌, List, [], ◌∷◌, ◌++◌, true, refl, arith}
 use Rattle.std.specs.Prelude.{decimal}
 use Rattle.std.proofs.lemmas.Fmt.{decimal_by_steps}
@@ -9,7 +9,7 @@ use Rattle.command.specs.ErrorLine.{moved_text}
 one_line-append : (front rest : List ℕ) → is_one_line front ≡ true → is_one_line rest ≡ true → is_one_line (front ++ rest) ≡ true
 one_line-append front rest one other = rw (list_all-append is_text_byte front rest, one, other) refl
 
--- CR and LF stand before the digits
+-- CR and LF come before the digits
 digit_is_text : (digit : ℕ) → is_text_byte (48 + digit) ≡ true
 digit_is_text digit = grind arith
 

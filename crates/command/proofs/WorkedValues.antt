@@ -1,14 +1,15 @@
--- Words whose command anybody knows (Redis command reference).
+-- Worked values of the definitions (Redis command reference).
 use Rattle.std.proofs.Common.{◌≡◌, [], ◌∷◌, refl, true, false}
 use Rattle.std.specs.Prelude.{Some, None, Ok, Err, codes}
 use Rattle.std.specs.Fmt.{digits}
 use Rattle.command.specs.ErrorLine.{error_text, line_of, moved_text}
 use Rattle.command.specs.Keys.{is_write, keys_of, only_key}
-use Rattle.command.specs.Table.{command_of, name_of}
-use Rattle.command.specs.declared.table.Name.TheVariants as name
+use Rattle.command.specs.Names.{name_of}
+use Rattle.command.specs.Table.{command_of}
+use Rattle.command.specs.declared.names.Name.TheVariants as name
 use Rattle.command.specs.declared.command.Command.TheVariants.{Data, Cluster}
-use Rattle.command.specs.declared.data_command.DataCommand.TheVariants.{Ping, Get, Set, Mget}
-use Rattle.command.specs.declared.cluster_command.ClusterCommand.TheVariants.{KeySlot, MyId, Slots}
+use Rattle.command.specs.declared.command.DataCommand.TheVariants.{Ping, Get, Set, Mget}
+use Rattle.command.specs.declared.command.ClusterCommand.TheVariants.{KeySlot, MyId, Slots}
 use Rattle.command.specs.declared.fault.CommandFault.TheVariants.{Unknown, UnknownSubcommand, Arity}
 
 -- letters of any case
@@ -38,9 +39,9 @@ get_blank = refl
 get_a_b : command_of (codes "GET" ∷ codes "a" ∷ codes "b" ∷ []) ≡ Err (Arity name.Get)
 get_a_b = refl
 
--- and how a client reads it
-get_a_b_is_told : error_text (line_of (Arity name.Get)) ≡ codes "ERR wrong number of arguments for 'get' command"
-get_a_b_is_told = refl
+-- and its error reply
+get_a_b_reply : error_text (line_of (Arity name.Get)) ≡ codes "ERR wrong number of arguments for 'get' command"
+get_a_b_reply = refl
 
 cluster_keyslot_foo : command_of (codes "CLUSTER" ∷ codes "KEYSLOT" ∷ codes "foo" ∷ []) ≡ Ok (Cluster (KeySlot (codes "foo")))
 cluster_keyslot_foo = refl
@@ -51,18 +52,18 @@ cluster_myid = refl
 cluster_slots : command_of (codes "Cluster" ∷ codes "Slots" ∷ []) ≡ Ok (Cluster Slots)
 cluster_slots = refl
 
--- it wants a subcommand
+-- CLUSTER needs a subcommand
 cluster : command_of (codes "cluster" ∷ []) ≡ Err (Arity name.Cluster)
 cluster = refl
 
--- one that it knows, whatever stands behind it
+-- an unknown one is reported before the number of arguments
 cluster_foo : command_of (codes "CLUSTER" ∷ codes "FOO" ∷ []) ≡ Err UnknownSubcommand
 cluster_foo = refl
 
 cluster_foo_a_b : command_of (codes "CLUSTER" ∷ codes "FOO" ∷ codes "a" ∷ codes "b" ∷ []) ≡ Err UnknownSubcommand
 cluster_foo_a_b = refl
 
--- and that subcommand's arguments
+-- a known one needs its own number of arguments
 cluster_keyslot : command_of (codes "CLUSTER" ∷ codes "KEYSLOT" ∷ []) ≡ Err (Arity name.Cluster)
 cluster_keyslot = refl
 
@@ -77,14 +78,14 @@ keys_of_set = refl
 keys_of_mget : keys_of (Data (Mget (codes "a" ∷ codes "b" ∷ []))) ≡ codes "a" ∷ codes "b" ∷ []
 keys_of_mget = refl
 
--- MGET has a list of keys, also of one
+-- MGET takes a list of keys, even where it has one
 only_key_of_set : only_key (Data (Set (codes "a") (codes "1"))) ≡ Some (codes "a")
 only_key_of_set = refl
 
 only_key_of_mget : only_key (Data (Mget (codes "a" ∷ []))) ≡ None
 only_key_of_mget = refl
 
--- a key whose slot is asked for is neither read nor written
+-- KEYSLOT neither reads nor writes the key
 keys_of_keyslot : keys_of (Cluster (KeySlot (codes "foo"))) ≡ []
 keys_of_keyslot = refl
 

@@ -1,12 +1,12 @@
--- The texts of errors (RESP protocol, "Simple errors": the first word is the kind).
+-- The texts of error replies (RESP protocol, "Simple errors": the first word is the kind of error).
 use Rattle.std.specs.Prelude.{List, ℕ, ◌++◌, codes, decimal}
-use Rattle.command.specs.Table.{name_text}
+use Rattle.command.specs.Names.{name_text}
 use Rattle.command.specs.declared.fault.CommandFault.{CommandFault}
 use Rattle.command.specs.declared.fault.CommandFault.TheVariants.{Unknown, UnknownSubcommand, Arity, Memory}
 use Rattle.command.specs.declared.error_line.ErrorLine.{ErrorLine}
 use Rattle.command.specs.declared.error_line.ErrorLine.TheVariants.{Protocol, OutOfMemory, Exhausted, UnknownCommand, UnknownSubcommand as UnknownWord, WrongArity, CrossSlot, SlotDown}
 
--- what a client reads behind the `-`
+-- what follows the `-`
 abbrev pub error_text : ErrorLine → List ℕ
 error_text Protocol = codes "ERR Protocol error"
 error_text OutOfMemory = codes "OOM out of memory"
@@ -17,13 +17,13 @@ error_text CrossSlot = codes "CROSSSLOT Keys in request don't hash to the same s
 error_text SlotDown = codes "CLUSTERDOWN Hash slot not served"
 error_text (WrongArity name) = codes "ERR wrong number of arguments for '" ++ name_text name ++ codes "' command"
 
--- which line tells a fault of the words
+-- the reply to words that are not a command
 abbrev pub line_of : CommandFault → ErrorLine
 line_of Unknown = UnknownCommand
 line_of UnknownSubcommand = UnknownWord
 line_of (Arity name) = WrongArity name
 line_of Memory = OutOfMemory
 
--- and where another node has the slot: which slot, and where that node is reached (Redis Cluster specification, "MOVED Redirection")
+-- the slot of the keys, and the address of the node that owns it (Redis Cluster specification, "MOVED Redirection")
 abbrev pub moved_text : ℕ → List ℕ → ℕ → List ℕ
 moved_text slot host port = codes "MOVED " ++ decimal slot ++ codes " " ++ host ++ codes ":" ++ decimal port

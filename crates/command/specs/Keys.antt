@@ -2,8 +2,8 @@
 use Rattle.std.specs.Prelude.{List, [], ◌∷◌, ℕ, Bool, true, false, Option, Some, None}
 use Rattle.command.specs.declared.command.Command.{Command}
 use Rattle.command.specs.declared.command.Command.TheVariants.{Data, Cluster}
-use Rattle.command.specs.declared.data_command.DataCommand.{DataCommand}
-use Rattle.command.specs.declared.data_command.DataCommand.TheVariants.{Ping, Get, Set, Mget}
+use Rattle.command.specs.declared.command.DataCommand.{DataCommand}
+use Rattle.command.specs.declared.command.DataCommand.TheVariants.{Ping, Get, Set, Mget}
 
 -- the arguments that are keys
 abbrev pub data_keys : DataCommand → List (List ℕ)
@@ -12,12 +12,12 @@ data_keys (Get key) = key ∷ []
 data_keys (Set key value) = key ∷ []
 data_keys (Mget keys) = keys
 
--- what is asked about the cluster has none
+-- a command about the cluster names none
 abbrev pub keys_of : Command → List (List ℕ)
 keys_of (Data command) = data_keys command
 keys_of (Cluster command) = []
 
--- the key of a command whose syntax has one, and no more
+-- the key of a command whose syntax has exactly one
 abbrev pub only_data_key : DataCommand → Option (List ℕ)
 only_data_key Ping = None
 only_data_key (Get key) = Some key

@@ -1,33 +1,37 @@
-//! The texts of the errors that a node sends, but for the one that names another node.
-ghost use Rattle.std.specs.Prelude.{◌≡◌};
-ghost use Rattle.command.specs.ErrorLine.{error_text};
+//! The texts of the errors that a node sends.
+ghost use Rattle.std.specs.Prelude.{◌≡◌, IfOk, IsTrue};
+ghost use Rattle.command.specs.ErrorLine.{error_text, moved_text};
+ghost use Rattle.resp2.specs.Line.{is_one_line};
 
-use crate::table::Name;
+use crate::names::Name;
+use bytes::Bytes;
+use itoa::Buffer;
 use resp2::{Line, Reply};
+use std::alloc::{AllocError, Global};
 
-/// What an error reply tells a client.
+/// An error reply.
 #[derive(Clone, Copy, PartialEq, Eq, Debug)]
 pub enum ErrorLine {
-    /// The bytes are no request; the connection ends.
+    /// The bytes are not a request. The node closes the connection.
     Protocol,
-    /// Memory was refused, and nothing changed; the connection ends.
+    /// An allocation failed, and nothing changed. The node closes the connection.
     OutOfMemory,
-    /// A number that only grows has reached its end, and nothing changed; the connection ends.
+    /// A counter is at its last number, and nothing changed. The node closes the connection.
     Exhausted,
     /// No command has the name.
     UnknownCommand,
-    /// CLUSTER has no subcommand of that name.
+    /// CLUSTER has no subcommand of the name.
     UnknownSubcommand,
-    /// The command doesn't take so many arguments.
+    /// The command does not take this number of arguments.
     WrongArity(Name),
     /// The keys of the command are in more than one slot.
     CrossSlot,
-    /// No node has the slot of the keys.
+    /// No node owns the slot of the keys.
     SlotDown,
 }
 
 impl ErrorLine {
-    /// The text of the line, without the mark before it and the end of the line.
+    /// The text, without the `-` before it and the end of the line after it.
     pub fn text(self) -> &'static [u8]
         ensures { result.now ≡ error_text self }
     {
@@ -36,27 +40,60 @@ impl ErrorLine {
             ErrorLine::OutOfMemory => b"OOM out of memory",
             ErrorLine::Exhausted => b"EXHAUSTED no next number",
             ErrorLine::UnknownCommand => b"ERR unknown command",
-            ErrorLine::WrongArity(Name::Ping) => {
-                b"ERR wrong number of arguments for 'ping' command"
-            }
-            ErrorLine::WrongArity(Name::Get) => b"ERR wrong number of arguments for 'get' command",
-            ErrorLine::WrongArity(Name::Set) => b"ERR wrong number of arguments for 'set' command",
-            ErrorLine::WrongArity(Name::Mget) => {
-                b"ERR wrong number of arguments for 'mget' command"
-            }
-            ErrorLine::WrongArity(Name::Cluster) => {
-                b"ERR wrong number of arguments for 'cluster' command"
-            }
+            ErrorLine::WrongArity(name) => wrong_arity(name),
             ErrorLine::UnknownSubcommand => b"ERR unknown subcommand",
             ErrorLine::CrossSlot => b"CROSSSLOT Keys in request don't hash to the same slot",
             ErrorLine::SlotDown => b"CLUSTERDOWN Hash slot not served",
         }
     }
 
-    /// The error reply with this text.
+    /// The reply with this text.
     pub fn reply(self) -> Reply
         ensures { result ≡ Reply.Error (error_text self) }
     {
         Reply::Error(Line::from_static(self.text()))
     }
+}
+
+// The text is static, since the reply must not allocate.
+macro_rules! wrong_arity {
+    ($name:literal) => {
+        concat!("ERR wrong number of arguments for '", $name, "' command").as_bytes()
+    };
+}
+
+fn wrong_arity(name: Name) -> &'static [u8]
+    ensures { result.now ≡ error_text (ErrorLine.WrongArity name) }
+{
+    match name {
+        Name::Ping => wrong_arity!("ping"),
+        Name::Get => wrong_arity!("get"),
+        Name::Set => wrong_arity!("set"),
+        Name::Mget => wrong_arity!("mget"),
+        Name::Cluster => wrong_arity!("cluster"),
+    }
+}
+
+/// The error that redirects a client to the owner of the slot, at `host` and `port`. The host has no line break.
+#[tactic(auto, using(crate::proofs::LineLemmas::moved_is_one_line))]
+pub fn moved_reply(alloc: Global, slot: u16, host: &[u8], port: u16) -> Result<Reply, AllocError>
+    requires { IsTrue (is_one_line host.now) }
+    ensures { IfOk result (λ reply. reply ≡ Reply.Error (moved_text slot host.now port)) }
+{
+    let text = moved_text(alloc, slot, host, port)?;
+    Ok(Reply::Error(Line::new(text).unwrap()))
+}
+
+fn moved_text(alloc: Global, slot: u16, host: &[u8], port: u16) -> Result<Bytes, AllocError>
+    ensures { IfOk result (λ text. text ≡ moved_text slot host.now port) }
+{
+    let room = host.len().saturating_add(b"MOVED 65535 :65535".len());
+    let mut text = Vec::with_capacity(alloc, room)?;
+    text.extend_from_slice(b"MOVED ")?;
+    text.extend_from_slice(Buffer::new().format(slot).as_bytes())?;
+    text.extend_from_slice(b" ")?;
+    text.extend_from_slice(host)?;
+    text.extend_from_slice(b":")?;
+    text.extend_from_slice(Buffer::new().format(port).as_bytes())?;
+    Ok(Bytes::from_vec(text)?)
 }

@@ -1,32 +1,32 @@
-//! Why words are no command.
+//! Why words are not a command.
 ghost use Rattle.std.specs.Prelude.{◌≡◌};
 ghost use Rattle.command.specs.declared.fault.CommandFault.TheVariants.{Memory};
 ghost use Rattle.command.specs.ErrorLine.{line_of};
 
 use crate::error_line::ErrorLine;
-use crate::table::Name;
+use crate::names::Name;
 use std::alloc::AllocError;
 use thiserror::Error;
 
-/// Why words are no command, or what was refused while they were read.
+/// Why words are not a command, or why they could not be parsed.
 #[derive(Clone, Copy, PartialEq, Eq, Debug, Error)]
 pub enum CommandFault {
     /// No command has the name.
     #[error("unknown command")]
     Unknown,
-    /// CLUSTER has no such subcommand.
+    /// CLUSTER has no subcommand of the name.
     #[error("unknown subcommand")]
     UnknownSubcommand,
-    /// The command doesn't take so many arguments.
+    /// The command does not take this number of arguments.
     #[error("wrong number of arguments")]
     Arity(Name),
-    /// Memory was refused.
+    /// An allocation failed.
     #[error("out of memory")]
     Memory,
 }
 
 impl CommandFault {
-    /// The line that answers the words.
+    /// The error reply to the words.
     pub fn line(self) -> ErrorLine
         ensures { result ≡ line_of self }
     {

@@ -1,24 +1,14 @@
-//! The commands of a node: which words are one, which keys they name, and the error lines that answer what is none.
+//! The commands of a node: how words are parsed into one, which keys it names, and the texts of the errors that a node sends.
 #![tactic(auto)]
 
-mod cluster_command;
 mod command;
-mod data_command;
 mod error_line;
 mod fault;
-mod key_list;
-mod key_words;
-mod moved_line;
+mod names;
 mod parsing;
-mod table;
 
-pub use cluster_command::ClusterCommand;
-pub use command::Command;
-pub use data_command::DataCommand;
-pub use error_line::ErrorLine;
+pub use command::{ClusterCommand, Command, DataCommand, KeyList, keys};
+pub use error_line::{ErrorLine, moved_reply};
 pub use fault::CommandFault;
-pub use key_list::KeyList;
-pub use key_words::keys;
-pub use moved_line::moved_reply;
+pub use names::{Name, Subcommand};
 pub use parsing::parse;
-pub use table::{Name, Subcommand};

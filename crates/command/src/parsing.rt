@@ -1,23 +1,20 @@
-//! From words to a command.
+//! From the words of a request to a command.
 ghost use Rattle.std.specs.Prelude.{◌≡◌, IfOk, IfErr, Ok};
-ghost use Rattle.command.specs.Table.{command_of, with_arguments, IsToldOf};
+ghost use Rattle.command.specs.Table.{command_of, with_arguments, IsFaultOf};
 
-use crate::cluster_command::ClusterCommand;
-use crate::command::Command;
-use crate::data_command::DataCommand;
+use crate::command::{ClusterCommand, Command, DataCommand, KeyList};
 use crate::fault::CommandFault;
-use crate::key_list::KeyList;
-use crate::table::{Name, Subcommand};
+use crate::names::{Name, Subcommand};
 use bytes::Bytes;
 use resp2::Words;
 use std::alloc::{AllocError, Global};
 
 /// The command that the words ask for. It shares their bytes.
 ///
-/// Unknown, UnknownSubcommand and Arity say that they are none; Memory says that memory was refused.
+/// Unknown, UnknownSubcommand and Arity mean that the words are not a command. Memory means that an allocation failed.
 pub fn parse(alloc: Global, words: &Words) -> Result<Command, CommandFault>
     ensures command { IfOk result (λ command. command_of words.now ≡ Ok command) }
-    ensures fault { IfErr result (λ fault. IsToldOf fault (command_of words.now)) }
+    ensures fault { IfErr result (λ fault. IsFaultOf fault (command_of words.now)) }
 {
     let Some((name, arguments)) = words.as_slice().split_first() else {
         return Err(CommandFault::Unknown);
@@ -30,7 +27,7 @@ pub fn parse(alloc: Global, words: &Words) -> Result<Command, CommandFault>
 
 fn with_arguments(alloc: Global, name: Name, arguments: &[Bytes]) -> Result<Command, CommandFault>
     ensures command { IfOk result (λ command. with_arguments name arguments.now ≡ Ok command) }
-    ensures fault { IfErr result (λ fault. IsToldOf fault (with_arguments name arguments.now)) }
+    ensures fault { IfErr result (λ fault. IsFaultOf fault (with_arguments name arguments.now)) }
 {
     match (name, arguments) {
         (Name::Ping, []) => Ok(Command::Data(DataCommand::Ping)),
@@ -47,7 +44,7 @@ fn with_arguments(alloc: Global, name: Name, arguments: &[Bytes]) -> Result<Comm
 
 fn mget(alloc: Global, arguments: &[Bytes]) -> Result<Command, CommandFault>
     ensures command { IfOk result (λ command. with_arguments Name.Mget arguments.now ≡ Ok command) }
-    ensures fault { IfErr result (λ fault. IsToldOf fault (with_arguments Name.Mget arguments.now)) }
+    ensures fault { IfErr result (λ fault. IsFaultOf fault (with_arguments Name.Mget arguments.now)) }
 {
     let keys = copied(alloc, arguments)?;
     match KeyList::new(keys) {
@@ -56,7 +53,7 @@ fn mget(alloc: Global, arguments: &[Bytes]) -> Result<Command, CommandFault>
     }
 }
 
-// The same words, which share their bytes.
+// Copies that share the bytes of the words.
 fn copied(alloc: Global, words: &[Bytes]) -> Result<Vec<Bytes>, AllocError>
     ensures { IfOk result (λ copies. copies.items ≡ words.now) }
 {
@@ -69,7 +66,7 @@ fn copied(alloc: Global, words: &[Bytes]) -> Result<Vec<Bytes>, AllocError>
 
 fn cluster(words: &[Bytes]) -> Result<Command, CommandFault>
     ensures command { IfOk result (λ command. with_arguments Name.Cluster words.now ≡ Ok command) }
-    ensures fault { IfErr result (λ fault. IsToldOf fault (with_arguments Name.Cluster words.now)) }
+    ensures fault { IfErr result (λ fault. IsFaultOf fault (with_arguments Name.Cluster words.now)) }
 {
     let Some((word, arguments)) = words.split_first() else {
         return Err(CommandFault::Arity(Name::Cluster));

@@ -1,6 +1,7 @@
 pub mod Applied
+pub mod Locality
 pub mod Maps
-pub mod Parts
-pub mod Pass
-pub mod Places
+pub mod FirstChange
+pub mod CommitLoop
+pub mod Placeholders
 mod WorkedValues

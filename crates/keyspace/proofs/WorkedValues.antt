@@ -1,4 +1,4 @@
--- The definitions on worked values, by computation.
+-- Worked values of the definitions (Redis command reference).
 use Rattle.std.proofs.Common.{◌≡◌, refl, [], ◌∷◌, rules}
 use Rattle.std.specs.Prelude.{codes}
 use Rattle.std.specs.FinMap.{gets}
@@ -11,22 +11,22 @@ set_and_get : (replay ((codes "SET" ∷ codes "a" ∷ codes "1" ∷ []) ∷ (cod
     ≡ Simple (codes "OK") ∷ Bulk (codes "1") ∷ []
 set_and_get = grind (gets, rules)
 
--- the later string stands, and another key has none
+-- the later string replaces the earlier one, and another key has none
 set_again : (replay ((codes "SET" ∷ codes "a" ∷ codes "1" ∷ []) ∷ (codes "SET" ∷ codes "a" ∷ codes "2" ∷ [])
     ∷ (codes "GET" ∷ codes "a" ∷ []) ∷ (codes "GET" ∷ codes "b" ∷ []) ∷ [])).replies
     ≡ Simple (codes "OK") ∷ Simple (codes "OK") ∷ Bulk (codes "2") ∷ Null ∷ []
 set_again = grind (gets, rules)
 
--- several strings at once: of a key that is there, one that is missing, and the first again
+-- MGET of a key that is there, one that is missing, and the first again
 several : (replay ((codes "SET" ∷ codes "a" ∷ codes "1" ∷ []) ∷ (codes "MGET" ∷ codes "a" ∷ codes "b" ∷ codes "a" ∷ []) ∷ [])).replies
     ≡ Simple (codes "OK") ∷ Array (array_of (Bulk (codes "1") ∷ Null ∷ Bulk (codes "1") ∷ [])) ∷ []
 several = grind (gets, rules)
 
--- a keyspace by itself knows no command about a cluster
+-- a keyspace alone has no commands about a cluster
 no_cluster : (replay ((codes "CLUSTER" ∷ codes "MYID" ∷ []) ∷ [])).replies ≡ Error (codes "ERR unknown command") ∷ []
 no_cluster = refl
 
--- what is no command changes nothing
+-- words that are not a command get an error
 no_command : (replay ((codes "PING" ∷ []) ∷ (codes "GET" ∷ []) ∷ (codes "foo" ∷ []) ∷ [])).replies
     ≡ Simple (codes "PONG") ∷ Error (codes "ERR wrong number of arguments for 'get' command") ∷ Error (codes "ERR unknown command") ∷ []
 no_command = refl

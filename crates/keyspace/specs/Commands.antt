@@ -1,67 +1,96 @@
--- What each command answers and leaves (Redis command reference).
+-- What each command replies, and what it leaves (Redis command reference).
 use Rattle.std.specs.Prelude.{ℕ, List, [], ◌∷◌, map, Option, Some, None, Result, Ok, Err, codes}
 use Rattle.std.specs.FinMap as fin_map
 use Rattle.resp2.specs.declared.reply.Reply.{Reply}
 use Rattle.resp2.specs.declared.reply.Reply.TheVariants.{Simple, Error, Bulk, Null, Array}
 use Rattle.resp2.specs.Reply.{array_of}
+use Rattle.command.specs.Keys.{data_keys}
 use Rattle.command.specs.Table.{command_of}
 use Rattle.command.specs.ErrorLine.{error_text, line_of}
 use Rattle.command.specs.declared.command.Command.{Command}
 use Rattle.command.specs.declared.command.Command.TheVariants.{Data, Cluster}
-use Rattle.command.specs.declared.data_command.DataCommand.{DataCommand}
-use Rattle.command.specs.declared.data_command.DataCommand.TheVariants.{Ping, Get, Set, Mget}
+use Rattle.command.specs.declared.command.DataCommand.{DataCommand}
+use Rattle.command.specs.declared.command.DataCommand.TheVariants.{Ping, Get, Set, Mget}
 use Rattle.command.specs.declared.fault.CommandFault.{CommandFault}
 use Rattle.command.specs.declared.fault.CommandFault.TheVariants.{Unknown}
-use Rattle.keyspace.specs.Keyspace.{Keyspace}
+use Rattle.keyspace.specs.Keyspace.{Keyspace, changed}
 use Rattle.keyspace.specs.declared.value.Value.{Value}
 use Rattle.keyspace.specs.declared.value.Value.TheVariants.{Str}
 
--- what a command answers, and the keyspace that it leaves
-pub record Execution : Type 0 where
-  pub reply : Reply
-  pub after : Keyspace
-
--- the string at a key as a reply, or null where there is none
+-- the string as a reply, or null where there is none
 abbrev pub bulk_or_null : Option Value → Reply
 bulk_or_null None = Null
 bulk_or_null (Some (Str bytes)) = Bulk bytes
 
--- the string at a key, or null
-abbrev pub string_at : Keyspace → List ℕ → Reply
-string_at keyspace key = bulk_or_null (fin_map.get keyspace key)
+-- the reply to a command, and the values that it leaves at its keys, in their order; where the list is shorter, the other keys keep theirs
+pub record Effect : Type 0 where
+  pub reply : Reply
+  pub leaves : List (Option Value)
 
--- the command table
+-- the value at the first key
+abbrev pub first_of : List (Option Value) → Option Value
+first_of [] = None
+first_of (value ∷ values) = value
+
+-- the command table: each command as a function of the values at its keys, in their order
+abbrev pub effect : DataCommand → List (Option Value) → Effect
+effect Ping values = record { reply = Simple (codes "PONG"); leaves = [] }
+effect (Get key) values = record { reply = bulk_or_null (first_of values); leaves = [] }
+effect (Set key value) values = record { reply = Simple (codes "OK"); leaves = Some (Str value) ∷ [] }
+effect (Mget keys) values = record { reply = Array (array_of (map bulk_or_null values)); leaves = [] }
+
+-- the values at keys
+abbrev pub values_at : Keyspace → List (List ℕ) → List (Option Value)
+values_at keyspace keys = map (fin_map.get keyspace) keys
+
+-- the keyspace with these values left at the keys
+abbrev pub with_values : Keyspace → List (List ℕ) → List (Option Value) → Keyspace
+with_values keyspace keys [] = keyspace
+with_values keyspace [] (value ∷ values) = keyspace
+with_values keyspace (key ∷ keys) (value ∷ values) = with_values (changed keyspace key value) keys values
+
+-- what a command does in this keyspace
+abbrev pub effect_in : Keyspace → DataCommand → Effect
+effect_in keyspace command = effect command (values_at keyspace (data_keys command))
+
+-- the reply to a command, and the keyspace after it
+pub record Execution : Type 0 where
+  pub reply : Reply
+  pub after : Keyspace
+
+-- a command executed on a keyspace: its effect, taken at its keys
 abbrev pub exec : Keyspace → DataCommand → Execution
-exec keyspace Ping = record { reply = Simple (codes "PONG"); after = keyspace }
-exec keyspace (Get key) = record { reply = string_at keyspace key; after = keyspace }
-exec keyspace (Set key value) = record { reply = Simple (codes "OK"); after = fin_map.insert keyspace key (Str value) }
-exec keyspace (Mget keys) = record { reply = Array (array_of (map (string_at keyspace) keys)); after = keyspace }
+exec keyspace command =
+    record {
+      reply = (effect_in keyspace command).reply;
+      after = with_values keyspace (data_keys command) (effect_in keyspace command).leaves;
+    }
 
--- commands one after another: their replies
+-- the replies to commands one after another
 abbrev pub replies_of : Keyspace → List DataCommand → List Reply
 replies_of keyspace [] = []
 replies_of keyspace (command ∷ commands) = (exec keyspace command).reply ∷ replies_of (exec keyspace command).after commands
 
--- and the keyspace that they leave
+-- and the keyspace after them
 abbrev pub keyspace_after : Keyspace → List DataCommand → Keyspace
 keyspace_after keyspace [] = keyspace
 keyspace_after keyspace (command ∷ commands) = keyspace_after (exec keyspace command).after commands
 
--- words that ask for nothing of a keyspace get an error, and leave it as it is
-abbrev pub refused : Keyspace → CommandFault → Execution
-refused keyspace fault = record { reply = Error (error_text (line_of fault)); after = keyspace }
+-- words that are not a command on keys get an error, and the keyspace stays as it is
+abbrev pub rejected : Keyspace → CommandFault → Execution
+rejected keyspace fault = record { reply = Error (error_text (line_of fault)); after = keyspace }
 
--- a keyspace by itself is no cluster, and knows no command about one
+-- a keyspace alone has no commands about a cluster
 abbrev pub execution_of : Keyspace → Result Command CommandFault → Execution
 execution_of keyspace (Ok (Data command)) = exec keyspace command
-execution_of keyspace (Ok (Cluster command)) = refused keyspace Unknown
-execution_of keyspace (Err fault) = refused keyspace fault
+execution_of keyspace (Ok (Cluster command)) = rejected keyspace Unknown
+execution_of keyspace (Err fault) = rejected keyspace fault
 
--- the command table, for the words of a request
+-- the words of a request executed on a keyspace
 abbrev pub exec_words : Keyspace → List (List ℕ) → Execution
 exec_words keyspace words = execution_of keyspace (command_of words)
 
--- what requests answer and leave, one after another, from these keys on
+-- the replies to requests one after another, and the last keyspace
 pub record Replay : Type 0 where
   pub replies : List Reply
   pub last : Keyspace
@@ -74,6 +103,6 @@ replay_from keyspace (words ∷ requests) =
       last = (replay_from (exec_words keyspace words).after requests).last;
     }
 
--- the same from a keyspace with no key
+-- the same, from no keys on
 abbrev pub replay : List (List (List ℕ)) → Replay
 replay requests = replay_from fin_map.empty requests

@@ -1,5 +1,6 @@
 pub mod Commands
 pub mod Commit
 pub mod Keyspace
+pub mod Locality
 pub mod Plan
 pub mod Rebuild

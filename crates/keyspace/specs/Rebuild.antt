@@ -9,6 +9,6 @@ use Rattle.keyspace.specs.declared.value.Value.TheVariants.{Str}
 abbrev pub rebuilding : List ℕ → Value → List (List ℕ)
 rebuilding key (Str bytes) = codes "SET" ∷ key ∷ bytes ∷ []
 
--- where there was no key, the request leaves this key with this value
+-- executed on no key, the request makes this key with this value, and no other key
 abbrev pub Rebuilds : Type 0
 Rebuilds = (key : List ℕ) (value : Value) → (replay (rebuilding key value ∷ [])).last ≡ map.insert map.empty key value

@@ -1,19 +1,12 @@
-//! The keyspace of a node: a finite map from keys to values, and what commands answer and leave.
+//! The keyspace of a node: a finite map from keys to values, and what commands reply and change there.
 #![tactic(auto)]
 
-mod committing;
-mod executing;
-mod law;
-mod planning;
-mod rebuilding;
+mod changes;
+mod commands;
 mod store;
-mod tree_store;
 mod value;
 
-pub use executing::{exec, plan, plan_command};
-pub use law::rebuilding_makes_the_key;
-pub use planning::{Plan, commit};
-pub use rebuilding::rebuild;
-pub use store::Store;
-pub use tree_store::TreeStore;
-pub use value::Value;
+pub use changes::{Plan, commit};
+pub use commands::{commands_are_local, exec, plan, plan_command};
+pub use store::{Store, TreeStore};
+pub use value::{Value, rebuild, rebuilding_makes_the_key};

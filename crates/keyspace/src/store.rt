@@ -1,29 +1,80 @@
-//! Where a node keeps its keys.
+//! Where a node keeps its keys: the trait of all stores, and a store in a tree.
 ghost use Rattle.std.specs.Prelude.{◌≡◌, OnOk, OnErr, IsSome, IsOk};
 ghost use Rattle.std.specs.Option.{option_copied};
 ghost use Rattle.std.specs.FinMap as map;
 
 use crate::value::Value;
 use bytes::Bytes;
-use std::alloc::AllocError;
+use std::alloc::{AllocError, Global};
+use std::collections::BTreeMap;
+use std::marker::Model;
 
-/// A map from keys to values. A call that is refused changes nothing.
+/// A map from keys to values. A call that fails changes nothing.
 pub trait Store {
     ghost use Rattle.keyspace.specs.Keyspace.{Keyspace};
 
     ghost contents: { Self → Keyspace };
 
-    /// The value at the key.
+    /// The value at the key, or None.
     fn get(&self, key: &Bytes) -> Option<&Value>
         ensures { option_copied result ≡ map.get (contents self.now) key.now };
 
-    /// Puts the value at the key, in the place of what is there. Memory is refused only for a key that is new.
+    /// Puts the value at the key, and replaces the one that is there. It fails only where the key is new and memory is out.
     fn insert(&mut self, key: Bytes, value: Value) -> Result<(), AllocError>
         ensures ok { OnOk result (contents self.new ≡ map.insert (contents self.old) key value) }
         ensures err { OnErr result (contents self.new ≡ contents self.old) }
         ensures over { IsSome (map.get (contents self.old) key) → IsOk result };
 
-    /// Takes the key out, if it is there.
+    /// Removes the key, if it is there.
     fn remove(&mut self, key: &Bytes)
         ensures { contents self.new ≡ map.remove (contents self.old) key.now };
+}
+
+/// A store in a balanced tree, in the byte order of its keys.
+#[derive(Drop)]
+pub struct TreeStore {
+    entries: BTreeMap<Bytes, Value>,
+}
+
+impl Model for TreeStore {
+    ghost use Rattle.std.specs.Prelude.{ℕ};
+    ghost use Rattle.std.specs.Coded.{codes, coded_list, coded_ℕ};
+    ghost use Rattle.std.specs.Ordering.{nat_cmp};
+    ghost use Rattle.std.specs.Cmp.Lexicographic.{slice_cmp};
+    ghost use Rattle.std.specs.FinMap as map;
+    ghost use Rattle.keyspace.specs.Keyspace.{Keyspace};
+
+    ghost Value = { Keyspace };
+
+    ghost coded = { map.code {R = slice_cmp nat_cmp} (coded_list coded_ℕ) (Prim.hlevel codes) };
+
+    ghost view = { λ store. map.from_entries store.entries.entries };
+}
+
+impl TreeStore {
+    /// A store with no keys. It allocates nothing.
+    pub fn new(alloc: Global) -> TreeStore
+        ensures { result ≡ map.empty }
+    {
+        TreeStore {
+            entries: BTreeMap::new(alloc),
+        }
+    }
+}
+
+impl Store for TreeStore {
+    ghost contents = { λ store. store };
+
+    fn get(&self, key: &Bytes) -> Option<&Value> {
+        self.entries.get(key)
+    }
+
+    fn insert(&mut self, key: Bytes, value: Value) -> Result<(), AllocError> {
+        let _old = self.entries.insert(key, value)?;
+        Ok(())
+    }
+
+    fn remove(&mut self, key: &Bytes) {
+        let _old = self.entries.remove(key);
+    }
 }

@@ -1,10 +1,13 @@
-//! What stands at a key.
-ghost use Rattle.std.specs.Prelude.{◌≡◌};
+//! The values of keys, and the request that makes a key with its value.
+ghost use Rattle.std.specs.Prelude.{◌≡◌, IfOk};
+ghost use Rattle.keyspace.specs.Rebuild.{rebuilding, Rebuilds};
+ghost use Rattle.resp2.specs.Request.{IsRequest};
 
 use bytes::Bytes;
-use std::alloc::AllocError;
+use resp2::Words;
+use std::alloc::{AllocError, Global};
 
-/// A value of the keyspace.
+/// The value of a key.
 #[derive(Debug, Drop)]
 pub enum Value {
     /// A string: any bytes.
@@ -20,3 +23,21 @@ impl Clone for Value {
         }
     }
 }
+
+/// The request that makes this key with this value where the key is not there. Its words share the bytes of both.
+pub fn rebuild(alloc: Global, key: &Bytes, value: &Value) -> Result<Words, AllocError>
+    requires { IsRequest (rebuilding key.now value.now) }
+    ensures { IfOk result (λ words. words ≡ rebuilding key.now value.now) }
+{
+    let items = match value {
+        Value::Str(bytes) => {
+            vec![in alloc; Bytes::from_static(b"SET"), key.clone()?, bytes.clone()?]?
+        }
+    };
+    Ok(Words::new(items).unwrap())
+}
+
+/// Executed on no key, the request of `rebuild` makes its key with its value, and no other key.
+pub fn rebuilding_makes_the_key()
+    ensures { Rebuilds }
+{}

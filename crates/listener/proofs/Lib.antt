@@ -1,4 +1,4 @@
-pub mod ExchangeLemmas
-pub mod KnownBytesLemmas
-pub mod PutLemmas
+pub mod HistoryLemmas
+pub mod BatchLemmas
+pub mod DeskLemmas
 pub mod TalkLemmas

@@ -1,202 +1,119 @@
--- A conversation, read by read.
-use Rattle.std.proofs.Common.{◌≡◌, ◌<◌, ◌≤◌, ◌+◌, ℕ, List, [], ◌∷◌, ◌++◌, Option, append-nil, refl, sym, ◌∙◌, ap, subst, length, length-append, arith, lit≤, ◌≢◌, append_assoc, inl, inr, ◌⊎◌}
-use Rattle.std.proofs.lemmas.List.Elements.{All-nil, All-cons}
-use Rattle.std.specs.Io.KnownBytes.{Appends, Consumes}
-use Rattle.resp2.specs.declared.limits.TheConstants.{MOST_WORD_BYTES}
-use Rattle.resp2.specs.Request.{IsUnfinished, request_spelling}
+-- A conversation from its beginning to its end.
+use Rattle.std.proofs.Common.{◌≡◌, ◌≢◌, ◌⊎◌, ℕ, List, [], ◌++◌, Result, Ok, Err, append-nil, inl, inr, refl, sym, ◌∙◌}
+use Rattle.node_cell.specs.Asks.{Asked}
 use Rattle.node_core.specs.declared.connections.Conn.{Conn}
-use Rattle.node_core.specs.declared.event.Event.{Event}
-use Rattle.node_core.specs.declared.outputs.Outputs.{Outputs}
-use Rattle.listener.specs.Serving.{Converses, Exchanges, HasFailed, IsCutBy, IsCutShort, IsServed, ReadsEndlessly, error_bytes}
-use Rattle.command.specs.declared.error_line.ErrorLine.TheVariants as line
-use Rattle.listener.specs.Stopping.{Answers, CutsTalk, EndsBy, EndsTalk, HasReason, Halts, HasTalked, Puts, ReadsSo, StopsTalking, Talks}
-use Rattle.listener.specs.declared.stop.Stop.{Stop}
-use Rattle.listener.specs.declared.stop.Stop.TheVariants.{Device, BadByte, Memory, Exhausted, Unanswered, Endless}
-use Rattle.listener.specs.declared.fault.ConnFault.{ConnFault}
-use Rattle.listener.specs.declared.fault.ConnFault.TheVariants as fault
 use Rattle.node_core.specs.declared.fault.StepFault.{StepFault}
-use Rattle.resp2.specs.Counting.{HasRisen}
-use Rattle.listener.proofs.ExchangeLemmas.{exchanges_nothing, exchanges_again, exchanges_feed, leaves_any}
-use Rattle.listener.proofs.KnownBytesLemmas.{appends_nothing, appends_again, consumes_nothing, consumes_again}
-use Rattle.listener.proofs.PutLemmas.{puts_again}
+use Rattle.node_core.specs.declared.fault.StepFault.TheVariants as refused
+use Rattle.listener.specs.declared.fault.ConnFault.{ConnFault}
+use Rattle.listener.specs.declared.fault.ConnFault.TheVariants.{Reader, Writer, Memory, Exhausted, Unanswered, Endless}
+use Rattle.listener.specs.declared.requests.Rest.{Rest}
+use Rattle.listener.specs.Streams.{Change, Stream, change}
+use Rattle.listener.specs.Conversation.{IsUnopened, Serves, Tells, fault_of, line_of, replies_bytes}
+use Rattle.listener.specs.Conversation.IsUnopened.{no_room, was_refused, gave_none}
+use Rattle.listener.specs.Progress.{Closes, Opens, Puts, Refuses, Stops, Talks}
+use Rattle.listener.proofs.HistoryLemmas.{adds_again}
+use Rattle.listener.proofs.BatchLemmas.{fails_after, puts_longer, puts_nothing, sends_after}
+use Rattle.listener.proofs.DeskLemmas.{writes_on}
 
--- of nothing any request may come
-pub nothing_is_unfinished : (pending : List ℕ) → pending ≡ [] → IsUnfinished pending
-nothing_is_unfinished pending none =
-    record {
-      words = [] ∷ [];
-      rest = request_spelling ([] ∷ []);
-      request = record { count = (omega arith, lit≤ tt); short = All-cons (λ (word : List ℕ). length word ≤ MOST_WORD_BYTES) [] [] (omega arith) (All-nil (λ (word : List ℕ). length word ≤ MOST_WORD_BYTES)) };
-      wanted = omega arith;
-      spelled = ap (λ w. w ++ request_spelling ([] ∷ [])) none;
-    }
+refusal_is_not_writer : (why : StepFault) → fault_of why ≢ Writer
+refusal_is_not_writer refused.Memory = λ e. cc
+refusal_is_not_writer refused.Exhausted = λ e. cc
 
--- nothing was read yet
-pub reads_nothing : (i : Option (List ℕ)) → ReadsSo i i 0
-reads_nothing i = record { input = []; read = consumes_nothing i; long = omega arith }
+-- without a connection nothing was written
+unopened_is_not_writer : (asks : List Asked) (fault : ConnFault) → IsUnopened asks fault → fault ≢ Writer
+unopened_is_not_writer asks fault (no_room none is) = rw is (λ e. cc)
+unopened_is_not_writer asks fault (was_refused why asked is) = rw is (refusal_is_not_writer why)
+unopened_is_not_writer asks fault (gave_none outputs asked none is) = rw is (λ e. cc)
 
--- at least one byte more was read
-pub reads_more : (i j k : Option (List ℕ)) (count : ℕ) (bytes : List ℕ) → ReadsSo i j count → Consumes j k bytes → 0 < length bytes
-    → ReadsSo i k (count + 1)
-reads_more i j k count bytes so_far reads some =
-    record {
-      input = so_far.input ++ bytes;
-      read = consumes_again i j k so_far.input bytes so_far.read reads;
-      long = omega (arith, length-append so_far.input bytes, so_far.long);
-    }
+writer_or_not : (ended : Result Rest ConnFault) → (ended ≡ Err Writer) ⊎ (ended ≢ Err Writer)
+writer_or_not (Ok rest) = inr (λ e. cc)
+writer_or_not (Err Reader) = inr (λ e. cc)
+writer_or_not (Err Writer) = inl refl
+writer_or_not (Err Memory) = inr (λ e. cc)
+writer_or_not (Err Exhausted) = inr (λ e. cc)
+writer_or_not (Err Unanswered) = inr (λ e. cc)
+writer_or_not (Err Endless) = inr (λ e. cc)
 
-module _ (may : Event → Outputs → Type 0) (conn : Conn) where
-  -- nothing was said yet
-  abbrev pub talks_nothing : (i o : Option (List ℕ)) (pending buffer : List ℕ) → pending ≡ [] → buffer ≡ [] → Talks may conn i i o o pending [] buffer
-  talks_nothing i o pending buffer none empty =
+-- what was told last stands behind all replies
+tells_last : (result : Result (Unit {0}) ConnFault) (ended : Result Rest ConnFault) (a b c : Stream) (left replies line : List ℕ) → Puts (change a b) (change [] left) replies
+    → b.failures ≡ a.failures → Tells result ended (change b c) (left ++ line) → Tells result ended (change a c) (replies ++ line)
+tells_last (Err Writer) ended a b c left replies line puts kept fails = fails_after a b c [] _ _ (puts_longer _ _ _ _ _ line puts) kept fails
+tells_last result ended a b c left replies line puts kept told =
+    (told.0, sends_after a b c [] _ _ (puts_longer _ _ _ _ _ line puts) kept told.1)
+
+module _ (allowed : Asked → Type 0) where
+  -- there was no connection
+  pub talks_unopened : (asked : Change (List Asked)) (input output : Stream) (fault : ConnFault) (waiting : List ℕ) → Refuses allowed asked fault → waiting ≡ []
+      → Talks allowed asked (change input input) (change output output) (Err fault) waiting
+  talks_unopened asked input output fault waiting refuses empty =
       record {
-        input = [];
-        read = consumes_nothing i;
-        output = [];
-        exchanges = subst (λ rest. Exchanges may conn [] rest []) (sym none) (exchanges_nothing may conn []);
-        puts = record { sent = []; appends = appends_nothing o; all = empty };
+        replies = [];
+        talked = inr (record {
+          fault = fault;
+          asks = refuses.asks;
+          history = refuses.history;
+          unread = refl;
+          no_replies = refl;
+          failed = refl;
+          why = refuses.why;
+        });
+        left = [];
+        puts = puts_nothing output [];
+        waits = λ _. sym empty;
+        count = writes_on (Err fault) output.failures (λ e. unopened_is_not_writer _ _ refuses.why (cc));
       }
 
-  -- more bytes came
-  pub talks_feed : (i j k o p : Option (List ℕ)) (rest bytes before after : List ℕ) → Talks may conn i j o p rest before after → Consumes j k bytes
-      → Talks may conn i k o p (rest ++ bytes) before after
-  talks_feed i j k o p rest bytes before after talks reads =
+  -- a connection was opened, and closed at last
+  pub talks_opened : (a b c d : List Asked) (conn : Conn) (ended : Result Rest ConnFault) (input : Change Stream) (old new : Stream) (waiting : List ℕ)
+      → Opens allowed (change a b) conn
+      → Stops allowed conn ended input (record { asked = b; pending = []; waiting = []; out = old }) (record { asked = c; pending = []; waiting = waiting; out = new })
+      → Closes allowed (change c d) conn → Talks allowed (change a d) input (change old new) ended waiting
+  talks_opened a b c d conn ended input old new waiting opens stops closes =
+      let halts = stops.halts in
       record {
-        input = talks.input ++ bytes;
-        read = consumes_again i j k talks.input bytes talks.read reads;
-        output = talks.output;
-        exchanges = exchanges_feed may conn talks.input rest bytes talks.output talks.exchanges;
-        puts = talks.puts;
+        replies = replies_bytes halts.exchanges;
+        talked = inl (record {
+          talk = record { conn = conn; opening = opens.opening; exchanges = halts.exchanges; tail = halts.tail; closing = closes.closing };
+          opened = opens.opened;
+          history = adds_again allowed _ _ _ _ _ opens.history (adds_again allowed _ _ _ _ _ halts.history closes.history);
+          read = rw halts.spelled at stops.read;
+          replied = refl;
+          ends = halts.ends;
+          reads = rw halts.spelled at stops.reads;
+        });
+        left = halts.left;
+        puts = halts.puts;
+        waits = halts.waits;
+        count = halts.count;
       }
 
-  -- more bytes came, and the reader has them
-  pub talks_fed : (i j k o p : Option (List ℕ)) (rest bytes fed before after : List ℕ) → Talks may conn i j o p rest before after
-      → Consumes j k bytes → fed ≡ rest ++ bytes → Talks may conn i k o p fed before after
-  talks_fed i j k o p rest bytes fed before after talks reads same =
-      subst (λ w. Talks may conn i k o p w before after) (sym same) (talks_feed i j k o p rest bytes before after talks reads)
-
-  -- whole requests were answered
-  pub talks_answer : (i j o p q : Option (List ℕ)) (rest left before middle after : List ℕ) → Talks may conn i j o p rest before middle
-      → Answers may conn rest left p q middle after → Talks may conn i j o q left before after
-  talks_answer i j o p q rest left before middle after talks answers =
+  -- the client was told what ended the conversation, if the writer didn't
+  pub serves : (asked : Change (List Asked)) (input : Change Stream) (a b c : Stream) (ended : Result Rest ConnFault) (waiting : List ℕ) (result : Result (Unit {0}) ConnFault)
+      → Talks allowed asked input (change a b) ended waiting → (ended ≢ Err Writer → Tells result ended (change b c) (waiting ++ line_of ended))
+      → (ended ≡ Err Writer → (result ≡ Err Writer) × (c ≡ b)) → Serves allowed asked input (change a c) result
+  serves asked input a b c ended waiting result talks told silent =
       record {
-        input = talks.input;
-        read = talks.read;
-        output = talks.output ++ answers.bytes;
-        exchanges = exchanges_again may conn talks.input rest left talks.output answers.bytes talks.exchanges answers.exchanges;
-        puts = puts_again o p q before middle after talks.output answers.bytes talks.puts answers.puts;
+        ended = ended;
+        replies = talks.replies;
+        talked = talks.talked;
+        told = elim (writer_or_not ended) [ inl e ↦ in_part e | inr other ↦ in_full other ];
       }
+    where
+      in_part : ended ≡ Err Writer → Tells result ended (change a c) (talks.replies ++ line_of ended)
+      in_part e =
+          let quiet = silent e in
+          rw (quiet.0, quiet.1, e)
+          (record {
+            begun = record {
+              written = talks.puts.sent;
+              rest = talks.left;
+              appends = talks.puts.appends;
+              split = talks.puts.all ∙ sym (append-nil talks.replies);
+            };
+            risen = talks.count.failed e;
+          })
 
-  -- what waited went out
-  pub talks_flush : (i j o p q : Option (List ℕ)) (rest before middle after : List ℕ) → Talks may conn i j o p rest before middle
-      → Puts p q middle after [] → Talks may conn i j o q rest before after
-  talks_flush i j o p q rest before middle after talks puts =
-      record {
-        input = talks.input;
-        read = talks.read;
-        output = talks.output;
-        exchanges = talks.exchanges;
-        puts = subst (λ w. Puts o q before after w) (append-nil talks.output)
-            (puts_again o p q before middle after talks.output [] talks.puts puts);
-      }
-
-  -- the conversation stopped while whole requests were answered
-  pub talks_halt : (stop : Stop) (i j o p q : Option (List ℕ)) (rest before middle after : List ℕ) → Talks may conn i j o p rest before middle
-      → Halts may conn stop rest p q middle after → StopsTalking may conn stop i j o q before after
-  talks_halt stop i j o p q rest before middle after talks halts =
-      record {
-        rest = halts.rest;
-        talks = talks_answer i j o p q rest halts.rest before middle after talks halts.answers;
-        leaves = halts.leaves;
-      }
-
--- a conversation that stopped before anything was read
-pub cuts_nothing : (may : Event → Outputs → Type 0) (stop : Stop) (i o : Option (List ℕ)) (buffer : List ℕ) → buffer ≡ [] → stop ≢ BadByte
-    → CutsTalk may stop i i o o buffer
-cuts_nothing may stop i o buffer empty other =
-    record {
-      rest = [];
-      talked = record { conn = record { key = 0; generation = 0 }; talks = talks_nothing may _ i o [] buffer refl empty; opened = inl refl };
-      leaves = leaves_any stop [] other;
-    }
-
--- what was written last stands behind all replies
-pub converses : (may : Event → Outputs → Type 0) (i j o p q : Option (List ℕ)) (rest after last : List ℕ) → HasTalked may i j o p rest after
-    → Appends p q (after ++ last) → Converses may i j o q rest last
-converses may i j o p q rest after last talked wrote =
-    let puts = talked.talks.puts in
-    record {
-      conn = talked.conn;
-      input = talked.talks.input;
-      output = talked.talks.output;
-      opened = talked.opened;
-      exchanges = talked.talks.exchanges;
-      read = talked.talks.read;
-      written = subst (λ w. Appends o q w) (sym (append_assoc puts.sent after last) ∙ ap (λ w. w ++ last) puts.all)
-          (appends_again o p q puts.sent (after ++ last) puts.appends wrote);
-    }
-
--- the client ended it
-pub serves_to_the_end : (may : Event → Outputs → Type 0) (i j o p : Option (List ℕ)) (after : List ℕ) → EndsTalk may i j o p after
-    → IsServed may i j o p
-serves_to_the_end may i j o p after ends =
-    record {
-      rest = ends.rest;
-      last = [];
-      converses = converses may i j o p p ends.rest after [] ends.talked
-          (subst (λ w. Appends p p (w ++ [])) (sym ends.empty) (appends_nothing p));
-      ends = inl (record { at_end = ends.at_end; unfinished = ends.unfinished; nothing_more = refl });
-    }
-
--- a bad byte ended it
-pub serves_to_a_bad_byte : (may : Event → Outputs → Type 0) (i j o p q : Option (List ℕ)) (after : List ℕ) → CutsTalk may BadByte i j o p after
-    → Appends p q (after ++ error_bytes line.Protocol) → IsServed may i j o q
-serves_to_a_bad_byte may i j o p q after cuts wrote =
-    record {
-      rest = cuts.rest;
-      last = error_bytes line.Protocol;
-      converses = converses may i j o p q cuts.rest after (error_bytes line.Protocol) cuts.talked wrote;
-      ends = inr (record { fault = cuts.leaves.fault; bad = cuts.leaves.bad; handed_out = cuts.leaves.handed_out; told = refl });
-    }
-
--- it was cut short, and this was written last
-pub is_cut_short : (may : Event → Outputs → Type 0) (stop : Stop) (i j o p q : Option (List ℕ)) (after last : List ℕ) → CutsTalk may stop i j o p after
-    → Appends p q (after ++ last) → IsCutShort may i j o q last
-is_cut_short may stop i j o p q after last cuts wrote =
-    record { rest = cuts.rest; converses = converses may i j o p q cuts.rest after last cuts.talked wrote }
-
-module _ (may : Event → Outputs → Type 0) (may_refuse : Event → StepFault → Type 0) where
-  -- a call failed, during the conversation or at its end
-  has_failed : (stop : Stop) (r r' w w' w'' : ℕ) → (stop ≡ Device → HasFailed r r' w w') → (stop ≢ Device → w' ≡ w) → (stop ≡ Device → w'' ≡ w')
-      → (stop ≡ Device) ⊎ HasRisen w' w'' → HasFailed r r' w w''
-  has_failed stop r r' w w' w'' failed kept quiet (inl e) = subst (λ n. HasFailed r r' w n) (sym (quiet e)) (failed e)
-  has_failed Device r r' w w' w'' failed kept quiet (inr risen) = subst (λ n. HasFailed r r' w n) (sym (quiet refl)) (failed refl)
-  has_failed BadByte r r' w w' w'' failed kept quiet (inr risen) = inr (subst (λ n. HasRisen n w'') (kept (λ e. cc)) risen)
-  has_failed Memory r r' w w' w'' failed kept quiet (inr risen) = inr (subst (λ n. HasRisen n w'') (kept (λ e. cc)) risen)
-  has_failed Exhausted r r' w w' w'' failed kept quiet (inr risen) = inr (subst (λ n. HasRisen n w'') (kept (λ e. cc)) risen)
-  has_failed Unanswered r r' w w' w'' failed kept quiet (inr risen) = inr (subst (λ n. HasRisen n w'') (kept (λ e. cc)) risen)
-  has_failed Endless r r' w w' w'' failed kept quiet (inr risen) = inr (subst (λ n. HasRisen n w'') (kept (λ e. cc)) risen)
-
-  -- the fault that is told is what ended the conversation
-  pub is_cut_by : (fault : ConnFault) (stop : Stop) (i j o p q : Option (List ℕ)) (after : List ℕ) (r r' w w' w'' : ℕ)
-      → (stop ≢ Device → CutsTalk may stop i j o p after) → HasReason may may_refuse stop → (stop ≡ Endless → ReadsEndlessly i j)
-      → (stop ≡ Device → HasFailed r r' w w') → (stop ≢ Device → w' ≡ w) → (stop ≡ Device → w'' ≡ w')
-      → EndsBy fault stop p q after w' w'' → IsCutBy fault may may_refuse i j o q r r' w w''
-  is_cut_by fault.Device stop i j o p q after r r' w w' w'' cuts reason endless failed kept quiet ends =
-      has_failed stop r r' w w' w'' failed kept quiet ends
-  is_cut_by fault.Memory stop i j o p q after r r' w w' w'' cuts reason endless failed kept quiet ends =
-      is_cut_short may stop i j o p q after (error_bytes line.OutOfMemory) (cuts (λ e. let both : Memory ≡ Device = sym ends.0 ∙ e in cc)) ends.1
-  is_cut_by fault.Exhausted stop i j o p q after r r' w w' w'' cuts reason endless failed kept quiet ends = (
-    is_cut_short may stop i j o p q after (error_bytes line.Exhausted) (cuts (λ e. let both : Exhausted ≡ Device = sym ends.0 ∙ e in cc)) ends.1,
-    subst (λ s. HasReason may may_refuse s) ends.0 reason,
-  )
-  is_cut_by fault.Unanswered stop i j o p q after r r' w w' w'' cuts reason endless failed kept quiet ends = (
-    is_cut_short may stop i j o p q after [] (cuts (λ e. let both : Unanswered ≡ Device = sym ends.0 ∙ e in cc))
-        (subst (λ bytes. Appends p q bytes) (sym (append-nil after)) ends.1),
-    subst (λ s. HasReason may may_refuse s) ends.0 reason,
-  )
-  is_cut_by fault.Endless stop i j o p q after r r' w w' w'' cuts reason endless failed kept quiet ends = (
-    is_cut_short may stop i j o p q after [] (cuts (λ e. let both : Endless ≡ Device = sym ends.0 ∙ e in cc))
-        (subst (λ bytes. Appends p q bytes) (sym (append-nil after)) ends.1),
-    endless ends.0,
-  )
+      in_full : ended ≢ Err Writer → Tells result ended (change a c) (talks.replies ++ line_of ended)
+      in_full other =
+          tells_last result ended a b c waiting talks.replies (line_of ended) (rw (talks.waits other) at talks.puts)
+          (talks.count.kept other) (told other)

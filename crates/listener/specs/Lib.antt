@@ -1,2 +1,3 @@
-pub mod Serving
-pub mod Stopping
+pub mod Conversation
+pub mod Progress
+pub mod Streams

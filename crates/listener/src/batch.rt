@@ -1,62 +1,76 @@
-//! The replies of one read, on their way out.
+//! Replies on their way to a client: those of one read go out together.
 ghost use Rattle.std.specs.Prelude.{◌≡◌, ◌++◌, [], OnOk, OnErr, MatchBool};
-ghost use Rattle.resp2.specs.Counting.{device_of, failures_of, HasRisen};
+ghost use Rattle.resp2.specs.Counting.{failures_of};
 ghost use Rattle.resp2.specs.Reply.{reply_spelling};
-ghost use Rattle.listener.specs.Stopping.{Puts};
+ghost use Rattle.listener.specs.Conversation.{error_bytes};
+ghost use Rattle.listener.specs.Progress.{Puts};
+ghost use Rattle.listener.specs.Streams.{Fails, Sends, change, streams};
 
+use command::ErrorLine;
 use resp2::{Counting, Element, Reply, append_reply, send_reply};
 use std::io;
 use std::io::Write;
 
-// A longer buffer is written before the next reply.
-const MOST_BUFFERED: usize = 65_536;
+// A batch that has grown so far is written before the next reply. So a client that asks for much and reads slowly
+// costs this and one reply at most, and not the replies to all that it sent.
+const MOST_WAITING: usize = 65_536;
 
-// A longer value is written from where it stands, and not copied.
+// A longer value is written from where it stands: to copy it would cost more than a write of its own.
 const LONG_VALUE: usize = 16_384;
 
-/// Puts a reply behind those that wait in the buffer, or writes all where it is long or memory is refused.
-pub fn put<W: Write>(
-    reply: &Reply,
-    buffer: &mut Vec<u8>,
-    writer: &mut Counting<W>,
-) -> io::Result<()>
-    ensures put { OnOk result (Puts (W.contents (device_of writer.old)) (W.contents (device_of writer.new))
-        buffer.old.items buffer.new.items (reply_spelling reply.now)) }
-    ensures ok { OnOk result (failures_of writer.new ≡ failures_of writer.old) }
-    ensures err { OnErr result (HasRisen (failures_of writer.old) (failures_of writer.new)) }
+/// Puts a reply behind those that wait, or writes them all where it is long or memory is refused.
+///
+/// Refused memory is no error: the node has executed the request, so its reply has to go out.
+pub fn put<W: Write>(reply: &Reply, batch: &mut Vec<u8>, writer: &mut Counting<W>) -> io::Result<()>
+    ensures put { OnOk result (Puts (streams W.contents writer.old writer.new)
+        (change batch.old.items batch.new.items) (reply_spelling reply.now)) }
+    ensures kept { OnOk result (failures_of writer.new ≡ failures_of writer.old) }
+    ensures err { OnErr result (Fails (streams W.contents writer.old writer.new)
+        (batch.old.items ++ reply_spelling reply.now)) }
 {
-    if fits_in(reply, buffer) {
+    if fits_in(reply, batch) {
         return Ok(());
     }
-    flush(buffer, writer)?;
-    send_reply(reply, writer)?;
-    Ok(())
+    flush(batch, writer)?;
+    send_reply(reply, writer)
 }
 
-// Appends a short reply to a buffer that isn't full, where memory allows.
-fn fits_in(reply: &Reply, buffer: &mut Vec<u8>) -> bool
-    ensures { MatchBool result (buffer.new.items ≡ buffer.old.items ++ reply_spelling reply.now)
-        (buffer.new.items ≡ buffer.old.items) }
+// Appends a short reply to a batch that isn't full, where memory allows.
+fn fits_in(reply: &Reply, batch: &mut Vec<u8>) -> bool
+    ensures { MatchBool result (batch.new.items ≡ batch.old.items ++ reply_spelling reply.now)
+        (batch.new.items ≡ batch.old.items) }
 {
-    if buffer.len() >= MOST_BUFFERED || is_long(reply) {
+    if batch.len() >= MOST_WAITING || is_long(reply) {
         return false;
     }
-    append_reply(reply, buffer).is_ok()
+    append_reply(reply, batch).is_ok()
 }
 
-/// Writes what waits in the buffer.
-pub fn flush<W: Write>(buffer: &mut Vec<u8>, writer: &mut Counting<W>) -> io::Result<()>
-    ensures put { OnOk result (Puts (W.contents (device_of writer.old)) (W.contents (device_of writer.new))
-        buffer.old.items buffer.new.items []) }
-    ensures empty { OnOk result (buffer.new.items ≡ []) }
-    ensures ok { OnOk result (failures_of writer.new ≡ failures_of writer.old) }
-    ensures err { OnErr result (HasRisen (failures_of writer.old) (failures_of writer.new)) }
+/// Writes what waits.
+pub fn flush<W: Write>(batch: &mut Vec<u8>, writer: &mut Counting<W>) -> io::Result<()>
+    ensures ok { OnOk result (Sends (streams W.contents writer.old writer.new) batch.old.items) }
+    ensures empty { OnOk result (batch.new.items ≡ []) }
+    ensures err { OnErr result (Fails (streams W.contents writer.old writer.new) batch.old.items) }
 {
-    if !buffer.is_empty() {
-        writer.write_all(buffer.as_slice())?;
-        buffer.clear();
+    if batch.is_empty() {
+        return Ok(());
     }
+    writer.write_all(batch.as_slice())?;
+    batch.clear();
     Ok(())
+}
+
+/// Writes what waits, and an error behind it.
+pub fn say<W: Write>(
+    line: ErrorLine,
+    batch: &mut Vec<u8>,
+    writer: &mut Counting<W>,
+) -> io::Result<()>
+    ensures ok { OnOk result (Sends (streams W.contents writer.old writer.new) (batch.old.items ++ error_bytes line)) }
+    ensures err { OnErr result (Fails (streams W.contents writer.old writer.new) (batch.old.items ++ error_bytes line)) }
+{
+    put(&line.reply(), batch, writer)?;
+    flush(batch, writer)
 }
 
 fn is_long(reply: &Reply) -> bool {

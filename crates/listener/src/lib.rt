@@ -1,13 +1,10 @@
 //! The conversation of a node with one client: bytes in, bytes out.
 #![tactic(auto)]
 
-mod answering;
 mod batch;
-mod conversing;
-mod ending;
+mod connection;
 mod fault;
-mod serving;
-mod stop;
+mod requests;
 
+pub use connection::serve_conn;
 pub use fault::ConnFault;
-pub use serving::serve_conn;

@@ -1,4 +1,4 @@
--- The journal of a node: what it did, in order, each under the ticket that was drawn for it.
+-- The journal of a node: what it did, in order, each step under the ticket that was drawn for it.
 use Rattle.std.specs.Prelude.{◌≡◌, ◌<◌, ◌≤◌, ◌^◌, ◌⊎◌, ℕ, List, [], ◌∷◌, ◌++◌, map, length, All}
 use Rattle.cluster_config.specs.Config.{ClusterConfig}
 use Rattle.node_core.specs.Connections.{IsUsedUp}
@@ -9,13 +9,15 @@ use Rattle.node_core.specs.declared.event.Event.TheVariants.{Open}
 use Rattle.node_core.specs.declared.fault.StepFault.{StepFault}
 use Rattle.node_core.specs.declared.fault.StepFault.TheVariants.{Memory, Exhausted}
 use Rattle.node_core.specs.declared.outputs.Outputs.{Outputs}
-use Rattle.node_cell.specs.declared.entry.Deed.{Deed}
-use Rattle.node_cell.specs.declared.entry.Deed.TheVariants.{Skip, Step}
 use Rattle.node_cell.specs.declared.entry.Entry.{Entry}
+use Rattle.node_cell.specs.declared.entry.Entry.TheVariants.{Step, Skipped}
+
+-- a configuration without nodes, for a type that stands for any cluster
+abbrev pub no_cluster : ClusterConfig
+no_cluster = record { tick_ms = 0; node_timeout = 0; nodes = []; voters = [] }
 
 -- a step that was entered
 pub record EnteredView : Type 0 where
-  pub ticket : ℕ
   pub event : Event
   pub outputs : Outputs
 
@@ -26,31 +28,28 @@ pub record CellView : Type 0 where
   pub state : NodeState
   pub journal : List Entry
 
--- the line of a step
-abbrev pub entry_of : EnteredView → Entry
-entry_of entered = record { ticket = entered.ticket; deed = Step entered.event entered.outputs }
+-- the ticket of an entry
+abbrev pub ticket_of : Entry → ℕ
+ticket_of (Step event outputs) = outputs.ticket
+ticket_of (Skipped ticket) = ticket
 
--- the line of an event that was refused
-abbrev pub skip_of : ℕ → Entry
-skip_of ticket = record { ticket = ticket; deed = Skip }
+abbrev pub tickets_of : List Entry → List ℕ
+tickets_of entries = map ticket_of entries
 
--- a deed leads from a state to the next
-abbrev pub Leads : NodeState → Deed → NodeState → Type 0
-Leads old Skip new = new ≡ old
-Leads old (Step event outputs) new = NodeStep old event outputs new
+-- an entry leads from a state to the next: by a step under its ticket, or to the same state
+abbrev pub Leads : NodeState → Entry → NodeState → Type 0
+Leads old (Step event outputs) new = NodeStep outputs.ticket old event outputs new
+Leads old (Skipped ticket) new = new ≡ old
 
 -- the entries lead from the first state to the last
 abbrev pub IsHistory : NodeState → List Entry → NodeState → Type 0
 IsHistory first [] last = last ≡ first
-IsHistory first (entry ∷ entries) last = (next : NodeState) × Leads first entry.deed next × IsHistory next entries last
+IsHistory first (entry ∷ entries) last = (next : NodeState) × Leads first entry next × IsHistory next entries last
 
 -- each number is greater than all before it
 abbrev pub Rises : List ℕ → Type 0
 Rises [] = Unit {0}
 Rises (n ∷ ns) = All (λ later. n < later) ns × Rises ns
-
-abbrev pub tickets_of : List Entry → List ℕ
-tickets_of entries = map (λ (entry : Entry). entry.ticket) entries
 
 -- the journal of a node: from the configuration's first state to the node's state, under rising tickets,
 -- which are all that the node drew
@@ -59,37 +58,41 @@ pub record IsJournal (first : NodeState) (journal : List Entry) (state : NodeSta
   pub rises : Rises (tickets_of journal)
   pub drawn_are : tickets_of journal ≡ drawn
 
--- a deed was done and entered under the ticket
+-- an entry was made under the ticket, and leads to the new state
 pub record Advances (old : NodeState) (before : List Entry) (ticket : ℕ) (new : NodeState) (after : List Entry) : Type 0 where
-  pub deed : Deed
-  pub leads : Leads old deed new
-  pub entered : after ≡ before ++ (record { ticket = ticket; deed = deed }) ∷ []
+  pub entry : Entry
+  pub under : ticket_of entry ≡ ticket
+  pub leads : Leads old entry new
+  pub entered : after ≡ before ++ entry ∷ []
 
--- a step was made and entered under the ticket
+-- the entry of a step
+abbrev pub entry_of : EnteredView → Entry
+entry_of entered = Step entered.event entered.outputs
+
+-- a step was made for the event under the ticket, and entered
 pub record Makes (old : NodeState) (before : List Entry) (ticket : ℕ) (event : Event) (entered : EnteredView)
     (new : NodeState) (after : List Entry) : Type 0 where
-  pub under : entered.ticket ≡ ticket
   pub of : entered.event ≡ event
-  pub step : NodeStep old event entered.outputs new
+  pub step : NodeStep ticket old event entered.outputs new
   pub entry : after ≡ before ++ entry_of entered ∷ []
 
 -- why a node refuses an event
 abbrev pub IsReason : NodeState → Event → StepFault → Type 0
 IsReason state event fault = (fault ≡ Memory) ⊎ ((fault ≡ Exhausted) × (event ≡ Open) × IsUsedUp state.connections)
 
--- the node refused the event, and a Skip was entered under the ticket
+-- the node refused the event, and the ticket was entered as skipped
 pub record Skips (old : NodeState) (before : List Entry) (ticket : ℕ) (event : Event) (fault : StepFault)
     (new : NodeState) (after : List Entry) : Type 0 where
   pub unchanged : new ≡ old
-  pub entry : after ≡ before ++ skip_of ticket ∷ []
+  pub entry : after ≡ before ++ Skipped ticket ∷ []
   pub reason : IsReason old event fault
 
 -- a step was made: it stands at the end of the journal, and is a step of the node
 pub record Enters (old : CellView) (event : Event) (entered : EnteredView) (new : CellView) : Type 0 where
-  pub makes : Makes old.state old.journal entered.ticket event entered new.state new.journal
+  pub makes : Makes old.state old.journal entered.outputs.ticket event entered new.state new.journal
   pub rest : new ≡ record old { state = new.state; journal = new.journal }
 
--- nothing was drawn: for want of memory, or since all numbers of the seat are drawn
+-- nothing was drawn, since memory was refused or all numbers of the seat are drawn
 pub record IsTurnedAway (old : CellView) (fault : StepFault) (new : CellView) : Type 0 where
   pub unchanged : new ≡ old
   pub reason : (fault ≡ Memory) ⊎ ((fault ≡ Exhausted) × (2 ^ 48 ≤ length old.journal))

@@ -9,13 +9,14 @@ ghost use Rattle.node_cell.specs.Journal.{Advances, Enters, IsRefused, IsHistory
 
 use crate::deployment::Deployment;
 use crate::entered::Entered;
-use crate::entry::{Deed, Entry};
+use crate::entry::Entry;
 use cluster_config::Config;
 use keyspace::TreeStore;
 use node_core::{Copies, Core, Event, Outputs, StepFault};
 use slot_table::NodeNo;
 use std::alloc::{AllocError, Global};
 use std::marker::{Model, PhantomData};
+use std::snapshot::Snapshot;
 use tickets::Seat;
 
 /// A node of the cluster `K`, with all that it ever did.
@@ -49,7 +50,7 @@ impl<K: Deployment> Model for NodeCell<K> {
     ghost view = { λ cell. record { config = cell.config; node = cell.node; state = cell.core; journal = cell.journal.items } };
 
     ghost invariant = { λ cell. IsJournal (first_state cell.config cell.node) cell.journal.items cell.core (drawn cell.seat)
-        × (table_of cell.seat ≡ K.table) × (seats_of cell.seat ≡ K.seats) };
+        × (cell.config ≡ K.config) × (table_of cell.seat ≡ K.table) × (seats_of cell.seat ≡ K.seats) };
 }
 
 impl<K: Deployment> NodeCell<K> {
@@ -60,7 +61,8 @@ impl<K: Deployment> NodeCell<K> {
         node: NodeNo,
         seat: Seat,
     ) -> Result<NodeCell<K>, AllocError>
-        requires { IsFresh K.table K.seats seat }
+        requires cluster { config.now ≡ K.config }
+        requires seat { IsFresh K.table K.seats seat }
         ensures { IfOk result (λ cell. cell ≡ record { config = config.now; node = node; state = first_state config.now node; journal = [] }) }
     {
         let core = Core::new(alloc, config.clone()?, node, TreeStore::new(alloc))?;
@@ -76,26 +78,21 @@ impl<K: Deployment> NodeCell<K> {
 
     /// Makes the node's step for the event: one ticket, one step, one entry.
     ///
-    /// Memory and Exhausted leave the node as it was. Where they come before a ticket was drawn nothing is entered, and
-    /// else a Skip under that ticket.
+    /// Memory and Exhausted leave the node as it was. A refusal before a ticket was drawn leaves no entry; a refusal after
+    /// that leaves the ticket as skipped.
     pub fn apply(&mut self, event: Event) -> Result<Entered<K>, StepFault>
+        ensures cluster { self.old.config ≡ K.config }
+        ensures history { IsHistory (first_state self.old.config self.old.node) self.old.journal self.old.state }
         ensures ok { IfOk result (λ entered. Enters self.old event entered self.new) }
         ensures err { IfErr result (λ fault. IsRefused self.old event fault self.new) }
     {
-        let to_enter = event.clone()?;
-        let to_answer = event.clone()?;
+        // Whatever can be refused comes before the ticket: one that is drawn has to be entered.
         self.journal.reserve(1)?;
+        let to_enter = event.clone()?;
         let Some(ticket) = self.seat.draw() else {
             return Err(StepFault::Exhausted);
         };
-        advance(
-            &mut self.core,
-            &mut self.journal,
-            ticket,
-            event,
-            to_enter,
-            to_answer,
-        )
+        advance(&mut self.core, &mut self.journal, ticket, event, to_enter)
     }
 
     /// The configuration, the node's number, its journal and its seat.
@@ -117,54 +114,54 @@ impl<K: Deployment> NodeCell<K> {
     }
 }
 
-// Makes the step and enters it, or enters a Skip.
+// Makes the step and enters it, or enters the ticket as skipped.
 fn advance<K: Deployment>(
     core: &mut Core,
     journal: &mut Vec<Entry>,
     ticket: u64,
     event: Event,
     to_enter: Event,
-    to_answer: Event,
 ) -> Result<Entered<K>, StepFault>
     requires room { vec_len journal.old < vec_capacity journal.old }
-    requires same { (to_enter ≡ event) × (to_answer ≡ event) }
+    requires same { to_enter ≡ event }
     ensures entered { Advances core.old journal.old.items ticket core.new journal.new.items }
     ensures ok { IfOk result (λ entered. Makes core.old journal.old.items ticket event entered core.new journal.new.items) }
     ensures err { IfErr result (λ fault. Skips core.old journal.old.items ticket event fault core.new journal.new.items) }
 {
+    let asked = Snapshot::of(&to_enter);
     match step_apart(core, ticket, event) {
-        Ok((answer, outputs)) => {
+        Ok((to_sender, outputs)) => {
             let event = to_enter;
-            enter(journal, ticket, Deed::Step { event, outputs });
-            Ok(Entered::new(ticket, to_answer, answer))
+            enter(journal, Entry::Step { event, outputs });
+            Ok(Entered::new(asked, to_sender))
         }
         Err(fault) => {
-            enter(journal, ticket, Deed::Skip);
+            enter(journal, Entry::Skipped { ticket });
             Err(fault)
         }
     }
 }
 
-// The node's step, with its outputs to answer and to enter.
+// The node's step, with its outputs for the sender and for the journal.
 fn step_apart(core: &mut Core, ticket: u64, event: Event) -> Result<(Outputs, Outputs), StepFault>
-    ensures step { IfOk result (λ outputs. (outputs.0 ≡ outputs.1) × NodeStep core.old event outputs.1 core.new) }
+    ensures step { IfOk result (λ outputs. (outputs.0 ≡ outputs.1) × NodeStep ticket core.old event outputs.1 core.new) }
     ensures err { OnErr result (core.new ≡ core.old) }
     ensures exhausted { result ≡ Err Exhausted → (event ≡ Event.Open) × IsUsedUp core.old.connections }
 {
     let Copies {
-        answer,
-        entry,
-        send: _,
+        to_sender,
+        to_journal,
+        to_peers: _,
     } = core.step(ticket, event)?;
-    Ok((answer, entry))
+    Ok((to_sender, to_journal))
 }
 
-// Adds a line to a journal that has room.
-fn enter(journal: &mut Vec<Entry>, ticket: u64, deed: Deed)
+// Adds an entry to a journal that has room.
+fn enter(journal: &mut Vec<Entry>, entry: Entry)
     requires { vec_len journal.old < vec_capacity journal.old }
-    ensures { journal.new.items ≡ journal.old.items ++ (record { ticket = ticket; deed = deed }) ∷ [] }
+    ensures { journal.new.items ≡ journal.old.items ++ entry ∷ [] }
 {
-    let Ok(()) = journal.push(Entry { ticket, deed }) else {
-        unreachable!()
+    let Ok(()) = journal.push(entry) else {
+        unreachable!();
     };
 }

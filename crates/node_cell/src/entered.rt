@@ -4,12 +4,14 @@ ghost use Rattle.std.specs.Prelude.{◌≡◌};
 use crate::deployment::Deployment;
 use node_core::{Event, Outputs};
 use std::marker::{Model, PhantomData};
+use std::snapshot::Snapshot;
 
 /// A step that a cell of this cluster made and entered. Only [`apply`](crate::NodeCell::apply) makes one.
+///
+/// Clauses also see the event, which the program doesn't keep here a second time.
 #[derive(Drop)]
 pub struct Entered<K: Deployment> {
-    ticket: u64,
-    event: Event,
+    event: Snapshot<Event>,
     outputs: Outputs,
     cluster: PhantomData<K>,
 }
@@ -19,15 +21,14 @@ impl<K: Deployment> Model for Entered<K> {
 
     ghost Value = { EnteredView };
 
-    ghost view = { λ entered. record { ticket = entered.ticket; event = entered.event; outputs = entered.outputs } };
+    ghost view = { λ entered. record { event = entered.event.value; outputs = entered.outputs } };
 }
 
 impl<K: Deployment> Entered<K> {
-    pub(crate) fn new(ticket: u64, event: Event, outputs: Outputs) -> Entered<K>
-        ensures { result ≡ record { ticket = ticket; event = event; outputs = outputs } }
+    pub(crate) fn new(event: Snapshot<Event>, outputs: Outputs) -> Entered<K>
+        ensures { result ≡ record { event = event.value; outputs = outputs } }
     {
         Entered {
-            ticket,
             event,
             outputs,
             cluster: PhantomData,
@@ -36,9 +37,9 @@ impl<K: Deployment> Entered<K> {
 
     /// The number of the step among the steps of all nodes.
     pub fn ticket(&self) -> u64
-        ensures { result ≡ self.now.ticket }
+        ensures { result ≡ self.now.outputs.ticket }
     {
-        self.ticket
+        self.outputs.ticket
     }
 
     /// What came out of the step.

@@ -1,25 +1,34 @@
-//! What stands in a journal.
+//! The lines of a node's journal.
+ghost use Rattle.std.specs.Prelude.{◌≡◌};
+ghost use Rattle.node_cell.specs.Journal.{ticket_of};
+
 use node_core::{Event, Outputs};
 
-/// What a node did when an event came.
+/// A line of a node's journal. It stands under the ticket that was drawn for it.
 #[derive(Debug, Drop)]
-pub enum Deed {
-    /// Nothing: the step was refused after its ticket was drawn.
-    Skip,
-    /// A step.
+pub enum Entry {
+    /// The node made a step. The ticket stands in the outputs.
     Step {
         /// What happened.
         event: Event,
         /// What came out.
         outputs: Outputs,
     },
+    /// The step was refused after its ticket was drawn, and nothing changed.
+    Skipped {
+        /// The ticket.
+        ticket: u64,
+    },
 }
 
-/// A line of a node's journal.
-#[derive(Debug, Drop)]
-pub struct Entry {
-    /// The number of the step among the steps of all nodes.
-    pub ticket: u64,
-    /// What was done.
-    pub deed: Deed,
+impl Entry {
+    /// The ticket of the entry.
+    pub fn ticket(&self) -> u64
+        ensures { result ≡ ticket_of self.now }
+    {
+        match self {
+            Entry::Step { event: _, outputs } => outputs.ticket,
+            Entry::Skipped { ticket } => *ticket,
+        }
+    }
 }

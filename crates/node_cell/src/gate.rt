@@ -1,5 +1,6 @@
 //! How the threads of connections reach a node.
-ghost use Rattle.std.specs.Prelude.{◌≡◌, IfOk, IfErr};
+ghost use Rattle.std.specs.Prelude.{◌≡◌, ◌++◌, ◌∷◌, [], IfOk, IfErr};
+ghost use Rattle.node_cell.specs.Asks.{outcome_of};
 
 use crate::deployment::Deployment;
 use crate::entered::Entered;
@@ -19,13 +20,19 @@ pub trait Answered {
         ensures { result.now ≡ gave self.now };
 }
 
-/// A node that several threads may ask.
+/// One conversation's way to a node that several of them may ask.
+///
+/// Clauses see all that was asked through it; the program keeps nothing of that.
 pub trait NodeGate {
     type Answer: Answered + Drop;
 
+    ghost use Rattle.std.specs.Prelude.{List};
     ghost use Rattle.node_core.specs.declared.event.Event.{Event as NodeEvent};
     ghost use Rattle.node_core.specs.declared.outputs.Outputs.{Outputs as NodeOutputs};
     ghost use Rattle.node_core.specs.declared.fault.StepFault.{StepFault as Refusal};
+    ghost use Rattle.node_cell.specs.Asks.{Asked};
+
+    ghost asked: { Self → List Asked };
 
     ghost may: { NodeEvent → NodeOutputs → Type 0 };
 
@@ -34,7 +41,8 @@ pub trait NodeGate {
     /// Makes the node's step for the event: the answer is for this event, and one that the node may give.
     ///
     /// Memory and Exhausted leave the node as it was, and come where the node may refuse the event so.
-    fn step(&self, event: Event) -> Result<Self::Answer, StepFault>
+    fn step(&mut self, event: Event) -> Result<Self::Answer, StepFault>
+        ensures asked { asked self.new ≡ asked self.old ++ (record { event = event; outcome = outcome_of Self.Answer.gave result }) ∷ [] }
         ensures event { IfOk result (λ answer. Self.Answer.event answer ≡ event) }
         ensures may { IfOk result (λ answer. may event (Self.Answer.gave answer)) }
         ensures refused { IfErr result (λ fault. may_refuse event fault) };

@@ -1,14 +1,18 @@
 //! A node with its journal: each step draws one ticket and is entered once.
 #![tactic(auto)]
 
+mod asks;
 mod cell;
 mod deployment;
 mod entered;
 mod entry;
 mod gate;
+mod history;
 
+pub use asks::Asks;
 pub use cell::NodeCell;
 pub use deployment::Deployment;
 pub use entered::Entered;
-pub use entry::{Deed, Entry};
+pub use entry::Entry;
 pub use gate::{Answered, NodeGate};
+pub use history::History;

@@ -3,12 +3,13 @@ use Rattle.std.proofs.Common.{◌≡◌, refl, [], ◌∷◌}
 use Rattle.std.specs.Prelude.{codes, Some, None}
 use Rattle.std.specs.Fmt.{digits}
 use Rattle.resp2.specs.Reply.{reply_spelling}
+use Rattle.resp2.specs.declared.reply.Reply.TheVariants.{Error}
 use Rattle.cluster_config.specs.Config.{ClusterConfig}
 use Rattle.cluster_config.specs.declared.config.NodeConfig.{NodeConfig}
 use Rattle.cluster_config.specs.declared.config.Role.TheVariants.{Master, Replica}
-use Rattle.node_core.specs.ClusterRequests.{id_reply, slots_reply}
+use Rattle.node_core.specs.Reports.{id_reply, slots_reply}
 use Rattle.node_core.specs.State.{first_master, stream_node}
-use Rattle.node_core.specs.Step.{moved_reply}
+use Rattle.node_core.specs.Step.{moved_error}
 
 abbrev master : NodeConfig
 master = record { id = codes "0000000000000000000000000000000000000000"; host = codes "127.0.0.1"; port = 7002; role = Master [] }
@@ -20,11 +21,11 @@ abbrev cluster : ClusterConfig
 cluster = record { tick_ms = 100; node_timeout = 20; nodes = master ∷ replica ∷ []; voters = 0 ∷ [] }
 
 -- the example of the specification's section on MOVED, with another address
-moved : reply_spelling (moved_reply 3999 (Some master)) ≡ codes "-MOVED 3999 127.0.0.1:7002\r\n"
+moved : reply_spelling (Error (moved_error 3999 (Some master))) ≡ codes "-MOVED 3999 127.0.0.1:7002\r\n"
 unfolding digits
 moved = refl
 
-moved_to_nobody : reply_spelling (moved_reply 3999 None) ≡ codes "-CLUSTERDOWN Hash slot not served\r\n"
+moved_to_nobody : reply_spelling (Error (moved_error 3999 None)) ≡ codes "-CLUSTERDOWN Hash slot not served\r\n"
 moved_to_nobody = refl
 
 id : reply_spelling (id_reply (Some replica)) ≡ codes "$40\r\n0000000000000000000000000000000000000001\r\n"

@@ -1,5 +1,5 @@
-pub mod ClusterRequests
 pub mod Connections
 pub mod Outputs
+pub mod Reports
 pub mod State
 pub mod Step

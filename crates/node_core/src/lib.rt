@@ -2,17 +2,17 @@
 //! no socket and no clock.
 #![tactic(auto)]
 
-mod answer;
-mod cluster_requests;
 mod connections;
-mod core_step;
 mod event;
 mod fault;
+mod node;
 mod outputs;
+mod reports;
+mod response;
 
-pub use answer::Answer;
 pub use connections::{Asking, Conn, Connection, Connections};
-pub use core_step::{Core, NodeCore};
 pub use event::Event;
 pub use fault::StepFault;
+pub use node::{Core, NodeCore};
 pub use outputs::{Copies, Outputs};
+pub use response::{Answer, Response, Why};

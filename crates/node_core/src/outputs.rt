@@ -1,70 +1,40 @@
-//! What a step gives to the world outside.
+//! What a step gives to the world outside its node.
 ghost use Rattle.std.specs.Prelude.{◌≡◌, IfOk};
-ghost use Rattle.node_core.specs.Outputs.{nothing, opened, answered, copies_of};
+ghost use Rattle.node_core.specs.Outputs.{copies_of};
 
-use crate::answer::Answer;
 use crate::connections::Conn;
+use crate::response::Response;
 use std::alloc::AllocError;
 
-/// What a step gives to the world outside the node.
+/// What a step gives to the world outside its node.
 #[derive(Debug, Drop)]
 pub struct Outputs {
-    /// The connection that an Open made.
-    pub opened: Option<Conn>,
-    /// What the connection of a Request is answered.
-    pub answer: Option<Answer>,
+    /// The number of the step among the steps of all nodes.
+    pub ticket: u64,
+    /// What the sender of the event gets back.
+    pub response: Response,
 }
 
-/// The outputs of one step, three times the same.
+/// The outputs of one step, three times the same: nothing can fail any more once the node has changed.
 #[derive(Debug, Drop)]
 pub struct Copies {
-    /// What the one who brought the event is answered.
-    pub answer: Outputs,
-    /// What is entered into the journal.
-    pub entry: Outputs,
-    /// What messages are sent from.
-    pub send: Outputs,
+    /// For the sender of the event.
+    pub to_sender: Outputs,
+    /// For the journal of the node.
+    pub to_journal: Outputs,
+    /// For the messages to other nodes.
+    pub to_peers: Outputs,
 }
 
 impl Outputs {
-    /// Nothing at all.
-    pub fn nothing() -> Outputs
-        ensures { result ≡ nothing }
-    {
-        Outputs {
-            opened: None,
-            answer: None,
-        }
-    }
-
-    /// A connection was made.
-    pub fn opened(conn: Conn) -> Outputs
-        ensures { result ≡ opened conn }
-    {
-        Outputs {
-            opened: Some(conn),
-            answer: None,
-        }
-    }
-
-    /// A request was answered.
-    pub fn answered(answer: Answer) -> Outputs
-        ensures { result ≡ answered answer }
-    {
-        Outputs {
-            opened: None,
-            answer: Some(answer),
-        }
-    }
-
     /// Three equal copies.
     pub fn copies(self) -> Result<Copies, AllocError>
         ensures { IfOk result (λ copies. copies ≡ copies_of self) }
     {
         Ok(Copies {
-            answer: self.clone()?,
-            entry: self.clone()?,
-            send: self,
+            to_sender: self.clone()?,
+            to_journal: self.clone()?,
+            to_peers: self,
         })
     }
 }
@@ -74,8 +44,50 @@ impl Clone for Outputs {
 
     fn clone(&self) -> Result<Outputs, AllocError> {
         Ok(Outputs {
-            opened: self.opened,
-            answer: self.answer.clone()?,
+            ticket: self.ticket,
+            response: self.response.clone()?,
         })
+    }
+}
+
+impl Copies {
+    // A step without a response.
+    pub(crate) fn of_nothing(ticket: u64) -> Copies
+        ensures { result ≡ copies_of (record { ticket = ticket; response = Response.Nothing }) }
+    {
+        Copies {
+            to_sender: nothing(ticket),
+            to_journal: nothing(ticket),
+            to_peers: nothing(ticket),
+        }
+    }
+
+    // A step that opened a connection.
+    pub(crate) fn of_opened(ticket: u64, conn: Conn) -> Copies
+        ensures { result ≡ copies_of (record { ticket = ticket; response = Response.Opened conn }) }
+    {
+        Copies {
+            to_sender: opened(ticket, conn),
+            to_journal: opened(ticket, conn),
+            to_peers: opened(ticket, conn),
+        }
+    }
+}
+
+fn nothing(ticket: u64) -> Outputs
+    ensures { result ≡ record { ticket = ticket; response = Response.Nothing } }
+{
+    Outputs {
+        ticket,
+        response: Response::Nothing,
+    }
+}
+
+fn opened(ticket: u64, conn: Conn) -> Outputs
+    ensures { result ≡ record { ticket = ticket; response = Response.Opened conn } }
+{
+    Outputs {
+        ticket,
+        response: Response::Opened(conn),
     }
 }

@@ -1,11 +1,12 @@
-//! `rcluster`: a Redis Cluster in one process.
+//! `rcluster`: a Redis Cluster in one process. The program reads words and files, and prints addresses and codes.
 #![tactic(auto)]
 
 mod arguments;
+mod fault;
 mod serving;
 
 use arguments::{Call, read_call};
-use cluster::ProgramFault;
+use fault::ProgramFault;
 use serving::serve;
 use std::io;
 use std::process::ExitCode;
@@ -26,14 +27,14 @@ fn main(rt: HostRuntime) -> io::Result<ExitCode> {
     match outcome {
         Ok(()) => Ok(ExitCode::SUCCESS),
         Err(fault) => {
-            tell(&rt, fault)?;
+            print_fault(&rt, fault)?;
             Ok(ExitCode::FAILURE)
         }
     }
 }
 
-// Prints the fault, but for one that says that nothing can be printed.
-fn tell(rt: &impl Print, fault: ProgramFault) -> io::Result<()> {
+// Where the output can't be written, nothing is printed.
+fn print_fault(rt: &impl Print, fault: ProgramFault) -> io::Result<()> {
     match fault {
         ProgramFault::Output => Ok(()),
         _ => println!(rt; "{fault}"),

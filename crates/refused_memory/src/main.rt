@@ -5,15 +5,17 @@
 
 mod second_tries;
 
+ghost use Rattle.std.specs.Prelude.{◌≡◌};
 ghost use Rattle.tickets.specs.Tickets.{IsFresh};
 
-use cluster::{Gate, ProgramFault, Shared, read_config};
+use cluster::Gate;
+use cluster_config::{Config, ConfigFault, read_config};
 use listener::serve_conn;
 use node_cell::{Deployment, NodeCell};
 use resp2::Counting;
 use second_tries::{buffer_is_kept, reader_loses_nothing};
 use slot_table::NodeNo;
-use std::alloc::Global;
+use std::alloc::{AllocError, Global};
 use std::io;
 use std::marker::Brand;
 use std::sync::{Arc, Mutex, Wait};
@@ -55,7 +57,7 @@ fn main(rt: HostRuntime) -> io::Result<()> {
         Ok(answers) if !may_be_read(answers.as_slice()) => {
             println!(rt; "another answer: {answers:?}")
         }
-        Ok(_) | Err(ProgramFault::Memory) => println!(rt; "no other answer"),
+        Ok(_) | Err(ConfigFault::Memory) => println!(rt; "no other answer"),
         Err(fault) => println!(rt; "another fault: {fault}"),
     }
 }
@@ -73,34 +75,40 @@ fn may_be_read(bytes: &[u8]) -> bool {
     rest.is_empty() || rest == REFUSED
 }
 
-fn answers<R: Wait + AllocGlobal + Copy + Drop>(rt: R) -> Result<Vec<u8>, ProgramFault> {
+fn answers<R: Wait + AllocGlobal + Copy + Drop>(rt: R) -> Result<Vec<u8>, ConfigFault> {
     let alloc = rt.alloc();
-    let (_table, mut seats) = open(alloc, 1)?;
-    let (Some(seat), Some(node)) = (seats.pop(), NodeNo::new(0)) else {
-        return Err(ProgramFault::Memory);
-    };
-    converse::<Brand, R>(rt, alloc, node, seat)
+    let config = read_config(alloc, CLUSTER)?;
+    let answers = converse_at_first(rt, &config).map_err(|_| ConfigFault::Memory)?;
+    Ok(answers)
+}
+
+fn converse_at_first<R: Wait + AllocGlobal + Copy + Drop>(
+    rt: R,
+    config: &Config,
+) -> Result<Vec<u8>, AllocError> {
+    let (_table, mut seats) = open(rt.alloc(), 1)?;
+    let seat = seats.pop().unwrap();
+    let node = NodeNo::new(0).unwrap();
+    converse::<Brand, R>(rt, rt.alloc(), config, node, seat)
 }
 
 fn converse<K: Deployment, R: Wait + Drop>(
     rt: R,
     alloc: Global,
+    config: &Config,
     node: NodeNo,
     seat: Seat,
-) -> Result<Vec<u8>, ProgramFault>
-    requires { IsFresh K.table K.seats seat }
+) -> Result<Vec<u8>, AllocError>
+    requires cluster { config.now ≡ K.config }
+    requires seat { IsFresh K.table K.seats seat }
 {
-    let config = read_config(alloc, CLUSTER)?;
-    let cell = NodeCell::<K>::new(alloc, &config, node, seat)?;
-    let shared = Shared {
-        cell: Mutex::new(cell),
-    };
-    let node = Arc::new(alloc, shared).map_err(|_| ProgramFault::Memory)?;
-    let gate = Gate { rt, node };
-    // What a socket would have taken is told apart from what is written to it.
+    let cell = NodeCell::<K>::new(alloc, config, node, seat)?;
+    let node = Arc::new(alloc, Mutex::new(cell)).map_err(AllocError::from)?;
+    let mut gate = Gate::new(rt, node);
+    // Reserved up front: what a socket takes is no allocation of the program.
     let written = Vec::with_capacity(alloc, 1024)?;
     let mut reader = Counting::new(REQUESTS);
     let mut writer = Counting::new(written);
-    let _ended = serve_conn(alloc, &gate, &mut reader, &mut writer);
+    let _ended = serve_conn(alloc, &mut gate, &mut reader, &mut writer);
     Ok(writer.into_inner())
 }

@@ -23,7 +23,8 @@ has_replies-append (suc count) left (Array len ∷ front) rest whole =
     rw add-suc (ap (λ n. has_replies n (front ++ rest)) same ∙ has_replies-append (count + len) left front rest whole)
 
 -- and one more reply is one more
-pub has_replies_push : (replies : List Reply) (reply : Reply) → has_replies (length replies) (flat_map elements_of replies) ≡ true → has_replies 1 (elements_of reply) ≡ true → has_replies (length (replies ++ reply ∷ [])) (flat_map elements_of (replies ++ reply ∷ [])) ≡ true
+pub has_replies_push : (replies : List Reply) (reply : Reply) → has_replies (length replies) (flat_map elements_of replies) ≡ true
+    → has_replies 1 (elements_of reply) ≡ true → has_replies (length (replies ++ reply ∷ [])) (flat_map elements_of (replies ++ reply ∷ [])) ≡ true
 has_replies_push replies reply whole one =
     let more : length (replies ++ reply ∷ []) ≡ 1 + length replies = omega (arith, length_push replies reply) in
     rw (more, ← flat_map_more elements_of [] replies reply) (has_replies-append (length replies) 1 (flat_map elements_of replies) (elements_of reply) whole ∙ one)

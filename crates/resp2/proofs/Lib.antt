@@ -1,14 +1,16 @@
-pub mod Again
-pub mod Appending
+pub mod ArrayLaws
 pub mod Arrays
+pub mod Beginnings
 pub mod Callers
-pub mod Decisions
-pub mod FirstBad
-pub mod Going
-pub mod Headers
-pub mod Requests
-pub mod RequestsAgain
+pub mod FirstBadByte
+pub mod Fronts
+pub mod HeaderReading
+pub mod HeaderRoundTrip
+pub mod MoreBytes
+pub mod ReaderSteps
+pub mod ReadingDecides
+pub mod RequestReading
+pub mod RequestRoundTrip
 pub mod Spellings
-pub mod StepLemmas
 pub mod Theorems
 mod WorkedValues

@@ -6,7 +6,7 @@ use Rattle.resp2.specs.Reading.{reading, Found}
 use Rattle.resp2.specs.Request.{request_spelling, stream_spelling, IsRequest, HasNoRequest}
 use Rattle.std.specs.List.{AllByRecursion}
 use Rattle.resp2.proofs.Spellings.{each_by_recursion}
-use Rattle.resp2.proofs.Decisions.{request_is_found}
+use Rattle.resp2.proofs.ReadingDecides.{request_is_found}
 
 -- reading is one function, and it finds both
 pub no_spelling_begins_another : NoSpellingBeginsAnother
@@ -32,17 +32,24 @@ no_unfinished_is_whole bytes unfinished words rest is_request whole =
     empty (x ∷ xs) ys e some = cc
 
 -- the first request is one, and so are those behind it
-streams_are_one : (requests others : List (List (List ℕ))) (rest more : List ℕ) → AllByRecursion IsRequest requests → AllByRecursion IsRequest others → HasNoRequest rest → HasNoRequest more → stream_spelling requests ++ rest ≡ stream_spelling others ++ more → (requests ≡ others) × (rest ≡ more)
+streams_are_one : (requests others : List (List (List ℕ))) (rest more : List ℕ) → AllByRecursion IsRequest requests → AllByRecursion IsRequest others
+    → HasNoRequest rest → HasNoRequest more → stream_spelling requests ++ rest ≡ stream_spelling others ++ more → (requests ≡ others) × (rest ≡ more)
 streams_are_one [] [] rest more each all none nothing same = (refl, same)
 streams_are_one [] (words ∷ others) rest more each all none nothing same =
     absurd (none words (stream_spelling others ++ more) all.0 (same ∙ append_assoc (request_spelling words) (stream_spelling others) more))
 streams_are_one (words ∷ requests) [] rest more each all none nothing same =
     absurd (nothing words (stream_spelling requests ++ rest) each.0 (sym same ∙ append_assoc (request_spelling words) (stream_spelling requests) rest))
 streams_are_one (words ∷ requests) (other ∷ others) rest more each all none nothing same =
-    let first = no_spelling_begins_another words other (stream_spelling requests ++ rest) (stream_spelling others ++ more) each.0 all.0 (sym (append_assoc (request_spelling words) (stream_spelling requests) rest) ∙ same ∙ append_assoc (request_spelling other) (stream_spelling others) more) in
+    let spelled : request_spelling words ++ (stream_spelling requests ++ rest) ≡ request_spelling other ++ (stream_spelling others ++ more) =
+    sym (append_assoc (request_spelling words) (stream_spelling requests) rest)
+    ∙ same
+    ∙ append_assoc (request_spelling other) (stream_spelling others) more in
+    let first = no_spelling_begins_another words other (stream_spelling requests ++ rest) (stream_spelling others ++ more) each.0 all.0 spelled in
     let behind = streams_are_one requests others rest more each.1 all.1 none nothing first.1 in
     (cc, behind.1)
 
 pub a_stream_is_read_in_one_way : StreamIsReadInOneWay
 a_stream_is_read_in_one_way bytes requests others rest more one other =
-    streams_are_one requests others rest more (each_by_recursion IsRequest requests one.each) (each_by_recursion IsRequest others other.each) one.none other.none (sym one.spelled ∙ other.spelled)
+    streams_are_one requests others rest more
+    (each_by_recursion IsRequest requests one.each) (each_by_recursion IsRequest others other.each)
+    one.none other.none (sym one.spelled ∙ other.spelled)

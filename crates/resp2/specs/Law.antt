@@ -1,10 +1,18 @@
--- What holds of the spellings of requests, whoever reads them.
-use Rattle.std.specs.Prelude.{◌≡◌, ℕ, List, ◌++◌, All}
-use Rattle.resp2.specs.Request.{request_spelling, stream_spelling, IsRequest, IsUnfinished, HasNoRequest}
+-- What holds of the spellings of requests and of arrays, whoever reads or writes them.
+use Rattle.std.specs.Prelude.{◌≡◌, ◌+◌, ◌↔◌, ℕ, List, ◌++◌, All, IsTrue}
+use Rattle.std.specs.List.{AllPass}
+use Rattle.resp2.specs.declared.array.Element.{Element}
+use Rattle.resp2.specs.declared.fault.Fault.TheVariants.{Protocol, TooLong}
+use Rattle.resp2.specs.declared.reply.Reply.{Reply}
+use Rattle.resp2.specs.Array.{is_array, depth_of}
+use Rattle.resp2.specs.Reply.{array_of, is_reply, greatest_depth}
+use Rattle.resp2.specs.Request.{request_spelling, stream_spelling, IsRequest, IsUnfinished, HasFirstBadByte, HasNoRequest}
 
 -- bytes begin with one request at most, and its end is where the next begins
 abbrev pub NoSpellingBeginsAnother : Type 0
-NoSpellingBeginsAnother = (one other : List (List ℕ)) (rest more : List ℕ) → IsRequest one → IsRequest other → request_spelling one ++ rest ≡ request_spelling other ++ more → (one ≡ other) × (rest ≡ more)
+NoSpellingBeginsAnother =
+    (one other : List (List ℕ)) (rest more : List ℕ) → IsRequest one → IsRequest other
+    → request_spelling one ++ rest ≡ request_spelling other ++ more → (one ≡ other) × (rest ≡ more)
 
 -- bytes that want more have no whole request in front
 abbrev pub NoUnfinishedIsWhole : Type 0
@@ -18,4 +26,56 @@ pub record IsStream (bytes : List ℕ) (requests : List (List (List ℕ))) (rest
 
 -- so it doesn't matter in which pieces the bytes came
 abbrev pub StreamIsReadInOneWay : Type 0
-StreamIsReadInOneWay = (bytes : List ℕ) (requests others : List (List (List ℕ))) (rest more : List ℕ) → IsStream bytes requests rest → IsStream bytes others more → (requests ≡ others) × (rest ≡ more)
+StreamIsReadInOneWay =
+    (bytes : List ℕ) (requests others : List (List (List ℕ))) (rest more : List ℕ)
+    → IsStream bytes requests rest → IsStream bytes others more → (requests ≡ others) × (rest ≡ more)
+
+-- ---- what stands in front of bytes
+
+-- a whole request stands in front of these bytes
+pub record HasRequest (bytes : List ℕ) : Type 0 where
+  pub words : List (List ℕ)
+  pub rest : List ℕ
+  pub request : IsRequest words
+  pub spelled : bytes ≡ request_spelling words ++ rest
+
+-- what bytes can have in front: a request, the beginning of one, or one with a bad byte, which breaks the protocol or
+-- makes a length too long
+pub data Front : Type 0 where
+  Whole : Front
+  Unfinished : Front
+  Malformed : Front
+  Overlong : Front
+
+abbrev pub HasFront : Front → List ℕ → Type 0
+HasFront Whole bytes = HasRequest bytes
+HasFront Unfinished bytes = IsUnfinished bytes
+HasFront Malformed bytes = HasFirstBadByte Protocol bytes × HasNoRequest bytes
+HasFront Overlong bytes = HasFirstBadByte TooLong bytes × HasNoRequest bytes
+
+-- one of the four, and no other
+pub record HasOneFront (bytes : List ℕ) : Type 0 where
+  pub front : Front
+  pub has : HasFront front bytes
+  pub only : (other : Front) → HasFront other bytes → other ≡ front
+
+-- so each rule of the bytes says what a reader does with any bytes at all
+abbrev pub BytesHaveOneFront : Type 0
+BytesHaveOneFront = (bytes : List ℕ) → HasOneFront bytes
+
+-- ---- arrays
+
+-- elements are an array exactly if they are the array of some replies
+abbrev pub ArraysAreOfReplies : Type 0
+ArraysAreOfReplies =
+    (elements : List Element) → IsTrue (is_array elements) ↔ ((replies : List Reply) × AllPass is_reply replies × (elements ≡ array_of replies))
+
+-- and of no others
+abbrev pub ArrayDeterminesReplies : Type 0
+ArrayDeterminesReplies =
+    (replies others : List Reply) → AllPass is_reply replies → AllPass is_reply others
+    → array_of replies ≡ array_of others → replies ≡ others
+
+-- an array nests by one deeper than the deepest of its replies
+abbrev pub ArrayIsOneDeeper : Type 0
+ArrayIsOneDeeper = (replies : List Reply) → AllPass is_reply replies → depth_of (array_of replies) ≡ greatest_depth replies + 1

@@ -4,8 +4,9 @@ pub mod Header
 pub mod Law
 pub mod Line
 pub mod Parts
+pub mod Progress
 pub mod Reader
 pub mod Reading
 pub mod Reply
 pub mod Request
-pub mod Steps
+pub mod Writing

@@ -2,7 +2,7 @@
 -- no public clause speaks of it.
 use Rattle.std.specs.Prelude.{◌+◌, ◌-◌, ◌*◌, ◌==◌, nat_lt, ◌||◌, if◌then◌else◌, zero, suc, ℕ, List, [], ◌∷◌, ◌++◌, length, take, drop, decimal}
 use Rattle.resp2.specs.declared.fault.Fault.{Fault}
-use Rattle.resp2.specs.declared.limits.TheConstants.{MOST_WORDS, MOST_WORD_BYTES}
+use Rattle.resp2.specs.declared.words.TheConstants.{MOST_WORDS, MOST_WORD_BYTES}
 use Rattle.resp2.specs.declared.fault.Fault.TheVariants.{Protocol, TooLong}
 
 -- ---- spellings with what follows them

@@ -1,7 +1,8 @@
 -- Replies as a server sends them (RESP protocol, "RESP protocol description").
-use Rattle.std.specs.Prelude.{ℕ, ℤ, List, [], ◌∷◌, ◌++◌, length}
+use Rattle.std.specs.Prelude.{ℕ, ℤ, max, List, [], ◌∷◌, ◌++◌, length, Bool, true}
 use Rattle.std.specs.Fmt.{signed_decimal}
 use Rattle.std.specs.List.{flat_map}
+use Rattle.resp2.specs.Array.{is_array, depth_of}
 use Rattle.resp2.specs.Request.{crlf, header_spelling, bulk_spelling}
 use Rattle.resp2.specs.declared.array.Element.{Element}
 use Rattle.resp2.specs.declared.array.Element.TheVariants as element
@@ -50,3 +51,17 @@ elements_of (Array elements) = elements
 -- the array of these replies
 abbrev pub array_of : List Reply → List Element
 array_of replies = element.Array (length replies) ∷ flat_map elements_of replies
+
+-- what a reply holds as an array is one
+abbrev pub is_reply : Reply → Bool
+is_reply (Simple _) = true
+is_reply (Error _) = true
+is_reply (Integer _) = true
+is_reply (Bulk _) = true
+is_reply Null = true
+is_reply (Array elements) = is_array elements
+
+-- how deep arrays nest in the deepest of these replies
+abbrev pub greatest_depth : List Reply → ℕ
+greatest_depth [] = 0
+greatest_depth (reply ∷ replies) = max (depth_of (elements_of reply)) (greatest_depth replies)

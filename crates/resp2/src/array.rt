@@ -22,14 +22,15 @@ pub enum Element {
     Bulk(Bytes),
     /// The bulk string that isn't there.
     Null,
-    /// An array of so many elements, which follow.
+    /// The header of an array of so many replies, which follow.
     Array(usize),
 }
 
 /// An array of replies, whose elements may be arrays themselves.
 ///
-/// All stand in one list: the number of its elements first, then one element after another, and so on for each element
-/// that is an array. So an array is one block of memory however deep it nests, and its bytes are those of its parts in order.
+/// All stand in one list: the number of the replies first, then one reply after another, of which
+/// one that is an array is again a number before its replies. So an array is one block of memory
+/// however deep it nests, and its bytes are those of its elements in order.
 #[derive(Debug, Drop)]
 pub struct Array {
     elements: Vec<Element>,
@@ -48,7 +49,8 @@ impl Model for Array {
 }
 
 impl Array {
-    /// The array of these replies. It shares their bytes.
+    /// The array of these replies. It shares their bytes and takes one block of memory, whose size
+    /// is counted first: so no element moves while the others come.
     pub fn of(alloc: Global, replies: Vec<Reply>) -> Result<Array, AllocError>
         ensures { IfOk result (λ array. array ≡ array_of replies.items) }
     {

@@ -5,7 +5,9 @@ ghost use Rattle.std.specs.Io.{ReadsAtMost, WritesAtMost};
 ghost use Rattle.std.specs.Io.KnownBytes.{Appends, Keeps, ReadConsumes, WriteAppends};
 ghost use Rattle.resp2.specs.contracts.counting.Counting.{the_row};
 ghost use Rattle.resp2.specs.Counting.{device_of, failures_of, with_device, HasRisen};
+ghost use Rattle.resp2.specs.Writing.{AppendsBeginning};
 
+use crate::whole::write_whole;
 use std::io;
 use std::io::{Read, Write};
 
@@ -14,8 +16,8 @@ use std::io::{Read, Write};
 /// An error that a caller dropped on the way has still been counted.
 #[derive(Debug, Drop)]
 pub struct Counting<D> {
-    device: D,
-    failures: u64,
+    pub(crate) device: D,
+    pub(crate) failures: u64,
 }
 
 impl<D> Counting<D> {
@@ -103,16 +105,18 @@ impl<W: Write> Write for Counting<W> {
     fn write_all(&mut self, buf: &[u8]) -> io::Result<()>
         ensures bytes { OnOk result (Appends (W.contents (device_of self.old))
             (W.contents (device_of self.new)) buf.now) }
+        ensures begun { OnErr result (AppendsBeginning (W.contents (device_of self.old))
+            (W.contents (device_of self.new)) buf.now) }
         ensures ok { OnOk result (failures_of self.new ≡ failures_of self.old) }
         ensures err { OnErr result (HasRisen (failures_of self.old) (failures_of self.new)) }
     {
-        let outcome = self.device.write_all(buf);
+        let outcome = write_whole(buf, &mut self.device);
         counted(outcome, &mut self.failures)
     }
 }
 
 /// The outcome as it is; an error has been counted.
-fn counted<T>(outcome: io::Result<T>, failures: &mut u64) -> io::Result<T>
+pub(crate) fn counted<T>(outcome: io::Result<T>, failures: &mut u64) -> io::Result<T>
     ensures same { result ≡ outcome }
     ensures ok { OnOk result (failures.new ≡ failures.old) }
     ensures err { OnErr result (HasRisen failures.old failures.new) }

@@ -5,27 +5,30 @@ ghost use Rattle.resp2.specs.Header.{Gives};
 
 use crate::fault::Fault;
 
-/// A header that stands whole in front.
+/// A header that is whole.
 #[derive(Clone, Copy)]
 pub struct Header {
-    /// Its number.
+    /// How many words the request has, or how many bytes the word.
     pub number: usize,
-    /// How many bytes it takes.
+    /// How many bytes the header itself has, from its mark to the end of its line.
     pub len: usize,
 }
 
-/// Which numbers a header may have.
+/// Which numbers a header may have. A smaller one breaks the protocol.
 #[derive(Clone, Copy)]
 pub struct Bounds {
-    /// The least number.
+    /// The smallest number: a request has a word at least, and a word may be empty.
     pub least: usize,
     /// The greatest number.
     pub most: usize,
-    /// What a greater number is.
+    /// What a greater number is: too many words break the protocol, a long word is too long.
     pub above: Fault,
 }
 
 /// The header in front of the bytes, or None where more bytes have to come.
+///
+/// The first byte that no header has there is a fault at once, whatever may follow it: so a peer
+/// that doesn't speak the protocol is never waited for.
 pub fn read_header(bytes: &[u8], mark: u8, bounds: Bounds) -> Result<Option<Header>, Fault>
     requires { bounds.most < 2 ^ 60 }
     ensures { Gives bytes.now result
@@ -40,6 +43,7 @@ pub fn read_header(bytes: &[u8], mark: u8, bounds: Bounds) -> Result<Option<Head
     read_number(bytes, bounds)
 }
 
+/// The same behind the mark: the first digit.
 fn read_number(bytes: &[u8], bounds: Bounds) -> Result<Option<Header>, Fault>
     requires small { bounds.most < 2 ^ 60 }
     requires mark { 0 < length bytes.now }
@@ -63,6 +67,7 @@ fn read_number(bytes: &[u8], bounds: Bounds) -> Result<Option<Header>, Fault>
     read_digits(bytes, number, bounds)
 }
 
+/// The same behind the first digit.
 fn read_digits(bytes: &[u8], first: usize, bounds: Bounds) -> Result<Option<Header>, Fault>
     requires small { bounds.most < 2 ^ 60 }
     requires first { first ≤ bounds.most }
@@ -79,6 +84,7 @@ fn read_digits(bytes: &[u8], first: usize, bounds: Bounds) -> Result<Option<Head
         if byte == b'\r' {
             return read_line_feed(bytes, at + 1, number);
         }
+        // A number has one encoding: behind a leading 0 no digit may follow.
         if number == 0 || byte < b'0' || byte > b'9' {
             return Err(Fault::Protocol);
         }
@@ -92,6 +98,7 @@ fn read_digits(bytes: &[u8], first: usize, bounds: Bounds) -> Result<Option<Head
     Ok(None)
 }
 
+/// The same behind CR.
 fn read_line_feed(bytes: &[u8], at: usize, number: usize) -> Result<Option<Header>, Fault>
     requires { at ≤ length bytes.now }
     ensures { Gives bytes.now result (after_cr number (drop at bytes.now)) }

@@ -1,5 +1,5 @@
-//! Laws of the spellings: a stream of requests is read in one way.
-ghost use Rattle.resp2.specs.Law.{NoSpellingBeginsAnother, NoUnfinishedIsWhole, StreamIsReadInOneWay};
+//! Laws of the spellings: bytes are read in one way, and an array is that of some replies.
+ghost use Rattle.resp2.specs.Law.{NoSpellingBeginsAnother, NoUnfinishedIsWhole, StreamIsReadInOneWay, BytesHaveOneFront, ArraysAreOfReplies, ArrayDeterminesReplies, ArrayIsOneDeeper};
 
 /// No request's bytes begin another's, so what stands in front of a stream is one request at most.
 pub fn no_spelling_begins_another()
@@ -14,4 +14,25 @@ pub fn no_unfinished_is_whole()
 /// Bytes are one list of requests and one rest, whoever reads them and in whichever pieces.
 pub fn a_stream_is_read_in_one_way()
     ensures { StreamIsReadInOneWay }
+{}
+
+/// Any bytes have exactly one of four things in front: a whole request, the beginning of one, a byte
+/// that breaks the protocol, or one that makes a length too long.
+pub fn bytes_have_one_front()
+    ensures { BytesHaveOneFront }
+{}
+
+/// Elements are an array exactly if they are the array of some replies.
+pub fn arrays_are_of_replies()
+    ensures { ArraysAreOfReplies }
+{}
+
+/// Those replies are determined by the elements: no two lists of replies have the same array.
+pub fn array_determines_replies()
+    ensures { ArrayDeterminesReplies }
+{}
+
+/// An array nests by one deeper than the deepest of its replies.
+pub fn array_is_one_deeper()
+    ensures { ArrayIsOneDeeper }
 {}

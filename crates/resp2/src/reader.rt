@@ -1,11 +1,12 @@
 //! Requests from bytes that come in any pieces.
 ghost use Rattle.std.specs.Prelude.{◌≡◌, [], ◌++◌, Some, None, IfOk, IfErr, IfSome, IfNone, OnOk, OnErr, unwrap_or};
+ghost use Rattle.resp2.specs.Reading.{Wants, Bad, reading};
 ghost use Rattle.resp2.specs.Reader.{HandsOut, Waits, FailsBy, remembered};
+ghost use Rattle.resp2.specs.Progress.{Takes, IsProgress, BeginsOr, partial_of, fault_of, pending_of};
 
 use crate::fault::Fault;
-use crate::request_reading::take_request;
-use crate::words::Words;
-use bytes::{Bytes, BytesMut};
+use crate::words::{Partial, Words};
+use bytes::BytesMut;
 use std::alloc::Global;
 use std::marker::Model;
 use std::mem;
@@ -15,19 +16,23 @@ use std::mem;
 ///
 /// A header or a word that is whole is consumed at once, so that each byte is looked at a few times
 /// at most, however the bytes are cut.
-#[derive(Drop)]
 pub struct Reader {
-    /// What was fed and not yet consumed: it begins with a header, or with the word whose length is
-    /// `size`.
+    /// What was fed and not yet consumed.
     input: BytesMut,
-    /// The words of the request that is being read.
-    words: Vec<Bytes>,
-    /// How many words are to come after those.
-    left: usize,
-    /// The length of the next word in bytes, where its header was consumed.
-    size: Option<usize>,
-    /// What was wrong with the bytes.
-    fault: Option<Fault>,
+    /// What was consumed before that, and not yet handed out.
+    progress: Progress,
+}
+
+/// How far a reader is.
+#[derive(Drop)]
+enum Progress {
+    /// Between two requests: the input begins with a request's header.
+    Between,
+    /// In a request: the input begins with the words that it lacks.
+    Reading(Partial),
+    /// At a bad byte, for good. What was read of its request stays, so that the bytes that were
+    /// not handed out are still those that were fed.
+    Broken(Fault, Option<Partial>),
 }
 
 impl Model for Reader {
@@ -35,14 +40,25 @@ impl Model for Reader {
 
     ghost Value = { ReaderState };
 
-    ghost use Rattle.resp2.specs.Steps.{pending_of, HasParts};
+    ghost use Rattle.resp2.specs.Progress.{IsProgress, pending_of, fault_of};
 
     ghost view = { λ reader. record {
-      pending = pending_of reader.words.items reader.left reader.size reader.input.items;
-      fault = reader.fault;
+      pending = pending_of reader.progress reader.input.items;
+      fault = fault_of reader.progress;
     } };
 
-    ghost invariant = { λ reader. HasParts reader.words.items reader.left reader.size };
+    ghost invariant = { λ reader. IsProgress reader.progress };
+}
+
+// It does what the derive would. Written out it is one call wherever a reader is let go, and not a
+// `match` over its progress, which the proofs of those functions would have to look at.
+impl Drop for Reader {
+    fn drop(self) {
+        let Reader {
+            input: _input,
+            progress: _progress,
+        } = self;
+    }
 }
 
 impl Reader {
@@ -53,10 +69,7 @@ impl Reader {
     {
         Reader {
             input: BytesMut::new(alloc),
-            words: Vec::new(alloc),
-            left: 0,
-            size: None,
-            fault: None,
+            progress: Progress::Between,
         }
     }
 
@@ -70,13 +83,8 @@ impl Reader {
         ensures fault { IfErr result (λ fault. fault ≡ unwrap_or self.old.fault Fault.Memory) }
         ensures unchanged { OnErr result (self.new ≡ self.old) }
     {
-        match self.fault {
-            Some(fault) => return Err(fault),
-            None => {}
-        }
-        let Ok(()) = self.input.extend_from_slice(bytes) else {
-            return Err(Fault::Memory);
-        };
+        self.progress.check()?;
+        self.input.extend_from_slice(bytes)?;
         Ok(())
     }
 
@@ -93,40 +101,101 @@ impl Reader {
         ensures again { IfErr result
             (λ fault. IfSome self.old.fault (λ kept. (fault ≡ kept) × (self.new ≡ self.old))) }
     {
-        match self.fault {
-            Some(fault) => return Err(fault),
-            None => {}
-        }
-        let taken = take_request(
-            &mut self.input,
-            &mut self.words,
-            &mut self.left,
-            &mut self.size,
-        );
-        let whole = match taken {
-            Ok(whole) => whole,
+        self.progress.check()?;
+        match self.progress.take_request(&mut self.input) {
+            Ok(found) => Ok(found),
             Err(fault) => {
-                self.fault = remembered(fault);
-                return Err(fault);
+                self.progress.stop_at(fault);
+                Err(fault)
             }
-        };
-        if !whole {
-            return Ok(None);
-        }
-        let none = Vec::new(*self.words.allocator());
-        let items = mem::replace(&mut self.words, none);
-        match Words::new(items) {
-            Some(words) => Ok(Some(words)),
-            None => unreachable!(),
         }
     }
 }
 
-fn remembered(fault: Fault) -> Option<Fault>
-    ensures { result ≡ remembered fault }
-{
-    match fault {
-        Fault::Protocol | Fault::TooLong => Some(fault),
-        Fault::Memory => None,
+impl Progress {
+    /// The fault that was found, as an error.
+    fn check(&self) -> Result<(), Fault>
+        ensures ok { OnOk result (fault_of self.now ≡ None) }
+        ensures err { IfErr result (λ fault. fault_of self.now ≡ Some fault) }
+    {
+        match self {
+            Progress::Between | Progress::Reading(_) => Ok(()),
+            Progress::Broken(fault, _) => Err(*fault),
+        }
+    }
+
+    /// The request in front, once it is whole.
+    fn take_request(&mut self, input: &mut BytesMut) -> Result<Option<Words>, Fault>
+        requires progress { IsProgress self.old }
+        requires sound { fault_of self.old ≡ None }
+        ensures takes { Takes result (reading (pending_of self.old input.old.items))
+            (pending_of self.new input.new.items) }
+        ensures unfinished { IfOk result (λ found. IfNone found
+            (pending_of self.new input.new.items ≡ pending_of self.old input.old.items)) }
+        ensures unchanged { OnErr result
+            (pending_of self.new input.new.items ≡ pending_of self.old input.old.items) }
+        ensures sound { fault_of self.new ≡ None }
+        ensures progress { IsProgress self.new }
+    {
+        self.begin(input)?;
+        let Progress::Reading(partial) = self else {
+            return Ok(None);
+        };
+        let Some(words) = partial.take_words(input)? else {
+            return Ok(None);
+        };
+        *self = Progress::Between;
+        Ok(Some(words))
+    }
+
+    /// Reads the header of the request in front, where it is the next to be read and whole.
+    fn begin(&mut self, input: &mut BytesMut) -> Result<(), Fault>
+        requires progress { IsProgress self.old }
+        requires sound { fault_of self.old ≡ None }
+        ensures begins { OnOk result
+            (BeginsOr self.new (reading (pending_of self.old input.old.items) ≡ Wants)) }
+        ensures err { IfErr result
+            (λ fault. reading (pending_of self.old input.old.items) ≡ Bad fault) }
+        ensures kept { pending_of self.new input.new.items ≡ pending_of self.old input.old.items }
+        ensures sound { fault_of self.new ≡ None }
+        ensures progress { IsProgress self.new }
+    {
+        match self {
+            Progress::Between => {
+                let Some(partial) = Partial::begin(input)? else {
+                    return Ok(());
+                };
+                *self = Progress::Reading(partial);
+                Ok(())
+            }
+            Progress::Reading(_) => Ok(()),
+            Progress::Broken(..) => unreachable!(),
+        }
+    }
+
+    /// Stops at a bad byte for good. Refused memory passes.
+    fn stop_at(&mut self, fault: Fault)
+        ensures partial { partial_of self.new ≡ partial_of self.old }
+        ensures fault { fault_of self.old ≡ None → fault_of self.new ≡ remembered fault }
+        ensures progress { IsProgress self.old → IsProgress self.new }
+    {
+        match fault {
+            Fault::Protocol | Fault::TooLong => {
+                let partial = mem::replace(self, Progress::Between).into_partial();
+                *self = Progress::Broken(fault, partial);
+            }
+            Fault::Memory => {}
+        }
+    }
+
+    /// What was read of a request.
+    fn into_partial(self) -> Option<Partial>
+        ensures { result ≡ partial_of self }
+    {
+        match self {
+            Progress::Between => None,
+            Progress::Reading(partial) => Some(partial),
+            Progress::Broken(_, partial) => partial,
+        }
     }
 }

@@ -1,11 +1,28 @@
-//! The words of a request.
-ghost use Rattle.std.specs.Prelude.{◌≡◌, ◌<◌, ◌≤◌, ◌↔◌, length, IfSome, IsSome, IfNone, slice_get, Some};
+//! The words of a request, and a request of which some words are still to come.
+ghost use Rattle.std.specs.Prelude.{◌≡◌, ◌+◌, ◌<◌, ◌≤◌, ◌↔◌, length, take, drop, slice_get, Some, None, IfOk, IfErr, IfSome, IsSome, IfNone, OnOk, OnErr};
+ghost use Rattle.std.specs.Bool.{OnTrue, OnFalse};
 ghost use Rattle.resp2.specs.Request.{IsRequest};
+ghost use Rattle.resp2.specs.Reading.{Wants, Bad, Found, body_at, word_at, reading};
+ghost use Rattle.resp2.specs.Progress.{Takes, HasLen, IsPartial, word_front, partial_onto};
 
-use crate::limits::{MOST_WORD_BYTES, MOST_WORDS};
-use bytes::Bytes;
-use std::alloc::AllocError;
+use crate::fault::Fault;
+use crate::header::{Bounds, read_header};
+use bytes::{Bytes, BytesMut};
+use std::alloc::{AllocError, Global};
 use std::marker::Model;
+use std::mem;
+
+/// The most words of a request.
+pub const MOST_WORDS: usize = 3;
+
+/// The most bytes of a word: one mebibyte.
+pub const MOST_WORD_BYTES: usize = 1_048_576;
+
+/// From this length on, in bytes, a word shares the memory that it came in: copying it costs several
+/// times what counting one more owner does. A shorter word is copied, which costs no more than that:
+/// it may be kept for as long as its key lives, and would keep the whole block of input around it,
+/// which is often a thousand times as large.
+const LEAST_SHARED: usize = 4096;
 
 /// The words of one request, the command's name first: at least one, and within the limits.
 #[derive(Debug, Drop)]
@@ -25,7 +42,7 @@ impl Model for Words {
 }
 
 impl Words {
-    /// The words as a request, or None where there is none or they pass a limit.
+    /// The words as a request, or None where there is no word or a limit is passed.
     pub fn new(items: Vec<Bytes>) -> Option<Words>
         ensures words { IfSome result (λ words. words ≡ items.items) }
         ensures request { IfSome result (λ words. IsRequest items.items) }
@@ -80,4 +97,208 @@ impl Clone for Words {
         let items = self.items.clone()?;
         Ok(Words { items })
     }
+}
+
+/// A request of which the header was read.
+#[derive(Drop)]
+pub struct Partial {
+    /// The words that came whole.
+    words: Vec<Bytes>,
+    /// How many words are to come after those.
+    left: usize,
+    /// The length of the next word in bytes, once its header was read.
+    len: Option<usize>,
+}
+
+impl Partial {
+    /// The request whose header is in front, or None where the header isn't whole.
+    pub fn begin(input: &mut BytesMut) -> Result<Option<Partial>, Fault>
+        ensures partial { IfOk result (λ begun. IfSome begun (λ partial. IsPartial partial)) }
+        ensures begun { IfOk result (λ begun. IfSome begun
+            (λ partial. partial_onto partial input.new.items ≡ input.old.items)) }
+        ensures unfinished { IfOk result (λ begun. IfNone begun (reading input.old.items ≡ Wants)) }
+        ensures same { IfOk result (λ begun. IfNone begun (input.new.items ≡ input.old.items)) }
+        ensures err { IfErr result (λ fault. reading input.old.items ≡ Bad fault) }
+        ensures unchanged { OnErr result (input.new.items ≡ input.old.items) }
+    {
+        let bounds = Bounds {
+            least: 1,
+            most: MOST_WORDS,
+            above: Fault::Protocol,
+        };
+        let Some(header) = read_header(input.as_slice(), b'*', bounds)? else {
+            return Ok(None);
+        };
+        input.advance(header.len);
+        Ok(Some(Partial {
+            words: Vec::new(*input.allocator()),
+            left: header.number,
+            len: None,
+        }))
+    }
+
+    /// Takes the words that came whole, and hands all of them out once none is left.
+    ///
+    /// An error leaves what can be gone on with: nothing is lost.
+    pub fn take_words(&mut self, input: &mut BytesMut) -> Result<Option<Words>, Fault>
+        requires { IsPartial self.old }
+        ensures takes { Takes result (reading (partial_onto self.old input.old.items)) input.new.items }
+        ensures partial { IfOk result (λ found. IfNone found (IsPartial self.new)) }
+        ensures unfinished { IfOk result (λ found. IfNone found
+            (partial_onto self.new input.new.items ≡ partial_onto self.old input.old.items)) }
+        ensures err { OnErr result (IsPartial self.new) }
+        ensures unchanged { OnErr result
+            (partial_onto self.new input.new.items ≡ partial_onto self.old input.old.items) }
+    {
+        'words: while self.left > 0 {
+            // A word that was taken is no longer in the input, so the room for it comes first:
+            // a refusal here loses no word.
+            self.words.reserve(1)?;
+            let Some(word) = take_word(input, &mut self.len)? else {
+                return Ok(None);
+            };
+            let Ok(()) = self.words.push(word) else {
+                unreachable!();
+            };
+            self.left -= 1;
+        }
+        let none = Vec::new(*self.words.allocator());
+        Ok(Some(Words {
+            items: mem::replace(&mut self.words, none),
+        }))
+    }
+}
+
+/// Takes the word in front, with its header and its end, once it is whole.
+///
+/// A header is consumed as soon as it is whole, and its length is remembered: so a long word that
+/// comes in many pieces isn't looked at again with each of them.
+fn take_word(input: &mut BytesMut, len: &mut Option<usize>) -> Result<Option<Bytes>, Fault>
+    requires { HasLen len.old }
+    ensures takes { Takes result
+        (word_at MOST_WORD_BYTES (word_front len.old input.old.items)) input.new.items }
+    ensures next { IfOk result (λ found. IfSome found (λ _. len.new ≡ None)) }
+    ensures unfinished { IfOk result (λ found. IfNone found
+        (word_front len.new input.new.items ≡ word_front len.old input.old.items)) }
+    ensures err { OnErr result
+        (word_front len.new input.new.items ≡ word_front len.old input.old.items) }
+    ensures len { HasLen len.new }
+{
+    let Some(known) = take_len(input, len)? else {
+        return Ok(None);
+    };
+    take_body(input, len, known)
+}
+
+/// The word's length, which is read and remembered where it wasn't yet.
+fn take_len(input: &mut BytesMut, len: &mut Option<usize>) -> Result<Option<usize>, Fault>
+    requires { HasLen len.old }
+    ensures known { IfOk result (λ known. IfSome known (λ number. len.new ≡ Some number)) }
+    ensures unfinished { IfOk result (λ known. IfNone known
+        (word_at MOST_WORD_BYTES (word_front len.old input.old.items) ≡ Wants)) }
+    ensures err { IfErr result (λ fault.
+        word_at MOST_WORD_BYTES (word_front len.old input.old.items) ≡ Bad fault) }
+    ensures kept { word_front len.new input.new.items ≡ word_front len.old input.old.items }
+    ensures len { HasLen len.new }
+{
+    match *len {
+        Some(known) => Ok(Some(known)),
+        None => read_len(input, len),
+    }
+}
+
+/// Reads the header of a word.
+fn read_len(input: &mut BytesMut, len: &mut Option<usize>) -> Result<Option<usize>, Fault>
+    requires { len.old ≡ None }
+    ensures known { IfOk result (λ known. IfSome known (λ number. len.new ≡ Some number)) }
+    ensures unfinished { IfOk result (λ known. IfNone known
+        (word_at MOST_WORD_BYTES input.old.items ≡ Wants)) }
+    ensures err { IfErr result (λ fault. word_at MOST_WORD_BYTES input.old.items ≡ Bad fault) }
+    ensures kept { word_front len.new input.new.items ≡ input.old.items }
+    ensures len { HasLen len.new }
+{
+    let bounds = Bounds {
+        least: 0,
+        most: MOST_WORD_BYTES,
+        above: Fault::TooLong,
+    };
+    let Some(header) = read_header(input.as_slice(), b'$', bounds)? else {
+        return Ok(None);
+    };
+    input.advance(header.len);
+    *len = Some(header.number);
+    Ok(*len)
+}
+
+/// Takes a word of the known length, and the end of its line.
+fn take_body(
+    input: &mut BytesMut,
+    len: &mut Option<usize>,
+    known: usize,
+) -> Result<Option<Bytes>, Fault>
+    requires len { len.old ≡ Some known }
+    requires limit { HasLen len.old }
+    ensures takes { Takes result (body_at known input.old.items) input.new.items }
+    ensures next { IfOk result (λ found. IfSome found (λ _. len.new ≡ None)) }
+    ensures unfinished { IfOk result (λ found. IfNone found
+        (word_front len.new input.new.items ≡ word_front len.old input.old.items)) }
+    ensures err { OnErr result
+        (word_front len.new input.new.items ≡ word_front len.old input.old.items) }
+    ensures len { HasLen len.new }
+{
+    if !is_whole(input.as_slice(), known)? {
+        make_room(input, known);
+        return Ok(None);
+    }
+    let word = cut(input, known)?;
+    input.advance(2);
+    *len = None;
+    Ok(Some(word))
+}
+
+/// Asks at once for the room that a whole word takes, so that a long one doesn't move as its bytes
+/// come. Where that is refused, the input grows with them.
+fn make_room(input: &mut BytesMut, len: usize)
+    ensures { input.new.items ≡ input.old.items }
+{
+    let missing = len.saturating_add(2).saturating_sub(input.len());
+    let _room = input.reserve(missing);
+}
+
+/// Whether the bytes begin with a word of this length and the end of its line.
+fn is_whole(bytes: &[u8], len: usize) -> Result<bool, Fault>
+    ensures whole { IfOk result (λ whole. OnTrue whole
+        (body_at len bytes.now ≡ Found (take len bytes.now) (drop (len + 2) bytes.now))) }
+    ensures long { IfOk result (λ whole. OnTrue whole (len + 2 ≤ length bytes.now)) }
+    ensures unfinished { IfOk result (λ whole. OnFalse whole (body_at len bytes.now ≡ Wants)) }
+    ensures err { IfErr result (λ fault. body_at len bytes.now ≡ Bad fault) }
+{
+    if bytes.len() <= len {
+        return Ok(false);
+    }
+    if bytes[len] != b'\r' {
+        return Err(Fault::Protocol);
+    }
+    if bytes.len() == len + 1 {
+        return Ok(false);
+    }
+    if bytes[len + 1] != b'\n' {
+        return Err(Fault::Protocol);
+    }
+    Ok(true)
+}
+
+/// Cuts so many bytes off the front.
+fn cut(input: &mut BytesMut, len: usize) -> Result<Bytes, AllocError>
+    requires { len ≤ length input.old.items }
+    ensures front { IfOk result (λ word. word ≡ take len input.old.items) }
+    ensures rest { OnOk result (input.new.items ≡ drop len input.old.items) }
+    ensures err { OnErr result (input.new.items ≡ input.old.items) }
+{
+    if len >= LEAST_SHARED {
+        return input.freeze_to(len);
+    }
+    let word = Bytes::copy_from_slice(*input.allocator(), &input.as_slice()[..len])?;
+    input.advance(len);
+    Ok(word)
 }

@@ -1,43 +1,56 @@
 -- What a conversation with the node of PONGs writes.
-use Rattle.std.proofs.Common.{◌≡◌, ℕ, List, [], ◌∷◌, ◌++◌, length, sym, ap, subst, ◌∙◌, append_assoc, append-nil, inl, inr, ⊎_elim}
-use Rattle.std.specs.Prelude.{Some, All}
+use Rattle.std.proofs.Common.{◌≡◌, ℕ, List, [], ◌∷◌, ◌++◌, length, sym, ap, subst, ◌∙◌, append_assoc, append-nil, inl, inr, refl, ◌⊎◌}
+use Rattle.std.specs.Prelude.{Some, All, Ok, Err, Result, map}
 use Rattle.std.specs.List.{AllByRecursion}
-use Rattle.std.proofs.lemmas.List.Elements.{All-from_recursion}
+use Rattle.std.proofs.lemmas.List.Elements.{All-from_recursion, All-head, All-tail}
 use Rattle.resp2.specs.Law.{IsStream, NoUnfinishedIsWhole, StreamIsReadInOneWay}
 use Rattle.resp2.specs.Reply.{reply_spelling}
 use Rattle.resp2.specs.Request.{IsRequest, IsUnfinished, HasFirstBadByte, stream_spelling}
 use Rattle.resp2.specs.declared.fault.Fault.{Fault}
-use Rattle.resp2.specs.declared.reply.Reply.{Reply}
-use Rattle.node_core.specs.Outputs.{reply_of}
-use Rattle.node_core.specs.declared.answer.Answer.TheVariants.{Served}
+use Rattle.node_cell.specs.Asks.{Asked}
 use Rattle.node_core.specs.declared.connections.Conn.{Conn}
 use Rattle.node_core.specs.declared.event.Event.{Event}
+use Rattle.node_core.specs.declared.event.Event.TheVariants.{Close}
+use Rattle.node_core.specs.declared.fault.StepFault.{StepFault}
 use Rattle.node_core.specs.declared.outputs.Outputs.{Outputs}
-use Rattle.listener.specs.Serving.{MayAnswer, AnswersTo, replies_spelling, Converses, Exchanges, IsServed, EndsAtEnd, EndsAtBadByte}
-use Rattle.uses.specs.Pongs.{pong, pongs, outputs_for, AreAnsweredExactly, EndsInTime, EndsBadly}
+use Rattle.node_core.specs.declared.response.Answer.{Answer}
+use Rattle.node_core.specs.declared.response.Response.TheVariants.{Replied}
+use Rattle.listener.specs.declared.requests.Rest.{Rest}
+use Rattle.listener.specs.declared.requests.Rest.TheVariants.{Unfinished, BadByte}
+use Rattle.listener.specs.declared.fault.ConnFault.{ConnFault}
+use Rattle.listener.specs.Conversation.{Converses, EndsUnopened, Exchange, Serves, Tells, asked_for, line_of, replies_bytes}
+use Rattle.listener.specs.Streams.{Change, IsAllowed, Stream, asking}
+use Rattle.uses.specs.Pongs.{pong, pongs, pong_answer, outputs_for, AreAnsweredExactly, EndsInTime, EndsBadly}
 
 abbrev may : Event → Outputs → Type 0
 may event outputs = outputs ≡ outputs_for event
 
-is_pong : (conn : Conn) (words : List (List ℕ)) (reply : Reply) → MayAnswer may conn words reply → reply ≡ pong
-is_pong conn words reply p =
-    let given : Some p.answer ≡ Some (Served pong) = sym p.given ∙ ap (λ (o : Outputs). o.answer) p.may_give in
-    let answer : p.answer ≡ Served pong = cc in
-    p.reply_is ∙ ap reply_of answer
+abbrev may_refuse : Event → StepFault → Type 0
+may_refuse event fault = ⊥
+
+abbrev allowed : Asked → Type 0
+allowed = IsAllowed may may_refuse
+
+abbrev words_of : Exchange → List (List ℕ)
+words_of exchange = exchange.words
+
+is_pong : (conn : Conn) (exchange : Exchange) → allowed (asked_for conn exchange) → exchange.answer.reply ≡ pong
+is_pong conn exchange given =
+    let same : Replied exchange.answer ≡ Replied pong_answer = sym exchange.replied ∙ ap (λ (o : Outputs). o.response) given in
+    let answer : exchange.answer ≡ pong_answer = cc in
+    ap (λ (a : Answer). a.reply) answer
 
 -- each reply is a PONG
-all_pongs : (conn : Conn) (requests : List (List (List ℕ))) (replies : List Reply) → AnswersTo may conn requests replies
-    → replies_spelling replies ≡ pongs (length requests)
-all_pongs conn [] replies none = ap replies_spelling none
-all_pongs conn (words ∷ requests) replies p =
-    ap replies_spelling p.2
-    ∙ ap (λ reply. reply_spelling reply ++ replies_spelling p.1) (is_pong conn words p.0 p.4)
-    ∙ ap (λ bytes. reply_spelling pong ++ bytes) (all_pongs conn requests p.1 p.5)
+all_pongs : (conn : Conn) (exchanges : List Exchange) (more : List Asked) → All allowed (map (asked_for conn) exchanges ++ more)
+    → replies_bytes exchanges ≡ pongs (length (map words_of exchanges))
+all_pongs conn [] more given = refl
+all_pongs conn (exchange ∷ exchanges) more given =
+    ap (λ reply. reply_spelling reply ++ replies_bytes exchanges) (is_pong conn exchange (All-head allowed _ _ given))
+    ∙ ap (λ bytes. reply_spelling pong ++ bytes) (all_pongs conn exchanges more (All-tail allowed _ _ given))
 
-each_is_request : (conn : Conn) (requests : List (List (List ℕ))) (replies : List Reply) → AnswersTo may conn requests replies
-    → AllByRecursion IsRequest requests
-each_is_request conn [] replies none = tt
-each_is_request conn (words ∷ requests) replies p = (p.3, each_is_request conn requests p.1 p.5)
+each_is_request : (exchanges : List Exchange) → AllByRecursion IsRequest (map words_of exchanges)
+each_is_request [] = tt
+each_is_request (exchange ∷ exchanges) = (exchange.is_request, each_is_request exchanges)
 
 -- more bytes than those that were read don't mend a bad one
 still_bad : (fault : Fault) (rest more : List ℕ) → HasFirstBadByte fault rest → HasFirstBadByte fault (rest ++ more)
@@ -50,45 +63,80 @@ still_bad fault rest more bad =
       first = bad.first;
     }
 
+abbrev known : ℕ → ℕ → List ℕ → List ℕ → Change Stream
+known before after old new = record { old = record { bytes = Some old; failures = before }; new = record { bytes = Some new; failures = after } }
+
+module _ (none_whole : NoUnfinishedIsWhole) (one_way : StreamIsReadInOneWay) (asked : Change (List Asked)) (input left output : List ℕ) (r r' : ℕ) where
+  abbrev ConversesOn : Rest → List ℕ → Type 0
+  ConversesOn rest replies = Converses allowed asked (known r r' input left) (Ok rest) replies
+
+  spelled : (rest : Rest) (replies : List ℕ) (c : ConversesOn rest replies)
+      → input ≡ stream_spelling (map words_of c.talk.exchanges) ++ (c.talk.tail.rest ++ left)
+  spelled rest replies c = c.read ∙ append_assoc (stream_spelling (map words_of c.talk.exchanges)) c.talk.tail.rest left
+
+  each : (rest : Rest) (replies : List ℕ) (c : ConversesOn rest replies) → All IsRequest (map words_of c.talk.exchanges)
+  each rest replies c = All-from_recursion IsRequest (map words_of c.talk.exchanges) (each_is_request c.talk.exchanges)
+
+  replies_are : (rest : Rest) (replies : List ℕ) (c : ConversesOn rest replies) → replies ≡ pongs (length (map words_of c.talk.exchanges))
+  replies_are rest replies c =
+      let steps = map (asked_for c.talk.conn) c.talk.exchanges in
+      c.replied
+      ∙ all_pongs c.talk.conn c.talk.exchanges (c.talk.tail.asked ++ asking (Close c.talk.conn) c.talk.closing ∷ [])
+      (subst (All allowed) (append_assoc steps c.talk.tail.asked (asking (Close c.talk.conn) c.talk.closing ∷ [])) (All-tail allowed _ _ c.history.each))
+
+  written : (rest : Rest) (replies : List ℕ) (c : ConversesOn rest replies) → output ≡ replies ++ line_of (Ok rest)
+      → output ≡ pongs (length (map words_of c.talk.exchanges)) ++ line_of (Ok rest)
+  written rest replies c wrote = wrote ∙ ap (λ bytes. bytes ++ line_of (Ok rest)) (replies_are rest replies c)
+
+  in_time : (replies : List ℕ) (c : ConversesOn Unfinished replies) → EndsInTime input (map words_of c.talk.exchanges) (c.talk.tail.rest ++ left) []
+  in_time replies c =
+      let rest = c.talk.tail.rest in
+      let same : rest ≡ rest ++ left = sym (append-nil rest) ∙ ap (λ bytes. rest ++ bytes) (sym c.reads.0) in
+      let unfinished = subst IsUnfinished same c.ends.1 in
+      let stream : IsStream input (map words_of c.talk.exchanges) (rest ++ left) =
+      record { spelled = spelled Unfinished replies c; each = each Unfinished replies c; none = none_whole _ unfinished } in
+      record {
+        unfinished = unfinished;
+        nothing_more = refl;
+        only = λ others more other. (one_way input others (map words_of c.talk.exchanges) more (rest ++ left) other stream).0;
+      }
+
+  badly : (replies : List ℕ) (c : ConversesOn BadByte replies) → EndsBadly (c.talk.tail.rest ++ left) (line_of (Ok BadByte))
+  badly replies c =
+      let spoilt = c.ends.1 in
+      record { fault = spoilt.fault; bad = still_bad spoilt.fault c.talk.tail.rest left spoilt.bad; told = refl }
+
+  answered : (rest : Rest) (replies : List ℕ) → ConversesOn rest replies → output ≡ replies ++ line_of (Ok rest) → AreAnsweredExactly input output
+  answered Unfinished replies c wrote =
+      record {
+        requests = map words_of c.talk.exchanges;
+        rest = c.talk.tail.rest ++ left;
+        last = [];
+        spelled = spelled Unfinished replies c;
+        each = each Unfinished replies c;
+        ends = inl (in_time replies c);
+        written = written Unfinished replies c wrote;
+      }
+  answered BadByte replies c wrote =
+      record {
+        requests = map words_of c.talk.exchanges;
+        rest = c.talk.tail.rest ++ left;
+        last = line_of (Ok BadByte);
+        spelled = spelled BadByte replies c;
+        each = each BadByte replies c;
+        ends = inr (badly replies c);
+        written = written BadByte replies c wrote;
+      }
+
+  by_end : (ended : Result Rest ConnFault) (replies : List ℕ) (w w' : ℕ)
+      → Converses allowed asked (known r r' input left) ended replies ⊎ EndsUnopened allowed asked (known r r' input left) ended replies
+      → Tells (Ok tt) ended (known w w' [] output) (replies ++ line_of ended) → AreAnsweredExactly input output
+  by_end (Ok rest) replies w w' (inl c) tells = answered rest replies c tells.1.appends
+  by_end (Ok rest) replies w w' (inr unopened) tells = absurd (let e : Ok rest ≡ Err unopened.fault = unopened.failed in cc)
+  by_end (Err fault) replies w w' talked tells = absurd (let e : Ok tt ≡ Err fault = tells.0 in cc)
+
 -- what a served client reads
-pub are_answered_exactly : (input left output : List ℕ) → NoUnfinishedIsWhole → StreamIsReadInOneWay
-    → IsServed may (Some input) (Some left) (Some []) (Some output) → AreAnsweredExactly input output
-are_answered_exactly input left output none_whole one_way served =
-    record {
-      requests = requests;
-      rest = served.rest ++ left;
-      last = served.last;
-      spelled = spelled;
-      each = each;
-      ends = ⊎_elim (λ end. inl (in_time end)) (λ end. inr (badly end)) served.ends;
-      written = talk.written ∙ ap (λ bytes. bytes ++ served.last) (exchanges.written ∙ all_pongs talk.conn requests exchanges.replies exchanges.answered);
-    }
-  where
-    talk : Converses may (Some input) (Some left) (Some []) (Some output) served.rest served.last
-    talk = served.converses
-
-    exchanges : Exchanges may talk.conn talk.input served.rest talk.output
-    exchanges = talk.exchanges
-
-    requests : List (List (List ℕ))
-    requests = exchanges.requests
-
-    spelled : input ≡ stream_spelling requests ++ (served.rest ++ left)
-    spelled = talk.read ∙ ap (λ bytes. bytes ++ left) exchanges.read ∙ append_assoc (stream_spelling requests) served.rest left
-
-    each : All IsRequest requests
-    each = All-from_recursion IsRequest requests (each_is_request talk.conn requests exchanges.replies exchanges.answered)
-
-    in_time : EndsAtEnd (Some left) served.rest served.last → EndsInTime input requests (served.rest ++ left) served.last
-    in_time end =
-        let same : served.rest ≡ served.rest ++ left = sym (append-nil served.rest) ∙ ap (λ bytes. served.rest ++ bytes) (sym end.at_end) in
-        let unfinished = subst IsUnfinished same end.unfinished in
-        let stream : IsStream input requests (served.rest ++ left) = record { spelled = spelled; each = each; none = none_whole _ unfinished } in
-        record {
-          unfinished = unfinished;
-          nothing_more = end.nothing_more;
-          only = λ others more other. (one_way input others requests more (served.rest ++ left) other stream).0;
-        }
-
-    badly : EndsAtBadByte served.rest served.last → EndsBadly (served.rest ++ left) served.last
-    badly end = record { fault = end.fault; bad = still_bad end.fault served.rest left end.bad; told = end.told }
+pub are_answered_exactly : (input left output : List ℕ) (asked : Change (List Asked)) (r r' w w' : ℕ) → NoUnfinishedIsWhole → StreamIsReadInOneWay
+    → Serves allowed asked (known r r' input left) (known w w' [] output) (Ok tt) → AreAnsweredExactly input output
+are_answered_exactly input left output asked r r' w w' none_whole one_way serves =
+    by_end none_whole one_way asked input left output r r' serves.ended serves.replies w w' serves.talked serves.told

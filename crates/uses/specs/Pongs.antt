@@ -7,24 +7,34 @@ use Rattle.resp2.specs.declared.fault.Fault.{Fault}
 use Rattle.resp2.specs.declared.reply.Reply.{Reply}
 use Rattle.resp2.specs.declared.reply.Reply.TheVariants.{Simple}
 use Rattle.command.specs.declared.error_line.ErrorLine.TheVariants as line
-use Rattle.node_core.specs.Outputs.{nothing, opened, answered}
-use Rattle.node_core.specs.declared.answer.Answer.TheVariants.{Served}
 use Rattle.node_core.specs.declared.event.Event.{Event}
 use Rattle.node_core.specs.declared.event.Event.TheVariants.{Open, Close, Request, Tick}
 use Rattle.node_core.specs.declared.outputs.Outputs.{Outputs}
-use Rattle.listener.specs.Serving.{error_bytes}
+use Rattle.node_core.specs.declared.response.Answer.{Answer}
+use Rattle.node_core.specs.declared.response.Response.{Response}
+use Rattle.node_core.specs.declared.response.Response.TheVariants.{Nothing, Opened, Replied}
+use Rattle.node_core.specs.declared.response.Why.TheVariants.{Decided}
+use Rattle.redirect.specs.declared.decision.Decision.TheVariants.{Serve}
+use Rattle.listener.specs.Conversation.{error_bytes}
 
 abbrev pub pong : Reply
 pong = Simple (codes "PONG")
 
+abbrev pub pong_answer : Answer
+pong_answer = record { why = Decided Serve; reply = pong }
+
+-- the response to an event
+abbrev pub response_for : Event → Response
+response_for Open = Opened (record { key = 0; generation = 0 })
+response_for (Close conn) = Nothing
+response_for (Request conn words) = Replied pong_answer
+response_for Tick = Nothing
+
 -- what comes out for an event
 abbrev pub outputs_for : Event → Outputs
-outputs_for Open = opened (record { key = 0; generation = 0 })
-outputs_for (Close conn) = nothing
-outputs_for (Request conn words) = answered (Served pong)
-outputs_for Tick = nothing
+outputs_for event = record { ticket = 0; response = response_for event }
 
--- so many times the bytes of PONG
+-- the bytes of n PONGs
 abbrev pub pongs : ℕ → List ℕ
 pongs zero = []
 pongs (suc n) = reply_spelling pong ++ pongs n

@@ -1,16 +1,46 @@
 //! A node in memory that answers each request with PONG: what a conversation writes is then known to the byte.
 ghost use Rattle.std.specs.Prelude.{◌≡◌, IfOk};
-ghost use Rattle.uses.specs.Pongs.{outputs_for, AreAnsweredExactly};
+ghost use Rattle.uses.specs.Pongs.{outputs_for, pong_answer, AreAnsweredExactly};
 
 use listener::{ConnFault, serve_conn};
-use node_cell::{Answered, NodeGate};
-use node_core::{Answer, Conn, Event, Outputs, StepFault};
+use node_cell::{Answered, History, NodeGate};
+use node_core::{Answer, Conn, Event, Outputs, Response, StepFault, Why};
+use redirect::Decision;
 use resp2::{Counting, Line, Reply, a_stream_is_read_in_one_way, no_unfinished_is_whole};
 use std::alloc::Global;
+use std::marker::Model;
+use std::snapshot::Snapshot;
 
 /// A node that has one connection, and answers each request with PONG.
 #[derive(Drop)]
-pub struct PongGate;
+pub struct PongGate {
+    asked: History<Asking>,
+}
+
+// A step that the node was asked for. Only proofs read it.
+#[derive(Drop)]
+struct Asking {
+    event: Snapshot<Event>,
+    outputs: Snapshot<Outputs>,
+}
+
+impl Model for Asking {
+    ghost use Rattle.std.specs.Prelude.{Ok};
+    ghost use Rattle.node_cell.specs.Asks.{Asked};
+
+    ghost Value = { Asked };
+
+    ghost view = { λ asking. record { event = asking.event.value; outcome = Ok asking.outputs.value } };
+}
+
+impl PongGate {
+    /// The node, which was asked nothing yet.
+    pub fn new() -> PongGate {
+        PongGate {
+            asked: History::new(),
+        }
+    }
+}
 
 /// A step of this node.
 #[derive(Drop)]
@@ -36,12 +66,18 @@ impl NodeGate for PongGate {
 
     ghost use Rattle.uses.specs.Pongs.{outputs_for};
 
+    ghost asked = { λ gate. gate.asked };
+
     ghost may = { λ event outputs. outputs ≡ outputs_for event };
 
     ghost may_refuse = { λ event fault. ⊥ };
 
-    fn step(&self, event: Event) -> Result<PongStep, StepFault> {
+    fn step(&mut self, event: Event) -> Result<PongStep, StepFault> {
         let outputs = outputs_for(&event);
+        self.asked.push(&Asking {
+            event: Snapshot::of(&event),
+            outputs: Snapshot::of(&outputs),
+        });
         Ok(PongStep { event, outputs })
     }
 }
@@ -49,15 +85,26 @@ impl NodeGate for PongGate {
 fn outputs_for(event: &Event) -> Outputs
     ensures { result ≡ outputs_for event.now }
 {
-    match event {
-        Event::Open => Outputs::opened(Conn {
+    let response = match event {
+        Event::Open => Response::Opened(Conn {
             key: 0,
             generation: 0,
         }),
-        Event::Request(_, _) => {
-            Outputs::answered(Answer::Served(Reply::Simple(Line::from_static(b"PONG"))))
-        }
-        Event::Close(_) | Event::Tick => Outputs::nothing(),
+        Event::Request(_, _) => Response::Replied(pong()),
+        Event::Close(_) | Event::Tick => Response::Nothing,
+    };
+    Outputs {
+        ticket: 0,
+        response,
+    }
+}
+
+fn pong() -> Answer
+    ensures { result ≡ pong_answer }
+{
+    Answer {
+        why: Why::Decided(Decision::Serve),
+        reply: Reply::Simple(Line::from_static(b"PONG")),
     }
 }
 
@@ -67,7 +114,8 @@ pub fn exact_answers(alloc: Global, input: &[u8]) -> Result<Vec<u8>, ConnFault>
 {
     let mut reader = Counting::new(input);
     let mut writer = Counting::new(Vec::new(alloc));
-    serve_conn(alloc, &PongGate, &mut reader, &mut writer)?;
+    let mut gate = PongGate::new();
+    serve_conn(alloc, &mut gate, &mut reader, &mut writer)?;
     // Nothing whole is left where the client ended it, and there is no other reading of what it sent.
     no_unfinished_is_whole();
     a_stream_is_read_in_one_way();

@@ -1,15 +1,13 @@
 //! A value that is set at a node is what the next GET is answered.
 ghost use Rattle.std.specs.Prelude.{◌≡◌, ◌≤◌, ◌∷◌, [], ℕ, List, length, ◌+◌, IfOk, OnOk, codes};
 ghost use Rattle.resp2.specs.Request.{IsRequest};
-ghost use Rattle.resp2.specs.declared.limits.TheConstants.{MOST_WORD_BYTES};
+ghost use Rattle.resp2.specs.declared.words.TheConstants.{MOST_WORD_BYTES};
 ghost use Rattle.resp2.specs.declared.reply.Reply.TheVariants.{Bulk};
-ghost use Rattle.node_core.specs.Outputs.{answered};
-ghost use Rattle.node_core.specs.declared.answer.Answer.TheVariants.{Served};
-ghost use Rattle.uses.specs.Serving.{IsServedBy};
+ghost use Rattle.uses.specs.Serving.{IsServedBy, served};
 
 use bytes::Bytes;
 use node_cell::{Deployment, Entered, NodeCell};
-use node_core::{Event, StepFault};
+use node_core::{Event, Response, StepFault};
 use resp2::Words;
 use std::alloc::{AllocError, Global};
 
@@ -22,13 +20,13 @@ pub fn set_then_get<K: Deployment>(
 ) -> Result<Entered<K>, StepFault>
     requires key { length key.now ≤ MOST_WORD_BYTES }
     requires value { length value.now ≤ MOST_WORD_BYTES }
-    ensures answer { IfOk result (λ entered. IsServedBy cell.old.state (key.now ∷ []) → entered.outputs ≡ answered (Served (Bulk value.now))) }
+    ensures answer { IfOk result (λ entered. IsServedBy cell.old.state (key.now ∷ []) → entered.outputs.response ≡ served (Bulk value.now)) }
     ensures entered { OnOk result (length cell.new.journal ≡ length cell.old.journal + 3) }
 {
     let set = set_words(alloc, key, value)?;
     let get = get_words(alloc, key)?;
     let opened = cell.apply(Event::Open)?;
-    let Some(conn) = opened.outputs().opened else {
+    let Response::Opened(conn) = opened.outputs().response else {
         unreachable!()
     };
     let _set = cell.apply(Event::Request(conn, set))?;

@@ -8,12 +8,12 @@ pub returns-clause-answer : goal.returns-clause-answer
 returns-clause-answer g c =
     let opened = c.in_ok-opened.ensures.ok in
     let set = c.in_ok-_set.ensures.ok in
-    let conn = ap (λ (o : Outputs). o.opened) c.outputs.ensures in
+    let conn = ap (λ (o : Outputs). o.response) c.outputs.ensures in
     if_ok c.apply-3.result c.apply-3.ensures.ok (λ entered got serves.
     let a = opened.makes.step in
     let b = rw c.in_ok-set.ensures at set.makes.step in
     let d = rw c.in_ok-get.ensures at got.makes.step in
-    set_is_got _ _ _ _ c.in-Some.conn c.args.key.now c.args.value.now _ _ _ a (sym conn ∙ c.in-Some.is) b d serves)
+    set_is_got _ _ _ _ _ _ _ c.in-Opened.conn c.args.key.now c.args.value.now _ _ _ a (sym conn ∙ c.in-Opened.is) b d serves)
 
 pub returns-clause-entered : goal.returns-clause-entered
 returns-clause-entered g c =

@@ -1,5 +1,5 @@
-use Rattle.resp2.proofs.StepLemmas.{fed}
+use Rattle.resp2.proofs.ReaderSteps.{fed}
 use Rattle.resp2.proofs.reader.Reader.feed.Goals as goal
 
 pub returns-clause-fed : goal.returns-clause-fed
-returns-clause-fed c = fed c.self.inside.words.items c.self.inside.left c.self.inside.size c.self.inside.input.items _ _ c.self.inside.fault _ c.self.view_is c.in-Ok.ensures.ok
+returns-clause-fed c = fed c.self.inside.progress c.self.inside.input.items _ _ _ _ c.self.view_is c.in_ok-extend_from_slice.ensures.ok

@@ -1,0 +1,12 @@
+use Rattle.std.proofs.Common.{◌∙◌, refl, inr, rules}
+use Rattle.cluster_config.proofs.TextLemmas.{value_of-utf8, value_of-none}
+use Rattle.cluster_config.proofs.reading.value_of.Goals as goal
+
+pub returns-in-Ok : goal.returns-in-Ok
+returns-in-Ok c = record {
+  value = value_of-utf8 c.args.text.now c.in-Ok.ensures.ok.0 ∙ c.in-Ok.ensures.ok.1;
+  fault = tt;
+}
+
+pub returns-else-is_memory-clause-fault : goal.returns-else-is_memory-clause-fault
+returns-else-is_memory-clause-fault c = inr (refl, value_of-none c.args.text.now (λ utf8. c.in-Err.ensures.err (search rules) utf8))

@@ -1,0 +1,35 @@
+-- The names of the commands (Redis command reference; names are read without regard to ASCII case).
+use Rattle.std.specs.Prelude.{List, [], ◌∷◌, ℕ, Option, codes, find}
+use Rattle.std.specs.Str.{str_eq_ignore_ascii_case}
+use Rattle.command.specs.declared.names.Name.{Name}
+use Rattle.command.specs.declared.names.Name.TheVariants.{Ping, Get, Set, Mget, Cluster}
+use Rattle.command.specs.declared.names.Subcommand.{Subcommand}
+use Rattle.command.specs.declared.names.Subcommand.TheVariants.{KeySlot, MyId, Slots}
+
+-- each name in lower case
+abbrev pub name_text : Name → List ℕ
+name_text Ping = codes "ping"
+name_text Get = codes "get"
+name_text Set = codes "set"
+name_text Mget = codes "mget"
+name_text Cluster = codes "cluster"
+
+abbrev pub names : List Name
+names = Ping ∷ Get ∷ Set ∷ Mget ∷ Cluster ∷ []
+
+-- the name that a word spells, in letters of any case
+abbrev pub name_of : List ℕ → Option Name
+name_of word = find (λ name. str_eq_ignore_ascii_case word (name_text name)) names
+
+-- each subcommand of CLUSTER in lower case
+abbrev pub subcommand_text : Subcommand → List ℕ
+subcommand_text KeySlot = codes "keyslot"
+subcommand_text MyId = codes "myid"
+subcommand_text Slots = codes "slots"
+
+abbrev pub subcommands : List Subcommand
+subcommands = KeySlot ∷ MyId ∷ Slots ∷ []
+
+-- the subcommand that a word spells, in letters of any case
+abbrev pub subcommand_of : List ℕ → Option Subcommand
+subcommand_of word = find (λ subcommand. str_eq_ignore_ascii_case word (subcommand_text subcommand)) subcommands

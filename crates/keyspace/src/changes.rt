@@ -1,0 +1,207 @@
+//! Changes to any number of keys: a plan of them, and its commit.
+ghost use Rattle.std.specs.Prelude.{◌≡◌, OnOk, OnErr, IfOk, IsOk, []};
+ghost use Rattle.std.specs.Option.{option_copied};
+ghost use Rattle.std.specs.FinMap as map;
+ghost use Rattle.keyspace.specs.Commit.{new_keys, with_placeholders, without, AddsNoKey, AddNoKeys};
+ghost use Rattle.keyspace.specs.Keyspace.{Keyspace, changed};
+ghost use Rattle.keyspace.specs.Plan.{changes_of, applied};
+
+use crate::store::Store;
+use crate::value::Value;
+use bytes::Bytes;
+use std::alloc::{AllocError, Global};
+use std::collections::BTreeMap;
+use std::marker::Model;
+
+/// Changes that are decided and not made yet: at most one for each key. A plan with one change allocates nothing.
+#[derive(Drop)]
+pub struct Plan {
+    // The key that was changed first, with its latest change. It stands apart so that a plan with one change needs no tree.
+    first: Option<(Bytes, Option<Value>)>,
+    // The changes of all other keys.
+    more: BTreeMap<Bytes, Option<Value>>,
+}
+
+impl Model for Plan {
+    ghost use Rattle.std.specs.Prelude.{ℕ};
+    ghost use Rattle.std.specs.Coded.{codes, coded_list, coded_ℕ};
+    ghost use Rattle.std.specs.Ordering.{nat_cmp};
+    ghost use Rattle.std.specs.Cmp.Lexicographic.{slice_cmp};
+    ghost use Rattle.std.specs.FinMap as map;
+    ghost use Rattle.keyspace.specs.Plan.{Changes, changes_of, with_first};
+
+    ghost Value = { Changes };
+
+    ghost coded = { map.code {R = slice_cmp nat_cmp} (coded_list coded_ℕ) (Prim.hlevel codes) };
+
+    ghost view = { λ plan. with_first plan.first (changes_of plan.more.entries) };
+}
+
+impl Plan {
+    /// A plan that changes nothing.
+    #[tactic(auto, using(crate::proofs::Applied::applied_empty))]
+    pub fn new(alloc: Global) -> Plan
+        ensures empty { result ≡ map.empty }
+        ensures nothing { (keyspace : Keyspace) → applied keyspace result ≡ keyspace }
+    {
+        Plan {
+            first: None,
+            more: BTreeMap::new(alloc),
+        }
+    }
+
+    // The change of the key, or None where the plan has none.
+    fn get(&self, key: &Bytes) -> Option<&Option<Value>>
+        ensures { option_copied result ≡ map.get self.now key.now }
+    {
+        match &self.first {
+            Some((first, change)) if first == key => Some(change),
+            _ => self.more.get(key),
+        }
+    }
+
+    // A later change of a key replaces the earlier one.
+    pub(crate) fn insert(&mut self, key: Bytes, change: Option<Value>) -> Result<(), AllocError>
+        ensures ok { OnOk result (self.new ≡ map.insert self.old key change) }
+        ensures err { OnErr result (self.new ≡ self.old) }
+    {
+        match &mut self.first {
+            None => self.first = Some((key, change)),
+            Some((first, former)) if *first == key => *former = change,
+            Some(_) => return put(&mut self.more, key, change),
+        }
+        Ok(())
+    }
+
+    // The value at the key once the plan is committed.
+    #[tactic(auto, using(crate::proofs::Applied::get_applied))]
+    pub(crate) fn look<'a, S: Store>(&'a self, store: &'a S, key: &Bytes) -> Option<&'a Value>
+        ensures { option_copied result ≡ map.get (applied (S.contents store.now) self.now) key.now }
+    {
+        match self.get(key) {
+            Some(change) => change.as_ref(),
+            None => store.get(key),
+        }
+    }
+}
+
+/// Makes all changes of the plan, or none where an allocation fails. A plan with one change walks down the store once.
+pub fn commit<S: Store>(alloc: Global, store: &mut S, plan: Plan) -> Result<(), AllocError>
+    ensures ok { OnOk result (S.contents store.new ≡ applied (S.contents store.old) plan) }
+    ensures err { OnErr result (S.contents store.new ≡ S.contents store.old) }
+{
+    let Plan { first, mut more } = plan;
+    let Some((key, value)) = first else {
+        return change_all(alloc, store, more);
+    };
+    if more.is_empty() {
+        return change_key(store, key, value);
+    }
+    put(&mut more, key, value)?;
+    change_all(alloc, store, more)
+}
+
+fn put(
+    changes: &mut BTreeMap<Bytes, Option<Value>>,
+    key: Bytes,
+    change: Option<Value>,
+) -> Result<(), AllocError>
+    ensures ok { OnOk result (
+        changes_of changes.new.entries ≡ map.insert (changes_of changes.old.entries) key change) }
+    ensures err { OnErr result (changes_of changes.new.entries ≡ changes_of changes.old.entries) }
+{
+    let _former = changes.insert(key, change)?;
+    Ok(())
+}
+
+fn change_key<S: Store>(store: &mut S, key: Bytes, change: Option<Value>) -> Result<(), AllocError>
+    ensures ok { OnOk result (S.contents store.new ≡ changed (S.contents store.old) key change) }
+    ensures err { OnErr result (S.contents store.new ≡ S.contents store.old) }
+    ensures over { AddsNoKey (S.contents store.old) key change → IsOk result }
+{
+    match change {
+        Some(value) => store.insert(key, value),
+        None => {
+            store.remove(&key);
+            Ok(())
+        }
+    }
+}
+
+// An insert over a key that is there can't fail. So each new key gets a placeholder first. If one of them fails, all are
+// removed again. If none does, the changes are made, and none of them can fail.
+fn change_all<S: Store>(
+    alloc: Global,
+    store: &mut S,
+    changes: BTreeMap<Bytes, Option<Value>>,
+) -> Result<(), AllocError>
+    ensures ok { OnOk result (
+        S.contents store.new ≡ applied (S.contents store.old) (changes_of changes.entries)) }
+    ensures err { OnErr result (S.contents store.new ≡ S.contents store.old) }
+{
+    let keys = new_keys(alloc, store, &changes)?;
+    put_placeholders(store, keys.as_slice())?;
+    change_existing(store, changes);
+    Ok(())
+}
+
+// The keys that get a value and are not in the store.
+fn new_keys<S: Store>(
+    alloc: Global,
+    store: &S,
+    changes: &BTreeMap<Bytes, Option<Value>>,
+) -> Result<Vec<Bytes>, AllocError>
+    ensures { IfOk result (λ keys. keys.items ≡ new_keys (S.contents store.now) changes.now.entries) }
+{
+    let mut keys = Vec::new(alloc);
+    for (key, change) in changes.iter() {
+        if change.is_some() && store.get(key).is_none() {
+            let key = key.clone()?;
+            keys.push(key)?;
+        }
+    }
+    Ok(keys)
+}
+
+// Puts a placeholder, the empty string, at each key. None of the keys is in the store.
+fn put_placeholders<S: Store>(store: &mut S, keys: &[Bytes]) -> Result<(), AllocError>
+    requires { without (S.contents store.old) keys.now ≡ S.contents store.old }
+    ensures ok { OnOk result (S.contents store.new ≡ with_placeholders (S.contents store.old) keys.now) }
+    ensures err { OnErr result (S.contents store.new ≡ S.contents store.old) }
+{
+    for key in keys {
+        if let Err(refused) = put_placeholder(store, key) {
+            remove_all(store, keys);
+            return Err(refused);
+        }
+    }
+    Ok(())
+}
+
+fn put_placeholder<S: Store>(store: &mut S, key: &Bytes) -> Result<(), AllocError>
+    ensures ok { OnOk result (
+        S.contents store.new ≡ map.insert (S.contents store.old) key.now (Value.Str [])) }
+    ensures err { OnErr result (S.contents store.new ≡ S.contents store.old) }
+{
+    let key = key.clone()?;
+    store.insert(key, Value::Str(Bytes::new()))
+}
+
+fn remove_all<S: Store>(store: &mut S, keys: &[Bytes])
+    ensures { S.contents store.new ≡ without (S.contents store.old) keys.now }
+{
+    for key in keys {
+        store.remove(key);
+    }
+}
+
+// Each key that gets a value is in the store.
+fn change_existing<S: Store>(store: &mut S, mut changes: BTreeMap<Bytes, Option<Value>>)
+    requires { AddNoKeys (S.contents store.old) (changes_of changes.entries) }
+    ensures { S.contents store.new ≡ applied (S.contents store.old) (changes_of changes.entries) }
+{
+    while let Some((key, change)) = changes.pop_first() {
+        let made = change_key(store, key, change);
+        prove!(made.is_ok());
+    }
+}

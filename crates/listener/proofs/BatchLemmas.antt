@@ -1,0 +1,75 @@
+-- Bytes that wait, go out, or go out in part.
+use Rattle.std.proofs.Common.{◌≡◌, ℕ, List, [], ◌++◌, append_assoc, append-nil, Ok, Err, OnErr, Result, sym, ◌∙◌, ap, subst}
+use Rattle.std.specs.Io.KnownBytes.{Appends}
+use Rattle.std.proofs.KnownBytes.{Appends-nil, Appends-trans}
+use Rattle.resp2.specs.Counting.{HasRisen}
+use Rattle.resp2.specs.Writing.{AppendsBeginning}
+use Rattle.resp2.proofs.Beginnings.{begun_behind, begun_before}
+use Rattle.listener.specs.Streams.{Fails, Sends, Stream, change}
+use Rattle.listener.specs.Progress.{Puts}
+
+-- first p and then q were put
+pub puts_again : (a b c : Stream) (x y z p q : List ℕ) → Puts (change a b) (change x y) p → Puts (change b c) (change y z) q → Puts (change a c) (change x z) (p ++ q)
+puts_again a b c x y z p q first second =
+    record {
+      sent = first.sent ++ second.sent;
+      appends = Appends-trans _ _ _ first.sent second.sent first.appends second.appends;
+      all = append_assoc first.sent second.sent z ∙ ap (λ w. first.sent ++ w) second.all ∙ sym (append_assoc first.sent y q)
+          ∙ ap (λ w. w ++ q) first.all ∙ append_assoc x p q;
+    }
+
+-- nothing was put
+pub puts_nothing : (a : Stream) (x : List ℕ) → Puts (change a a) (change x x) []
+puts_nothing a x = record { sent = []; appends = Appends-nil a.bytes; all = sym (append-nil x) }
+
+-- all that waited went out
+pub puts_waiting : (a b : Stream) (x y : List ℕ) → Sends (change a b) x → y ≡ [] → Puts (change a b) (change x y) []
+puts_waiting a b x y sent empty = record { sent = x; appends = sent.appends; all = ap (λ w. x ++ w) empty }
+
+-- all that waited went out, and these bytes behind it
+pub puts_out : (a b c : Stream) (x y p : List ℕ) → Sends (change a b) x → y ≡ [] → Appends b.bytes c.bytes p → Puts (change a c) (change x y) p
+puts_out a b c x y p sent empty wrote =
+    record {
+      sent = x ++ p;
+      appends = Appends-trans _ _ _ x p sent.appends wrote;
+      all = ap (λ w. (x ++ p) ++ w) empty ∙ append-nil (x ++ p);
+    }
+
+-- what waited went out, and a beginning of these bytes
+pub fails_behind : (a b c : Stream) (x p : List ℕ) → Sends (change a b) x → AppendsBeginning b.bytes c.bytes p → HasRisen b.failures c.failures → Fails (change a c) (x ++ p)
+fails_behind a b c x p sent begun risen =
+    record { begun = begun_behind _ _ _ x p sent.appends begun; risen = subst (λ n. HasRisen n c.failures) sent.kept risen }
+
+-- a beginning of what waited went out, and nothing of these bytes
+pub fails_before : (a b : Stream) (x p : List ℕ) → Fails (change a b) x → Fails (change a b) (x ++ p)
+fails_before a b x p fails = record { begun = begun_before _ _ x p fails.begun; risen = fails.risen }
+
+-- bytes were put, and then a beginning of what waits went out
+pub fails_after : (a b c : Stream) (x y p : List ℕ) → Puts (change a b) (change x y) p → b.failures ≡ a.failures → Fails (change b c) y → Fails (change a c) (x ++ p)
+fails_after a b c x y p puts kept fails =
+    record {
+      begun = subst (λ w. AppendsBeginning a.bytes c.bytes w) puts.all (begun_behind _ _ _ puts.sent y puts.appends fails.begun);
+      risen = subst (λ n. HasRisen n c.failures) kept fails.risen;
+    }
+
+-- bytes were put, and then all that waits went out
+pub sends_after : (a b c : Stream) (x y p : List ℕ) → Puts (change a b) (change x y) p → b.failures ≡ a.failures → Sends (change b c) y → Sends (change a c) (x ++ p)
+sends_after a b c x y p puts kept sends =
+    record {
+      appends = subst (λ w. Appends a.bytes c.bytes w) puts.all (Appends-trans _ _ _ puts.sent y puts.appends sends.appends);
+      kept = sends.kept ∙ kept;
+    }
+
+-- more bytes were put behind those that wait
+pub puts_longer : (a b : Stream) (x y p more : List ℕ) → Puts (change a b) (change x y) p → Puts (change a b) (change x (y ++ more)) (p ++ more)
+puts_longer a b x y p more puts =
+    record {
+      sent = puts.sent;
+      appends = puts.appends;
+      all = sym (append_assoc puts.sent y more) ∙ ap (λ w. w ++ more) puts.all ∙ append_assoc x p more;
+    }
+
+-- two facts of an error
+pub on_err_both : {T E P Q S : Type 0} (r : Result T E) → (P → Q → S) → OnErr r P → OnErr r Q → OnErr r S
+on_err_both (Ok x) both p q = tt
+on_err_both (Err e) both p q = both p q

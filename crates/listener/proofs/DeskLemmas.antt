@@ -1,0 +1,261 @@
+-- Requests that are answered one after another.
+use Rattle.std.proofs.Common.{◌≡◌, ◌≢◌, ℕ, List, Option, [], ◌∷◌, ◌++◌, Result, Ok, Err, append_assoc, append-nil, refl, sym, ◌∙◌, ap, subst, map, inr, length, length-append, ◌+◌, ◌<◌, ◌≤◌, lit≤, arith}
+use Rattle.std.proofs.lemmas.List.{map-append}
+use Rattle.std.proofs.lemmas.List.Elements.{All-cons, All-nil}
+use Rattle.std.proofs.lemmas.Grind.{flat_map-append}
+use Rattle.std.specs.Io.KnownBytes.{Consumes}
+use Rattle.std.proofs.KnownBytes.{Consumes-trans}
+use Rattle.resp2.specs.Counting.{HasRisen}
+use Rattle.resp2.specs.Reply.{reply_spelling}
+use Rattle.resp2.specs.declared.words.TheConstants.{MOST_WORD_BYTES}
+use Rattle.resp2.specs.Request.{IsRequest, IsUnfinished, request_spelling, stream_spelling}
+use Rattle.resp2.specs.Reader.{Breaks, ReaderState}
+use Rattle.resp2.specs.declared.fault.Fault.{Fault}
+use Rattle.resp2.proofs.Callers.{stream_spelling-append}
+use Rattle.node_cell.specs.Asks.{Asked}
+use Rattle.node_core.specs.declared.connections.Conn.{Conn}
+use Rattle.node_core.specs.declared.event.Event.TheVariants.{Request}
+use Rattle.node_core.specs.declared.fault.StepFault.{StepFault}
+use Rattle.node_core.specs.declared.fault.StepFault.TheVariants as refused
+use Rattle.node_core.specs.declared.outputs.Outputs.{Outputs}
+use Rattle.node_core.specs.declared.response.Answer.{Answer}
+use Rattle.node_core.specs.declared.response.Response.TheVariants.{Replied}
+use Rattle.listener.specs.declared.fault.ConnFault.{ConnFault}
+use Rattle.listener.specs.declared.fault.ConnFault.TheVariants.{Reader, Writer, Memory, Exhausted, Unanswered, Endless}
+use Rattle.listener.specs.declared.requests.Rest.{Rest}
+use Rattle.listener.specs.Streams.{Adds, Change, Fails, Sends, Stream, asking, change}
+use Rattle.listener.specs.Conversation.{EndsBy, Exchange, HasNoReply, IsSpoilt, ReadsTo, Tail, asked_for, fault_of, replies_bytes, requests_bytes}
+use Rattle.listener.specs.Progress.{Answers, Desk, Halts, IsOfAnswering, Puts, Stops, WriterCount}
+use Rattle.listener.proofs.HistoryLemmas.{adds_again, adds_nothing}
+use Rattle.listener.proofs.BatchLemmas.{puts_again, puts_nothing, puts_waiting}
+
+requests_bytes-append : (xs ys : List Exchange) → requests_bytes (xs ++ ys) ≡ requests_bytes xs ++ requests_bytes ys
+requests_bytes-append xs ys =
+    let words : Exchange → List (List ℕ) = λ exchange. exchange.words in
+    ap stream_spelling (map-append words xs ys) ∙ stream_spelling-append (map words xs) (map words ys)
+
+-- one request after another, and then the rest
+spelled_again : (a b c : List ℕ) (xs ys : List Exchange) → a ≡ requests_bytes xs ++ b → b ≡ requests_bytes ys ++ c → a ≡ requests_bytes (xs ++ ys) ++ c
+spelled_again a b c xs ys p q =
+    p ∙ ap (λ w. requests_bytes xs ++ w) q ∙ sym (append_assoc (requests_bytes xs) (requests_bytes ys) c)
+    ∙ ap (λ w. w ++ c) (sym (requests_bytes-append xs ys))
+
+replies_bytes-append : (xs ys : List Exchange) → replies_bytes (xs ++ ys) ≡ replies_bytes xs ++ replies_bytes ys
+replies_bytes-append xs ys = flat_map-append (λ (exchange : Exchange). reply_spelling exchange.answer.reply) xs ys
+
+-- where the writer didn't fail, its count is what it was
+pub writes_on : (ended : Result Rest ConnFault) (n : ℕ) → ended ≢ Err Writer → WriterCount ended n n
+writes_on ended n other = record { failed = λ e. absurd (other e); kept = λ _. refl }
+
+-- and where it did, it has risen
+writes_no_more : (old new : ℕ) → HasRisen old new → WriterCount (Err Writer) old new
+writes_no_more old new risen = record { failed = λ _. risen; kept = λ other. absurd (other refl) }
+
+module _ (allowed : Asked → Type 0) (conn : Conn) where
+  -- no request was answered yet
+  pub answers_nothing : (a : Desk) → Answers allowed conn a a
+  answers_nothing a =
+      record {
+        exchanges = [];
+        history = adds_nothing allowed a.asked;
+        spelled = refl;
+        puts = puts_nothing a.out a.waiting;
+        kept = refl;
+      }
+
+  -- first these and then those requests were answered
+  pub answers_again : (a b c : Desk) → Answers allowed conn a b → Answers allowed conn b c → Answers allowed conn a c
+  answers_again a b c p q =
+      record {
+        exchanges = p.exchanges ++ q.exchanges;
+        history = rw (map-append (asked_for conn) p.exchanges q.exchanges) (adds_again allowed _ _ _ _ _ p.history q.history);
+        spelled = spelled_again _ _ _ p.exchanges q.exchanges p.spelled q.spelled;
+        puts = rw (replies_bytes-append p.exchanges q.exchanges) (puts_again _ _ _ _ _ _ _ _ p.puts q.puts);
+        kept = q.kept ∙ p.kept;
+      }
+
+  -- more bytes came, and the reader has them
+  pub answers_fed : (a b : Desk) (bytes fed : List ℕ) → Answers allowed conn a b → fed ≡ b.pending ++ bytes
+      → Answers allowed conn (record a { pending = a.pending ++ bytes }) (record b { pending = fed })
+  answers_fed a b bytes fed p same =
+      record {
+        exchanges = p.exchanges;
+        history = p.history;
+        spelled = ap (λ w. w ++ bytes) p.spelled ∙ append_assoc (requests_bytes p.exchanges) b.pending bytes
+            ∙ ap (λ w. requests_bytes p.exchanges ++ w) (sym same);
+        puts = p.puts;
+        kept = p.kept;
+      }
+
+  -- what waited went out
+  pub answers_flush : (a b : Desk) (waiting : List ℕ) (out : Stream) → Answers allowed conn a b → Sends (change b.out out) b.waiting → waiting ≡ []
+      → Answers allowed conn a (record b { waiting = waiting; out = out })
+  answers_flush a b waiting out p sent empty =
+      record {
+        exchanges = p.exchanges;
+        history = p.history;
+        spelled = p.spelled;
+        puts = subst (λ w. Puts (change a.out out) (change a.waiting waiting) w) (append-nil (replies_bytes p.exchanges))
+            (puts_again _ _ _ _ _ _ _ _ p.puts (puts_waiting _ _ _ _ sent empty));
+        kept = sent.kept ∙ p.kept;
+      }
+
+  -- requests were answered, and then this ended the conversation
+  pub halts_again : (ended : Result Rest ConnFault) (a b c : Desk) → Answers allowed conn a b → Halts allowed conn ended b c → Halts allowed conn ended a c
+  halts_again ended a b c p q =
+      record {
+        exchanges = p.exchanges ++ q.exchanges;
+        tail = q.tail;
+        left = q.left;
+        history = rw (map-append (asked_for conn) p.exchanges q.exchanges, append_assoc) (adds_again allowed _ _ _ _ _ p.history q.history);
+        spelled = spelled_again _ _ _ p.exchanges q.exchanges p.spelled q.spelled;
+        puts = rw (replies_bytes-append p.exchanges q.exchanges) (puts_again _ _ _ _ _ _ _ _ p.puts q.puts);
+        waits = q.waits;
+        count = subst (λ n. WriterCount ended n c.out.failures) p.kept q.count;
+        ends = q.ends;
+      }
+
+  -- this ended it before a request was answered
+  pub halts_now : (ended : Result Rest ConnFault) (asked : List Asked) (tail : Tail) (a : Desk) (pending : List ℕ) → a.pending ≡ tail.rest
+      → Adds allowed (change a.asked asked) tail.asked → ended ≢ Err Writer → EndsBy conn ended tail
+      → Halts allowed conn ended a (record a { asked = asked; pending = pending })
+  halts_now ended asked tail a pending rest history other ends =
+      record {
+        exchanges = [];
+        tail = tail;
+        left = a.waiting;
+        history = history;
+        spelled = rest;
+        puts = puts_nothing a.out a.waiting;
+        waits = λ _. refl;
+        count = writes_on ended a.out.failures other;
+        ends = ends;
+      }
+
+  -- what waited went out in part
+  pub halts_unsent : (a : Desk) (waiting : List ℕ) (out : Stream) (pending : List ℕ) → Fails (change a.out out) a.waiting
+      → Halts allowed conn (Err Writer) a (record a { pending = pending; waiting = waiting; out = out })
+  halts_unsent a waiting out pending fails =
+      record {
+        exchanges = [];
+        tail = record { asked = []; rest = a.pending };
+        left = fails.begun.rest;
+        history = adds_nothing allowed a.asked;
+        spelled = refl;
+        puts = record { sent = fails.begun.written; appends = fails.begun.appends; all = fails.begun.split ∙ sym (append-nil a.waiting) };
+        waits = λ other. absurd (other refl);
+        count = writes_no_more _ _ fails.risen;
+        ends = refl;
+      }
+
+  -- a request was asked and answered
+  pub answers_one : (words : List (List ℕ)) (outputs : Outputs) (answer : Answer) (a b : Desk) → IsRequest words → outputs.response ≡ Replied answer
+      → a.pending ≡ request_spelling words ++ b.pending → Adds allowed (change a.asked b.asked) (asking (Request conn words) (Ok outputs) ∷ [])
+      → Puts (change a.out b.out) (change a.waiting b.waiting) (reply_spelling answer.reply) → b.out.failures ≡ a.out.failures → Answers allowed conn a b
+  answers_one words outputs answer a b is_request replied spelled history puts kept =
+      record {
+        exchanges = record { words = words; outputs = outputs; answer = answer; is_request = is_request; replied = replied } ∷ [];
+        history = history;
+        spelled = spelled ∙ ap (λ w. w ++ b.pending) (sym (append-nil (request_spelling words)));
+        puts = rw append-nil puts;
+        kept = kept;
+      }
+
+  -- a request was asked, and its reply went out in part
+  pub halts_within : (words : List (List ℕ)) (outputs : Outputs) (answer : Answer) (a b : Desk) (behind : List ℕ) → IsRequest words → outputs.response ≡ Replied answer
+      → a.pending ≡ request_spelling words ++ behind → Adds allowed (change a.asked b.asked) (asking (Request conn words) (Ok outputs) ∷ [])
+      → Fails (change a.out b.out) (a.waiting ++ reply_spelling answer.reply) → Halts allowed conn (Err Writer) a b
+  halts_within words outputs answer a b behind is_request replied spelled history fails =
+      record {
+        exchanges = record { words = words; outputs = outputs; answer = answer; is_request = is_request; replied = replied } ∷ [];
+        tail = record { asked = []; rest = behind };
+        left = fails.begun.rest;
+        history = history;
+        spelled = spelled ∙ ap (λ w. w ++ behind) (sym (append-nil (request_spelling words)));
+        puts = record {
+          sent = fails.begun.written;
+          appends = fails.begun.appends;
+          all = fails.begun.split ∙ ap (λ w. a.waiting ++ w) (sym (append-nil (reply_spelling answer.reply)));
+        };
+        waits = λ other. absurd (other refl);
+        count = writes_no_more _ _ fails.risen;
+        ends = refl;
+      }
+
+  -- a request was refused
+  pub halts_refused : (words : List (List ℕ)) (why : StepFault) (asked : List Asked) (a : Desk) (pending behind : List ℕ) → IsRequest words
+      → a.pending ≡ request_spelling words ++ behind → Adds allowed (change a.asked asked) (asking (Request conn words) (Err why) ∷ [])
+      → Halts allowed conn (Err (fault_of why)) a (record a { asked = asked; pending = pending })
+  halts_refused words refused.Memory asked a pending behind is_request spelled history =
+      halts_now _ asked (record { asked = _; rest = a.pending }) a pending refl history (λ e. cc)
+      (inr (record { words = words; behind = behind; is_request = is_request; asked = refl; in_front = spelled }))
+  halts_refused words refused.Exhausted asked a pending behind is_request spelled history =
+      halts_now _ asked (record { asked = _; rest = a.pending }) a pending refl history (λ e. cc)
+      (record { words = words; behind = behind; is_request = is_request; asked = refl; in_front = spelled })
+
+  -- the node gave no reply to a request
+  pub halts_silent : (words : List (List ℕ)) (outputs : Outputs) (asked : List Asked) (a : Desk) (pending behind : List ℕ) → IsRequest words → HasNoReply outputs.response
+      → a.pending ≡ request_spelling words ++ behind → Adds allowed (change a.asked asked) (asking (Request conn words) (Ok outputs) ∷ [])
+      → Halts allowed conn (Err Unanswered) a (record a { asked = asked; pending = pending })
+  halts_silent words outputs asked a pending behind is_request no_reply spelled history =
+      halts_now _ asked (record { asked = _; rest = a.pending }) a pending refl history (λ e. cc)
+      (record {
+        outputs = outputs;
+        asks = record { words = words; behind = behind; is_request = is_request; asked = refl; in_front = spelled };
+        no_reply = no_reply;
+      })
+
+  -- requests were answered, and nothing more was asked before this ended the conversation
+  pub halts_here : (ended : Result Rest ConnFault) (a b : Desk) (pending : List ℕ) → Answers allowed conn a b → ended ≢ Err Writer
+      → EndsBy conn ended (record { asked = []; rest = b.pending }) → Halts allowed conn ended a (record b { pending = pending })
+  halts_here ended a b pending answers other ends =
+      halts_again ended a b _ answers (halts_now ended b.asked (record { asked = []; rest = b.pending }) b pending refl (adds_nothing allowed b.asked) other ends)
+
+  -- more bytes came, the reader has them, and then the conversation ended
+  pub stops_fed : (ended : Result Rest ConnFault) (i k : Stream) (j : Option (List ℕ)) (old b c : Desk) (came bytes fed : List ℕ) → Consumes i.bytes j came → Consumes j k.bytes bytes
+      → Answers allowed conn (record old { pending = came }) b → fed ≡ b.pending ++ bytes → Halts allowed conn ended (record b { pending = fed }) c
+      → ReadsTo ended (change i k) (came ++ bytes) → Stops allowed conn ended (change i k) old c
+  stops_fed ended i k j old b c came bytes fed before now answers same halts reads =
+      record {
+        came = came ++ bytes;
+        read = Consumes-trans _ _ _ came bytes before now;
+        halts = halts_again ended _ _ c (answers_fed (record old { pending = came }) b bytes fed answers same) halts;
+        reads = reads;
+      }
+
+-- a bad byte is in what the reader is left with
+pub spoilt : (fault : Fault) (old new : ReaderState) → Breaks fault old new → IsSpoilt new.pending
+spoilt fault old new breaks =
+    let same : new.pending ≡ old.pending = ap (λ (state : ReaderState). state.pending) breaks.kept in
+    record { fault = fault; bad = rw same breaks.first; handed_out = rw same breaks.none }
+
+-- a fault of answering is not of reading
+pub reads_on : (fault : ConnFault) (input : Change Stream) (bytes : List ℕ) → IsOfAnswering fault → input.new.failures ≡ input.old.failures → ReadsTo (Err fault) input bytes
+reads_on Reader input bytes other same = absurd other
+reads_on Writer input bytes other same = same
+reads_on Memory input bytes other same = same
+reads_on Exhausted input bytes other same = same
+reads_on Unanswered input bytes other same = same
+reads_on Endless input bytes other same = absurd other
+
+pub refusals_are_of_answering : (why : StepFault) → IsOfAnswering (fault_of why)
+refusals_are_of_answering refused.Memory = tt
+refusals_are_of_answering refused.Exhausted = tt
+
+-- of nothing any request may come
+pub nothing_is_unfinished : (pending : List ℕ) → pending ≡ [] → IsUnfinished pending
+nothing_is_unfinished pending none =
+    record {
+      words = [] ∷ [];
+      rest = request_spelling ([] ∷ []);
+      request = record {
+        count = (omega arith, lit≤ tt);
+        short = All-cons (λ (word : List ℕ). length word ≤ MOST_WORD_BYTES) [] [] (omega arith) (All-nil (λ (word : List ℕ). length word ≤ MOST_WORD_BYTES));
+      };
+      wanted = omega arith;
+      spelled = ap (λ w. w ++ request_spelling ([] ∷ [])) none;
+    }
+
+-- at least one byte more
+pub more_came : (came bytes : List ℕ) (n : ℕ) → n ≤ length came → 0 < length bytes → n + 1 ≤ length (came ++ bytes)
+more_came came bytes n long some = omega (arith, length-append came bytes)

@@ -1,0 +1,51 @@
+-- A client's two streams, and what was asked of the node: before a call, and after it.
+use Rattle.std.specs.Prelude.{◌≡◌, ℕ, List, ◌++◌, Option, Result, All, MatchResult}
+use Rattle.std.specs.Io.KnownBytes.{Appends}
+use Rattle.resp2.specs.Counting.{device_of, failures_of, HasRisen}
+use Rattle.resp2.specs.Writing.{AppendsBeginning}
+use Rattle.resp2.specs.declared.counting.Counting.{Counting}
+use Rattle.node_cell.specs.Asks.{Asked}
+use Rattle.node_core.specs.declared.event.Event.{Event}
+use Rattle.node_core.specs.declared.fault.StepFault.{StepFault}
+use Rattle.node_core.specs.declared.outputs.Outputs.{Outputs}
+
+-- something before a call, and after it
+pub record Change (A : Type 0) : Type 0 where
+  pub old : A
+  pub new : A
+
+abbrev pub change : {A : Type 0} → A → A → Change A
+change old new = record { old = old; new = new }
+
+-- the bytes that a reader has left or a writer holds, where they are known, and how many calls of it failed
+pub record Stream : Type 0 where
+  pub bytes : Option (List ℕ)
+  pub failures : ℕ
+
+abbrev pub stream_of : {D : Type 0} → (D → Option (List ℕ)) → Counting D → Stream
+stream_of bytes counting = record { bytes = bytes (device_of counting); failures = failures_of counting }
+
+abbrev pub streams : {D : Type 0} → (D → Option (List ℕ)) → Counting D → Counting D → Change Stream
+streams bytes old new = change (stream_of bytes old) (stream_of bytes new)
+
+-- the bytes were written, and no call failed
+pub record Sends (out : Change Stream) (bytes : List ℕ) : Type 0 where
+  pub appends : Appends out.old.bytes out.new.bytes bytes
+  pub kept : out.new.failures ≡ out.old.failures
+
+-- a call failed, and of the bytes a beginning was written
+pub record Fails (out : Change Stream) (bytes : List ℕ) : Type 0 where
+  pub begun : AppendsBeginning out.old.bytes out.new.bytes bytes
+  pub risen : HasRisen out.old.failures out.new.failures
+
+abbrev pub asking : Event → Result Outputs StepFault → Asked
+asking event outcome = record { event = event; outcome = outcome }
+
+-- the gate may give these outputs for the event, or refuse it with this fault
+abbrev pub IsAllowed : (Event → Outputs → Type 0) → (Event → StepFault → Type 0) → Asked → Type 0
+IsAllowed may may_refuse asked = MatchResult asked.outcome (may asked.event) (may_refuse asked.event)
+
+-- this was asked of the node, in this order and nothing else, and each outcome is one that is allowed
+pub record Adds (allowed : Asked → Type 0) (asked : Change (List Asked)) (added : List Asked) : Type 0 where
+  pub grown : asked.new ≡ asked.old ++ added
+  pub each : All allowed added

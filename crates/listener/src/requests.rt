@@ -1,0 +1,131 @@
+//! Requests on a connection: read, asked, answered.
+ghost use Rattle.std.specs.Prelude.{◌≡◌, ◌≢◌, ◌<◌, ◌++◌, ◌∷◌, [], List, ℕ, length, Ok, None, IfOk, IfErr, OnOk, OnErr};
+ghost use Rattle.resp2.specs.Request.{IsRequest, request_spelling};
+ghost use Rattle.node_cell.specs.Asks.{outcome_of};
+ghost use Rattle.listener.specs.Conversation.{IsRest};
+ghost use Rattle.listener.specs.Progress.{Answers, Halts, IsOfAnswering, Stops, desk};
+ghost use Rattle.listener.specs.Streams.{Adds, IsAllowed, asking, change, stream_of, streams};
+
+use crate::batch::{flush, put};
+use crate::fault::ConnFault;
+use node_cell::{Answered, NodeGate};
+use node_core::{Conn, Event, Response, StepFault};
+use resp2::{Counting, Fault, Reader, Words};
+use std::io::{Read, Write};
+
+/// What is left of the input behind the last whole request.
+#[derive(Clone, Copy, PartialEq, Eq, Debug)]
+pub enum Rest {
+    /// The beginning of a request, perhaps of no bytes.
+    Unfinished,
+    /// Bytes of which one is bad.
+    BadByte,
+}
+
+/// Answers what comes on the connection, until its client ends it or a bad byte comes.
+pub fn converse<R: Read, W: Write, G: NodeGate>(
+    gate: &mut G,
+    conn: Conn,
+    input: &mut [u8],
+    requests: &mut Reader,
+    batch: &mut Vec<u8>,
+    reader: &mut Counting<R>,
+    writer: &mut Counting<W>,
+) -> Result<Rest, ConnFault>
+    requires room { 0 < length input.old }
+    requires good { requests.old.fault ≡ None }
+    requires begins { requests.old.pending ≡ [] }
+    requires empty { batch.old.items ≡ [] }
+    ensures stops { Stops (IsAllowed G.may G.may_refuse) conn result (streams R.remaining reader.old reader.new)
+        (desk (G.asked gate.old) [] [] (stream_of W.contents writer.old))
+        (desk (G.asked gate.new) [] batch.new.items (stream_of W.contents writer.new)) }
+    // Where a byte is bad, no fault is told: a word that is too long is no want of memory.
+    ensures sound { OnErr result (requests.new.fault ≡ None) }
+{
+    // A loop has to end, so this one counts its reads; each gives a byte at least.
+    'reads: for _ in 0..u64::MAX {
+        let Ok(count) = reader.read(input) else {
+            return Err(ConnFault::Reader);
+        };
+        if count == 0 {
+            return Ok(Rest::Unfinished);
+        }
+        let Ok(()) = requests.feed(&input[..count]) else {
+            return Err(ConnFault::Memory);
+        };
+        match answer_all(gate, conn, requests, batch, writer)? {
+            Rest::Unfinished => {}
+            Rest::BadByte => return Ok(Rest::BadByte),
+        }
+        let Ok(()) = flush(batch, writer) else {
+            return Err(ConnFault::Writer);
+        };
+    }
+    Err(ConnFault::Endless)
+}
+
+// Answers all whole requests that the reader has.
+fn answer_all<W: Write, G: NodeGate>(
+    gate: &mut G,
+    conn: Conn,
+    requests: &mut Reader,
+    batch: &mut Vec<u8>,
+    writer: &mut Counting<W>,
+) -> Result<Rest, ConnFault>
+    requires { requests.old.fault ≡ None }
+    ensures answered { OnOk result (Answers (IsAllowed G.may G.may_refuse) conn
+        (desk (G.asked gate.old) requests.old.pending batch.old.items (stream_of W.contents writer.old))
+        (desk (G.asked gate.new) requests.new.pending batch.new.items (stream_of W.contents writer.new))) }
+    ensures rest { IfOk result (λ rest. IsRest rest requests.new.pending) }
+    ensures halts { IfErr result (λ fault. Halts (IsAllowed G.may G.may_refuse) conn (Err fault)
+        (desk (G.asked gate.old) requests.old.pending batch.old.items (stream_of W.contents writer.old))
+        (desk (G.asked gate.new) [] batch.new.items (stream_of W.contents writer.new))) }
+    ensures fault { IfErr result IsOfAnswering }
+    ensures good { IfOk result (λ rest. rest ≡ Rest.Unfinished → requests.new.fault ≡ None) }
+    ensures sound { OnErr result (requests.new.fault ≡ None) }
+{
+    'requests: loop {
+        match requests.next() {
+            Ok(Some(words)) => answer(gate, conn, words, batch, writer)?,
+            Ok(None) => return Ok(Rest::Unfinished),
+            Err(Fault::Memory) => return Err(ConnFault::Memory),
+            Err(Fault::Protocol) => return Ok(Rest::BadByte),
+            Err(Fault::TooLong) => return Ok(Rest::BadByte),
+        }
+    }
+}
+
+// Asks the node, and puts its reply behind those that wait. This holds whatever bytes come behind the request.
+fn answer<W: Write, G: NodeGate>(
+    gate: &mut G,
+    conn: Conn,
+    words: Words,
+    batch: &mut Vec<u8>,
+    writer: &mut Counting<W>,
+) -> Result<(), ConnFault>
+    requires { IsRequest words }
+    ensures answered { OnOk result ((behind : List ℕ) → Answers (IsAllowed G.may G.may_refuse) conn
+        (desk (G.asked gate.old) (request_spelling words ++ behind) batch.old.items (stream_of W.contents writer.old))
+        (desk (G.asked gate.new) behind batch.new.items (stream_of W.contents writer.new))) }
+    ensures halts { IfErr result (λ fault. (behind : List ℕ) → Halts (IsAllowed G.may G.may_refuse) conn (Err fault)
+        (desk (G.asked gate.old) (request_spelling words ++ behind) batch.old.items (stream_of W.contents writer.old))
+        (desk (G.asked gate.new) [] batch.new.items (stream_of W.contents writer.new))) }
+    ensures fault { IfErr result IsOfAnswering }
+{
+    let step = ask(gate, Event::Request(conn, words))?;
+    let Response::Replied(answer) = &step.outputs().response else {
+        return Err(ConnFault::Unanswered);
+    };
+    let Ok(()) = put(&answer.reply, batch, writer) else {
+        return Err(ConnFault::Writer);
+    };
+    Ok(())
+}
+
+/// Asks the node once.
+pub fn ask<G: NodeGate>(gate: &mut G, event: Event) -> Result<G::Answer, StepFault>
+    ensures { Adds (IsAllowed G.may G.may_refuse) (change (G.asked gate.old) (G.asked gate.new))
+        (asking event (outcome_of G.Answer.gave result) ∷ []) }
+{
+    gate.step(event)
+}

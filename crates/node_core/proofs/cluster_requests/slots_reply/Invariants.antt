@@ -1,7 +1,0 @@
-use Rattle.std.proofs.Common.{◌≡◌, take, map}
-use Rattle.node_core.specs.ClusterRequests.{run_reply}
-use Rattle.node_core.proofs.cluster_requests.slots_reply.Given as goal
-
--- the runs so far have their replies
-abbrev pub invariant-loop-run : goal.invariant-loop-run
-invariant-loop-run l = l.replies.items ≡ map (run_reply l.config) (take l.run-index l.runs)

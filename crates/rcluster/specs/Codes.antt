@@ -1,0 +1,25 @@
+-- The codes of the faults that the program prints.
+use Rattle.std.specs.Prelude.{ℕ, List, codes}
+use Rattle.cluster_config.specs.declared.fault.ConfigFault.{ConfigFault}
+use Rattle.cluster_config.specs.declared.fault.ConfigFault.TheVariants as config
+use Rattle.rcluster.specs.declared.fault.ProgramFault.{ProgramFault}
+use Rattle.rcluster.specs.declared.fault.ProgramFault.TheVariants.{UnreadableFile, AddressInUse, Memory, Output, Config}
+
+-- of a configuration
+abbrev pub config_code : ConfigFault → List ℕ
+config_code config.Syntax = codes "K1"
+config_code config.Id = codes "K2"
+config_code config.Slots = codes "K3"
+config_code config.ReplicaOf = codes "K4"
+config_code config.Voters = codes "K5"
+config_code config.TooManyNodes = codes "K6"
+config_code config.Address = codes "K7"
+config_code config.Range = codes "K8"
+config_code config.Memory = codes "F3"
+
+abbrev pub code_of : ProgramFault → List ℕ
+code_of UnreadableFile = codes "F1"
+code_of AddressInUse = codes "F2"
+code_of Memory = codes "F3"
+code_of Output = codes "F4"
+code_of (Config fault) = config_code fault

@@ -1,0 +1,72 @@
+//! Why the program stops.
+ghost use Rattle.std.specs.Prelude.{◌≡◌};
+ghost use Rattle.rcluster.specs.Codes.{code_of, config_code};
+
+use cluster_config::ConfigFault;
+use std::alloc::AllocError;
+use std::fmt;
+
+/// Why the program stops. It prints the code of the fault, and ends with status 1.
+#[derive(Clone, Copy, PartialEq, Eq, Debug)]
+pub enum ProgramFault {
+    /// A file can't be read.
+    UnreadableFile,
+    /// An address can't be listened on.
+    AddressInUse,
+    /// There is no memory left.
+    Memory,
+    /// The output can't be written.
+    Output,
+    /// The file describes no cluster.
+    Config(ConfigFault),
+}
+
+impl ProgramFault {
+    /// The code that is printed.
+    pub fn code(self) -> &'static str
+        ensures { result.now ≡ code_of self }
+    {
+        match self {
+            ProgramFault::UnreadableFile => "F1",
+            ProgramFault::AddressInUse => "F2",
+            ProgramFault::Memory => "F3",
+            ProgramFault::Output => "F4",
+            ProgramFault::Config(fault) => config_code(fault),
+        }
+    }
+}
+
+fn config_code(fault: ConfigFault) -> &'static str
+    ensures { result.now ≡ config_code fault }
+{
+    match fault {
+        ConfigFault::Syntax => "K1",
+        ConfigFault::Id => "K2",
+        ConfigFault::Slots => "K3",
+        ConfigFault::ReplicaOf => "K4",
+        ConfigFault::Voters => "K5",
+        ConfigFault::TooManyNodes => "K6",
+        ConfigFault::Address => "K7",
+        ConfigFault::Range => "K8",
+        ConfigFault::Memory => "F3",
+    }
+}
+
+impl fmt::Display for ProgramFault {
+    fn fmt<W: fmt::Write>(&self, f: &mut fmt::Formatter<W>) -> fmt::Result {
+        let code = self.code();
+        write!(f, "fault {code}")
+    }
+}
+
+impl From<AllocError> for ProgramFault {
+    fn from(_error: AllocError) -> ProgramFault {
+        ProgramFault::Memory
+    }
+}
+
+impl From<ConfigFault> for ProgramFault {
+    fn from(fault: ConfigFault) -> ProgramFault {
+        ProgramFault::Config(fault)
+    }
+}

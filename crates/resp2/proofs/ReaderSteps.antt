@@ -1,0 +1,238 @@
+-- The steps of a reader, as facts on what they leave.
+use Rattle.std.proofs.Common.{◌≡◌, ℕ, ◌+◌, ◌-◌, ◌^◌, ◌<◌, ◌≤◌, zero, suc, List, [], ◌∷◌, ◌++◌, length, drop, Option, None, Some, Result, Ok, refl, sym, ap, subst, ◌∙◌, zero-add, arith}
+use Rattle.std.specs.Prelude.{All, IfSome, IfNone}
+use Rattle.std.proofs.lemmas.List.{length-append, append-nil}
+use Rattle.resp2.specs.declared.fault.Fault.{Fault}
+use Rattle.resp2.specs.declared.fault.Fault.TheVariants.{Protocol, TooLong, Memory}
+use Rattle.resp2.specs.declared.header.Header.{Header}
+use Rattle.resp2.specs.declared.reader.Progress.{Progress}
+use Rattle.resp2.specs.declared.words.Partial.{Partial}
+use Rattle.resp2.specs.declared.words.TheConstants.{MOST_WORDS, MOST_WORD_BYTES}
+use Rattle.resp2.specs.Header.{Gives}
+use Rattle.resp2.specs.Reading.{reading, Seen, Wants, Bad, Found, header_at, body_at, word_at, words_at, header_onto, bulks_onto}
+use Rattle.resp2.specs.Progress.{Refuses, Takes, HasLen, IsPartial, word_front, partial_onto, request_front, partial_of, pending_of}
+use Rattle.resp2.specs.Reader.{ReaderState, HandsOut, Waits, Breaks, FailsBy, remembered}
+use Rattle.resp2.specs.Request.{IsRequest}
+use Rattle.resp2.proofs.HeaderReading.{header_takes}
+use Rattle.resp2.proofs.RequestReading.{word_takes, header_onto-append, bulks_onto-append}
+use Rattle.resp2.proofs.RequestRoundTrip.{body_behind, request_behind, with_words}
+use Rattle.resp2.proofs.Spellings.{each_by_recursion, each_by_index}
+use Rattle.resp2.proofs.FirstBadByte.{first_bad}
+use Rattle.resp2.proofs.ReadingDecides.{found_is, waiting_is_unfinished, bad_has_no_request, AreShort-append, bulks_onto-both, bytes_some, bytes_bound, words_some, words_bound}
+
+-- ---- a header
+
+-- the header of a length, once it is read
+pub length_is : (bytes input : List ℕ) (found : Option Header) (header : Header)
+    → bytes ≡ input → Gives bytes (Ok found) (header_at 36 TooLong 0 MOST_WORD_BYTES bytes) → found ≡ Some header
+    → (header.number ≤ MOST_WORD_BYTES) × (input ≡ header_onto 36 header.number (drop header.len input))
+length_is bytes input found header same gives is =
+    let at : List ℕ → Type 0 = λ t. t ≡ header_onto 36 header.number (drop header.len t) in
+    let read = subst (λ (o : Option Header). Gives bytes (Ok o) (header_at 36 TooLong 0 MOST_WORD_BYTES bytes)) is gives in
+    let takes = header_takes 36 TooLong 0 MOST_WORD_BYTES header.number bytes (drop header.len bytes) bytes_some (omega arith) bytes_bound read.0 in
+    (takes.1, subst at same takes.2)
+
+-- the header of a request, once it is read
+pub count_is : (bytes input : List ℕ) (found : Option Header) (header : Header)
+    → bytes ≡ input → Gives bytes (Ok found) (header_at 42 Protocol 1 MOST_WORDS bytes) → found ≡ Some header
+    → (1 ≤ header.number) × (header.number ≤ MOST_WORDS) × (input ≡ header_onto 42 header.number (drop header.len input))
+count_is bytes input found header same gives is =
+    let at : List ℕ → Type 0 = λ t. t ≡ header_onto 42 header.number (drop header.len t) in
+    let read = subst (λ (o : Option Header). Gives bytes (Ok o) (header_at 42 Protocol 1 MOST_WORDS bytes)) is gives in
+    let takes = header_takes 42 Protocol 1 MOST_WORDS header.number bytes (drop header.len bytes) words_some (omega arith) words_bound read.0 in
+    (takes.0, takes.1, subst at same takes.2)
+
+-- ---- a word
+
+-- a word whose length was read is the word in front
+pub takes_word : (result : Result (Option (List ℕ)) Fault) (known len : Option ℕ) (number : ℕ) (front input rest : List ℕ)
+    → known ≡ Some number → IfSome known (λ number. len ≡ Some number) → HasLen len → word_front len input ≡ front
+    → Takes result (body_at number input) rest → Takes result (word_at MOST_WORD_BYTES front) rest
+takes_word result known len number front input rest is told sized kept takes =
+    let len_is : len ≡ Some number = subst (λ (o : Option ℕ). IfSome o (λ number. len ≡ Some number)) is told in
+    let bound : MOST_WORD_BYTES < 2 ^ 60 = bytes_bound in
+    let short : number ≤ MOST_WORD_BYTES = subst HasLen len_is sized in
+    let front_is : header_onto 36 number input ≡ front = ap (λ (o : Option ℕ). word_front o input) (sym len_is) ∙ kept in
+    let same : body_at number input ≡ word_at MOST_WORD_BYTES front =
+    sym (body_behind MOST_WORD_BYTES number input (omega arith) short) ∙ ap (word_at MOST_WORD_BYTES) front_is in
+    subst (λ (s : Seen (List ℕ)). Takes result s rest) same takes
+
+-- ---- words, one after another
+
+-- words were taken, and the same bytes are pending
+pub record GoesOn (old : Partial) (before : List ℕ) (new : Partial) (after : List ℕ) : Type 0 where
+  pub partial : IsPartial new
+  pub kept : partial_onto new after ≡ partial_onto old before
+
+AreShort-push : (words : List (List ℕ)) (word : List ℕ)
+    → All (λ word. length word ≤ MOST_WORD_BYTES) words → length word ≤ MOST_WORD_BYTES
+    → All (λ word. length word ≤ MOST_WORD_BYTES) (words ++ word ∷ [])
+AreShort-push words word each short =
+    let IsShort : List ℕ → Type 0 = λ word. length word ≤ MOST_WORD_BYTES in
+    each_by_index IsShort (words ++ word ∷ []) (AreShort-append MOST_WORD_BYTES words (word ∷ []) (each_by_recursion IsShort words each) (short, tt))
+
+-- one more word was taken
+pub goes_on : (first : Partial) (start : List ℕ) (now : Partial) (input : List ℕ) (taken : Option (List ℕ)) (word rest : List ℕ) (next : Partial)
+    → GoesOn first start now input → 0 < now.left
+    → taken ≡ Some word → Takes (Ok taken) (word_at MOST_WORD_BYTES (word_front now.len input)) rest
+    → IfSome taken (λ _. next.len ≡ None) → next.words.items ≡ now.words.items ++ word ∷ [] → next.left ≡ now.left - 1
+    → GoesOn first start next rest
+goes_on first start now input taken word rest next before some is takes idle pushed fewer =
+    let ws : List (List ℕ) = now.words.items in
+    let found : word_at MOST_WORD_BYTES (word_front now.len input) ≡ Found word rest =
+    subst (λ (o : Option (List ℕ)). Takes (Ok o) (word_at MOST_WORD_BYTES (word_front now.len input)) rest) is takes in
+    let none : next.len ≡ None = subst (λ (o : Option (List ℕ)). IfSome o (λ _. next.len ≡ None)) is idle in
+    let w = word_takes MOST_WORD_BYTES (word_front now.len input) word rest bytes_some bytes_bound found in
+    let few : length ws + now.left ≤ MOST_WORDS = before.partial.few in
+    let longer : length next.words.items ≡ length ws + 1 = ap length pushed ∙ length-append ws (word ∷ []) in
+    let count : length next.words.items + next.left ≡ length ws + now.left = omega arith in
+    let short = subst (All (λ word. length word ≤ MOST_WORD_BYTES)) (sym pushed) (AreShort-push ws word before.partial.short w.short) in
+    record {
+      partial = record { some = omega arith; few = omega arith; short = short; sized = subst HasLen (sym none) tt; idle = λ _. none };
+      kept = ap (λ (o : Option ℕ). header_onto 42 (length next.words.items + next.left) (bulks_onto next.words.items (word_front o rest))) none
+          ∙ ap (λ (k : ℕ). header_onto 42 k (bulks_onto next.words.items rest)) count
+          ∙ ap (λ (t : List (List ℕ)). header_onto 42 (length ws + now.left) (bulks_onto t rest)) pushed
+          ∙ ap (header_onto 42 (length ws + now.left)) (bulks_onto-both ws (word ∷ []) rest ∙ ap (bulks_onto ws) (sym w.spelled))
+          ∙ before.kept;
+    }
+
+-- what the words to come decide, the request does
+reading_partial : (partial : Partial) (input : List ℕ) → IsPartial partial
+    → reading (partial_onto partial input)
+    ≡ with_words partial.words.items (words_at MOST_WORD_BYTES partial.left (word_front partial.len input))
+reading_partial partial input is =
+    let words_limit : MOST_WORDS < 2 ^ 60 = words_bound in
+    let bytes_limit : MOST_WORD_BYTES < 2 ^ 60 = bytes_bound in
+    let each = each_by_recursion (λ (word : List ℕ). length word ≤ MOST_WORD_BYTES) partial.words.items is.short in
+    request_behind MOST_WORDS MOST_WORD_BYTES partial.words.items partial.left (word_front partial.len input) (omega arith) (omega arith) is.some is.few each
+
+reading_is : (first : Partial) (start : List ℕ) (now : Partial) (input : List ℕ) → GoesOn first start now input
+    → reading (partial_onto first start)
+    ≡ with_words now.words.items (words_at MOST_WORD_BYTES now.left (word_front now.len input))
+reading_is first start now input goes = ap reading (sym goes.kept) ∙ reading_partial now input goes.partial
+
+-- the next word wants more bytes
+pub waits_on : (first : Partial) (start : List ℕ) (now : Partial) (input : List ℕ) (taken : Option (List ℕ)) (rest : List ℕ)
+    → GoesOn first start now input → 0 < now.left
+    → taken ≡ None → Takes (Ok taken) (word_at MOST_WORD_BYTES (word_front now.len input)) rest
+    → reading (partial_onto first start) ≡ Wants
+waits_on first start now input taken rest goes some is takes =
+    reading_is first start now input goes ∙ ap (with_words now.words.items) (words_want now.left some)
+  where
+    wants : word_at MOST_WORD_BYTES (word_front now.len input) ≡ Wants
+    wants = subst (λ (o : Option (List ℕ)). Takes (Ok o) (word_at MOST_WORD_BYTES (word_front now.len input)) rest) is takes
+
+    words_want : (k : ℕ) → 0 < k → words_at MOST_WORD_BYTES k (word_front now.len input) ≡ Wants
+    words_want zero none = absurd (omega arith)
+    words_want (suc k) more = rw wants refl
+
+-- the next word is bad
+pub fails_on : (fault : Fault) (first : Partial) (start : List ℕ) (now : Partial) (input : List ℕ) → GoesOn first start now input → 0 < now.left
+    → Refuses fault (word_at MOST_WORD_BYTES (word_front now.len input)) → Refuses fault (reading (partial_onto first start))
+fails_on fault first start now input goes some refuses known =
+    reading_is first start now input goes ∙ ap (with_words now.words.items) (words_bad now.left some)
+  where
+    words_bad : (k : ℕ) → 0 < k → words_at MOST_WORD_BYTES k (word_front now.len input) ≡ Bad fault
+    words_bad zero none = absurd (omega arith)
+    words_bad (suc k) more = rw (refuses known) refl
+
+-- no word is left
+pub all_taken : (first : Partial) (start : List ℕ) (now : Partial) (input : List ℕ) → GoesOn first start now input → now.left ≤ 0
+    → reading (partial_onto first start) ≡ Found now.words.items input
+all_taken first start now input goes done =
+    let none : now.left ≡ 0 = omega arith in
+    reading_is first start now input goes
+    ∙ ap (λ (k : ℕ). with_words now.words.items (words_at MOST_WORD_BYTES k (word_front now.len input))) none
+    ∙ ap (λ (o : Option ℕ). with_words now.words.items (Found [] (word_front o input))) (goes.partial.idle none)
+    ∙ ap (λ (ws : List (List ℕ)). Found ws input) (append-nil now.words.items)
+
+pub whole_is_request : (now : Partial) → IsPartial now → now.left ≤ 0 → IsRequest now.words.items
+whole_is_request now is done =
+    let some : 0 < length now.words.items + now.left = is.some in
+    let few : length now.words.items + now.left ≤ MOST_WORDS = is.few in
+    record { count = (omega arith, omega arith); short = is.short }
+
+-- a request of which only the header was read
+pub begins : (begun : Partial) → begun.words.items ≡ [] → begun.len ≡ None → 1 ≤ begun.left → begun.left ≤ MOST_WORDS → IsPartial begun
+begins begun empty none some few =
+    let long : length begun.words.items ≡ 0 = ap length empty in
+    record { some = omega arith; few = omega arith; short = rw empty (λ k d lt. absurd (omega arith)); sized = rw none tt; idle = λ _. none }
+
+pub begun_onto : (begun : Partial) (input : List ℕ) → begun.words.items ≡ [] → begun.len ≡ None
+    → partial_onto begun input ≡ header_onto 42 begun.left input
+begun_onto begun input empty none =
+    ap (λ (o : Option ℕ). header_onto 42 (length begun.words.items + begun.left) (bulks_onto begun.words.items (word_front o input))) none
+    ∙ ap (λ (ws : List (List ℕ)). header_onto 42 (length ws + begun.left) (bulks_onto ws input)) empty
+    ∙ ap (λ (k : ℕ). header_onto 42 k input) (zero-add begun.left)
+
+-- ---- the reader's states
+
+abbrev state : List ℕ → Option Fault → ReaderState
+state pending fault = record { pending = pending; fault = fault }
+
+word_front-append : (len : Option ℕ) (input more : List ℕ) → word_front len (input ++ more) ≡ word_front len input ++ more
+word_front-append None input more = refl
+word_front-append (Some len) input more = sym (header_onto-append 36 len input more)
+
+request_front-append : (partial : Option Partial) (input more : List ℕ) → request_front partial (input ++ more) ≡ request_front partial input ++ more
+request_front-append None input more = refl
+request_front-append (Some partial) input more =
+    let count : ℕ = length partial.words.items + partial.left in
+    ap (λ (t : List ℕ). header_onto 42 count (bulks_onto partial.words.items t)) (word_front-append partial.len input more)
+    ∙ ap (header_onto 42 count) (sym (bulks_onto-append partial.words.items (word_front partial.len input) more))
+    ∙ sym (header_onto-append 42 count (bulks_onto partial.words.items (word_front partial.len input)) more)
+
+-- what is fed is pending behind the rest
+pub fed : (progress : Progress) (input bytes later : List ℕ) (fault : Option Fault) (old : ReaderState)
+    → state (pending_of progress input) fault ≡ old → later ≡ input ++ bytes
+    → state (pending_of progress later) fault ≡ state (old.pending ++ bytes) old.fault
+fed progress input bytes later fault old view_is grown =
+    ap (λ (t : List ℕ). state (pending_of progress t) fault) grown
+    ∙ ap (λ (t : List ℕ). state t fault) (request_front-append (partial_of progress) input bytes)
+    ∙ ap (λ (s : ReaderState). state (s.pending ++ bytes) s.fault) view_is
+
+-- a request that is whole
+pub hands_out : (found : Option (List (List ℕ))) (pending later : List ℕ) (before after : Option Fault) (old : ReaderState)
+    → state pending before ≡ old → before ≡ None → after ≡ None → Takes (Ok found) (reading pending) later
+    → IfSome found (λ words. HandsOut old words (state later after))
+hands_out None pending later before after old view_is none sound takes = tt
+hands_out (Some words) pending later before after old view_is none sound takes =
+    let is = found_is pending words later takes in
+    subst (λ (s : ReaderState). HandsOut s words (state later after)) view_is
+    (record { sound = none; request = is.0; taken = is.1; still_sound = sound })
+
+-- a request that waits
+pub waits : (found : Option (List (List ℕ))) (pending later : List ℕ) (before after : Option Fault) (old : ReaderState)
+    → state pending before ≡ old → before ≡ None → after ≡ None → Takes (Ok found) (reading pending) later → IfNone found (later ≡ pending)
+    → IfNone found (Waits old (state later after))
+waits (Some words) pending later before after old view_is none sound takes kept = tt
+waits None pending later before after old view_is none sound takes kept =
+    let same : state later after ≡ state pending before = ap (λ (t : List ℕ). state t after) kept ∙ ap (state pending) (sound ∙ sym none) in
+    subst (λ (s : ReaderState). Waits s (state later after)) view_is
+    (record { sound = none; unfinished = waiting_is_unfinished pending takes; kept = same })
+
+-- a fault of the bytes
+breaks : (fault : Fault) (pending later : List ℕ) → (fault ≡ Memory → ⊥) → later ≡ pending → reading pending ≡ Bad fault
+    → Breaks fault (state pending None) (state later (Some fault))
+breaks fault pending later known kept bad = record {
+  first = first_bad fault pending known bad;
+  none = bad_has_no_request pending fault bad;
+  kept = ap (λ (t : List ℕ). state t (Some fault)) kept;
+}
+
+anyway : (o : Option Fault) (P : Type 0) → P → IfNone o P
+anyway None P p = p
+anyway (Some fault) P p = tt
+
+pub fails : (fault : Fault) (pending later : List ℕ) (before after : Option Fault) (old : ReaderState)
+    → state pending before ≡ old → before ≡ None → later ≡ pending → Refuses fault (reading pending) → after ≡ remembered fault
+    → IfNone old.fault (FailsBy fault old (state later after))
+fails fault pending later before after old view_is none kept refuses remembers =
+    anyway old.fault (FailsBy fault old (state later after))
+    (subst (λ (o : Option Fault). FailsBy fault old (state later o)) (sym remembers)
+    (subst (λ (s : ReaderState). FailsBy fault s (state later (remembered fault))) (ap (state pending) (sym none) ∙ view_is) (by_fault fault refuses)))
+  where
+    by_fault : (f : Fault) → Refuses f (reading pending) → FailsBy f (state pending None) (state later (remembered f))
+    by_fault Memory r = ap (λ (t : List ℕ). state t None) kept
+    by_fault Protocol r = breaks Protocol pending later (λ e. cc) kept (r (λ e. cc))
+    by_fault TooLong r = breaks TooLong pending later (λ e. cc) kept (r (λ e. cc))

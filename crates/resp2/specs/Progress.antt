@@ -1,0 +1,80 @@
+-- How far a reader is: what it took from the front of its input, and what a step takes more.
+use Rattle.std.specs.Prelude.{◌≡◌, ◌<◌, ◌≤◌, ◌+◌, ℕ, List, length, All, IfSome, Option, None, Some, Result, Ok, Err}
+use Rattle.resp2.specs.declared.fault.Fault.{Fault}
+use Rattle.resp2.specs.declared.fault.Fault.TheVariants.{Memory}
+use Rattle.resp2.specs.declared.words.TheConstants.{MOST_WORDS, MOST_WORD_BYTES}
+use Rattle.resp2.specs.declared.words.Partial.{Partial}
+use Rattle.resp2.specs.declared.reader.Progress.{Progress}
+use Rattle.resp2.specs.declared.reader.Progress.TheVariants.{Between, Reading, Broken}
+use Rattle.resp2.specs.Reading.{Seen, Wants, Bad, Found, header_onto, bulks_onto}
+
+-- ---- what a step answers
+
+-- memory may be refused at any time, a fault of the bytes is where they have it
+abbrev pub Refuses : {X : Type 0} → Fault → Seen X → Type 0
+Refuses fault seen = (fault ≡ Memory → ⊥) → seen ≡ Bad fault
+
+-- the answer is what the bytes decide, and `rest` is what is left of them
+abbrev pub Takes : {X : Type 0} → Result (Option X) Fault → Seen X → List ℕ → Type 0
+Takes (Ok None) seen rest = seen ≡ Wants
+Takes (Ok (Some x)) seen rest = seen ≡ Found x rest
+Takes (Err fault) seen rest = Refuses fault seen
+
+-- ---- what was read stands again in front of what is left
+
+-- a word's length that was read
+abbrev pub word_front : Option ℕ → List ℕ → List ℕ
+word_front None input = input
+word_front (Some len) input = header_onto 36 len input
+
+-- the count of a request's words, and those that were read
+abbrev pub partial_onto : Partial → List ℕ → List ℕ
+partial_onto partial input =
+    header_onto 42 (length partial.words.items + partial.left) (bulks_onto partial.words.items (word_front partial.len input))
+
+-- a request, where one was begun
+abbrev pub request_front : Option Partial → List ℕ → List ℕ
+request_front None input = input
+request_front (Some partial) input = partial_onto partial input
+
+-- what was read of a request
+abbrev pub partial_of : Progress → Option Partial
+partial_of Between = None
+partial_of (Reading partial) = Some partial
+partial_of (Broken _ partial) = partial
+
+-- all bytes that were not handed out
+abbrev pub pending_of : Progress → List ℕ → List ℕ
+pending_of progress input = request_front (partial_of progress) input
+
+-- what is wrong with them
+abbrev pub fault_of : Progress → Option Fault
+fault_of Between = None
+fault_of (Reading _) = None
+fault_of (Broken fault _) = Some fault
+
+-- ---- what holds of it
+
+-- a length that was read keeps the limit
+abbrev pub HasLen : Option ℕ → Type 0
+HasLen len = IfSome len (λ number. number ≤ MOST_WORD_BYTES)
+
+-- what was read of a request keeps the limits
+pub record IsPartial (partial : Partial) : Type 0 where
+  pub some : 0 < length partial.words.items + partial.left
+  pub few : length partial.words.items + partial.left ≤ MOST_WORDS
+  pub short : All (λ word. length word ≤ MOST_WORD_BYTES) partial.words.items
+  pub sized : HasLen partial.len
+  pub idle : partial.left ≡ 0 → partial.len ≡ None
+
+-- the same of a request that is being read
+abbrev pub IsProgress : Progress → Type 0
+IsProgress Between = Unit {0}
+IsProgress (Reading partial) = IsPartial partial
+IsProgress (Broken _ _) = Unit {0}
+
+-- a request was begun, or this holds
+abbrev pub BeginsOr : Progress → Type 0 → Type 0
+BeginsOr (Reading _) P = Unit {0}
+BeginsOr Between P = P
+BeginsOr (Broken _ _) P = P
