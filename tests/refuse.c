@@ -1,7 +1,9 @@
 /* Refuses one allocation of the program that loads this library first: the one whose number, from 1 on, REFUSED says.
    At the end it writes to the file COUNTED how many were asked for. */
+#include <fcntl.h>
 #include <stdio.h>
 #include <stdlib.h>
+#include <unistd.h>
 
 extern void *__libc_malloc(size_t size);
 extern void *__libc_realloc(void *block, size_t size);
@@ -22,12 +24,13 @@ void *realloc(void *block, size_t size) {
     return is_refused() ? NULL : __libc_realloc(block, size);
 }
 
+/* It asks for no memory itself. */
 __attribute__((destructor)) static void tell(void) {
     const char *counted = getenv("COUNTED");
-    unsigned long count = asked;
-    FILE *file = counted == NULL ? NULL : fopen(counted, "w");
-    if (file != NULL) {
-        fprintf(file, "%lu\n", count);
-        fclose(file);
+    int file = counted == NULL ? -1 : open(counted, O_WRONLY | O_CREAT | O_TRUNC, 0600);
+    char text[32];
+    int len = snprintf(text, sizeof text, "%lu\n", asked);
+    if (file >= 0 && write(file, text, (size_t)len) == len) {
+        close(file);
     }
 }
