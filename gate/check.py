@@ -76,7 +76,8 @@ def run_script(script, program):
 
 
 def crates_of(kit):
-    """Returns the crates that crates.txt names, lowest first."""
+    """Returns the crates that crates.txt names, lowest first, as the kit's gate sees them."""
+    kit.rtlib.Crate = kit.Crate
     return sorted(kit.rtlib.crates_below(ROOT), key=lambda it: len(it.below()))
 
 
