@@ -4,13 +4,13 @@ ghost use Rattle.tickets.specs.Tickets.{IsFresh};
 
 use crate::clusters::node_of;
 use crate::events::push_outputs;
-use crate::script::{bytes_of, push_bytes, shared_bytes_of, verb_of};
+use crate::script::{bytes_of, push_bytes, string_of, verb_of};
 use crate::words::{push_values, push_words};
 use anyhow::{Context, Result, bail};
-use bytes::Bytes;
+use byte_string::ByteString;
 use cluster_config::Config;
 use keyspace::TreeStore;
-use node_cell::{Deployment, NodeCell};
+use node_cell::{Deployment, Journal, NodeCell};
 use resp2::MOST_WORD_BYTES;
 use slot_table::NodeNo;
 use std::alloc::Global;
@@ -62,9 +62,9 @@ fn push_answers(alloc: Global, given: &mut String, bytes: &str) -> Result<()> {
 fn put_both(alloc: Global, store: &mut TreeStore, words: &str) -> Result<()> {
     let (key, rest) = verb_of(words);
     let (value, rest) = verb_of(rest);
-    let first = (shared_bytes_of(alloc, key)?, shared_bytes_of(alloc, value)?);
+    let first = (string_of(alloc, key)?, string_of(alloc, value)?);
     let (key, value) = verb_of(rest);
-    let second = (shared_bytes_of(alloc, key)?, shared_bytes_of(alloc, value)?);
+    let second = (string_of(alloc, key)?, string_of(alloc, value)?);
     set_both(alloc, store, first, second)?;
     Ok(())
 }
@@ -75,7 +75,7 @@ fn push_got<R: Files + AllocGlobal>(rt: &R, given: &mut String, words: &str) -> 
     let (_table, mut seats) = open(alloc, 1)?;
     let seat = seats.pop().context("there is no seat")?;
     let (key, value) = verb_of(words);
-    let (key, value) = (shared_bytes_of(alloc, key)?, shared_bytes_of(alloc, value)?);
+    let (key, value) = (string_of(alloc, key)?, string_of(alloc, value)?);
     push_got_of::<Brand>(alloc, given, &config, node, seat, &key, &value)
 }
 
@@ -86,8 +86,8 @@ fn push_got_of<K: Deployment>(
     config: &Config,
     node: NodeNo,
     seat: Seat,
-    key: &Bytes,
-    value: &Bytes,
+    key: &ByteString,
+    value: &ByteString,
 ) -> Result<()>
     requires cluster { config.now ≡ K.config }
     requires seat { IsFresh K.table K.seats seat }
@@ -95,7 +95,7 @@ fn push_got_of<K: Deployment>(
     if key.len() > MOST_WORD_BYTES || value.len() > MOST_WORD_BYTES {
         bail!("the word is too long");
     }
-    let mut cell = NodeCell::<K>::new(alloc, config, node, seat)?;
+    let mut cell = NodeCell::<K, Journal>::new(alloc, config, node, seat)?;
     let entered = set_then_get(alloc, &mut cell, key, value)?;
     let ticket = entered.ticket();
     given.push_str(format!(in alloc; "{ticket} ")?.as_str())?;
@@ -115,10 +115,7 @@ fn push_turns(given: &mut String, turns: Turns) -> Result<()> {
 
 fn push_slot(alloc: Global, given: &mut String, keys: &str) -> Result<()> {
     let (first, second) = verb_of(keys);
-    let (first, second) = (
-        shared_bytes_of(alloc, first)?,
-        shared_bytes_of(alloc, second)?,
-    );
+    let (first, second) = (string_of(alloc, first)?, string_of(alloc, second)?);
     match shared_slot(first.as_slice(), second.as_slice()) {
         Some(slot) => {
             let slot = slot.get();

@@ -6,7 +6,7 @@ use crate::clusters::node_of;
 use crate::events::{event_of, push_event, push_outputs};
 use anyhow::{Context, Result};
 use cluster_config::Config;
-use node_cell::{Deployment, Entry, NodeCell};
+use node_cell::{Deployment, Entry, Journal, NodeCell};
 use node_core::Event;
 use slot_table::NodeNo;
 use std::alloc::Global;
@@ -45,12 +45,13 @@ fn hold<K: Deployment>(
     requires cluster { config.now ≡ K.config }
     requires seat { IsFresh K.table K.seats seat }
 {
-    let mut cell = NodeCell::<K>::new(alloc, config, node, seat)?;
+    let mut cell = NodeCell::<K, Journal>::new(alloc, config, node, seat)?;
     let mut given = String::new(alloc);
     for event in events {
         apply(alloc, &mut cell, &mut given, event)?;
     }
-    let (config, node, journal, seat) = cell.finish();
+    let (config, node, log, seat) = cell.finish();
+    let journal = log.into_entries();
     given.push_str("journal\n")?;
     for entry in &journal {
         push_entry(alloc, &mut given, entry)?;
@@ -63,7 +64,7 @@ fn hold<K: Deployment>(
 // Makes the step, and tells its ticket and what came out.
 fn apply<K: Deployment>(
     alloc: Global,
-    cell: &mut NodeCell<K>,
+    cell: &mut NodeCell<K, Journal>,
     given: &mut String,
     event: Event,
 ) -> Result<()> {

@@ -23,7 +23,7 @@ pub struct Client {
 
 impl Client {
     /// The client that these lines describe: `request WORD..`, `bytes BYTES` and `times COUNT request WORD..` are sent, and `cut` ends a
-    /// piece. `cut anywhere` says that it may be cut at each place, `reader fails` and `writer takes COUNT` when a device fails,
+    /// piece. `cut anywhere` says that it may be cut at each place, `reader fails` and `writer takes COUNT` when a call fails,
     /// and `count writes` that the writes are told.
     pub fn of(alloc: Global, lines: &str) -> Result<Client> {
         let mut client = Client {

@@ -1,15 +1,17 @@
 //! Commands of words, and the error lines that answer words that are none.
 use crate::script::{bytes_of, push_bytes, push_word, shared_bytes_of, verb_of, words_of};
 use anyhow::{Context, Result, bail};
+use byte_string::ByteString;
 use command::{
-    ClusterCommand, Command, CommandFault, DataCommand, ErrorLine, Name, keys, moved_reply, parse,
+    ClusterCommand, Command, CommandFault, DataCommand, ErrorLine, KeyList, Name, keys,
+    moved_reply, parse,
 };
 use resp2::{Line, Reply, Words, append_reply};
 use std::alloc::{AllocError, Global};
 
 /// `parse WORDS` gives the command with its keys, or the error that answers the words; `name WORD` and `long-name COUNT`,
-/// which is so many `g`, the name that is spelled. `fault` and `error` give what is told of a fault and of an error, and
-/// `moved SLOT HOST PORT` what is told of a slot that another node has.
+/// which is COUNT times `g`, the name that is spelled. `fault` and `error` give the texts of a fault and of an error, and
+/// `moved SLOT HOST PORT` that of a slot that another node has.
 pub fn play(alloc: Global, script: &str) -> Result<String> {
     let mut given = String::new(alloc);
     for command in script.lines() {
@@ -71,19 +73,40 @@ fn push_command(given: &mut String, command: &Command) -> Result<(), AllocError>
 fn push_data(given: &mut String, command: &DataCommand) -> Result<(), AllocError> {
     match command {
         DataCommand::Ping => push_words(given, "PING", &[]),
+        DataCommand::Echo { message } => push_words(given, "ECHO", &[message.as_slice()]),
         DataCommand::Get { key } => push_words(given, "GET", &[key.as_slice()]),
-        DataCommand::Set { key, value } => {
-            push_words(given, "SET", &[key.as_slice(), value.as_slice()])
-        }
-        DataCommand::Mget { keys } => {
-            given.push_str("MGET")?;
-            for key in keys.as_slice() {
-                given.push(' ')?;
-                push_word(given, key.as_slice())?;
-            }
-            Ok(())
-        }
+        DataCommand::Set { key, value } => push_pair(given, "SET", key, value),
+        DataCommand::Mget { keys } => push_keys(given, "MGET", keys),
+        DataCommand::Setnx { key, value } => push_pair(given, "SETNX", key, value),
+        DataCommand::Getset { key, value } => push_pair(given, "GETSET", key, value),
+        DataCommand::Getdel { key } => push_words(given, "GETDEL", &[key.as_slice()]),
+        DataCommand::Append { key, value } => push_pair(given, "APPEND", key, value),
+        DataCommand::Incr { key } => push_words(given, "INCR", &[key.as_slice()]),
+        DataCommand::Decr { key } => push_words(given, "DECR", &[key.as_slice()]),
+        DataCommand::Incrby { key, increment } => push_pair(given, "INCRBY", key, increment),
+        DataCommand::Strlen { key } => push_words(given, "STRLEN", &[key.as_slice()]),
+        DataCommand::Del { keys } => push_keys(given, "DEL", keys),
+        DataCommand::Exists { keys } => push_keys(given, "EXISTS", keys),
+        DataCommand::TypeOf { key } => push_words(given, "TYPE", &[key.as_slice()]),
     }
+}
+
+fn push_pair(
+    given: &mut String,
+    name: &str,
+    key: &ByteString,
+    value: &ByteString,
+) -> Result<(), AllocError> {
+    push_words(given, name, &[key.as_slice(), value.as_slice()])
+}
+
+fn push_keys(given: &mut String, name: &str, keys: &KeyList) -> Result<(), AllocError> {
+    given.push_str(name)?;
+    for key in keys.as_slice() {
+        given.push(' ')?;
+        push_word(given, key.as_slice())?;
+    }
+    Ok(())
 }
 
 fn push_cluster(given: &mut String, command: &ClusterCommand) -> Result<(), AllocError> {
@@ -140,6 +163,9 @@ fn line_of(text: &str) -> Result<ErrorLine> {
         "Exhausted" => ErrorLine::Exhausted,
         "CrossSlot" => ErrorLine::CrossSlot,
         "SlotDown" => ErrorLine::SlotDown,
+        "TooLong" => ErrorLine::TooLong,
+        "NotAnInteger" => ErrorLine::NotAnInteger,
+        "Overflow" => ErrorLine::Overflow,
         _ => bail!("no such error"),
     })
 }

@@ -18,12 +18,12 @@ const ADDRESS_START: &[u8] = b"\"host\":\"127.0.0.1\",\"port\":700";
 /// what `text TEXT`, `text-masters COUNT` and `bytes BYTES` gave before. Other commands give the faults alone:
 ///
 /// - `nodes NODES | VOTERS` of these nodes and voters with sound times;
-/// - `masters COUNT MORE | VOTERS` of so many masters, more nodes and these voters;
+/// - `masters COUNT MORE | VOTERS` of COUNT masters, more nodes and these voters;
 /// - `ports PORTS` of a node with each of these ports, and `two-ports PORT PORT` of two nodes at one host with these;
 /// - `last-slots SLOTS` of a range that begins at 0 and ends at each of these;
 /// - `times TIMES` of a cluster with each of these as its tick, and as its timeout.
 ///
-/// `id` and `host` give the id and the host that a word is, and `long-host COUNT` that of so many letters.
+/// `id` and `host` give the id and the host that a word is, and `long-host COUNT` that of COUNT letters.
 pub fn play(alloc: Global, script: &str) -> Result<String> {
     let mut given = String::new(alloc);
     let mut text = Vec::new(alloc);
@@ -84,8 +84,8 @@ fn push_config(given: &mut String, config: &Config) -> Result<(), AllocError> {
     }
     given.push_str("\nfirst owners")?;
     for run in config.first_owners(*given.allocator())? {
-        let first = run.first.get();
-        let last = run.last.get();
+        let first = run.slots.first.get();
+        let last = run.slots.last.get();
         let owner = run.value.get();
         write!(given, " {first}-{last}:{owner}")?;
     }
@@ -94,7 +94,7 @@ fn push_config(given: &mut String, config: &Config) -> Result<(), AllocError> {
 
 fn push_node(given: &mut String, number: u8, node: &NodeConfig) -> Result<(), AllocError> {
     write!(given, "{number}: ")?;
-    push_bytes(given, node.id.as_slice())?;
+    push_bytes(given, node.id.bytes().as_slice())?;
     given.push(' ')?;
     push_bytes(given, node.host.as_slice())?;
     let port = node.port;
@@ -102,7 +102,7 @@ fn push_node(given: &mut String, number: u8, node: &NodeConfig) -> Result<(), Al
     match &node.role {
         Role::Master { slots } => {
             given.push_str(" master")?;
-            for range in slots.as_slice() {
+            for range in &slots.ranges {
                 let first = range.first.get();
                 let last = range.last.get();
                 write!(given, " {first}-{last}")?;
@@ -187,7 +187,7 @@ fn node_at(alloc: Global, id: &str, port: &str) -> Result<String, AllocError> {
     format!(in alloc; "{{\"id\":\"{id}\",\"host\":\"h\",\"port\":{port},\"slots\":[]}}")
 }
 
-// So many masters without slots, each with a host of its own, whose ids rise.
+// COUNT masters without slots, each with a host of its own, whose ids rise.
 fn masters(alloc: Global, count: u16) -> Result<String, AllocError> {
     let mut nodes = String::new(alloc);
     for number in 0..count {

@@ -4,13 +4,13 @@ ghost use Rattle.tickets.specs.Tickets.{IsFresh};
 
 use crate::client::Client;
 use crate::clusters::node_of;
-use crate::devices::{Pieces, Written};
 use crate::script::push_bytes;
+use crate::streams::{Pieces, Written};
 use anyhow::{Context, Result, bail};
 use cluster::Gate;
 use cluster_config::Config;
 use listener::{ConnFault, serve_conn};
-use node_cell::{Deployment, Entry, NodeCell};
+use node_cell::{Deployment, Entry, Journal, NodeCell};
 use node_core::Event;
 use resp2::Counting;
 use slot_table::NodeNo;
@@ -20,7 +20,7 @@ use std::rt::Files;
 use std::sync::{Arc, Mutex, Wait};
 use tickets::{Seat, open};
 
-// Lines that are the same are written one by one up to so many.
+// Up to this number, lines that are the same are written one by one.
 const MOST_REPEATED: u64 = 9;
 
 /// The first line, `node CLUSTER NUMBER`, names the node. The other lines are what the client sends, and what happens to its
@@ -126,14 +126,15 @@ fn hold<K: Deployment, R: Wait + Drop>(
     requires cluster { config.now ≡ K.config }
     requires seat { IsFresh K.table K.seats seat }
 {
-    let cell = NodeCell::<K>::new(alloc, config, node, seat)?;
+    let cell = NodeCell::<K, Journal>::new(alloc, config, node, seat)?;
     let node = Arc::new(alloc, Mutex::new(cell)).map_err(AllocError::from)?;
     let mut gate = Gate::new(rt, node);
     let mut reader = Counting::new(reader);
     let mut writer = Counting::new(writer);
     let ended = serve_conn(alloc, &mut gate, &mut reader, &mut writer);
     let cell = Arc::into_inner(gate.into_node()).context("the node is still shared")?;
-    let (_config, _node, journal, _seat) = cell.into_inner().finish();
+    let (_config, _node, log, _seat) = cell.into_inner().finish();
+    let journal = log.into_entries();
     Ok(Held {
         ended,
         failures: reader.failures().saturating_add(writer.failures()),

@@ -10,7 +10,6 @@ mod commands;
 mod configuration;
 mod connections;
 mod conversation;
-mod devices;
 mod events;
 mod keys;
 mod narrow;
@@ -21,6 +20,7 @@ mod script;
 mod seats;
 mod slots;
 mod stores;
+mod streams;
 mod words;
 
 use anyhow::{Result, bail};

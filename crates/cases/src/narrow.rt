@@ -1,35 +1,35 @@
 //! A store that is soon full.
 ghost use Rattle.std.specs.Prelude.{◌≡◌};
 
-use bytes::Bytes;
-use keyspace::{Store, TreeStore, Value};
+use byte_string::ByteString;
+use keyspace::{Store, Value};
 use std::alloc::AllocError;
 
-/// A store that has room for so many new keys.
+/// A store that has room for a number of new keys.
 #[derive(Drop)]
-pub struct Narrow {
-    pub tree: TreeStore,
+pub struct Narrow<S: Store> {
+    pub inner: S,
     pub room: usize,
 }
 
-impl Store for Narrow {
-    ghost contents = { λ store. store.tree };
+impl<S: Store> Store for Narrow<S> {
+    ghost contents = { λ store. S.contents store.inner };
 
-    fn get(&self, key: &Bytes) -> Option<&Value> {
-        self.tree.get(key)
+    fn get(&self, key: &ByteString) -> Option<&Value> {
+        self.inner.get(key)
     }
 
-    fn insert(&mut self, key: Bytes, value: Value) -> Result<(), AllocError> {
-        if self.tree.get(&key).is_none() {
+    fn insert(&mut self, key: ByteString, value: Value) -> Result<(), AllocError> {
+        if self.inner.get(&key).is_none() {
             if self.room == 0 {
                 return Err(AllocError);
             }
             self.room -= 1;
         }
-        self.tree.insert(key, value)
+        self.inner.insert(key, value)
     }
 
-    fn remove(&mut self, key: &Bytes) {
-        self.tree.remove(key)
+    fn remove(&mut self, key: &ByteString) {
+        self.inner.remove(key)
     }
 }

@@ -3,8 +3,9 @@ use crate::clusters::node_of;
 use crate::events::{event_of, push_outputs};
 use anyhow::{Context, Result, bail};
 use cluster_config::Config;
-use keyspace::TreeStore;
-use node_core::{Copies, Core, Outputs};
+use node_cell::Journal;
+use node_core::{Core, Outputs};
+use slot_store::SlotStore;
 use slot_table::NodeNo;
 use std::alloc::Global;
 use std::rt::Files;
@@ -18,7 +19,7 @@ pub fn play<R: Files + AllocGlobal>(rt: &R, script: &str) -> Result<String> {
 }
 
 fn play_on(alloc: Global, config: Config, number: NodeNo, events: &str) -> Result<String> {
-    let mut core = Core::new(alloc, config, number, TreeStore::new(alloc))?;
+    let mut core = Core::new(alloc, config, number, SlotStore::new(alloc)?)?;
     let mut given = String::new(alloc);
     for command in events.lines() {
         let outputs = step(alloc, &mut core, command)?;
@@ -30,19 +31,12 @@ fn play_on(alloc: Global, config: Config, number: NodeNo, events: &str) -> Resul
 // What the node answers. The number of the step changes nothing.
 fn step(alloc: Global, core: &mut Core, command: &str) -> Result<String> {
     let event = event_of(alloc, command)?;
-    let copies = core.step(0, event)?;
-    the_same(alloc, &copies)
-}
-
-// What all three copies are.
-fn the_same(alloc: Global, copies: &Copies) -> Result<String> {
-    let to_sender = text_of(alloc, &copies.to_sender)?;
-    let to_journal = text_of(alloc, &copies.to_journal)?;
-    let to_peers = text_of(alloc, &copies.to_peers)?;
-    if to_sender != to_journal || to_sender != to_peers {
-        bail!("the outputs differ");
+    let (outputs, kept) = core.step::<Journal>(0, &event)?;
+    let text = text_of(alloc, &outputs)?;
+    if text != text_of(alloc, &kept)? {
+        bail!("the journal keeps other outputs");
     }
-    Ok(to_sender)
+    Ok(text)
 }
 
 fn text_of(alloc: Global, outputs: &Outputs) -> Result<String> {

@@ -1,5 +1,5 @@
 //! Replies as bytes on a connection.
-use crate::script::{push_bytes, push_space, push_word, shared_bytes_of, verb_of};
+use crate::script::{push_bytes, push_space, push_word, shared_bytes_of, string_of, verb_of};
 use anyhow::{Context, Result, bail};
 use resp2::{Array, Counting, Element, Line, Reply, append_reply, send_reply, write_reply};
 use std::alloc::{AllocError, Global};
@@ -10,7 +10,7 @@ use std::io::{ErrorKind, Read, Write};
 const BEFORE: &[u8] = b"before";
 
 /// `write REPLY` gives the bytes that each writer writes, `elements REPLY` the parts of an array. `broken CALL` calls a
-/// device that can't be read or written.
+/// stream that can't be read or written.
 ///
 /// A reply is its parts in order, as `array:2 simple:OK integer:-5`: an array's length stands before its elements.
 pub fn play(alloc: Global, script: &str) -> Result<String> {
@@ -38,7 +38,7 @@ fn reply_of(alloc: Global, notation: &str) -> Result<Reply> {
             ("simple", text) => Reply::Simple(line_of(alloc, text)?),
             ("error", text) => Reply::Error(line_of(alloc, text)?),
             ("integer", number) => Reply::Integer(number.parse::<i64>()?),
-            ("bulk", bytes) => Reply::Bulk(shared_bytes_of(alloc, bytes)?),
+            ("bulk", bytes) => Reply::Bulk(string_of(alloc, bytes)?),
             ("null", _) => Reply::Null,
             ("array", len) => Reply::Array(last_of(&mut replies, len.parse::<usize>()?)?),
             _ => bail!("no such part"),
@@ -55,7 +55,7 @@ fn line_of(alloc: Global, text: &str) -> Result<Line> {
     Line::new(shared_bytes_of(alloc, text)?).context("more than a line")
 }
 
-// The array of so many replies, of which the last comes first.
+// The array of this many replies, of which the last comes first.
 fn last_of(replies: &mut Vec<Reply>, len: usize) -> Result<Array> {
     let alloc = *replies.allocator();
     let mut elements = Vec::new(alloc);
@@ -96,7 +96,7 @@ fn written(alloc: Global, reply: &Reply) -> Result<Vec<u8>> {
 fn sent(alloc: Global, reply: &Reply) -> Result<Vec<u8>> {
     let mut out = Counting::new(Vec::from_slice(alloc, BEFORE)?);
     send_reply(reply, &mut out)?;
-    if out.failures() != 0 || out.device().is_empty() {
+    if out.failures() != 0 || out.get_ref().is_empty() {
         bail!("a reply was sent with a failure");
     }
     Ok(out.into_inner())
@@ -142,7 +142,7 @@ fn push_text(given: &mut String, kind: &str, text: &[u8]) -> Result<(), AllocErr
     push_word(given, text)
 }
 
-// A device that is gone.
+// A stream that is gone.
 #[derive(Drop)]
 struct Broken;
 
@@ -171,8 +171,8 @@ fn push_broken(given: &mut String, broken: &mut Counting<Broken>, call: &str) ->
         "write_reply" => write_reply(&Reply::Null, broken).is_ok(),
         "send_reply" => send_reply(&Reply::Null, broken).is_ok(),
         "flush" => broken.flush().is_ok(),
-        "device.read" => broken.device_mut().read(&mut [0]).is_ok(),
-        "device.flush" => broken.device_mut().flush().is_ok(),
+        "stream.read" => broken.get_mut().read(&mut [0]).is_ok(),
+        "stream.flush" => broken.get_mut().flush().is_ok(),
         _ => bail!("no such call"),
     };
     let outcome = if ended { "well" } else { "failed" };

@@ -13,7 +13,7 @@ const MOST_SHOWN: usize = 64;
 // How many bytes a piece of a long word has.
 const PIECE: usize = 1024;
 
-/// `feed BYTES` and `feed-pieces COUNT`, which feeds so many times 1024 `x` and asks after each, go on with one reader, and
+/// `feed BYTES` and `feed-pieces COUNT`, which feeds COUNT times 1024 `x` and asks after each, go on with one reader, and
 /// `next` asks it. `bytewise BYTES` feeds a new one byte by byte and asks after each, and `cuts BYTES` cuts the bytes at
 /// each place.
 pub fn play(alloc: Global, script: &str) -> Result<String> {
@@ -41,7 +41,7 @@ pub fn play(alloc: Global, script: &str) -> Result<String> {
     Ok(given)
 }
 
-// Nothing is told of bytes that are taken.
+// Nothing is printed for bytes that are taken.
 fn feed(given: &mut String, reader: &mut Reader, bytes: &[u8]) -> Result<(), AllocError> {
     match reader.feed(bytes) {
         Ok(()) => Ok(()),
@@ -108,7 +108,7 @@ fn push_bytewise(given: &mut String, mut reader: Reader, bytes: &[u8]) -> Result
     Ok(given.push_str("nothing more\n")?)
 }
 
-// Whether the fault is told again, at a request and at more bytes.
+// Whether the fault is reported again, by a request and by more bytes.
 fn stay_of(reader: &mut Reader, fault: Fault) -> &'static str {
     let again = reader.next().err();
     let fed = reader.feed(PING).err();

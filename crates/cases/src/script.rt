@@ -5,11 +5,12 @@
 ghost use Rattle.std.specs.Prelude.{◌<◌, IfOk};
 
 use anyhow::{Context, Result, bail};
+use byte_string::ByteString;
 use bytes::Bytes;
 use std::alloc::{AllocError, Global};
 use std::{fmt, io};
 
-// Bytes that are the same are shown one by one up to so many.
+// Up to this number, bytes that are the same are shown one by one.
 const LONGEST_RUN: usize = 99;
 
 /// A block of a file.
@@ -87,21 +88,27 @@ pub fn verb_of(command: &str) -> (&str, &str) {
 }
 
 /// The words of a part of a command, which may be none.
-pub fn words_of(alloc: Global, part: &str) -> Result<Vec<Bytes>> {
+pub fn words_of(alloc: Global, part: &str) -> Result<Vec<ByteString>> {
     let mut words = Vec::new(alloc);
     if part.is_empty() {
         return Ok(words);
     }
     for word in part.split(' ') {
-        words.push(shared_bytes_of(alloc, word)?)?;
+        words.push(string_of(alloc, word)?)?;
     }
     Ok(words)
+}
+
+/// The string that a word of a command stands for.
+pub fn string_of(alloc: Global, word: &str) -> Result<ByteString> {
+    let bytes = bytes_of(alloc, word)?;
+    Ok(ByteString::copy_from_slice(alloc, bytes.as_slice())?)
 }
 
 /// The bytes that a word of a command stands for, to be shared.
 pub fn shared_bytes_of(alloc: Global, word: &str) -> Result<Bytes> {
     let bytes = bytes_of(alloc, word)?;
-    Ok(Bytes::copy_from_slice(alloc, bytes.as_slice())?)
+    Ok(Bytes::from_vec(bytes)?)
 }
 
 /// The bytes that a word of a command stands for.
@@ -134,7 +141,7 @@ fn push_part(bytes: &mut Vec<u8>, part: &str) -> Result<()> {
     Ok(())
 }
 
-// The last byte so many times, in the place of once.
+// The last byte COUNT times, in the place of once.
 fn repeat_last(bytes: &mut Vec<u8>, count: usize) -> Result<()> {
     let last = bytes.pop().context("a byte is to be repeated")?;
     for _ in 0..count {

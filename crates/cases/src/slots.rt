@@ -1,7 +1,7 @@
 //! Who has which slots, and what a node does with commands on their keys.
 use crate::script::{bytes_of, verb_of, words_of};
 use anyhow::{Context, Result, bail};
-use key_slot::{Slot, slot};
+use key_slot::{Slot, SlotRange, slot};
 use redirect::{Decision, decide};
 use slot_state::{MoveNo, SlotStates};
 use slot_table::{Epoch, NodeNo, Run, SlotTable};
@@ -45,11 +45,12 @@ fn runs_of(alloc: Global, text: &str) -> Result<Vec<Run<NodeNo>>> {
 fn run_of(text: &str) -> Result<Run<NodeNo>> {
     let (slots, node) = text.split_once(':').context("no owner")?;
     let (first, last) = slots.split_once('-').context("no last slot")?;
-    Ok(Run {
+    let slots = SlotRange {
         first: Slot::new(first.parse::<u16>()?).context("no slot")?,
         last: Slot::new(last.parse::<u16>()?).context("no slot")?,
-        value: node_of(node)?,
-    })
+    };
+    let value = node_of(node)?;
+    Ok(Run { slots, value })
 }
 
 fn node_of(text: &str) -> Result<NodeNo> {
@@ -77,7 +78,7 @@ fn push_owner(given: &mut String, table: &SlotTable, key: &str) -> Result<()> {
 
 fn push_runs(given: &mut String, table: &SlotTable) -> Result<(), AllocError> {
     for run in table.runs(*given.allocator())? {
-        push_run(given, run.first, run.last)?;
+        push_slots(given, run.slots)?;
         let node = run.value.get();
         writeln!(given, "node {node}")?;
     }
@@ -90,16 +91,16 @@ fn push_claim(given: &mut String, table: &SlotTable, node: NodeNo) -> Result<(),
         given.push_str("no slots\n")?;
     }
     for run in runs {
-        push_run(given, run.first, run.last)?;
+        push_slots(given, run.slots)?;
         let epoch = run.value.get();
         writeln!(given, "epoch {epoch}")?;
     }
     Ok(())
 }
 
-fn push_run(given: &mut String, first: Slot, last: Slot) -> Result<(), AllocError> {
-    let first = first.get();
-    let last = last.get();
+fn push_slots(given: &mut String, slots: SlotRange) -> Result<(), AllocError> {
+    let first = slots.first.get();
+    let last = slots.last.get();
     write!(given, "{first}-{last}: ")
 }
 

@@ -1,40 +1,61 @@
 //! Commands on a store.
 use crate::narrow::Narrow;
-use crate::script::{shared_bytes_of, verb_of};
+use crate::script::{string_of, verb_of};
 use crate::words::{command_of, push_reply, push_values, push_words};
 use anyhow::{Context, Result, bail};
-use bytes::Bytes;
+use byte_string::ByteString;
+use key_slot::Slot;
 use keyspace::{
     Plan, Store, TreeStore, Value, commit, exec, plan, plan_command, rebuild,
     rebuilding_makes_the_key,
 };
 use resp2::{MOST_WORD_BYTES, Words};
+use slot_store::{SlotKeys, SlotStore};
 use std::alloc::Global;
 
-/// A line `room COUNT` in front gives a store that takes so many new keys.
+/// A script is played on a store of each kind, and both have to give the same. A line `room COUNT` in front
+/// limits the new keys that they take to that number.
 ///
 /// `exec WORD..`, `plan_command WORD..` and `plan WORD.. | WORD..` give the replies, and `commit` makes the changes of the
-/// last plan. `insert KEY VALUE` and `remove KEY` change the store themselves, and `values KEY..` reads it. `rebuild KEY`
-/// gives the request that makes the key with its value.
+/// last plan. `insert KEY VALUE`, `insert-long KEY COUNT`, a string of COUNT times `x`, and `remove KEY` change the store
+/// themselves, and `values KEY..` reads it. `rebuild KEY` gives the request that makes the key with its value.
+///
+/// Behind a first line `slots` there are also `count SLOT`, the number of keys in a slot, and `keys SLOT COUNT`, the first
+/// of them.
 pub fn play(alloc: Global, script: &str) -> Result<String> {
-    let tree = TreeStore::new(alloc);
     let (first, rest) = script.split_once('\n').unwrap_or((script, ""));
     match verb_of(first) {
-        ("room", room) => {
-            let room = room.parse::<usize>()?;
-            play_on(alloc, Narrow { tree, room }, rest)
-        }
-        _ => play_on(alloc, tree, script),
+        ("slots", "") => play_on_slots(alloc, rest),
+        ("room", room) => play_on_each(alloc, room.parse::<usize>()?, rest),
+        _ => play_on_each(alloc, usize::MAX, script),
     }
 }
 
+fn play_on_slots(alloc: Global, script: &str) -> Result<String> {
+    let mut bench = Bench::new(alloc, SlotStore::new(alloc)?);
+    for command in script.lines() {
+        match verb_of(command) {
+            ("count", slot) => bench.count(slot)?,
+            ("keys", words) => bench.keys(words)?,
+            _ => bench.play(command)?,
+        }
+    }
+    Ok(bench.given)
+}
+
+fn play_on_each(alloc: Global, room: usize, script: &str) -> Result<String> {
+    let inner = TreeStore::new(alloc);
+    let given = play_on(alloc, Narrow { inner, room }, script)?;
+    let inner = SlotStore::new(alloc)?;
+    let same = play_on(alloc, Narrow { inner, room }, script)?;
+    if given != same {
+        bail!("the stores differ: {given} and {same}");
+    }
+    Ok(given)
+}
+
 fn play_on<S: Store + Drop>(alloc: Global, store: S, script: &str) -> Result<String> {
-    let mut bench = Bench {
-        alloc,
-        store,
-        planned: Plan::new(alloc),
-        given: String::new(alloc),
-    };
+    let mut bench = Bench::new(alloc, store);
     for command in script.lines() {
         bench.play(command)?;
     }
@@ -42,7 +63,7 @@ fn play_on<S: Store + Drop>(alloc: Global, store: S, script: &str) -> Result<Str
 }
 
 // The request that makes the key with its value.
-fn request_making(alloc: Global, key: &Bytes, value: &Value) -> Result<Words> {
+fn request_making(alloc: Global, key: &ByteString, value: &Value) -> Result<Words> {
     let Value::Str(bytes) = value;
     if key.len() > MOST_WORD_BYTES || bytes.len() > MOST_WORD_BYTES {
         bail!("the word is too long");
@@ -61,6 +82,15 @@ struct Bench<S: Store> {
 }
 
 impl<S: Store> Bench<S> {
+    fn new(alloc: Global, store: S) -> Bench<S> {
+        Bench {
+            alloc,
+            store,
+            planned: Plan::new(alloc),
+            given: String::new(alloc),
+        }
+    }
+
     fn play(&mut self, command: &str) -> Result<()> {
         match verb_of(command) {
             ("exec", words) => self.exec(words),
@@ -68,6 +98,7 @@ impl<S: Store> Bench<S> {
             ("plan", commands) => self.plan(commands),
             ("commit", "") => self.commit(),
             ("insert", words) => self.insert(words),
+            ("insert-long", words) => self.insert_long(words),
             ("remove", key) => self.remove(key),
             ("values", keys) => push_values(self.alloc, &mut self.given, &self.store, keys),
             ("rebuild", key) => self.rebuild(key),
@@ -85,7 +116,8 @@ impl<S: Store> Bench<S> {
 
     fn plan_command(&mut self, words: &str) -> Result<()> {
         let command = command_of(self.alloc, words)?;
-        let (reply, planned) = plan_command(self.alloc, &self.store, command)?;
+        let mut planned = Plan::new(self.alloc);
+        let reply = plan_command(self.alloc, &self.store, &mut planned, &command)?;
         self.planned = planned;
         push_reply(self.alloc, &mut self.given, &reply)
     }
@@ -116,22 +148,29 @@ impl<S: Store> Bench<S> {
 
     fn insert(&mut self, words: &str) -> Result<()> {
         let (key, value) = verb_of(words);
-        let (key, value) = (
-            shared_bytes_of(self.alloc, key)?,
-            shared_bytes_of(self.alloc, value)?,
-        );
+        let (key, value) = (string_of(self.alloc, key)?, string_of(self.alloc, value)?);
+        self.store.insert(key, Value::Str(value))?;
+        Ok(())
+    }
+
+    // A string of COUNT times `x`.
+    fn insert_long(&mut self, words: &str) -> Result<()> {
+        let (key, count) = verb_of(words);
+        let key = string_of(self.alloc, key)?;
+        let bytes = Vec::from_elem(self.alloc, b'x', count.parse::<usize>()?)?;
+        let value = ByteString::copy_from_slice(self.alloc, bytes.as_slice())?;
         self.store.insert(key, Value::Str(value))?;
         Ok(())
     }
 
     fn remove(&mut self, key: &str) -> Result<()> {
-        let key = shared_bytes_of(self.alloc, key)?;
+        let key = string_of(self.alloc, key)?;
         self.store.remove(&key);
         Ok(())
     }
 
     fn rebuild(&mut self, key: &str) -> Result<()> {
-        let key = shared_bytes_of(self.alloc, key)?;
+        let key = string_of(self.alloc, key)?;
         let value = self.store.get(&key).context("the key isn't there")?;
         let request = request_making(self.alloc, &key, value)?;
         push_words(&mut self.given, request.as_slice())?;
@@ -143,4 +182,28 @@ impl<S: Store> Bench<S> {
         self.given.push('\n')?;
         Ok(())
     }
+}
+
+impl<S: SlotKeys> Bench<S> {
+    fn count(&mut self, slot: &str) -> Result<()> {
+        let count = self.store.count_in_slot(slot_of(slot)?);
+        let line = format!(in self.alloc; "{count}")?;
+        self.say(line.as_str())
+    }
+
+    fn keys(&mut self, words: &str) -> Result<()> {
+        let (slot, count) = verb_of(words);
+        let keys = self
+            .store
+            .keys_in_slot(self.alloc, slot_of(slot)?, count.parse::<usize>()?)?;
+        if keys.is_empty() {
+            return self.say("none");
+        }
+        push_words(&mut self.given, keys.as_slice())?;
+        self.say("")
+    }
+}
+
+fn slot_of(text: &str) -> Result<Slot> {
+    Slot::new(text.parse::<u16>()?).context("there is no such slot")
 }

@@ -1,7 +1,7 @@
 //! Words of requests, and replies, as the files have them.
 use crate::script::{push_bytes, push_word, words_of};
 use anyhow::{Context, Result, bail};
-use bytes::Bytes;
+use byte_string::ByteString;
 use command::{Command, DataCommand, KeyList, parse};
 use keyspace::{Store, Value};
 use resp2::{Reply, Words, append_reply};
@@ -36,7 +36,7 @@ pub fn push_reply(alloc: Global, text: &mut String, reply: &Reply) -> Result<()>
 }
 
 /// Puts the words behind the text, with blanks between them.
-pub fn push_words(text: &mut String, words: &[Bytes]) -> Result<()> {
+pub fn push_words(text: &mut String, words: &[ByteString]) -> Result<()> {
     let mut is_first = true;
     for word in words {
         if !is_first {

@@ -1,21 +1,21 @@
 //! A conversation's way to a node: a cell behind a lock.
 
-use node_cell::{Asks, Deployment, Entered, NodeCell, NodeGate};
+use node_cell::{Asks, Deployment, Entered, Log, NodeCell, NodeGate};
 use node_core::{Event, StepFault};
 use std::alloc::Global;
 use std::sync::{Arc, Mutex, Wait};
 
-/// One conversation's way to a node of the cluster `K`. The handle `rt` is the leave to wait for the node's lock.
+/// One conversation's way to a node of the cluster `K`, whose journal is an `L`. The handle `rt` is the leave to wait for the node's lock.
 #[derive(Drop)]
-pub struct Gate<K: Deployment, R: Wait> {
+pub struct Gate<K: Deployment, L: Log, R: Wait> {
     rt: R,
-    node: Arc<Mutex<NodeCell<K>>, Global>,
+    node: Arc<Mutex<NodeCell<K, L>>, Global>,
     asks: Asks,
 }
 
-impl<K: Deployment, R: Wait> Gate<K, R> {
+impl<K: Deployment, L: Log, R: Wait> Gate<K, L, R> {
     /// A way through which nothing was asked yet.
-    pub fn new(rt: R, node: Arc<Mutex<NodeCell<K>>, Global>) -> Gate<K, R> {
+    pub fn new(rt: R, node: Arc<Mutex<NodeCell<K, L>>, Global>) -> Gate<K, L, R> {
         Gate {
             rt,
             node,
@@ -24,14 +24,14 @@ impl<K: Deployment, R: Wait> Gate<K, R> {
     }
 }
 
-impl<K: Deployment, R: Wait + Drop> Gate<K, R> {
+impl<K: Deployment, L: Log, R: Wait + Drop> Gate<K, L, R> {
     /// The node, once the conversation is over.
-    pub fn into_node(self) -> Arc<Mutex<NodeCell<K>>, Global> {
+    pub fn into_node(self) -> Arc<Mutex<NodeCell<K, L>>, Global> {
         self.node
     }
 }
 
-impl<K: Deployment, R: Wait> NodeGate for Gate<K, R> {
+impl<K: Deployment, L: Log, R: Wait> NodeGate for Gate<K, L, R> {
     type Answer = Entered<K>;
 
     ghost use Rattle.cluster.specs.Answers.{MayAnswer, MayRefuse};

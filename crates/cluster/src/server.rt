@@ -5,7 +5,7 @@ ghost use Rattle.tickets.specs.Tickets.{IsFresh};
 use crate::gate::Gate;
 use cluster_config::Config;
 use listener::serve_conn;
-use node_cell::{Deployment, NodeCell};
+use node_cell::{Deployment, Log, NodeCell};
 use resp2::Counting;
 use slot_table::NodeNo;
 use std::alloc::{AllocError, Global};
@@ -13,10 +13,10 @@ use std::net::{TcpListener, TcpStream};
 use std::sync::{Arc, Mutex, Wait};
 use tickets::Seat;
 
-/// Runs the node with this number, and serves who connects to the listener, one client after another.
+/// Runs the node with this number, with an `L` as its journal, and serves who connects to the listener, one client after another.
 ///
 /// Running out of memory ends the server only at its start; later it ends one client's conversation.
-pub fn run_node<K: Deployment, R: Wait + Copy + Drop>(
+pub fn run_node<K: Deployment, L: Log + Drop, R: Wait + Copy + Drop>(
     rt: R,
     alloc: Global,
     config: &Config,
@@ -27,7 +27,7 @@ pub fn run_node<K: Deployment, R: Wait + Copy + Drop>(
     requires cluster { config.now ≡ K.config }
     requires seat { IsFresh K.table K.seats seat }
 {
-    let cell = NodeCell::<K>::new(alloc, config, node, seat)?;
+    let cell = NodeCell::<K, L>::new(alloc, config, node, seat)?;
     let node = Arc::new(alloc, Mutex::new(cell)).map_err(AllocError::from)?;
     for stream in listener.incoming() {
         if let Ok(stream) = stream {
@@ -38,10 +38,10 @@ pub fn run_node<K: Deployment, R: Wait + Copy + Drop>(
 }
 
 // Serves one client. What ends its conversation concerns that client alone.
-fn serve_client<K: Deployment, R: Wait + Drop>(
+fn serve_client<K: Deployment, L: Log + Drop, R: Wait + Drop>(
     rt: R,
     alloc: Global,
-    node: &Arc<Mutex<NodeCell<K>>, Global>,
+    node: &Arc<Mutex<NodeCell<K, L>>, Global>,
     stream: &TcpStream,
 ) {
     let Ok(node) = Arc::try_clone(node) else {

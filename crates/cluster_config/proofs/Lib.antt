@@ -2,5 +2,6 @@ mod BuildLemmas
 mod FormLemmas
 mod OwnerLemmas
 mod PairLemmas
+mod PlaceLemmas
 mod TextLemmas
 mod WorkedValues

@@ -1,7 +1,7 @@
 -- The owners of the slots, node by node.
 use Rattle.std.proofs.Common.{◌≡◌, sym, ◌∙◌, ap, ℕ, ◌+◌, ◌<◌, List, ◌++◌, length, get_or, drop, append_assoc}
 use Rattle.std.proofs.lemmas.List.{at_drop_more}
-use Rattle.slot_table.specs.declared.run.Run.{Run}
+use Rattle.slot_table.specs.declared.runs.Run.{Run}
 use Rattle.cluster_config.specs.declared.config.NodeConfig.{NodeConfig}
 use Rattle.cluster_config.specs.Config.{runs_of, owners_from}
 

@@ -2,8 +2,9 @@
 use Rattle.std.proofs.Common.{◌≡◌, ◌++◌, [], ◌∷◌, List, ℕ, Some, None, true, false, refl}
 use Rattle.std.specs.Prelude.{codes, pos, negsuc, Ok, Err, replicate}
 use Rattle.serde_json.specs.Data.{Data, Members, number, unsigned, string, array, object, no_items, item, no_members, member}
-use Rattle.cluster_config.specs.Faults.{are_votes, range_from}
-use Rattle.cluster_config.specs.Reading.{read_value}
+use Rattle.cluster_config.specs.Faults.{fault_of, range_from}
+use Rattle.cluster_config.specs.Form.{draft_in, node_in}
+use Rattle.cluster_config.specs.Reading.{config_of, read_draft}
 use Rattle.cluster_config.specs.Texts.{is_id, is_host}
 use Rattle.cluster_config.specs.declared.config.Role.TheVariants.{Master, Replica}
 use Rattle.cluster_config.specs.declared.fault.ConfigFault.TheVariants as fault
@@ -26,9 +27,6 @@ a_slot_too_many = refl
 below_all_slots : range_from (negsuc 0, pos 5) ≡ None
 below_all_slots = refl
 
-a_vote_twice : are_votes 3 (0 ∷ 2 ∷ 0 ∷ []) ≡ false
-a_vote_twice = refl
-
 id_1 : List ℕ
 id_1 = replicate 39 48 ++ codes "1"
 
@@ -46,7 +44,7 @@ pair last port =
     object (member (codes "node_timeout") (number (unsigned 20)) (member (codes "nodes") (array nodes) (member (codes "tick_ms") (number (unsigned 100))
     (member (codes "voters") (array (item (string id_1) no_items)) no_members))))
 
-a_pair_is_read : read_value (Some (pair 16383 7001)) ≡ Ok (record {
+a_pair_is_read : read_draft (draft_in (pair 16383 7001)) ≡ Ok (record {
   tick_ms = 100;
   node_timeout = 20;
   nodes = record { id = replicate 39 48 ++ codes "1"; host = codes "a"; port = 7000; role = Master (record { first = 0; last = 16383 } ∷ []) }
@@ -54,13 +52,13 @@ a_pair_is_read : read_value (Some (pair 16383 7001)) ≡ Ok (record {
       ∷ [];
   voters = 0 ∷ [];
 })
-unfolding id_1 slots_to node_with pair
+unfolding id_1 slots_to node_with pair draft_in node_in fault_of config_of
 a_pair_is_read = refl
 
-an_address_twice : read_value (Some (pair 16383 7000)) ≡ Err fault.Address
-unfolding id_1 slots_to node_with pair
+an_address_twice : read_draft (draft_in (pair 16383 7000)) ≡ Err fault.Address
+unfolding id_1 slots_to node_with pair draft_in node_in fault_of config_of
 an_address_twice = refl
 
-slots_before_address : read_value (Some (pair 16384 7000)) ≡ Err fault.Slots
-unfolding id_1 slots_to node_with pair
+slots_before_address : read_draft (draft_in (pair 16384 7000)) ≡ Err fault.Slots
+unfolding id_1 slots_to node_with pair draft_in node_in fault_of config_of
 slots_before_address = refl

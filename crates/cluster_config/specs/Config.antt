@@ -4,11 +4,11 @@ use Rattle.std.specs.List.{list_all, flat_map}
 use Rattle.std.specs.Ordering.{is_lt, nat_cmp}
 use Rattle.std.specs.Cmp.Lexicographic.{slice_cmp}
 use Rattle.std.specs.Str.{bytes_eq}
-use Rattle.slot_table.specs.declared.run.Run.{Run}
+use Rattle.slot_table.specs.declared.runs.Run.{Run}
 use Rattle.cluster_config.specs.declared.config.NodeConfig.{NodeConfig}
 use Rattle.cluster_config.specs.declared.config.Role.{Role}
 use Rattle.cluster_config.specs.declared.config.Role.TheVariants.{Master, Replica}
-use Rattle.cluster_config.specs.declared.config.SlotRange.{SlotRange}
+use Rattle.key_slot.specs.declared.slots.SlotRange.{SlotRange}
 
 -- its nodes by their numbers, the numbers of those that vote, the length of a tick and how many of them a node may be silent
 pub record ClusterConfig : Type 0 where
@@ -89,7 +89,7 @@ pub record IsCluster (config : ClusterConfig) : Type 0 where
 
 -- the slots of a range, owned by the node
 abbrev pub run_of : ℕ → SlotRange → Run ℕ
-run_of number range = record { first = range.first; last = range.last; value = number }
+run_of number range = record { slots = range; value = number }
 
 -- the slots of a master, range by range; a replica has none
 abbrev pub runs_of : ℕ → Role → List (Run ℕ)

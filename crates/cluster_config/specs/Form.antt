@@ -1,14 +1,20 @@
--- The form of the JSON text: which members its objects have, of which kind their values are, and what a node of it has.
-use Rattle.std.specs.Prelude.{ℕ, ◌+◌, ◌&&◌, ◌==◌, Bool, false, List, [], ◌∷◌, map, Option, Some, None, option_map, option_and_then, is_some, is_none, if◌then◌else◌, ℤ, pos, codes}
-use Rattle.std.specs.List.{list_all}
-use Rattle.std.specs.Option.{option_map_or, unwrap_or}
+-- The form of the JSON text: which members its objects have, of which kind their values are, and what it says of the cluster.
+use Rattle.std.specs.Prelude.{◌≡◌, ℕ, ◌+◌, ◌==◌, ◌⊎◌, Bool, false, List, [], ◌∷◌, Option, Some, None, Result, Ok, Err, option_map, option_and_then, is_some, is_none, if◌then◌else◌, ℤ, codes}
+use Rattle.std.specs.Option.{option_map_or}
 use Rattle.serde_json.specs.Data.{Data, Items, no_items, item, Members, no_members, member}
 use Rattle.serde_json.specs.Find.{get, at, as_str, as_number, as_array, as_object, as_integer}
+use Rattle.cluster_config.specs.Texts.{is_host}
+use Rattle.cluster_config.specs.declared.fault.ConfigFault.{ConfigFault}
+use Rattle.cluster_config.specs.declared.fault.ConfigFault.TheVariants.{Memory, Syntax}
+use Rattle.cluster_config.specs.declared.form.Draft.{Draft}
+use Rattle.cluster_config.specs.declared.form.NodeDraft.{NodeDraft}
+use Rattle.cluster_config.specs.declared.form.RoleDraft.{RoleDraft}
+use Rattle.cluster_config.specs.declared.form.RoleDraft.TheVariants.{Slots, ReplicaOf}
 
--- the items of an array, in order
-abbrev pub list_of : Items → List Data
-list_of no_items = []
-list_of (item value items) = value ∷ list_of items
+-- what has the form is read, and what hasn't is no configuration; or memory was refused
+abbrev pub IsReadAs : {A : Type 0} → Option A → Result A ConfigFault → Type 0
+IsReadAs meant (Ok read) = meant ≡ Some read
+IsReadAs meant (Err fault) = (fault ≡ Memory) ⊎ ((fault ≡ Syntax) × (meant ≡ None))
 
 -- how many members there are
 abbrev pub count_of : Members → ℕ
@@ -19,94 +25,60 @@ count_of (member name value members) = count_of members + 1
 abbrev pub has_four_members : Data → Bool
 has_four_members value = option_map_or (λ members. count_of members == 4) (as_object value) false
 
--- an integer. A number with a fraction or an exponent is none, nor is -0 or one that 64 bits don't hold
-abbrev pub integer_in : Data → Option ℤ
-integer_in value = option_and_then as_integer (as_number value)
+-- what the four give, if all are there
+abbrev pub all_four : {A B C D R : Type 0} → (A → B → C → D → R) → Option A → Option B → Option C → Option D → Option R
+all_four make (Some a) (Some b) (Some c) (Some d) = Some (make a b c d)
+all_four make _ _ _ _ = None
 
--- the integer of that name
-abbrev pub integer_at : List ℕ → Data → Option ℤ
-integer_at name value = option_and_then integer_in (get name value)
-
--- the text of that name
-abbrev pub text_at : List ℕ → Data → Option (List ℕ)
-text_at name value = option_and_then as_str (get name value)
-
--- the items of the array of that name
-abbrev pub items_at : List ℕ → Data → Option (List Data)
-items_at name value = option_map list_of (option_and_then as_array (get name value))
-
--- these items; none, if there is no such array
-abbrev pub items_of : List ℕ → Data → List Data
-items_of name value = unwrap_or (items_at name value) []
-
--- the pair of both, if both are there
+-- the two, if both are there
 abbrev pub both : {A B : Type 0} → Option A → Option B → Option (A × B)
 both (Some a) (Some b) = Some (a, b)
 both _ _ = None
 
+-- an integer. A number with a fraction or an exponent is none, nor is -0 or one that 64 bits don't hold
+abbrev pub integer_in : Data → Option ℤ
+integer_in value = option_and_then as_integer (as_number value)
+
+-- a text that is a host
+abbrev pub host_in : Data → Option (List ℕ)
+host_in value = option_and_then (λ text. if is_host text then Some text else None) (as_str value)
+
+-- a value of that form, where there is one
+abbrev pub form_at : {A : Type 0} → (Data → Option A) → Option Data → Option A
+form_at form value = option_and_then form value
+
 -- an array of two integers
 abbrev pub pair_in : Data → Option (ℤ × ℤ)
-pair_in value =
-    if is_none (at 2 value) then both (option_and_then integer_in (at 0 value)) (option_and_then integer_in (at 1 value)) else None
+pair_in value = if is_none (at 2 value) then both (form_at integer_in (at 0 value)) (form_at integer_in (at 1 value)) else None
 
--- it is one
-abbrev pub is_pair : Data → Bool
-is_pair value = is_some (pair_in value)
+-- items that all have the form
+abbrev pub each : {A : Type 0} → (Data → Option A) → Items → Option (List A)
+each form no_items = Some []
+each form (item value items) = option_and_then (λ first. option_map (λ rest. first ∷ rest) (each form items)) (form value)
 
--- a text
-abbrev pub is_text : Data → Bool
-is_text value = is_some (as_str value)
-
--- an array of that name, all of whose items pass
-abbrev pub has_each : List ℕ → (Data → Bool) → Data → Bool
-has_each name test value = option_map_or (list_all test) (items_at name value) false
+-- an array of such items
+abbrev pub items_in : {A : Type 0} → (Data → Option A) → Data → Option (List A)
+items_in form value = option_and_then (each form) (as_array value)
 
 -- a master has slots, a replica the id of its master
-abbrev pub has_role : Data → Bool
-has_role node = if is_some (get (codes "slots") node) then has_each (codes "slots") is_pair node else is_some (text_at (codes "replica_of") node)
+abbrev pub role_in : Data → Option RoleDraft
+role_in node =
+    if is_some (get (codes "slots") node) then option_map (λ slots. Slots slots) (form_at (items_in pair_in) (get (codes "slots") node))
+    else option_map (λ id. ReplicaOf id) (form_at as_str (get (codes "replica_of") node))
 
 -- an object of an id, a host, a port and a role
-abbrev pub is_node : Data → Bool
-is_node node =
-    has_four_members node && is_some (text_at (codes "id") node) && is_some (text_at (codes "host") node)
-    && is_some (integer_at (codes "port") node) && has_role node
+unfoldable pub node_in : Data → Option NodeDraft
+node_in node =
+    if has_four_members node then
+    all_four (λ id host port role. record { id = id; host = host; port = port; role = role })
+    (form_at as_str (get (codes "id") node)) (form_at host_in (get (codes "host") node)) (form_at integer_in (get (codes "port") node)) (role_in node)
+    else None
 
 -- an object of two times, the nodes, and the ids of the voters
-abbrev pub is_configuration : Data → Bool
-is_configuration value =
-    has_four_members value && is_some (integer_at (codes "tick_ms") value) && is_some (integer_at (codes "node_timeout") value)
-    && has_each (codes "nodes") is_node value && has_each (codes "voters") is_text value
-
--- the pair that a value of that form is
-abbrev pub pair_of : Data → ℤ × ℤ
-pair_of value = unwrap_or (pair_in value) (pos 0, pos 0)
-
--- the text that a value of that form is
-abbrev pub text_of : Data → List ℕ
-text_of value = unwrap_or (as_str value) []
-
--- what a node has: the first and the last of each range of its slots, if it is a master, or the id of its master
-pub record NodeText : Type 0 where
-  pub id : List ℕ
-  pub host : List ℕ
-  pub port : ℤ
-  pub slots : Option (List (ℤ × ℤ))
-  pub master : List ℕ
-
--- the node that a value of that form is
-abbrev pub node_text : Data → NodeText
-node_text node = record {
-  id = unwrap_or (text_at (codes "id") node) [];
-  host = unwrap_or (text_at (codes "host") node) [];
-  port = unwrap_or (integer_at (codes "port") node) (pos 0);
-  slots = option_map (map pair_of) (items_at (codes "slots") node);
-  master = unwrap_or (text_at (codes "replica_of") node) [];
-}
-
--- the nodes of a configuration, in order
-abbrev pub nodes_in : Data → List NodeText
-nodes_in value = map node_text (items_of (codes "nodes") value)
-
--- the ids of those that vote
-abbrev pub voters_in : Data → List (List ℕ)
-voters_in value = map text_of (items_of (codes "voters") value)
+unfoldable pub draft_in : Data → Option Draft
+draft_in value =
+    if has_four_members value then
+    all_four (λ tick_ms node_timeout nodes voters. record { tick_ms = tick_ms; node_timeout = node_timeout; nodes = nodes; voters = voters })
+    (form_at integer_in (get (codes "tick_ms") value)) (form_at integer_in (get (codes "node_timeout") value))
+    (form_at (items_in node_in) (get (codes "nodes") value)) (form_at (items_in as_str) (get (codes "voters") value))
+    else None

@@ -1,176 +1,149 @@
 //! What may be wrong with a configuration whose form is right.
-ghost use Rattle.std.specs.Prelude.{◌≡◌, nat_lt, bytes_eq, IfOk};
+ghost use Rattle.std.specs.Prelude.{◌≡◌, Bool, None, Some, IfErr, IfOk, OnOk, ◌⊎◌};
+ghost use Rattle.std.specs.Fn.{FnReturnsAtPair};
 ghost use Rattle.std.specs.List.{list_all};
-ghost use Rattle.cluster_config.specs.Config.{all_pairs, are_apart, differ};
-ghost use Rattle.cluster_config.specs.Faults.{has_host, are_ids, has_id, has_lower_id, are_slots, has_ranges, has_master, number_of, are_votes, is_elsewhere, has_port, number_to};
+ghost use Rattle.cluster_config.specs.Config.{all_pairs};
+ghost use Rattle.cluster_config.specs.Faults.{are_ids, are_slots, are_voters, are_within, fault_of, follows_master, has_master, is_elsewhere, is_up_to, number_of, range_from};
+ghost use Rattle.cluster_config.specs.declared.fault.ConfigFault.TheVariants.{Memory};
 
-use crate::config::SlotRange;
-use crate::form::NodeText;
-use crate::names::{is_host, is_id};
+use crate::fault::{ConfigFault, hold};
+use crate::form::{Draft, NodeDraft, RoleDraft};
+use crate::names::is_id;
+use bytes::Bytes;
+use key_slot::{Slot, SlotRange};
+use slot_table::NodeNo;
 use std::alloc::{AllocError, Global};
 
-// Whether the test passes for each item with those behind it. The time is that of all pairs, so there should be few.
-macro_rules! all_pairs {
-    ($items:ident, $test:ident) => {{
-        for (at, item) in $items.iter().enumerate() {
-            if !$test(item, &$items[at + 1..]) {
+/// Tells the first thing that is wrong with what a text says, if anything is. It looks for the faults in the order in which
+/// [`ConfigFault`] has them.
+#[tactic(auto, unfolding(crate::specs::Faults::fault_of))]
+pub(crate) fn check(alloc: Global, draft: &Draft) -> Result<(), ConfigFault>
+    ensures ok { OnOk result (fault_of draft.now ≡ None) }
+    ensures err { IfErr result (λ fault. (fault ≡ Memory) ⊎ (fault_of draft.now ≡ Some fault)) }
+{
+    let nodes = draft.nodes.items.as_slice();
+    let voters = draft.voters.items.as_slice();
+    hold(are_ids(nodes), ConfigFault::Id)?;
+    hold(are_slots(alloc, nodes)?, ConfigFault::Slots)?;
+    hold(have_masters(nodes), ConfigFault::ReplicaOf)?;
+    hold(are_voters(nodes, voters), ConfigFault::Voters)?;
+    hold(nodes.len() <= NodeNo::COUNT, ConfigFault::TooManyNodes)?;
+    hold(have_own_addresses(nodes), ConfigFault::Address)?;
+    hold(are_within(draft), ConfigFault::Range)
+}
+
+// Whether the test passes for each item with each later one. The time is that of all pairs, so there should be few.
+fn all_pairs<T, F: Fn(&T, &T) -> bool>(items: &[T], test: F) -> bool
+    requires { F.IsAlwaysCallable test }
+    ensures { (passes : T → T → Bool)
+        → ((x : T) (y : T) (b : Bool) → FnReturnsAtPair F.Fn test x y b → b ≡ passes x y)
+        → result ≡ all_pairs passes items.now }
+{
+    let mut rest = items;
+    while let Some((item, later)) = rest.split_first() {
+        for other in later {
+            if !test(item, other) {
                 return false;
             }
         }
-        true
-    }};
+        rest = later;
+    }
+    true
 }
 
-/// Whether each host is one.
-pub(crate) fn have_hosts(nodes: &[NodeText]) -> bool
-    ensures { result ≡ list_all has_host nodes.now }
-{
-    nodes.iter().all(|node| is_host(node.host()))
-}
-
-/// Whether each id is one, and above the ids before it.
-pub(crate) fn are_ids(nodes: &[NodeText]) -> bool
+// Each id is one, and above the ids before it.
+fn are_ids(nodes: &[NodeDraft]) -> bool
     ensures { result ≡ are_ids nodes.now }
 {
-    have_ids(nodes) && do_rise(nodes)
+    nodes.iter().all(|node| is_id(node.id.as_slice()))
+        && all_pairs(nodes, |node, next| node.id < next.id)
 }
 
-fn do_rise(nodes: &[NodeText]) -> bool
-    ensures { result ≡ all_pairs has_lower_id nodes.now }
-{
-    all_pairs!(nodes, is_lowest)
-}
-
-fn have_ids(nodes: &[NodeText]) -> bool
-    ensures { result ≡ list_all has_id nodes.now }
-{
-    nodes.iter().all(|node| is_id(node.id()))
-}
-
-fn is_lowest(node: &NodeText, others: &[NodeText]) -> bool
-    ensures { result ≡ list_all (has_lower_id node.now) others.now }
-{
-    others
-        .iter()
-        .all(|other| node.id().cmp(&other.id()).is_lt())
-}
-
-/// Whether each pair is a range of slots, and no slot is in two, of one node or of two.
-pub(crate) fn are_slots(alloc: Global, nodes: &[NodeText]) -> Result<bool, AllocError>
+// Each pair is a range of slots, and no slot is in two, of one node or of two.
+fn are_slots(alloc: Global, nodes: &[NodeDraft]) -> Result<bool, AllocError>
     ensures { IfOk result (λ sound. sound ≡ are_slots nodes.now) }
 {
-    if !have_ranges(nodes) {
-        return Ok(false);
-    }
     let mut ranges = Vec::new(alloc);
     for node in nodes {
-        ranges.append(&mut node.ranges(alloc)?)?;
+        if let RoleDraft::Slots(pairs) = &node.role {
+            for pair in &pairs.items {
+                let Some(range) = range_from(pair) else {
+                    return Ok(false);
+                };
+                ranges.push(range)?;
+            }
+        }
     }
-    Ok(are_all_apart(ranges.as_slice()))
+    Ok(all_pairs(ranges.as_slice(), |range, other| {
+        range.last < other.first || other.last < range.first
+    }))
 }
 
-fn have_ranges(nodes: &[NodeText]) -> bool
-    ensures { result ≡ list_all has_ranges nodes.now }
+/// The slots from one to the same or a later one.
+pub(crate) fn range_from(pair: &(i128, i128)) -> Option<SlotRange>
+    ensures { result ≡ range_from pair.now }
 {
-    nodes.iter().all(|node| node.has_ranges())
+    let first = Slot::new(u16::try_from(pair.0).ok()?)?;
+    let last = Slot::new(u16::try_from(pair.1).ok()?)?;
+    (first <= last).then_some(SlotRange { first, last })
 }
 
-fn are_all_apart(ranges: &[SlotRange]) -> bool
-    ensures { result ≡ all_pairs are_apart ranges.now }
-{
-    all_pairs!(ranges, is_apart)
-}
-
-fn is_apart(range: &SlotRange, others: &[SlotRange]) -> bool
-    ensures { result ≡ list_all (are_apart range.now) others.now }
-{
-    others.iter().all(|other| range.last < other.first || other.last < range.first)
-}
-
-/// Whether each replica is one of a master of the list.
-pub(crate) fn have_masters(nodes: &[NodeText]) -> bool
+// Each replica is one of a master of the list.
+fn have_masters(nodes: &[NodeDraft]) -> bool
     ensures { result ≡ list_all (has_master nodes.now) nodes.now }
 {
-    nodes.iter().all(|node| has_master(nodes, node))
+    nodes.iter().all(|node| follows_master(nodes, &node.role))
 }
 
-fn has_master(nodes: &[NodeText], node: &NodeText) -> bool
-    ensures { result ≡ has_master nodes.now node.now }
+fn follows_master(nodes: &[NodeDraft], role: &RoleDraft) -> bool
+    ensures { result ≡ follows_master nodes.now role.now }
 {
-    if node.is_master() {
-        return true;
-    }
-    match nodes.get(number_of(nodes, node.master())) {
-        Some(master) => master.is_master(),
-        None => false,
+    match role {
+        RoleDraft::Slots(_) => true,
+        RoleDraft::ReplicaOf(id) => nodes
+            .get(number_of(nodes, id))
+            .is_some_and(|master| matches!(master.role, RoleDraft::Slots(_))),
     }
 }
 
 /// How many nodes stand before the one that has the id; all of them, if none has it.
-pub(crate) fn number_of(nodes: &[NodeText], id: &[u8]) -> usize
+pub(crate) fn number_of(nodes: &[NodeDraft], id: &Bytes) -> usize
     ensures { result ≡ number_of nodes.now id.now }
 {
-    nodes
-        .iter()
-        .position(|node| node.id() == id)
-        .unwrap_or(nodes.len())
+    let found = nodes.iter().position(|node| node.id == *id);
+    found.unwrap_or(nodes.len())
 }
 
-/// Whether there are votes, each of one of so many nodes, and none twice.
-pub(crate) fn are_votes(count: usize, votes: &[usize]) -> bool
-    ensures { result ≡ are_votes count votes.now }
+// Each is the id of a node, there is one, and none stands twice.
+fn are_voters(nodes: &[NodeDraft], voters: &[Bytes]) -> bool
+    ensures { result ≡ are_voters nodes.now voters.now }
 {
-    !votes.is_empty() && are_below(votes, count) && do_differ(votes)
+    voters.iter().all(|id| number_of(nodes, id) < nodes.len())
+        && !voters.is_empty()
+        && all_pairs(voters, |voter, other| voter != other)
 }
 
-fn are_below(votes: &[usize], count: usize) -> bool
-    ensures { result ≡ list_all (λ vote. nat_lt vote count) votes.now }
-{
-    votes.iter().all(|vote| *vote < count)
-}
-
-fn do_differ(votes: &[usize]) -> bool
-    ensures { result ≡ all_pairs differ votes.now }
-{
-    all_pairs!(votes, is_unique)
-}
-
-fn is_unique(vote: &usize, others: &[usize]) -> bool
-    ensures { result ≡ list_all (differ vote.now) others.now }
-{
-    others.iter().all(|other| vote != other)
-}
-
-/// Whether no host and port stands twice.
-pub(crate) fn have_own_addresses(nodes: &[NodeText]) -> bool
+// No host and port stands twice.
+fn have_own_addresses(nodes: &[NodeDraft]) -> bool
     ensures { result ≡ all_pairs is_elsewhere nodes.now }
 {
-    all_pairs!(nodes, is_alone)
+    all_pairs(nodes, |node, other| {
+        node.port != other.port || node.host.as_slice() != other.host.as_slice()
+    })
 }
 
-fn is_alone(node: &NodeText, others: &[NodeText]) -> bool
-    ensures { result ≡ list_all (is_elsewhere node.now) others.now }
+// The ports and the times are what they may be.
+fn are_within(draft: &Draft) -> bool
+    ensures { result ≡ are_within draft.now }
 {
-    others.iter().all(|other| !(node.host() == other.host() && node.port() == other.port()))
+    let nodes = draft.nodes.items.as_slice();
+    nodes.iter().all(|node| is_up_to(65_535, node.port))
+        && is_up_to(1_000_000, draft.tick_ms)
+        && is_up_to(1_000_000, draft.node_timeout)
 }
 
-/// Whether each port is one.
-pub(crate) fn have_ports(nodes: &[NodeText]) -> bool
-    ensures { result ≡ list_all has_port nodes.now }
+fn is_up_to(last: i128, number: i128) -> bool
+    ensures { result ≡ is_up_to last number }
 {
-    nodes
-        .iter()
-        .all(|node| number_to(65_535, node.port()).is_some())
-}
-
-/// The number, if it is one from 1 to the last.
-pub(crate) fn number_to(last: u32, number: i128) -> Option<u32>
-    ensures { result ≡ number_to last number }
-{
-    let number = u32::try_from(number).ok()?;
-    if (1..=last).contains(&number) {
-        Some(number)
-    } else {
-        None
-    }
+    (1..=last).contains(&number)
 }

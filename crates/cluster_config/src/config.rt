@@ -2,50 +2,28 @@
 ghost use Rattle.std.specs.Prelude.{◌≡◌, ◌++◌, IfOk, OnOk, slice_get, option_copied};
 ghost use Rattle.cluster_config.specs.Config.{IsCluster, first_owners, runs_of};
 
+mod building;
+
 use crate::names::{Host, NodeId};
-use key_slot::Slot;
+use key_slot::SlotRange;
 use slot_table::{NodeNo, Run};
 use std::alloc::{AllocError, Global};
 use std::marker::Model;
 
-/// The slots from `first` to `last`, both included.
-#[derive(Clone, Copy, PartialEq, Eq, Debug)]
-pub struct SlotRange {
-    /// The first slot.
-    pub first: Slot,
-    /// The last slot.
-    pub last: Slot,
-}
-
 /// The slots that a master has at the start.
 #[derive(Clone, Debug, Drop)]
 pub struct SlotRanges {
-    ranges: Vec<SlotRange>,
+    /// The ranges in order.
+    pub ranges: Vec<SlotRange>,
 }
 
 impl Model for SlotRanges {
     ghost use Rattle.std.specs.Prelude.{List};
-    ghost use Rattle.cluster_config.specs.declared.config.SlotRange.{SlotRange};
+    ghost use Rattle.key_slot.specs.declared.slots.SlotRange.{SlotRange};
 
     ghost Value = { List SlotRange };
 
     ghost view = { λ slots. slots.ranges.items };
-}
-
-impl SlotRanges {
-    /// The ranges in order.
-    pub fn new(ranges: Vec<SlotRange>) -> SlotRanges
-        ensures { result ≡ ranges.items }
-    {
-        SlotRanges { ranges }
-    }
-
-    /// The ranges in order.
-    pub fn as_slice(&self) -> &[SlotRange]
-        ensures { result.now ≡ self.now }
-    {
-        self.ranges.as_slice()
-    }
 }
 
 /// What a node is at the start.
@@ -106,23 +84,6 @@ impl Model for Config {
 }
 
 impl Config {
-    pub(crate) fn new(
-        tick_ms: u32,
-        node_timeout: u32,
-        nodes: Vec<NodeConfig>,
-        voters: Vec<NodeNo>,
-    ) -> Config
-        requires { IsCluster (record { tick_ms = tick_ms; node_timeout = node_timeout; nodes = nodes.items; voters = voters.items }) }
-        ensures { result ≡ record { tick_ms = tick_ms; node_timeout = node_timeout; nodes = nodes.items; voters = voters.items } }
-    {
-        Config {
-            tick_ms,
-            node_timeout,
-            nodes,
-            voters,
-        }
-    }
-
     /// The length of a tick, in milliseconds.
     pub fn tick_ms(&self) -> u32
         ensures { result ≡ self.now.tick_ms }
@@ -166,9 +127,7 @@ impl Config {
     {
         let mut runs = Vec::new(alloc);
         for (at, node) in self.nodes.iter().enumerate() {
-            let Some(owner) = NodeNo::new(at as u8) else {
-                unreachable!();
-            };
+            let owner = NodeNo::new(at as u8).unwrap();
             add_runs(&mut runs, owner, &node.role)?;
         }
         Ok(runs)
@@ -179,19 +138,15 @@ impl Config {
 fn add_runs(runs: &mut Vec<Run<NodeNo>>, owner: NodeNo, role: &Role) -> Result<(), AllocError>
     ensures { OnOk result (runs.new.items ≡ runs.old.items ++ runs_of owner role.now) }
 {
-    match role {
-        Role::Master { slots } => {
-            for range in slots.as_slice() {
-                runs.push(Run {
-                    first: range.first,
-                    last: range.last,
-                    value: owner,
-                })?;
-            }
-            Ok(())
+    if let Role::Master { slots } = role {
+        for range in &slots.ranges {
+            runs.push(Run {
+                slots: *range,
+                value: owner,
+            })?;
         }
-        Role::Replica { of: _ } => Ok(()),
     }
+    Ok(())
 }
 
 impl Clone for Config {

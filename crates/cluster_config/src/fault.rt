@@ -1,5 +1,5 @@
 //! Why a text is no configuration.
-ghost use Rattle.std.specs.Prelude.{◌≡◌};
+ghost use Rattle.std.specs.Prelude.{◌≡◌, IfErr, OnOk, true, false};
 ghost use Rattle.cluster_config.specs.declared.fault.ConfigFault.TheVariants.{Memory};
 
 use std::alloc::AllocError;
@@ -9,7 +9,7 @@ use thiserror::Error;
 /// memory was refused.
 #[derive(Clone, Copy, PartialEq, Eq, Debug, Error)]
 pub enum ConfigFault {
-    /// It is no JSON text in UTF-8, or a member is missing, strange or of the wrong kind, or a host is none.
+    /// It is no JSON text in UTF-8, or a member is missing, strange or of the wrong kind, or a host is malformed.
     #[error("not a configuration")]
     Syntax,
     /// An id isn't 40 hexadecimal digits in lower case, or isn't above the id of the node before it.
@@ -44,4 +44,12 @@ impl From<AllocError> for ConfigFault {
     fn from(_error: AllocError) -> ConfigFault {
         ConfigFault::Memory
     }
+}
+
+/// What has to hold, or else the fault.
+pub(crate) fn hold(holds: bool, fault: ConfigFault) -> Result<(), ConfigFault>
+    ensures ok { OnOk result (holds ≡ true) }
+    ensures err { IfErr result (λ told. (told ≡ fault) × (holds ≡ false)) }
+{
+    if holds { Ok(()) } else { Err(fault) }
 }

@@ -8,7 +8,7 @@ mod form;
 mod names;
 mod reading;
 
-pub use config::{Config, NodeConfig, Role, SlotRange, SlotRanges};
+pub use config::{Config, NodeConfig, Role, SlotRanges};
 pub use fault::ConfigFault;
 pub use names::{Host, NodeId};
 pub use reading::read_config;

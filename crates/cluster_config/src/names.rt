@@ -1,6 +1,5 @@
 //! The texts of a node: its id, and where clients reach it.
 ghost use Rattle.std.specs.Prelude.{◌≡◌, IsTrue, SomeIff};
-ghost use Rattle.std.specs.List.{list_all};
 ghost use Rattle.cluster_config.specs.Texts.{is_id, is_id_digit, is_host, is_host_character};
 
 use bytes::Bytes;
@@ -31,19 +30,10 @@ impl NodeId {
     pub fn new(text: Bytes) -> Option<NodeId>
         ensures { SomeIff result (IsTrue (is_id text)) text }
     {
-        if is_id(text.as_slice()) {
-            Some(NodeId { text })
-        } else {
-            None
+        if !is_id(text.as_slice()) {
+            return None;
         }
-    }
-
-    /// The digits.
-    pub fn as_slice(&self) -> &[u8]
-        ensures text { result.now ≡ self.now }
-        ensures id { IsTrue (is_id self.now) }
-    {
-        self.text.as_slice()
+        Some(NodeId { text })
     }
 
     /// The digits, to be shared.
@@ -80,11 +70,10 @@ impl Host {
     pub fn new(text: Bytes) -> Option<Host>
         ensures { SomeIff result (IsTrue (is_host text)) text }
     {
-        if is_host(text.as_slice()) {
-            Some(Host { text })
-        } else {
-            None
+        if !is_host(text.as_slice()) {
+            return None;
         }
+        Some(Host { text })
     }
 
     /// The characters.
@@ -108,13 +97,7 @@ impl Host {
 pub(crate) fn is_id(text: &[u8]) -> bool
     ensures { result ≡ is_id text.now }
 {
-    text.len() == NodeId::LEN && are_id_digits(text)
-}
-
-fn are_id_digits(text: &[u8]) -> bool
-    ensures { result ≡ list_all is_id_digit text.now }
-{
-    text.iter().all(|byte| is_id_digit(*byte))
+    text.len() == NodeId::LEN && text.iter().all(|byte| is_id_digit(*byte))
 }
 
 fn is_id_digit(byte: u8) -> bool
@@ -127,13 +110,7 @@ fn is_id_digit(byte: u8) -> bool
 pub(crate) fn is_host(text: &[u8]) -> bool
     ensures { result ≡ is_host text.now }
 {
-    (1..=Host::MOST_LEN).contains(&text.len()) && are_host_characters(text)
-}
-
-fn are_host_characters(text: &[u8]) -> bool
-    ensures { result ≡ list_all is_host_character text.now }
-{
-    text.iter().all(|byte| is_host_character(*byte))
+    (1..=Host::MOST_LEN).contains(&text.len()) && text.iter().all(|byte| is_host_character(*byte))
 }
 
 fn is_host_character(byte: u8) -> bool

@@ -8,7 +8,7 @@ use Rattle.command.specs.Names.{name_of}
 use Rattle.command.specs.Table.{command_of}
 use Rattle.command.specs.declared.names.Name.TheVariants as name
 use Rattle.command.specs.declared.command.Command.TheVariants.{Data, Cluster}
-use Rattle.command.specs.declared.command.DataCommand.TheVariants.{Ping, Get, Set, Mget}
+use Rattle.command.specs.declared.command.DataCommand.TheVariants.{Ping, Echo, Get, Set, Mget, Setnx, Getset, Getdel, Append, Incr, Decr, Incrby, Strlen, Del, Exists, TypeOf}
 use Rattle.command.specs.declared.command.ClusterCommand.TheVariants.{KeySlot, MyId, Slots}
 use Rattle.command.specs.declared.fault.CommandFault.TheVariants.{Unknown, UnknownSubcommand, Arity}
 
@@ -22,6 +22,57 @@ set_a_1 = refl
 
 ping : command_of (codes "ping" ∷ []) ≡ Ok (Data Ping)
 ping = refl
+
+-- with a message PING is ECHO
+ping_a : command_of (codes "PING" ∷ codes "a" ∷ []) ≡ Ok (Data (Echo (codes "a")))
+ping_a = refl
+
+echo_a : command_of (codes "echo" ∷ codes "a" ∷ []) ≡ Ok (Data (Echo (codes "a")))
+echo_a = refl
+
+echo : command_of (codes "ECHO" ∷ []) ≡ Err (Arity name.Echo)
+echo = refl
+
+setnx_a_1 : command_of (codes "SETNX" ∷ codes "a" ∷ codes "1" ∷ []) ≡ Ok (Data (Setnx (codes "a") (codes "1")))
+setnx_a_1 = refl
+
+getset_a_1 : command_of (codes "GETSET" ∷ codes "a" ∷ codes "1" ∷ []) ≡ Ok (Data (Getset (codes "a") (codes "1")))
+getset_a_1 = refl
+
+getdel_a : command_of (codes "GETDEL" ∷ codes "a" ∷ []) ≡ Ok (Data (Getdel (codes "a")))
+getdel_a = refl
+
+append_a : command_of (codes "APPEND" ∷ codes "a" ∷ []) ≡ Err (Arity name.Append)
+append_a = refl
+
+append_a_1 : command_of (codes "APPEND" ∷ codes "a" ∷ codes "1" ∷ []) ≡ Ok (Data (Append (codes "a") (codes "1")))
+append_a_1 = refl
+
+incr_a : command_of (codes "INCR" ∷ codes "a" ∷ []) ≡ Ok (Data (Incr (codes "a")))
+incr_a = refl
+
+decr_a : command_of (codes "DECR" ∷ codes "a" ∷ []) ≡ Ok (Data (Decr (codes "a")))
+decr_a = refl
+
+-- an increment that is no number is a fault of the execution
+incrby_a_x : command_of (codes "INCRBY" ∷ codes "a" ∷ codes "x" ∷ []) ≡ Ok (Data (Incrby (codes "a") (codes "x")))
+incrby_a_x = refl
+
+incrby_a : command_of (codes "INCRBY" ∷ codes "a" ∷ []) ≡ Err (Arity name.Incrby)
+incrby_a = refl
+
+del_a_b : command_of (codes "DEL" ∷ codes "a" ∷ codes "b" ∷ []) ≡ Ok (Data (Del (codes "a" ∷ codes "b" ∷ [])))
+del_a_b = refl
+
+strlen_a : command_of (codes "STRLEN" ∷ codes "a" ∷ []) ≡ Ok (Data (Strlen (codes "a")))
+strlen_a = refl
+
+type_a : command_of (codes "TYPE" ∷ codes "a" ∷ []) ≡ Ok (Data (TypeOf (codes "a")))
+type_a = refl
+
+-- a key may be repeated
+exists_a_a : command_of (codes "EXISTS" ∷ codes "a" ∷ codes "a" ∷ []) ≡ Ok (Data (Exists (codes "a" ∷ codes "a" ∷ [])))
+exists_a_a = refl
 
 -- keys, in their order
 mget_a_b : command_of (codes "MGET" ∷ codes "a" ∷ codes "b" ∷ []) ≡ Ok (Data (Mget (codes "a" ∷ codes "b" ∷ [])))
@@ -77,6 +128,10 @@ keys_of_set = refl
 
 keys_of_mget : keys_of (Data (Mget (codes "a" ∷ codes "b" ∷ []))) ≡ codes "a" ∷ codes "b" ∷ []
 keys_of_mget = refl
+
+-- a message is no key
+keys_of_echo : keys_of (Data (Echo (codes "a"))) ≡ []
+keys_of_echo = refl
 
 -- MGET takes a list of keys, even where it has one
 only_key_of_set : only_key (Data (Set (codes "a") (codes "1"))) ≡ Some (codes "a")

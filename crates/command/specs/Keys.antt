@@ -3,14 +3,26 @@ use Rattle.std.specs.Prelude.{List, [], ◌∷◌, ℕ, Bool, true, false, Optio
 use Rattle.command.specs.declared.command.Command.{Command}
 use Rattle.command.specs.declared.command.Command.TheVariants.{Data, Cluster}
 use Rattle.command.specs.declared.command.DataCommand.{DataCommand}
-use Rattle.command.specs.declared.command.DataCommand.TheVariants.{Ping, Get, Set, Mget}
+use Rattle.command.specs.declared.command.DataCommand.TheVariants.{Ping, Echo, Get, Set, Mget, Setnx, Getset, Getdel, Append, Incr, Decr, Incrby, Strlen, Del, Exists, TypeOf}
 
 -- the arguments that are keys
 abbrev pub data_keys : DataCommand → List (List ℕ)
 data_keys Ping = []
+data_keys (Echo message) = []
 data_keys (Get key) = key ∷ []
 data_keys (Set key value) = key ∷ []
 data_keys (Mget keys) = keys
+data_keys (Setnx key value) = key ∷ []
+data_keys (Getset key value) = key ∷ []
+data_keys (Getdel key) = key ∷ []
+data_keys (Append key value) = key ∷ []
+data_keys (Incr key) = key ∷ []
+data_keys (Decr key) = key ∷ []
+data_keys (Incrby key increment) = key ∷ []
+data_keys (Strlen key) = key ∷ []
+data_keys (Del keys) = keys
+data_keys (Exists keys) = keys
+data_keys (TypeOf key) = key ∷ []
 
 -- a command about the cluster names none
 abbrev pub keys_of : Command → List (List ℕ)
@@ -20,9 +32,21 @@ keys_of (Cluster command) = []
 -- the key of a command whose syntax has exactly one
 abbrev pub only_data_key : DataCommand → Option (List ℕ)
 only_data_key Ping = None
+only_data_key (Echo message) = None
 only_data_key (Get key) = Some key
 only_data_key (Set key value) = Some key
 only_data_key (Mget keys) = None
+only_data_key (Setnx key value) = Some key
+only_data_key (Getset key value) = Some key
+only_data_key (Getdel key) = Some key
+only_data_key (Append key value) = Some key
+only_data_key (Incr key) = Some key
+only_data_key (Decr key) = Some key
+only_data_key (Incrby key increment) = Some key
+only_data_key (Strlen key) = Some key
+only_data_key (Del keys) = None
+only_data_key (Exists keys) = None
+only_data_key (TypeOf key) = Some key
 
 abbrev pub only_key : Command → Option (List ℕ)
 only_key (Data command) = only_data_key command
@@ -31,9 +55,21 @@ only_key (Cluster command) = None
 -- the command may change the keyspace
 abbrev pub is_data_write : DataCommand → Bool
 is_data_write Ping = false
+is_data_write (Echo message) = false
 is_data_write (Get key) = false
 is_data_write (Set key value) = true
 is_data_write (Mget keys) = false
+is_data_write (Setnx key value) = true
+is_data_write (Getset key value) = true
+is_data_write (Getdel key) = true
+is_data_write (Append key value) = true
+is_data_write (Incr key) = true
+is_data_write (Decr key) = true
+is_data_write (Incrby key increment) = true
+is_data_write (Strlen key) = false
+is_data_write (Del keys) = true
+is_data_write (Exists keys) = false
+is_data_write (TypeOf key) = false
 
 abbrev pub is_write : Command → Bool
 is_write (Data command) = is_data_write command

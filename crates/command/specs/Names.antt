@@ -2,20 +2,32 @@
 use Rattle.std.specs.Prelude.{List, [], ◌∷◌, ℕ, Option, codes, find}
 use Rattle.std.specs.Str.{str_eq_ignore_ascii_case}
 use Rattle.command.specs.declared.names.Name.{Name}
-use Rattle.command.specs.declared.names.Name.TheVariants.{Ping, Get, Set, Mget, Cluster}
+use Rattle.command.specs.declared.names.Name.TheVariants.{Get, Set, Ping, Echo, Mget, Setnx, Getset, Getdel, Append, Incr, Decr, Incrby, Strlen, Del, Exists, TypeOf, Cluster}
 use Rattle.command.specs.declared.names.Subcommand.{Subcommand}
 use Rattle.command.specs.declared.names.Subcommand.TheVariants.{KeySlot, MyId, Slots}
 
 -- each name in lower case
 abbrev pub name_text : Name → List ℕ
-name_text Ping = codes "ping"
 name_text Get = codes "get"
 name_text Set = codes "set"
+name_text Ping = codes "ping"
+name_text Echo = codes "echo"
 name_text Mget = codes "mget"
+name_text Setnx = codes "setnx"
+name_text Getset = codes "getset"
+name_text Getdel = codes "getdel"
+name_text Append = codes "append"
+name_text Incr = codes "incr"
+name_text Decr = codes "decr"
+name_text Incrby = codes "incrby"
+name_text Strlen = codes "strlen"
+name_text Del = codes "del"
+name_text Exists = codes "exists"
+name_text TypeOf = codes "type"
 name_text Cluster = codes "cluster"
 
 abbrev pub names : List Name
-names = Ping ∷ Get ∷ Set ∷ Mget ∷ Cluster ∷ []
+names = Get ∷ Set ∷ Ping ∷ Echo ∷ Mget ∷ Setnx ∷ Getset ∷ Getdel ∷ Append ∷ Incr ∷ Decr ∷ Incrby ∷ Strlen ∷ Del ∷ Exists ∷ TypeOf ∷ Cluster ∷ []
 
 -- the name that a word spells, in letters of any case
 abbrev pub name_of : List ℕ → Option Name

@@ -7,7 +7,8 @@ use Rattle.command.specs.declared.names.Subcommand.{Subcommand}
 use Rattle.command.specs.declared.names.Subcommand.TheVariants as subcommand
 use Rattle.command.specs.declared.command.Command.{Command}
 use Rattle.command.specs.declared.command.Command.TheVariants.{Data, Cluster}
-use Rattle.command.specs.declared.command.DataCommand.TheVariants.{Ping, Get, Set, Mget}
+use Rattle.command.specs.declared.command.DataCommand.{DataCommand}
+use Rattle.command.specs.declared.command.DataCommand.TheVariants.{Ping, Echo, Get, Set, Mget, Setnx, Getset, Getdel, Append, Incr, Decr, Incrby, Strlen, Del, Exists, TypeOf}
 use Rattle.command.specs.declared.command.ClusterCommand.TheVariants.{KeySlot, MyId, Slots}
 use Rattle.command.specs.declared.fault.CommandFault.{CommandFault}
 use Rattle.command.specs.declared.fault.CommandFault.TheVariants.{Unknown, UnknownSubcommand, Arity, Memory}
@@ -22,18 +23,51 @@ with_subcommand (Some subcommand.MyId) (_ ∷ _) = Err (Arity name.Cluster)
 with_subcommand (Some subcommand.Slots) [] = Ok (Cluster Slots)
 with_subcommand (Some subcommand.Slots) (_ ∷ _) = Err (Arity name.Cluster)
 
+-- a command with one argument
+abbrev pub with_one : Name → (List ℕ → DataCommand) → List (List ℕ) → Result Command CommandFault
+with_one n make (argument ∷ []) = Ok (Data (make argument))
+with_one n make _ = Err (Arity n)
+
+-- with two
+abbrev pub with_two : Name → (List ℕ → List ℕ → DataCommand) → List (List ℕ) → Result Command CommandFault
+with_two n make (first ∷ second ∷ []) = Ok (Data (make first second))
+with_two n make _ = Err (Arity n)
+
+-- with one or more keys
+abbrev pub with_keys : Name → (List (List ℕ) → DataCommand) → List (List ℕ) → Result Command CommandFault
+with_keys n make (key ∷ keys) = Ok (Data (make (key ∷ keys)))
+with_keys n make [] = Err (Arity n)
+
+-- PING with a message is ECHO
+abbrev pub with_message : List (List ℕ) → Result Command CommandFault
+with_message [] = Ok (Data Ping)
+with_message (message ∷ []) = Ok (Data (Echo message))
+with_message _ = Err (Arity name.Ping)
+
+-- CLUSTER has subcommands
+abbrev pub with_subcommands : List (List ℕ) → Result Command CommandFault
+with_subcommands (word ∷ arguments) = with_subcommand (subcommand_of word) arguments
+with_subcommands [] = Err (Arity name.Cluster)
+
 -- a row a command: the arguments that it takes
 abbrev pub with_arguments : Name → List (List ℕ) → Result Command CommandFault
-with_arguments name.Ping [] = Ok (Data Ping)
-with_arguments name.Ping (_ ∷ _) = Err (Arity name.Ping)
-with_arguments name.Get (key ∷ []) = Ok (Data (Get key))
-with_arguments name.Get _ = Err (Arity name.Get)
-with_arguments name.Set (key ∷ value ∷ []) = Ok (Data (Set key value))
-with_arguments name.Set _ = Err (Arity name.Set)
-with_arguments name.Mget (key ∷ keys) = Ok (Data (Mget (key ∷ keys)))
-with_arguments name.Mget [] = Err (Arity name.Mget)
-with_arguments name.Cluster (word ∷ arguments) = with_subcommand (subcommand_of word) arguments
-with_arguments name.Cluster [] = Err (Arity name.Cluster)
+with_arguments name.Get arguments = with_one name.Get Get arguments
+with_arguments name.Set arguments = with_two name.Set Set arguments
+with_arguments name.Ping arguments = with_message arguments
+with_arguments name.Echo arguments = with_one name.Echo Echo arguments
+with_arguments name.Mget arguments = with_keys name.Mget Mget arguments
+with_arguments name.Setnx arguments = with_two name.Setnx Setnx arguments
+with_arguments name.Getset arguments = with_two name.Getset Getset arguments
+with_arguments name.Getdel arguments = with_one name.Getdel Getdel arguments
+with_arguments name.Append arguments = with_two name.Append Append arguments
+with_arguments name.Incr arguments = with_one name.Incr Incr arguments
+with_arguments name.Decr arguments = with_one name.Decr Decr arguments
+with_arguments name.Incrby arguments = with_two name.Incrby Incrby arguments
+with_arguments name.Strlen arguments = with_one name.Strlen Strlen arguments
+with_arguments name.Del arguments = with_keys name.Del Del arguments
+with_arguments name.Exists arguments = with_keys name.Exists Exists arguments
+with_arguments name.TypeOf arguments = with_one name.TypeOf TypeOf arguments
+with_arguments name.Cluster arguments = with_subcommands arguments
 
 abbrev pub named_command : Option Name → List (List ℕ) → Result Command CommandFault
 named_command None arguments = Err Unknown

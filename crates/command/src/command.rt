@@ -3,7 +3,7 @@ ghost use Rattle.std.specs.Prelude.{◌≡◌, ◌≢◌, ◌∷◌, [], ◌↔�
 ghost use Rattle.std.specs.Option.{option_copied};
 ghost use Rattle.command.specs.Keys.{data_keys, is_data_write, is_write, keys_of, only_data_key, only_key};
 
-use bytes::Bytes;
+use byte_string::ByteString;
 use std::alloc::{AllocError, Global};
 use std::marker::Model;
 
@@ -28,7 +28,7 @@ impl Command {
     }
 
     /// The key of a command whose syntax has exactly one. It needs no list of keys.
-    pub fn only_key(&self) -> Option<&Bytes>
+    pub fn only_key(&self) -> Option<&ByteString>
         ensures key { option_copied result ≡ only_key self.now }
         ensures alone { IfSome result (λ key. keys_of self.now ≡ key.now ∷ []) }
     {
@@ -40,26 +40,94 @@ impl Command {
 }
 
 /// A command that a node executes on its keys.
-#[derive(Clone, Debug, Drop)]
+#[derive(Debug, Drop)]
 pub enum DataCommand {
     /// Replies `PONG`.
     Ping,
+    /// Replies with the message, as PING does to one.
+    Echo {
+        /// The message.
+        message: ByteString,
+    },
     /// Reads the string at a key.
     Get {
         /// The key.
-        key: Bytes,
+        key: ByteString,
     },
     /// Puts a string at a key, and replaces whatever is there.
     Set {
         /// The key.
-        key: Bytes,
+        key: ByteString,
         /// The string.
-        value: Bytes,
+        value: ByteString,
     },
     /// Reads the strings at several keys.
     Mget {
         /// The keys; one may be repeated.
         keys: KeyList,
+    },
+    /// Puts a string at a key that is missing.
+    Setnx {
+        /// The key.
+        key: ByteString,
+        /// The string.
+        value: ByteString,
+    },
+    /// Puts a string at a key, and reads the one before.
+    Getset {
+        /// The key.
+        key: ByteString,
+        /// The string.
+        value: ByteString,
+    },
+    /// Reads the string at a key, and removes the key.
+    Getdel {
+        /// The key.
+        key: ByteString,
+    },
+    /// Puts bytes behind the string at a key.
+    Append {
+        /// The key.
+        key: ByteString,
+        /// The bytes.
+        value: ByteString,
+    },
+    /// Adds 1 to the number at a key.
+    Incr {
+        /// The key.
+        key: ByteString,
+    },
+    /// Subtracts 1 from the number at a key.
+    Decr {
+        /// The key.
+        key: ByteString,
+    },
+    /// Adds to the number at a key.
+    Incrby {
+        /// The key.
+        key: ByteString,
+        /// The text of what is added. It is read when the command is executed, and may be no number.
+        increment: ByteString,
+    },
+    /// Reads the length of the string at a key.
+    Strlen {
+        /// The key.
+        key: ByteString,
+    },
+    /// Removes keys.
+    Del {
+        /// The keys; one may be repeated.
+        keys: KeyList,
+    },
+    /// Counts the keys that are there.
+    Exists {
+        /// The keys; a repeated one is counted again.
+        keys: KeyList,
+    },
+    /// Reads the type of the value at a key.
+    TypeOf {
+        /// The key.
+        key: ByteString,
     },
 }
 
@@ -69,19 +137,47 @@ impl DataCommand {
         ensures { result ≡ is_data_write self.now }
     {
         match self {
-            DataCommand::Ping | DataCommand::Get { .. } | DataCommand::Mget { .. } => false,
-            DataCommand::Set { .. } => true,
+            DataCommand::Set { .. }
+            | DataCommand::Setnx { .. }
+            | DataCommand::Getset { .. }
+            | DataCommand::Getdel { .. }
+            | DataCommand::Append { .. }
+            | DataCommand::Incr { .. }
+            | DataCommand::Decr { .. }
+            | DataCommand::Incrby { .. }
+            | DataCommand::Del { .. } => true,
+            DataCommand::Ping
+            | DataCommand::Echo { .. }
+            | DataCommand::Get { .. }
+            | DataCommand::Mget { .. }
+            | DataCommand::Strlen { .. }
+            | DataCommand::Exists { .. }
+            | DataCommand::TypeOf { .. } => false,
         }
     }
 
     /// The key of a command whose syntax has one and no more, without a list of them.
-    pub fn only_key(&self) -> Option<&Bytes>
+    pub fn only_key(&self) -> Option<&ByteString>
         ensures key { option_copied result ≡ only_data_key self.now }
         ensures alone { IfSome result (λ key. data_keys self.now ≡ key.now ∷ []) }
     {
         match self {
-            DataCommand::Get { key } | DataCommand::Set { key, .. } => Some(key),
-            DataCommand::Ping | DataCommand::Mget { .. } => None,
+            DataCommand::Get { key }
+            | DataCommand::Set { key, .. }
+            | DataCommand::Setnx { key, .. }
+            | DataCommand::Getset { key, .. }
+            | DataCommand::Getdel { key }
+            | DataCommand::Append { key, .. }
+            | DataCommand::Incr { key }
+            | DataCommand::Decr { key }
+            | DataCommand::Incrby { key, .. }
+            | DataCommand::Strlen { key }
+            | DataCommand::TypeOf { key } => Some(key),
+            DataCommand::Ping
+            | DataCommand::Echo { .. }
+            | DataCommand::Mget { .. }
+            | DataCommand::Del { .. }
+            | DataCommand::Exists { .. } => None,
         }
     }
 
@@ -89,10 +185,13 @@ impl DataCommand {
     pub fn keys(&self, alloc: Global) -> Result<Vec<&[u8]>, AllocError>
         ensures { IfOk result (λ keys. map (λ key. key.now) keys.items ≡ data_keys self.now) }
     {
+        if let Some(key) = self.only_key() {
+            return one_key(alloc, key);
+        }
         match self {
-            DataCommand::Ping => Ok(Vec::new(alloc)),
-            DataCommand::Get { key } | DataCommand::Set { key, .. } => one_key(alloc, key),
-            DataCommand::Mget { keys } => all_keys(alloc, keys.as_slice()),
+            DataCommand::Mget { keys } | DataCommand::Del { keys } | DataCommand::Exists { keys } =>
+                all_keys(alloc, keys.as_slice()),
+            _ => Ok(Vec::new(alloc)),
         }
     }
 }
@@ -103,7 +202,7 @@ pub enum ClusterCommand {
     /// Asks for the slot of a key.
     KeySlot {
         /// The key.
-        key: Bytes,
+        key: ByteString,
     },
     /// Asks for the id of the node.
     MyId,
@@ -114,7 +213,7 @@ pub enum ClusterCommand {
 /// One or more keys, in the order of the request.
 #[derive(Debug, Drop)]
 pub struct KeyList {
-    keys: Vec<Bytes>,
+    keys: Vec<ByteString>,
 }
 
 impl Model for KeyList {
@@ -129,7 +228,7 @@ impl Model for KeyList {
 
 impl KeyList {
     /// A list of these keys, or None where there are none.
-    pub fn new(keys: Vec<Bytes>) -> Option<KeyList>
+    pub fn new(keys: Vec<ByteString>) -> Option<KeyList>
         ensures keys { IfSome result (λ list. list ≡ keys.items) }
         ensures some { IsSome result ↔ keys.items ≢ [] }
     {
@@ -140,7 +239,7 @@ impl KeyList {
     }
 
     /// The keys in order.
-    pub fn as_slice(&self) -> &[Bytes]
+    pub fn as_slice(&self) -> &[ByteString]
         ensures keys { result.now ≡ self.now }
         ensures some { self.now ≢ [] }
     {
@@ -167,7 +266,7 @@ pub fn keys(alloc: Global, command: &Command) -> Result<Vec<&[u8]>, AllocError>
     }
 }
 
-fn one_key(alloc: Global, key: &Bytes) -> Result<Vec<&[u8]>, AllocError>
+fn one_key(alloc: Global, key: &ByteString) -> Result<Vec<&[u8]>, AllocError>
     ensures { IfOk result (λ keys. map (λ key. key.now) keys.items ≡ key.now ∷ []) }
 {
     let mut keys = Vec::new(alloc);
@@ -175,7 +274,7 @@ fn one_key(alloc: Global, key: &Bytes) -> Result<Vec<&[u8]>, AllocError>
     Ok(keys)
 }
 
-fn all_keys(alloc: Global, keys: &[Bytes]) -> Result<Vec<&[u8]>, AllocError>
+fn all_keys(alloc: Global, keys: &[ByteString]) -> Result<Vec<&[u8]>, AllocError>
     ensures { IfOk result (λ slices. map (λ key. key.now) slices.items ≡ keys.now) }
 {
     let mut slices = Vec::with_capacity(alloc, keys.len())?;

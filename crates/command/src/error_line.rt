@@ -28,6 +28,12 @@ pub enum ErrorLine {
     CrossSlot,
     /// No node owns the slot of the keys.
     SlotDown,
+    /// The value would be longer than a word of a request, and nothing changed.
+    TooLong,
+    /// The string or the argument is not the text of a number in 64 bits, and nothing changed.
+    NotAnInteger,
+    /// The new number does not fit in 64 bits, and nothing changed.
+    Overflow,
 }
 
 impl ErrorLine {
@@ -44,6 +50,9 @@ impl ErrorLine {
             ErrorLine::UnknownSubcommand => b"ERR unknown subcommand",
             ErrorLine::CrossSlot => b"CROSSSLOT Keys in request don't hash to the same slot",
             ErrorLine::SlotDown => b"CLUSTERDOWN Hash slot not served",
+            ErrorLine::TooLong => b"ERR value exceeds maximum allowed size",
+            ErrorLine::NotAnInteger => b"ERR value is not an integer or out of range",
+            ErrorLine::Overflow => b"ERR increment or decrement would overflow",
         }
     }
 
@@ -66,10 +75,22 @@ fn wrong_arity(name: Name) -> &'static [u8]
     ensures { result.now ≡ error_text (ErrorLine.WrongArity name) }
 {
     match name {
-        Name::Ping => wrong_arity!("ping"),
         Name::Get => wrong_arity!("get"),
         Name::Set => wrong_arity!("set"),
+        Name::Ping => wrong_arity!("ping"),
+        Name::Echo => wrong_arity!("echo"),
         Name::Mget => wrong_arity!("mget"),
+        Name::Setnx => wrong_arity!("setnx"),
+        Name::Getset => wrong_arity!("getset"),
+        Name::Getdel => wrong_arity!("getdel"),
+        Name::Append => wrong_arity!("append"),
+        Name::Incr => wrong_arity!("incr"),
+        Name::Decr => wrong_arity!("decr"),
+        Name::Incrby => wrong_arity!("incrby"),
+        Name::Strlen => wrong_arity!("strlen"),
+        Name::Del => wrong_arity!("del"),
+        Name::Exists => wrong_arity!("exists"),
+        Name::TypeOf => wrong_arity!("type"),
         Name::Cluster => wrong_arity!("cluster"),
     }
 }

@@ -5,19 +5,62 @@ ghost use Rattle.command.specs.Names.{name_of, name_text, subcommand_of, subcomm
 /// The name of a command.
 #[derive(Clone, Copy, PartialEq, Eq, Debug)]
 pub enum Name {
-    /// PING
-    Ping,
     /// GET key
     Get,
     /// SET key value
     Set,
+    /// PING [message]
+    Ping,
+    /// ECHO message
+    Echo,
     /// MGET key [key ...]
     Mget,
+    /// SETNX key value
+    Setnx,
+    /// GETSET key value
+    Getset,
+    /// GETDEL key
+    Getdel,
+    /// APPEND key value
+    Append,
+    /// INCR key
+    Incr,
+    /// DECR key
+    Decr,
+    /// INCRBY key increment
+    Incrby,
+    /// STRLEN key
+    Strlen,
+    /// DEL key [key ...]
+    Del,
+    /// EXISTS key [key ...]
+    Exists,
+    /// TYPE key
+    TypeOf,
     /// CLUSTER subcommand [argument ...]
     Cluster,
 }
 
-const NAMES: [Name; 5] = [Name::Ping, Name::Get, Name::Set, Name::Mget, Name::Cluster];
+// The names that are asked for most come first.
+const NAMES: [Name; 17] = [
+    Name::Get,
+    Name::Set,
+    Name::Ping,
+    Name::Echo,
+    Name::Mget,
+    Name::Setnx,
+    Name::Getset,
+    Name::Getdel,
+    Name::Append,
+    Name::Incr,
+    Name::Decr,
+    Name::Incrby,
+    Name::Strlen,
+    Name::Del,
+    Name::Exists,
+    Name::TypeOf,
+    Name::Cluster,
+];
 
 impl Name {
     /// The name that the word spells in letters of any ASCII case, or None.
@@ -35,10 +78,22 @@ impl Name {
         ensures { result.now ≡ name_text self }
     {
         match self {
-            Name::Ping => b"ping",
             Name::Get => b"get",
             Name::Set => b"set",
+            Name::Ping => b"ping",
+            Name::Echo => b"echo",
             Name::Mget => b"mget",
+            Name::Setnx => b"setnx",
+            Name::Getset => b"getset",
+            Name::Getdel => b"getdel",
+            Name::Append => b"append",
+            Name::Incr => b"incr",
+            Name::Decr => b"decr",
+            Name::Incrby => b"incrby",
+            Name::Strlen => b"strlen",
+            Name::Del => b"del",
+            Name::Exists => b"exists",
+            Name::TypeOf => b"type",
             Name::Cluster => b"cluster",
         }
     }

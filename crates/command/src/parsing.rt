@@ -1,11 +1,11 @@
 //! From the words of a request to a command.
-ghost use Rattle.std.specs.Prelude.{◌≡◌, IfOk, IfErr, Ok};
-ghost use Rattle.command.specs.Table.{command_of, with_arguments, IsFaultOf};
+ghost use Rattle.std.specs.Prelude.{◌≡◌, ◌∷◌, [], IfOk, IfErr, Ok, List, ℕ};
+ghost use Rattle.command.specs.Table.{command_of, with_arguments, with_keys, with_message, with_one, with_two, IsFaultOf};
 
 use crate::command::{ClusterCommand, Command, DataCommand, KeyList};
 use crate::fault::CommandFault;
 use crate::names::{Name, Subcommand};
-use bytes::Bytes;
+use byte_string::ByteString;
 use resp2::Words;
 use std::alloc::{AllocError, Global};
 
@@ -25,36 +25,110 @@ pub fn parse(alloc: Global, words: &Words) -> Result<Command, CommandFault>
     with_arguments(alloc, name, arguments)
 }
 
-fn with_arguments(alloc: Global, name: Name, arguments: &[Bytes]) -> Result<Command, CommandFault>
-    ensures command { IfOk result (λ command. with_arguments name arguments.now ≡ Ok command) }
-    ensures fault { IfErr result (λ fault. IsFaultOf fault (with_arguments name arguments.now)) }
+// The command table: a row for each name, with the arguments that it takes, which are the words behind the name.
+fn with_arguments(alloc: Global, name: Name, words: &[ByteString]) -> Result<Command, CommandFault>
+    ensures command { IfOk result (λ command. with_arguments name words.now ≡ Ok command) }
+    ensures fault { IfErr result (λ fault. IsFaultOf fault (with_arguments name words.now)) }
 {
-    match (name, arguments) {
-        (Name::Ping, []) => Ok(Command::Data(DataCommand::Ping)),
-        (Name::Get, [key]) => Ok(Command::Data(DataCommand::Get { key: key.clone()? })),
-        (Name::Set, [key, value]) => Ok(Command::Data(DataCommand::Set {
-            key: key.clone()?,
-            value: value.clone()?,
+    match name {
+        Name::Get => with_one(name, words, |key| DataCommand::Get { key }),
+        Name::Set => with_two(name, words, |key, value| DataCommand::Set { key, value }),
+        Name::Ping => with_message(words),
+        Name::Echo => with_one(name, words, |message| DataCommand::Echo { message }),
+        Name::Mget => with_keys(alloc, name, words, |keys| DataCommand::Mget { keys }),
+        Name::Setnx => with_two(name, words, |key, value| DataCommand::Setnx { key, value }),
+        Name::Getset => with_two(name, words, |key, value| DataCommand::Getset { key, value }),
+        Name::Getdel => with_one(name, words, |key| DataCommand::Getdel { key }),
+        Name::Append => with_two(name, words, |key, value| DataCommand::Append { key, value }),
+        Name::Incr => with_one(name, words, |key| DataCommand::Incr { key }),
+        Name::Decr => with_one(name, words, |key| DataCommand::Decr { key }),
+        Name::Incrby => with_two(
+            name,
+            words,
+            |key, increment| DataCommand::Incrby { key, increment },
+        ),
+        Name::Strlen => with_one(name, words, |key| DataCommand::Strlen { key }),
+        Name::Del => with_keys(alloc, name, words, |keys| DataCommand::Del { keys }),
+        Name::Exists => with_keys(alloc, name, words, |keys| DataCommand::Exists { keys }),
+        Name::TypeOf => with_one(name, words, |key| DataCommand::TypeOf { key }),
+        Name::Cluster => with_subcommands(words),
+    }
+}
+
+fn with_message(arguments: &[ByteString]) -> Result<Command, CommandFault>
+    ensures command { IfOk result (λ command. with_message arguments.now ≡ Ok command) }
+    ensures fault { IfErr result (λ fault. IsFaultOf fault (with_message arguments.now)) }
+{
+    match arguments {
+        [] => Ok(Command::Data(DataCommand::Ping)),
+        [message] => Ok(Command::Data(DataCommand::Echo {
+            message: message.clone()?,
         })),
-        (Name::Mget, keys) => mget(alloc, keys),
-        (Name::Cluster, words) => cluster(words),
+        _ => Err(CommandFault::Arity(Name::Ping)),
+    }
+}
+
+// A command that takes one argument.
+#[inline(never)]
+fn with_one<F: FnOnce(ByteString) -> DataCommand>(
+    name: Name,
+    arguments: &[ByteString],
+    make: F,
+) -> Result<Command, CommandFault>
+    requires { F.IsAlwaysCallable make }
+    ensures command { IfOk result (λ command. (word : List ℕ) × (made : DataCommand)
+        × (arguments.now ≡ word ∷ []) × F.post make word made × (command ≡ Command.Data made)) }
+    ensures fault { IfErr result (λ fault.
+        (make : List ℕ → DataCommand) → IsFaultOf fault (with_one name make arguments.now)) }
+{
+    match arguments {
+        [word] => Ok(Command::Data(make(word.clone()?))),
         _ => Err(CommandFault::Arity(name)),
     }
 }
 
-fn mget(alloc: Global, arguments: &[Bytes]) -> Result<Command, CommandFault>
-    ensures command { IfOk result (λ command. with_arguments Name.Mget arguments.now ≡ Ok command) }
-    ensures fault { IfErr result (λ fault. IsFaultOf fault (with_arguments Name.Mget arguments.now)) }
+// A command that takes two.
+#[inline(never)]
+fn with_two<F: FnOnce(ByteString, ByteString) -> DataCommand>(
+    name: Name,
+    arguments: &[ByteString],
+    make: F,
+) -> Result<Command, CommandFault>
+    requires { F.IsAlwaysCallable make }
+    ensures command { IfOk result (λ command. (first : List ℕ) × (second : List ℕ) × (made : DataCommand)
+        × (arguments.now ≡ first ∷ second ∷ []) × F.post make first second made × (command ≡ Command.Data made)) }
+    ensures fault { IfErr result (λ fault.
+        (make : List ℕ → List ℕ → DataCommand) → IsFaultOf fault (with_two name make arguments.now)) }
+{
+    match arguments {
+        [first, second] => Ok(Command::Data(make(first.clone()?, second.clone()?))),
+        _ => Err(CommandFault::Arity(name)),
+    }
+}
+
+// A command that takes one or more keys.
+#[inline(never)]
+fn with_keys<F: FnOnce(KeyList) -> DataCommand>(
+    alloc: Global,
+    name: Name,
+    arguments: &[ByteString],
+    make: F,
+) -> Result<Command, CommandFault>
+    requires { F.IsAlwaysCallable make }
+    ensures command { IfOk result (λ command. (made : DataCommand) × F.post make arguments.now made × (command ≡ Command.Data made)
+        × ((make : List (List ℕ) → DataCommand) → with_keys name make arguments.now ≡ Ok (Command.Data (make arguments.now)))) }
+    ensures fault { IfErr result (λ fault.
+        (make : List (List ℕ) → DataCommand) → IsFaultOf fault (with_keys name make arguments.now)) }
 {
     let keys = copied(alloc, arguments)?;
     match KeyList::new(keys) {
-        Some(keys) => Ok(Command::Data(DataCommand::Mget { keys })),
-        None => Err(CommandFault::Arity(Name::Mget)),
+        Some(keys) => Ok(Command::Data(make(keys))),
+        None => Err(CommandFault::Arity(name)),
     }
 }
 
 // Copies that share the bytes of the words.
-fn copied(alloc: Global, words: &[Bytes]) -> Result<Vec<Bytes>, AllocError>
+fn copied(alloc: Global, words: &[ByteString]) -> Result<Vec<ByteString>, AllocError>
     ensures { IfOk result (λ copies. copies.items ≡ words.now) }
 {
     let mut copies = Vec::with_capacity(alloc, words.len())?;
@@ -64,7 +138,7 @@ fn copied(alloc: Global, words: &[Bytes]) -> Result<Vec<Bytes>, AllocError>
     Ok(copies)
 }
 
-fn cluster(words: &[Bytes]) -> Result<Command, CommandFault>
+fn with_subcommands(words: &[ByteString]) -> Result<Command, CommandFault>
     ensures command { IfOk result (λ command. with_arguments Name.Cluster words.now ≡ Ok command) }
     ensures fault { IfErr result (λ fault. IsFaultOf fault (with_arguments Name.Cluster words.now)) }
 {

@@ -3,5 +3,6 @@ pub mod NumberLemmas
 pub mod CrcLemmas
 pub mod RemainderLemmas
 pub mod TableLemmas
+pub mod ByteLemmas
 pub mod TagLemmas
 pub mod WorkedValues

@@ -1,3 +1,4 @@
 pub mod Crc16
 pub mod HashTag
 pub mod Slot
+pub mod SlotRange

@@ -2,7 +2,7 @@
 ghost use Rattle.std.specs.Prelude.{◌≡◌, ◌∷◌, ◌++◌, [], List, ℕ};
 ghost use Rattle.key_slot.specs.Crc16.{IsCrc, crc};
 
-// At each index the CRC16 of that one byte.
+// The entry at each index is the CRC16 of that one byte.
 static CRC_OF_BYTE: [u16; 256] = [
     0x0000, 0x1021, 0x2042, 0x3063, 0x4084, 0x50a5, 0x60c6, 0x70e7, 0x8108, 0x9129, 0xa14a, 0xb16b,
     0xc18c, 0xd1ad, 0xe1ce, 0xf1ef, 0x1231, 0x0210, 0x3273, 0x2252, 0x52b5, 0x4294, 0x72f7, 0x62d6,
@@ -42,7 +42,7 @@ fn with_byte(register: u16, byte: u8) -> u16
     (register << 8) ^ crc_of_byte(top ^ byte)
 }
 
-// The CRC16 of the bytes: the one called XMODEM, of the polynomial 0x1021 and the start 0.
+// The CRC16 of the bytes: the variant XMODEM, with the polynomial 0x1021 and the initial value 0.
 pub(crate) fn crc16(bytes: &[u8]) -> u16
     ensures crc { IsCrc bytes.now result }
     ensures only { (other : ℕ) → IsCrc bytes.now other → other ≡ result }

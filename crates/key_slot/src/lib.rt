@@ -3,9 +3,7 @@
 
 mod crc16_table;
 mod hash_slot;
-mod hash_tag;
 mod slots;
 
-pub use hash_slot::slot;
-pub use hash_tag::tag;
-pub use slots::Slot;
+pub use hash_slot::{slot, tag};
+pub use slots::{Slot, SlotRange};

@@ -1,4 +1,4 @@
-//! A slot: one of the 16384 parts of the keyspace.
+//! Slots, the 16384 parts of the keyspace, and ranges of them.
 ghost use Rattle.std.specs.Prelude.{◌≡◌, ◌%◌, ◌<◌, SomeIff};
 
 use std::marker::Model;
@@ -59,4 +59,13 @@ impl Slot {
     {
         self.number as usize
     }
+}
+
+/// The slots from `first` to `last`, both included; a range whose `last` is below its `first` has no slots.
+#[derive(Clone, Copy, PartialEq, Eq, Debug)]
+pub struct SlotRange {
+    /// The first slot.
+    pub first: Slot,
+    /// The last slot, which may be the first one.
+    pub last: Slot,
 }

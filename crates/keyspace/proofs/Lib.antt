@@ -1,7 +1,10 @@
 pub mod Applied
 pub mod Locality
 pub mod Maps
+pub mod NumberTexts
 pub mod FirstChange
 pub mod CommitLoop
 pub mod Placeholders
+pub mod Deleting
+pub mod Counting
 mod WorkedValues

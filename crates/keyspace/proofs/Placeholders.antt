@@ -16,7 +16,7 @@ use Rattle.keyspace.specs.declared.value.Value.{Value}
 use Rattle.keyspace.specs.declared.value.Value.TheVariants.{Str}
 
 -- a key is removed that is not there
-remove_absent : (m : Keyspace) (k : List ℕ) → map.get m k ≡ None → map.remove m k ≡ m
+pub remove_absent : (m : Keyspace) (k : List ℕ) → map.get m k ≡ None → map.remove m k ≡ m
 remove_absent m k none =
     same _ _ (λ q.
     map.get-remove nat_list_cmp_total m k q

@@ -1,10 +1,14 @@
 -- Worked values of the definitions (Redis command reference).
 use Rattle.std.proofs.Common.{◌≡◌, refl, [], ◌∷◌, rules}
-use Rattle.std.specs.Prelude.{codes}
+use Rattle.std.specs.Prelude.{Some, None, codes, pos, negsuc}
 use Rattle.std.specs.FinMap.{gets}
+use Rattle.std.specs.Fmt.{digits}
 use Rattle.resp2.specs.Reply.{array_of}
-use Rattle.resp2.specs.declared.reply.Reply.TheVariants.{Simple, Error, Bulk, Null, Array}
-use Rattle.keyspace.specs.Commands.{replay}
+use Rattle.resp2.specs.declared.reply.Reply.TheVariants.{Simple, Error, Integer, Bulk, Null, Array}
+use Rattle.keyspace.specs.Commands.{effect, left, replay, told}
+use Rattle.keyspace.specs.Numbers.{fitting_number, number_of}
+use Rattle.keyspace.specs.declared.value.Value.TheVariants.{Str}
+use Rattle.command.specs.declared.command.DataCommand.TheVariants.{Incr, Decr, Incrby}
 
 -- a string is set and read, with names in any case
 set_and_get : (replay ((codes "SET" ∷ codes "a" ∷ codes "1" ∷ []) ∷ (codes "get" ∷ codes "a" ∷ []) ∷ [])).replies
@@ -30,3 +34,123 @@ no_cluster = refl
 no_command : (replay ((codes "PING" ∷ []) ∷ (codes "GET" ∷ []) ∷ (codes "foo" ∷ []) ∷ [])).replies
     ≡ Simple (codes "PONG") ∷ Error (codes "ERR wrong number of arguments for 'get' command") ∷ Error (codes "ERR unknown command") ∷ []
 no_command = refl
+
+-- PING and ECHO with a message
+messages : (replay ((codes "PING" ∷ codes "a" ∷ []) ∷ (codes "ECHO" ∷ codes "b" ∷ []) ∷ [])).replies ≡ Bulk (codes "a") ∷ Bulk (codes "b") ∷ []
+messages = refl
+
+-- the length and the type of a string, and of a key that is missing
+lengths_and_types : (replay ((codes "SET" ∷ codes "a" ∷ codes "xyz" ∷ []) ∷ (codes "STRLEN" ∷ codes "a" ∷ []) ∷ (codes "STRLEN" ∷ codes "b" ∷ [])
+    ∷ (codes "TYPE" ∷ codes "a" ∷ []) ∷ (codes "TYPE" ∷ codes "b" ∷ []) ∷ [])).replies
+    ≡ Simple (codes "OK") ∷ Integer (pos 3) ∷ Integer (pos 0) ∷ Simple (codes "string") ∷ Simple (codes "none") ∷ []
+lengths_and_types = grind (gets, rules)
+
+-- EXISTS counts a repeated key again
+counts_again : (replay ((codes "SET" ∷ codes "a" ∷ codes "1" ∷ []) ∷ (codes "EXISTS" ∷ codes "a" ∷ codes "b" ∷ codes "a" ∷ []) ∷ [])).replies
+    ≡ Simple (codes "OK") ∷ Integer (pos 2) ∷ []
+counts_again = grind (gets, rules)
+
+-- SETNX sets a key only while it is missing
+set_while_missing : (replay ((codes "SETNX" ∷ codes "a" ∷ codes "1" ∷ []) ∷ (codes "SETNX" ∷ codes "a" ∷ codes "2" ∷ []) ∷ (codes "GET" ∷ codes "a" ∷ []) ∷ [])).replies
+    ≡ Integer (pos 1) ∷ Integer (pos 0) ∷ Bulk (codes "1") ∷ []
+set_while_missing = grind (gets, rules)
+
+-- GETSET replies with the string before
+get_and_set : (replay ((codes "GETSET" ∷ codes "a" ∷ codes "1" ∷ []) ∷ (codes "GETSET" ∷ codes "a" ∷ codes "2" ∷ []) ∷ (codes "GET" ∷ codes "a" ∷ []) ∷ [])).replies
+    ≡ Null ∷ Bulk (codes "1") ∷ Bulk (codes "2") ∷ []
+get_and_set = grind (gets, rules)
+
+-- GETDEL leaves no key
+get_and_delete : (replay ((codes "SET" ∷ codes "a" ∷ codes "1" ∷ []) ∷ (codes "GETDEL" ∷ codes "a" ∷ []) ∷ (codes "GETDEL" ∷ codes "a" ∷ []) ∷ [])).replies
+    ≡ Simple (codes "OK") ∷ Bulk (codes "1") ∷ Null ∷ []
+get_and_delete = grind (gets, rules)
+
+-- DEL counts a repeated key once, and a missing one not at all
+deletes_once : (replay ((codes "SET" ∷ codes "a" ∷ codes "1" ∷ []) ∷ (codes "DEL" ∷ codes "a" ∷ codes "a" ∷ []) ∷ (codes "DEL" ∷ codes "a" ∷ []) ∷ [])).replies
+    ≡ Simple (codes "OK") ∷ Integer (pos 1) ∷ Integer (pos 0) ∷ []
+deletes_once = grind (gets, rules)
+
+-- APPEND replies with the new length
+appends : (replay ((codes "APPEND" ∷ codes "a" ∷ codes "x" ∷ []) ∷ (codes "APPEND" ∷ codes "a" ∷ codes "yz" ∷ []) ∷ (codes "GET" ∷ codes "a" ∷ []) ∷ [])).replies
+    ≡ Integer (pos 1) ∷ Integer (pos 3) ∷ Bulk (codes "xyz") ∷ []
+appends = grind (gets, rules)
+
+-- the last numbers of 64 bits are numbers, and the next ones are none
+greatest : number_of (codes "9223372036854775807") ≡ Some (pos 9223372036854775807)
+unfolding number_of digits
+greatest = refl
+
+past_the_greatest : number_of (codes "9223372036854775808") ≡ None
+unfolding number_of digits
+past_the_greatest = refl
+
+least : number_of (codes "-9223372036854775808") ≡ Some (negsuc 9223372036854775807)
+unfolding number_of digits
+least = refl
+
+past_the_least : number_of (codes "-9223372036854775809") ≡ None
+unfolding number_of digits
+past_the_least = refl
+
+zero_is_a_number : number_of (codes "0") ≡ Some (pos 0)
+unfolding number_of digits
+zero_is_a_number = refl
+
+-- a number has one text
+leading_zero : number_of (codes "01") ≡ None
+unfolding number_of digits
+leading_zero = refl
+
+minus_zero : number_of (codes "-0") ≡ None
+unfolding number_of digits
+minus_zero = refl
+
+plus : number_of (codes "+1") ≡ None
+unfolding number_of digits
+plus = refl
+
+blank : number_of (codes " 1") ≡ None
+unfolding number_of digits
+blank = refl
+
+no_digits : number_of [] ≡ None
+unfolding number_of digits
+no_digits = refl
+
+letter : number_of (codes "1a") ≡ None
+unfolding number_of digits
+letter = refl
+
+-- a missing key counts as 0
+incr_missing : effect (Incr (codes "a")) (None ∷ []) ≡ left (Integer (pos 1)) (Some (Str (codes "1")))
+unfolding fitting_number digits
+incr_missing = refl
+
+incr_greatest : effect (Incr (codes "a")) (Some (Str (codes "9223372036854775807")) ∷ []) ≡ told (Error (codes "ERR increment or decrement would overflow"))
+unfolding number_of fitting_number digits
+incr_greatest = refl
+
+incr_leading_zero : effect (Incr (codes "a")) (Some (Str (codes "01")) ∷ []) ≡ told (Error (codes "ERR value is not an integer or out of range"))
+unfolding number_of fitting_number digits
+incr_leading_zero = refl
+
+incr_minus_zero : effect (Incr (codes "a")) (Some (Str (codes "-0")) ∷ []) ≡ told (Error (codes "ERR value is not an integer or out of range"))
+unfolding number_of fitting_number digits
+incr_minus_zero = refl
+
+decr_missing : effect (Decr (codes "a")) (None ∷ []) ≡ left (Integer (negsuc 0)) (Some (Str (codes "-1")))
+unfolding fitting_number digits
+decr_missing = refl
+
+decr_least : effect (Decr (codes "a")) (Some (Str (codes "-9223372036854775808")) ∷ []) ≡ told (Error (codes "ERR increment or decrement would overflow"))
+unfolding number_of fitting_number digits
+decr_least = refl
+
+incrby_minus : effect (Incrby (codes "a") (codes "-12")) (Some (Str (codes "10")) ∷ []) ≡ left (Integer (negsuc 1)) (Some (Str (codes "-2")))
+unfolding number_of fitting_number digits
+incrby_minus = refl
+
+-- an increment that is no number
+incrby_x : effect (Incrby (codes "a") (codes "x")) (None ∷ []) ≡ told (Error (codes "ERR value is not an integer or out of range"))
+unfolding number_of digits
+incrby_x = refl

@@ -1,4 +1,6 @@
--- How a commit makes several changes: it puts a placeholder at each new key, for which memory may run out, and then makes the changes, which add no key.
+-- How a commit makes several changes. No public clause needs it.
+--
+-- It puts a placeholder at each new key, for which memory may run out, and then makes the changes, which add no key.
 use Rattle.std.specs.Prelude.{◌≡◌, ℕ, List, [], ◌∷◌, Bool, true, false, not, ◌&&◌, Option, Some, None, is_some, if◌then◌else◌}
 use Rattle.std.specs.FinMap as map
 use Rattle.keyspace.specs.Keyspace.{Keyspace}

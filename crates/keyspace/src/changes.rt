@@ -1,5 +1,5 @@
 //! Changes to any number of keys: a plan of them, and its commit.
-ghost use Rattle.std.specs.Prelude.{◌≡◌, OnOk, OnErr, IfOk, IsOk, []};
+ghost use Rattle.std.specs.Prelude.{◌≡◌, OnOk, OnErr, IfOk, IsOk, IsTrue, []};
 ghost use Rattle.std.specs.Option.{option_copied};
 ghost use Rattle.std.specs.FinMap as map;
 ghost use Rattle.keyspace.specs.Commit.{new_keys, with_placeholders, without, AddsNoKey, AddNoKeys};
@@ -8,7 +8,7 @@ ghost use Rattle.keyspace.specs.Plan.{changes_of, applied};
 
 use crate::store::Store;
 use crate::value::Value;
-use bytes::Bytes;
+use byte_string::ByteString;
 use std::alloc::{AllocError, Global};
 use std::collections::BTreeMap;
 use std::marker::Model;
@@ -17,9 +17,9 @@ use std::marker::Model;
 #[derive(Drop)]
 pub struct Plan {
     // The key that was changed first, with its latest change. It stands apart so that a plan with one change needs no tree.
-    first: Option<(Bytes, Option<Value>)>,
+    first: Option<(ByteString, Option<Value>)>,
     // The changes of all other keys.
-    more: BTreeMap<Bytes, Option<Value>>,
+    more: BTreeMap<ByteString, Option<Value>>,
 }
 
 impl Model for Plan {
@@ -50,8 +50,15 @@ impl Plan {
         }
     }
 
+    // Whether the plan changes nothing.
+    fn changes_nothing(&self) -> bool
+        ensures { IsTrue result → self.now ≡ map.empty }
+    {
+        self.first.is_none() && self.more.is_empty()
+    }
+
     // The change of the key, or None where the plan has none.
-    fn get(&self, key: &Bytes) -> Option<&Option<Value>>
+    fn get(&self, key: &ByteString) -> Option<&Option<Value>>
         ensures { option_copied result ≡ map.get self.now key.now }
     {
         match &self.first {
@@ -61,7 +68,11 @@ impl Plan {
     }
 
     // A later change of a key replaces the earlier one.
-    pub(crate) fn insert(&mut self, key: Bytes, change: Option<Value>) -> Result<(), AllocError>
+    pub(crate) fn insert(
+        &mut self,
+        key: ByteString,
+        change: Option<Value>,
+    ) -> Result<(), AllocError>
         ensures ok { OnOk result (self.new ≡ map.insert self.old key change) }
         ensures err { OnErr result (self.new ≡ self.old) }
     {
@@ -75,7 +86,7 @@ impl Plan {
 
     // The value at the key once the plan is committed.
     #[tactic(auto, using(crate::proofs::Applied::get_applied))]
-    pub(crate) fn look<'a, S: Store>(&'a self, store: &'a S, key: &Bytes) -> Option<&'a Value>
+    pub(crate) fn look<'a, S: Store>(&'a self, store: &'a S, key: &ByteString) -> Option<&'a Value>
         ensures { option_copied result ≡ map.get (applied (S.contents store.now) self.now) key.now }
     {
         match self.get(key) {
@@ -85,11 +96,15 @@ impl Plan {
     }
 }
 
+#[tactic(auto, using(crate::proofs::Applied::applied_empty))]
 /// Makes all changes of the plan, or none where an allocation fails. A plan with one change walks down the store once.
 pub fn commit<S: Store>(alloc: Global, store: &mut S, plan: Plan) -> Result<(), AllocError>
     ensures ok { OnOk result (S.contents store.new ≡ applied (S.contents store.old) plan) }
     ensures err { OnErr result (S.contents store.new ≡ S.contents store.old) }
 {
+    if plan.changes_nothing() {
+        return Ok(());
+    }
     let Plan { first, mut more } = plan;
     let Some((key, value)) = first else {
         return change_all(alloc, store, more);
@@ -102,8 +117,8 @@ pub fn commit<S: Store>(alloc: Global, store: &mut S, plan: Plan) -> Result<(), 
 }
 
 fn put(
-    changes: &mut BTreeMap<Bytes, Option<Value>>,
-    key: Bytes,
+    changes: &mut BTreeMap<ByteString, Option<Value>>,
+    key: ByteString,
     change: Option<Value>,
 ) -> Result<(), AllocError>
     ensures ok { OnOk result (
@@ -114,7 +129,11 @@ fn put(
     Ok(())
 }
 
-fn change_key<S: Store>(store: &mut S, key: Bytes, change: Option<Value>) -> Result<(), AllocError>
+fn change_key<S: Store>(
+    store: &mut S,
+    key: ByteString,
+    change: Option<Value>,
+) -> Result<(), AllocError>
     ensures ok { OnOk result (S.contents store.new ≡ changed (S.contents store.old) key change) }
     ensures err { OnErr result (S.contents store.new ≡ S.contents store.old) }
     ensures over { AddsNoKey (S.contents store.old) key change → IsOk result }
@@ -133,7 +152,7 @@ fn change_key<S: Store>(store: &mut S, key: Bytes, change: Option<Value>) -> Res
 fn change_all<S: Store>(
     alloc: Global,
     store: &mut S,
-    changes: BTreeMap<Bytes, Option<Value>>,
+    changes: BTreeMap<ByteString, Option<Value>>,
 ) -> Result<(), AllocError>
     ensures ok { OnOk result (
         S.contents store.new ≡ applied (S.contents store.old) (changes_of changes.entries)) }
@@ -149,8 +168,8 @@ fn change_all<S: Store>(
 fn new_keys<S: Store>(
     alloc: Global,
     store: &S,
-    changes: &BTreeMap<Bytes, Option<Value>>,
-) -> Result<Vec<Bytes>, AllocError>
+    changes: &BTreeMap<ByteString, Option<Value>>,
+) -> Result<Vec<ByteString>, AllocError>
     ensures { IfOk result (λ keys. keys.items ≡ new_keys (S.contents store.now) changes.now.entries) }
 {
     let mut keys = Vec::new(alloc);
@@ -164,7 +183,7 @@ fn new_keys<S: Store>(
 }
 
 // Puts a placeholder, the empty string, at each key. None of the keys is in the store.
-fn put_placeholders<S: Store>(store: &mut S, keys: &[Bytes]) -> Result<(), AllocError>
+fn put_placeholders<S: Store>(store: &mut S, keys: &[ByteString]) -> Result<(), AllocError>
     requires { without (S.contents store.old) keys.now ≡ S.contents store.old }
     ensures ok { OnOk result (S.contents store.new ≡ with_placeholders (S.contents store.old) keys.now) }
     ensures err { OnErr result (S.contents store.new ≡ S.contents store.old) }
@@ -178,16 +197,16 @@ fn put_placeholders<S: Store>(store: &mut S, keys: &[Bytes]) -> Result<(), Alloc
     Ok(())
 }
 
-fn put_placeholder<S: Store>(store: &mut S, key: &Bytes) -> Result<(), AllocError>
+fn put_placeholder<S: Store>(store: &mut S, key: &ByteString) -> Result<(), AllocError>
     ensures ok { OnOk result (
         S.contents store.new ≡ map.insert (S.contents store.old) key.now (Value.Str [])) }
     ensures err { OnErr result (S.contents store.new ≡ S.contents store.old) }
 {
     let key = key.clone()?;
-    store.insert(key, Value::Str(Bytes::new()))
+    store.insert(key, Value::Str(ByteString::new()))
 }
 
-fn remove_all<S: Store>(store: &mut S, keys: &[Bytes])
+fn remove_all<S: Store>(store: &mut S, keys: &[ByteString])
     ensures { S.contents store.new ≡ without (S.contents store.old) keys.now }
 {
     for key in keys {
@@ -196,7 +215,7 @@ fn remove_all<S: Store>(store: &mut S, keys: &[Bytes])
 }
 
 // Each key that gets a value is in the store.
-fn change_existing<S: Store>(store: &mut S, mut changes: BTreeMap<Bytes, Option<Value>>)
+fn change_existing<S: Store>(store: &mut S, mut changes: BTreeMap<ByteString, Option<Value>>)
     requires { AddNoKeys (S.contents store.old) (changes_of changes.entries) }
     ensures { S.contents store.new ≡ applied (S.contents store.old) (changes_of changes.entries) }
 {

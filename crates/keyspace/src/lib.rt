@@ -3,6 +3,7 @@
 
 mod changes;
 mod commands;
+mod number;
 mod store;
 mod value;
 

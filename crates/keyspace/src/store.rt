@@ -4,7 +4,7 @@ ghost use Rattle.std.specs.Option.{option_copied};
 ghost use Rattle.std.specs.FinMap as map;
 
 use crate::value::Value;
-use bytes::Bytes;
+use byte_string::ByteString;
 use std::alloc::{AllocError, Global};
 use std::collections::BTreeMap;
 use std::marker::Model;
@@ -16,24 +16,24 @@ pub trait Store {
     ghost contents: { Self → Keyspace };
 
     /// The value at the key, or None.
-    fn get(&self, key: &Bytes) -> Option<&Value>
+    fn get(&self, key: &ByteString) -> Option<&Value>
         ensures { option_copied result ≡ map.get (contents self.now) key.now };
 
     /// Puts the value at the key, and replaces the one that is there. It fails only where the key is new and memory is out.
-    fn insert(&mut self, key: Bytes, value: Value) -> Result<(), AllocError>
+    fn insert(&mut self, key: ByteString, value: Value) -> Result<(), AllocError>
         ensures ok { OnOk result (contents self.new ≡ map.insert (contents self.old) key value) }
         ensures err { OnErr result (contents self.new ≡ contents self.old) }
         ensures over { IsSome (map.get (contents self.old) key) → IsOk result };
 
     /// Removes the key, if it is there.
-    fn remove(&mut self, key: &Bytes)
+    fn remove(&mut self, key: &ByteString)
         ensures { contents self.new ≡ map.remove (contents self.old) key.now };
 }
 
 /// A store in a balanced tree, in the byte order of its keys.
 #[derive(Drop)]
 pub struct TreeStore {
-    entries: BTreeMap<Bytes, Value>,
+    entries: BTreeMap<ByteString, Value>,
 }
 
 impl Model for TreeStore {
@@ -65,16 +65,16 @@ impl TreeStore {
 impl Store for TreeStore {
     ghost contents = { λ store. store };
 
-    fn get(&self, key: &Bytes) -> Option<&Value> {
+    fn get(&self, key: &ByteString) -> Option<&Value> {
         self.entries.get(key)
     }
 
-    fn insert(&mut self, key: Bytes, value: Value) -> Result<(), AllocError> {
+    fn insert(&mut self, key: ByteString, value: Value) -> Result<(), AllocError> {
         let _old = self.entries.insert(key, value)?;
         Ok(())
     }
 
-    fn remove(&mut self, key: &Bytes) {
+    fn remove(&mut self, key: &ByteString) {
         let _old = self.entries.remove(key);
     }
 }

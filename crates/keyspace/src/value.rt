@@ -3,7 +3,7 @@ ghost use Rattle.std.specs.Prelude.{◌≡◌, IfOk};
 ghost use Rattle.keyspace.specs.Rebuild.{rebuilding, Rebuilds};
 ghost use Rattle.resp2.specs.Request.{IsRequest};
 
-use bytes::Bytes;
+use byte_string::ByteString;
 use resp2::Words;
 use std::alloc::{AllocError, Global};
 
@@ -11,7 +11,7 @@ use std::alloc::{AllocError, Global};
 #[derive(Debug, Drop)]
 pub enum Value {
     /// A string: any bytes.
-    Str(Bytes),
+    Str(ByteString),
 }
 
 impl Clone for Value {
@@ -25,13 +25,14 @@ impl Clone for Value {
 }
 
 /// The request that makes this key with this value where the key is not there. Its words share the bytes of both.
-pub fn rebuild(alloc: Global, key: &Bytes, value: &Value) -> Result<Words, AllocError>
+pub fn rebuild(alloc: Global, key: &ByteString, value: &Value) -> Result<Words, AllocError>
     requires { IsRequest (rebuilding key.now value.now) }
     ensures { IfOk result (λ words. words ≡ rebuilding key.now value.now) }
 {
     let items = match value {
         Value::Str(bytes) => {
-            vec![in alloc; Bytes::from_static(b"SET"), key.clone()?, bytes.clone()?]?
+            let name = ByteString::from_static(b"SET");
+            vec![in alloc; name, key.clone()?, bytes.clone()?]?
         }
     };
     Ok(Words::new(items).unwrap())

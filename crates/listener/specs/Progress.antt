@@ -1,4 +1,4 @@
--- How far a conversation has got, between its calls.
+-- How far a conversation has got, between its calls. No public clause needs it.
 use Rattle.std.specs.Prelude.{◌≡◌, ◌≢◌, ℕ, List, [], ◌∷◌, ◌++◌, ◌⊎◌, map, Result, Ok, Err}
 use Rattle.std.specs.Io.KnownBytes.{Appends, Consumes}
 use Rattle.resp2.specs.Counting.{HasRisen}

@@ -1,7 +1,7 @@
 -- A client's two streams, and what was asked of the node: before a call, and after it.
 use Rattle.std.specs.Prelude.{◌≡◌, ℕ, List, ◌++◌, Option, Result, All, MatchResult}
 use Rattle.std.specs.Io.KnownBytes.{Appends}
-use Rattle.resp2.specs.Counting.{device_of, failures_of, HasRisen}
+use Rattle.resp2.specs.Counting.{inner_of, failures_of, HasRisen}
 use Rattle.resp2.specs.Writing.{AppendsBeginning}
 use Rattle.resp2.specs.declared.counting.Counting.{Counting}
 use Rattle.node_cell.specs.Asks.{Asked}
@@ -23,7 +23,7 @@ pub record Stream : Type 0 where
   pub failures : ℕ
 
 abbrev pub stream_of : {D : Type 0} → (D → Option (List ℕ)) → Counting D → Stream
-stream_of bytes counting = record { bytes = bytes (device_of counting); failures = failures_of counting }
+stream_of bytes counting = record { bytes = bytes (inner_of counting); failures = failures_of counting }
 
 abbrev pub streams : {D : Type 0} → (D → Option (List ℕ)) → Counting D → Counting D → Change Stream
 streams bytes old new = change (stream_of bytes old) (stream_of bytes new)

@@ -21,8 +21,8 @@ const READ_SIZE: usize = 65_536;
 /// Serves one client: reads its requests, has the node answer them, and writes the replies, until the client ends it.
 ///
 /// The node is asked for one connection, then once for each request, in order, and last to close the connection. All
-/// whole requests of one read are answered by one write, if their replies are not long. A bad byte is told to the
-/// client, and ends the conversation as the client's own end does. The error says what else ended it.
+/// whole requests of one read are answered by one write, if their replies are not long. A bad byte is reported
+/// to the client and ends the conversation, as the client's own end does. The error says what else ended it.
 pub fn serve_conn<R: Read, W: Write, G: NodeGate>(
     alloc: Global,
     gate: &mut G,

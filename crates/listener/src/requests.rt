@@ -39,7 +39,7 @@ pub fn converse<R: Read, W: Write, G: NodeGate>(
     ensures stops { Stops (IsAllowed G.may G.may_refuse) conn result (streams R.remaining reader.old reader.new)
         (desk (G.asked gate.old) [] [] (stream_of W.contents writer.old))
         (desk (G.asked gate.new) [] batch.new.items (stream_of W.contents writer.new)) }
-    // Where a byte is bad, no fault is told: a word that is too long is no want of memory.
+    // A bad byte is no fault here: so a word that is too long is not reported as out of memory.
     ensures sound { OnErr result (requests.new.fault ≡ None) }
 {
     // A loop has to end, so this one counts its reads; each gives a byte at least.

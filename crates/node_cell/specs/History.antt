@@ -1,4 +1,4 @@
--- A list that only proofs read.
+-- A list that only proofs read. No public clause needs it: clauses see a list.
 use Rattle.std.specs.Prelude.{List, [], ◌∷◌, ◌++◌}
 use Rattle.node_cell.specs.declared.history.Last.{Last}
 use Rattle.node_cell.specs.declared.history.Last.TheVariants.{Nothing, More}

@@ -1,3 +1,4 @@
 pub mod Asks
 pub mod History
 pub mod Journal
+pub mod Log

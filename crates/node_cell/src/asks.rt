@@ -8,6 +8,7 @@ use crate::cell::NodeCell;
 use crate::deployment::Deployment;
 use crate::entered::Entered;
 use crate::history::History;
+use crate::log::Log;
 use node_core::{Event, Outputs, StepFault};
 use std::marker::Model;
 use std::snapshot::Snapshot;
@@ -59,9 +60,9 @@ impl Asks {
     }
 
     /// Has the node make its step for the event, as [`NodeCell::apply`] does, and notes what came of it.
-    pub fn ask<K: Deployment>(
+    pub fn ask<K: Deployment, L: Log>(
         &mut self,
-        cell: &mut NodeCell<K>,
+        cell: &mut NodeCell<K, L>,
         event: Event,
     ) -> Result<Entered<K>, StepFault>
         ensures asked { self.new ≡ self.old ++ (record { event = event; outcome = outcome_of (λ entered. entered.outputs) result }) ∷ [] }

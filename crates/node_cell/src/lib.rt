@@ -8,6 +8,7 @@ mod entered;
 mod entry;
 mod gate;
 mod history;
+mod log;
 
 pub use asks::Asks;
 pub use cell::NodeCell;
@@ -16,3 +17,4 @@ pub use entered::Entered;
 pub use entry::Entry;
 pub use gate::{Answered, NodeGate};
 pub use history::History;
+pub use log::{GhostJournal, Journal, Log};

@@ -33,7 +33,7 @@ unfolding digits
 id = refl
 
 -- a run with its owner, and a run whose owner isn't in the configuration
-slots : reply_spelling (slots_reply cluster ((record { first = 0; last = 5460; value = 0 }) ∷ (record { first = 7000; last = 7000; value = 2 }) ∷ []))
+slots : reply_spelling (slots_reply cluster ((record { slots = record { first = 0; last = 5460 }; value = 0 }) ∷ (record { slots = record { first = 7000; last = 7000 }; value = 2 }) ∷ []))
     ≡ codes "*2\r\n*3\r\n:0\r\n:5460\r\n*3\r\n$9\r\n127.0.0.1\r\n:7002\r\n$40\r\n0000000000000000000000000000000000000000\r\n*3\r\n:7000\r\n:7000\r\n$-1\r\n"
 unfolding digits
 slots = refl

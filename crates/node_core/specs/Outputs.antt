@@ -1,7 +1,9 @@
 -- What a step gives to the world outside its node.
-use Rattle.node_core.specs.declared.outputs.Copies.{Copies}
-use Rattle.node_core.specs.declared.outputs.Outputs.{Outputs}
+use Rattle.node_core.specs.declared.response.Response.{Response}
+use Rattle.node_core.specs.declared.response.Response.TheVariants.{Nothing, Opened, Replied}
 
--- the same three times
-abbrev pub copies_of : Outputs → Copies
-copies_of outputs = record { to_sender = outputs; to_journal = outputs; to_peers = outputs }
+-- the response has no reply
+abbrev pub IsPlain : Response → Type 0
+IsPlain Nothing = Unit {0}
+IsPlain (Opened _) = Unit {0}
+IsPlain (Replied _) = ⊥

@@ -6,7 +6,7 @@ use Rattle.resp2.specs.declared.reply.Reply.TheVariants.{Integer, Bulk, Null, Ar
 use Rattle.command.specs.declared.command.ClusterCommand.{ClusterCommand}
 use Rattle.command.specs.declared.command.ClusterCommand.TheVariants.{KeySlot, MyId, Slots}
 use Rattle.key_slot.specs.Slot.{hash_slot}
-use Rattle.slot_table.specs.declared.run.Run.{Run}
+use Rattle.slot_table.specs.declared.runs.Run.{Run}
 use Rattle.slot_table.specs.Runs.{AreRunsOf}
 use Rattle.slot_table.specs.Table.{owner_at}
 use Rattle.cluster_config.specs.Config.{ClusterConfig}
@@ -26,7 +26,7 @@ master_reply (Some node) = Array (array_of (Bulk node.host ∷ Integer (pos node
 -- a run of slots: the first, the last, and their master
 abbrev pub run_reply : ClusterConfig → Run ℕ → Reply
 run_reply config run =
-    Array (array_of (Integer (pos run.first) ∷ Integer (pos run.last) ∷ master_reply (slice_get config.nodes run.value) ∷ []))
+    Array (array_of (Integer (pos run.slots.first) ∷ Integer (pos run.slots.last) ∷ master_reply (slice_get config.nodes run.value) ∷ []))
 
 -- all runs
 abbrev pub slots_reply : ClusterConfig → List (Run ℕ) → Reply

@@ -17,13 +17,11 @@ use Rattle.redirect.specs.Decision.{decision}
 use Rattle.redirect.specs.declared.decision.Decision.{Decision}
 use Rattle.redirect.specs.declared.decision.Decision.TheVariants.{Serve, CrossSlot, Down, Moved}
 use Rattle.node_core.specs.Connections.{connection_at, may_ask, Opens, Closes}
-use Rattle.node_core.specs.Outputs.{copies_of}
 use Rattle.node_core.specs.Reports.{IsReported}
 use Rattle.node_core.specs.State.{NodeState}
 use Rattle.node_core.specs.declared.connections.Conn.{Conn}
 use Rattle.node_core.specs.declared.event.Event.{Event}
 use Rattle.node_core.specs.declared.event.Event.TheVariants.{Open, Close, Request, Tick}
-use Rattle.node_core.specs.declared.outputs.Copies.{Copies}
 use Rattle.node_core.specs.declared.outputs.Outputs.{Outputs}
 use Rattle.node_core.specs.declared.response.Answer.{Answer}
 use Rattle.node_core.specs.declared.response.Response.{Response}
@@ -114,9 +112,3 @@ Responds old Tick response new = IsIdle old response new
 pub record NodeStep (ticket : ℕ) (old : NodeState) (event : Event) (outputs : Outputs) (new : NodeState) : Type 0 where
   pub stamped : outputs.ticket ≡ ticket
   pub responds : Responds old event outputs.response new
-
--- the step gives its outputs three times
-pub record StepsTo (ticket : ℕ) (old : NodeState) (event : Event) (copies : Copies) (new : NodeState) : Type 0 where
-  pub outputs : Outputs
-  pub copies_are : copies ≡ copies_of outputs
-  pub step : NodeStep ticket old event outputs new

@@ -14,5 +14,5 @@ pub use connections::{Asking, Conn, Connection, Connections};
 pub use event::Event;
 pub use fault::StepFault;
 pub use node::{Core, NodeCore};
-pub use outputs::{Copies, Outputs};
+pub use outputs::{Keep, Outputs};
 pub use response::{Answer, Response, Why};

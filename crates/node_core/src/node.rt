@@ -6,24 +6,26 @@ ghost use Rattle.command.specs.Table.{command_of};
 ghost use Rattle.keyspace.specs.Plan.{applied};
 ghost use Rattle.redirect.specs.Decision.{decision};
 ghost use Rattle.node_core.specs.Connections.{IsUsedUp};
+ghost use Rattle.node_core.specs.Outputs.{IsPlain};
 ghost use Rattle.node_core.specs.Reports.{IsReported};
 ghost use Rattle.node_core.specs.State.{first_state};
-ghost use Rattle.node_core.specs.Step.{IsAnswered, StepsTo, decided, moved_error};
+ghost use Rattle.node_core.specs.Step.{IsAnswered, NodeStep, execution_by, moved_error};
 ghost use Rattle.node_core.specs.declared.fault.StepFault.TheVariants.{Exhausted, Memory};
 
 use crate::connections::{Conn, Connections};
 use crate::event::Event;
 use crate::fault::StepFault;
-use crate::outputs::{Copies, Outputs};
+use crate::outputs::{Keep, Outputs};
 use crate::reports::{id_reply, slots_reply};
 use crate::response::{Answer, Response, Why};
 use cluster_config::Config;
 use command::{ClusterCommand, Command, CommandFault, DataCommand, ErrorLine, parse};
 use key_slot::{Slot, slot};
-use keyspace::{Plan, Store, TreeStore, commit, plan_command};
+use keyspace::{Plan, Store, commit, plan_command};
 use redirect::{Decision, decide};
 use resp2::{Reply, Words};
 use slot_state::SlotStates;
+use slot_store::SlotStore;
 use slot_table::{NodeNo, SlotTable};
 use std::alloc::{AllocError, Global};
 use std::marker::Model;
@@ -41,7 +43,7 @@ pub struct NodeCore<S: Store> {
 }
 
 /// A node over the store in use.
-pub type Core = NodeCore<TreeStore>;
+pub type Core = NodeCore<SlotStore>;
 
 impl<S: Store> Model for NodeCore<S> {
     ghost use Rattle.std.specs.Prelude.{ℕ};
@@ -91,74 +93,104 @@ impl<S: Store> NodeCore<S> {
         })
     }
 
-    /// Makes one step. `ticket` is its number among the steps of all nodes.
+    /// Makes one step for the event. `ticket` is its number among the steps of all nodes.
     ///
-    /// The outputs come three times, so that nothing can fail once the state has changed.
-    /// Memory and Exhausted leave the node as it was; Exhausted comes only at an Open, where a free key was opened 2^64 - 1 times.
-    pub fn step(&mut self, ticket: u64, event: Event) -> Result<Copies, StepFault>
-        ensures step { IfOk result (λ copies. StepsTo ticket self.old event copies self.new) }
+    /// The result is what goes to the sender of the event, and what `K` keeps of it: both are made before the state
+    /// changes, so that nothing can fail after that. Memory and Exhausted leave the node as it was; Exhausted comes only at
+    /// an Open, where a free key was opened 2^64 - 1 times.
+    pub fn step<K: Keep>(
+        &mut self,
+        ticket: u64,
+        event: &Event,
+    ) -> Result<(Outputs, K::Kept), StepFault>
+        ensures step { IfOk result (λ made. NodeStep ticket self.old event.now made.0 self.new) }
+        ensures kept { IfOk result (λ made. K.kept made.1 ≡ made.0) }
         ensures err { OnErr result (self.new ≡ self.old) }
-        ensures exhausted { result ≡ Err Exhausted → (event ≡ Event.Open) × IsUsedUp self.old.connections }
+        ensures exhausted { result ≡ Err Exhausted → (event.now ≡ Event.Open) × IsUsedUp self.old.connections }
     {
         match event {
-            Event::Open => self.open(ticket),
-            Event::Close(conn) => Ok(self.close(ticket, conn)),
-            Event::Request(conn, words) => self.request(ticket, conn, &words),
-            Event::Tick => Ok(Copies::of_nothing(ticket)),
+            Event::Open => self.open::<K>(ticket),
+            Event::Close(conn) => Ok(self.close::<K>(ticket, *conn)),
+            Event::Request(conn, words) => self.request::<K>(ticket, *conn, words),
+            Event::Tick => Ok(plain::<K>(ticket, Response::Nothing)),
         }
     }
 
-    fn open(&mut self, ticket: u64) -> Result<Copies, StepFault>
-        ensures step { IfOk result (λ copies. StepsTo ticket self.old Event.Open copies self.new) }
+    #[inline(never)]
+    fn open<K: Keep>(&mut self, ticket: u64) -> Result<(Outputs, K::Kept), StepFault>
+        ensures step { IfOk result (λ made. NodeStep ticket self.old Event.Open made.0 self.new) }
+        ensures kept { IfOk result (λ made. K.kept made.1 ≡ made.0) }
         ensures err { OnErr result (self.new ≡ self.old) }
         ensures exhausted { result ≡ Err Exhausted → IsUsedUp self.old.connections }
     {
         let conn = self.connections.open()?;
-        Ok(Copies::of_opened(ticket, conn))
+        Ok(plain::<K>(ticket, Response::Opened(conn)))
     }
 
-    fn close(&mut self, ticket: u64, conn: Conn) -> Copies
-        ensures { StepsTo ticket self.old (Event.Close conn) result self.new }
+    #[inline(never)]
+    fn close<K: Keep>(&mut self, ticket: u64, conn: Conn) -> (Outputs, K::Kept)
+        ensures step { NodeStep ticket self.old (Event.Close conn) result.0 self.new }
+        ensures kept { K.kept result.1 ≡ result.0 }
     {
         let _was_open = self.connections.close(conn);
-        Copies::of_nothing(ticket)
+        plain::<K>(ticket, Response::Nothing)
     }
 
-    fn request(&mut self, ticket: u64, conn: Conn, words: &Words) -> Result<Copies, StepFault>
-        ensures step { IfOk result (λ copies. StepsTo ticket self.old (Event.Request conn words.now) copies self.new) }
+    #[inline(never)]
+    fn request<K: Keep>(
+        &mut self,
+        ticket: u64,
+        conn: Conn,
+        words: &Words,
+    ) -> Result<(Outputs, K::Kept), StepFault>
+        ensures step { IfOk result (λ made. NodeStep ticket self.old (Event.Request conn words.now) made.0 self.new) }
+        ensures kept { IfOk result (λ made. K.kept made.1 ≡ made.0) }
         ensures err { IfErr result (λ fault. (self.new ≡ self.old) × (fault ≡ Memory)) }
     {
         if !self.connections.may_ask(conn) {
-            return Ok(Copies::of_nothing(ticket));
+            return Ok(plain::<K>(ticket, Response::Nothing));
         }
-        let (answer, plan) = self.answer(words)?;
+        let mut plan = Plan::new(self.alloc);
+        let answer = self.answer(words, &mut plan)?;
         let response = Response::Replied(answer);
-        let copies = Outputs { ticket, response }.copies()?;
+        let outputs = Outputs { ticket, response };
+        let kept = K::keep(&outputs)?;
         commit(self.alloc, &mut self.store, plan)?;
-        Ok(copies)
+        Ok((outputs, kept))
     }
 
-    // The answer to the words, and what is going to change.
-    fn answer(&self, words: &Words) -> Result<(Answer, Plan), StepFault>
-        ensures answer { IfOk result (λ planned. IsAnswered self.now (command_of words.now) planned.0 (applied self.now.keyspace planned.1)) }
+    // The answer to the words. What is going to change goes into the plan.
+    fn answer(&self, words: &Words, plan: &mut Plan) -> Result<Answer, StepFault>
+        requires { applied self.now.keyspace plan.old ≡ self.now.keyspace }
+        ensures answer { IfOk result (λ answer. IsAnswered self.now (command_of words.now) answer (applied self.now.keyspace plan.new)) }
         ensures err { IfErr result (λ fault. fault ≡ Memory) }
     {
         match parse(self.alloc, words) {
-            Ok(command) => Ok(self.answer_command(command)?),
+            Ok(command) => Ok(self.answer_command(&command, plan)?),
             Err(CommandFault::Memory) => Err(StepFault::Memory),
-            Err(fault) => Ok(self.reject(Why::NotACommand(fault), fault.line().reply())),
+            Err(fault) => Ok(Answer {
+                why: Why::NotACommand(fault),
+                reply: fault.line().reply(),
+            }),
         }
     }
 
-    fn answer_command(&self, command: Command) -> Result<(Answer, Plan), AllocError>
-        ensures { IfOk result (λ planned. IsAnswered self.now (Ok command) planned.0 (applied self.now.keyspace planned.1)) }
+    fn answer_command(&self, command: &Command, plan: &mut Plan) -> Result<Answer, AllocError>
+        requires { applied self.now.keyspace plan.old ≡ self.now.keyspace }
+        ensures { IfOk result (λ answer. IsAnswered self.now (Ok command.now) answer (applied self.now.keyspace plan.new)) }
     {
         match command {
             Command::Data(data_command) => {
-                let decision = self.decision(&data_command)?;
-                self.answer_as(decision, data_command)
+                let decision = self.decision(data_command)?;
+                let reply = self.reply_as(&decision, data_command, plan)?;
+                let why = Why::Decided(decision);
+                Ok(Answer { why, reply })
             }
-            Command::Cluster(question) => self.report(&question),
+            Command::Cluster(question) => {
+                let reply = self.report(question)?;
+                let why = Why::Reported;
+                Ok(Answer { why, reply })
+            }
         }
     }
 
@@ -174,35 +206,26 @@ impl<S: Store> NodeCore<S> {
     }
 
     // Executes a command on keys, or rejects it, as was decided.
-    fn answer_as(
+    fn reply_as(
         &self,
-        decision: Decision,
-        command: DataCommand,
-    ) -> Result<(Answer, Plan), AllocError>
-        ensures { IfOk result (λ planned. record { answer = planned.0; after = applied self.now.keyspace planned.1 } ≡ decided decision self.now command) }
+        decision: &Decision,
+        command: &DataCommand,
+        plan: &mut Plan,
+    ) -> Result<Reply, AllocError>
+        requires { applied self.now.keyspace plan.old ≡ self.now.keyspace }
+        ensures { IfOk result (λ reply. record { reply = reply; after = applied self.now.keyspace plan.new } ≡ execution_by decision.now self.now command.now) }
     {
-        let why = Why::Decided(decision);
         match decision {
-            Decision::Serve => {
-                let (reply, plan) = plan_command(self.alloc, &self.store, command)?;
-                Ok((Answer { why, reply }, plan))
-            }
-            Decision::CrossSlot => Ok(self.reject(why, ErrorLine::CrossSlot.reply())),
-            Decision::Down => Ok(self.reject(why, ErrorLine::SlotDown.reply())),
-            Decision::Moved { slot, to } => Ok(self.reject(why, self.moved(slot, to)?)),
+            Decision::Serve => plan_command(self.alloc, &self.store, plan, command),
+            Decision::CrossSlot => Ok(ErrorLine::CrossSlot.reply()),
+            Decision::Down => Ok(ErrorLine::SlotDown.reply()),
+            Decision::Moved { slot, to } => self.moved(*slot, *to),
         }
     }
 
     // A question about the cluster changes nothing.
-    fn report(&self, command: &ClusterCommand) -> Result<(Answer, Plan), AllocError>
-        ensures { IfOk result (λ planned. IsAnswered self.now (Ok (Command.Cluster command.now)) planned.0 (applied self.now.keyspace planned.1)) }
-    {
-        let reply = self.report_reply(command)?;
-        let why = Why::Reported;
-        Ok((Answer { why, reply }, Plan::new(self.alloc)))
-    }
-
-    fn report_reply(&self, command: &ClusterCommand) -> Result<Reply, AllocError>
+    #[inline(never)]
+    fn report(&self, command: &ClusterCommand) -> Result<Reply, AllocError>
         ensures { IfOk result (λ reply. IsReported self.now command.now reply) }
     {
         match command {
@@ -219,6 +242,7 @@ impl<S: Store> NodeCore<S> {
     }
 
     // The error that names the owner of the slot.
+    #[inline(never)]
     fn moved(&self, slot: Slot, to: NodeNo) -> Result<Reply, AllocError>
         ensures { IfOk result (λ reply. reply ≡ Reply.Error (moved_error slot (slice_get self.now.config.nodes to))) }
     {
@@ -227,12 +251,17 @@ impl<S: Store> NodeCore<S> {
         };
         command::moved_reply(self.alloc, slot.get(), node.host.as_slice(), node.port)
     }
+}
 
-    // An answer that changes nothing.
-    fn reject(&self, why: Why, reply: Reply) -> (Answer, Plan)
-        ensures answer { result.0 ≡ record { why = why; reply = reply } }
-        ensures unchanged { applied self.now.keyspace result.1 ≡ self.now.keyspace }
-    {
-        (Answer { why, reply }, Plan::new(self.alloc))
-    }
+// A step whose response takes no memory.
+fn plain<K: Keep>(ticket: u64, response: Response) -> (Outputs, K::Kept)
+    requires { IsPlain response }
+    ensures outputs { result.0 ≡ record { ticket = ticket; response = response } }
+    ensures kept { K.kept result.1 ≡ result.0 }
+{
+    let outputs = Outputs { ticket, response };
+    let Ok(kept) = K::keep(&outputs) else {
+        unreachable!();
+    };
+    (outputs, kept)
 }

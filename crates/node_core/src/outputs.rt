@@ -1,8 +1,7 @@
 //! What a step gives to the world outside its node.
-ghost use Rattle.std.specs.Prelude.{◌≡◌, IfOk};
-ghost use Rattle.node_core.specs.Outputs.{copies_of};
+ghost use Rattle.std.specs.Prelude.{◌≡◌, IfOk, IsOk};
+ghost use Rattle.node_core.specs.Outputs.{IsPlain};
 
-use crate::connections::Conn;
 use crate::response::Response;
 use std::alloc::AllocError;
 
@@ -15,79 +14,31 @@ pub struct Outputs {
     pub response: Response,
 }
 
-/// The outputs of one step, three times the same: nothing can fail any more once the node has changed.
-#[derive(Debug, Drop)]
-pub struct Copies {
-    /// For the sender of the event.
-    pub to_sender: Outputs,
-    /// For the journal of the node.
-    pub to_journal: Outputs,
-    /// For the messages to other nodes.
-    pub to_peers: Outputs,
-}
-
 impl Outputs {
-    /// Three equal copies.
-    pub fn copies(self) -> Result<Copies, AllocError>
-        ensures { IfOk result (λ copies. copies ≡ copies_of self) }
+    /// An equal copy, which shares what is long. It fails only where there is a reply.
+    pub fn copy(&self) -> Result<Outputs, AllocError>
+        ensures same { IfOk result (λ copy. copy ≡ self.now) }
+        ensures plain { IsPlain self.now.response → IsOk result }
     {
-        Ok(Copies {
-            to_sender: self.clone()?,
-            to_journal: self.clone()?,
-            to_peers: self,
-        })
-    }
-}
-
-impl Clone for Outputs {
-    ghost is_clone = { λ outputs copy. copy ≡ outputs };
-
-    fn clone(&self) -> Result<Outputs, AllocError> {
         Ok(Outputs {
             ticket: self.ticket,
-            response: self.response.clone()?,
+            response: self.response.copy()?,
         })
     }
 }
 
-impl Copies {
-    // A step without a response.
-    pub(crate) fn of_nothing(ticket: u64) -> Copies
-        ensures { result ≡ copies_of (record { ticket = ticket; response = Response.Nothing }) }
-    {
-        Copies {
-            to_sender: nothing(ticket),
-            to_journal: nothing(ticket),
-            to_peers: nothing(ticket),
-        }
-    }
+/// What is kept of the outputs of a step, beside those that go to the sender of its event.
+///
+/// It is made before the state of the node changes, so that nothing can fail after that.
+pub trait Keep {
+    type Kept: Drop;
 
-    // A step that opened a connection.
-    pub(crate) fn of_opened(ticket: u64, conn: Conn) -> Copies
-        ensures { result ≡ copies_of (record { ticket = ticket; response = Response.Opened conn }) }
-    {
-        Copies {
-            to_sender: opened(ticket, conn),
-            to_journal: opened(ticket, conn),
-            to_peers: opened(ticket, conn),
-        }
-    }
-}
+    ghost use Rattle.node_core.specs.declared.outputs.Outputs.{Outputs as NodeOutputs};
 
-fn nothing(ticket: u64) -> Outputs
-    ensures { result ≡ record { ticket = ticket; response = Response.Nothing } }
-{
-    Outputs {
-        ticket,
-        response: Response::Nothing,
-    }
-}
+    ghost kept: { Self.Kept → NodeOutputs };
 
-fn opened(ticket: u64, conn: Conn) -> Outputs
-    ensures { result ≡ record { ticket = ticket; response = Response.Opened conn } }
-{
-    Outputs {
-        ticket,
-        response: Response::Opened(conn),
-    }
+    /// What is kept of these outputs. It fails only where there is a reply.
+    fn keep(outputs: &Outputs) -> Result<Self::Kept, AllocError>
+        ensures kept { IfOk result (λ copy. kept copy ≡ outputs.now) }
+        ensures plain { IsPlain outputs.now.response → IsOk result };
 }

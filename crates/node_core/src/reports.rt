@@ -3,6 +3,7 @@ ghost use Rattle.std.specs.Prelude.{◌≡◌, ◌∷◌, [], pos, IfOk, option_
 ghost use Rattle.resp2.specs.Reply.{array_of};
 ghost use Rattle.node_core.specs.Reports.{id_reply, master_reply, run_reply, slots_reply};
 
+use byte_string::ByteString;
 use cluster_config::{Config, NodeConfig};
 use resp2::{Array, Reply};
 use slot_table::{NodeNo, Run};
@@ -13,7 +14,7 @@ pub(crate) fn id_reply(node: Option<&NodeConfig>) -> Result<Reply, AllocError>
     ensures { IfOk result (λ reply. reply ≡ id_reply (option_copied node.entry)) }
 {
     match node {
-        Some(node) => Ok(Reply::Bulk(node.id.bytes().clone()?)),
+        Some(node) => Ok(Reply::Bulk(ByteString::from(node.id.bytes().clone()?))),
         None => Ok(Reply::Null),
     }
 }
@@ -37,8 +38,8 @@ pub(crate) fn slots_reply(
 fn run_reply(alloc: Global, config: &Config, run: Run<NodeNo>) -> Result<Reply, AllocError>
     ensures { IfOk result (λ reply. reply ≡ run_reply config.now run) }
 {
-    let first = Reply::Integer(i64::from(run.first.get()));
-    let last = Reply::Integer(i64::from(run.last.get()));
+    let first = Reply::Integer(i64::from(run.slots.first.get()));
+    let last = Reply::Integer(i64::from(run.slots.last.get()));
     let master = master_reply(alloc, config.node(run.value))?;
     array(alloc, vec![in alloc; first, last, master]?)
 }
@@ -50,9 +51,9 @@ fn master_reply(alloc: Global, node: Option<&NodeConfig>) -> Result<Reply, Alloc
     let Some(node) = node else {
         return Ok(Reply::Null);
     };
-    let host = Reply::Bulk(node.host.bytes().clone()?);
+    let host = Reply::Bulk(ByteString::from(node.host.bytes().clone()?));
     let port = Reply::Integer(i64::from(node.port));
-    let id = Reply::Bulk(node.id.bytes().clone()?);
+    let id = Reply::Bulk(ByteString::from(node.id.bytes().clone()?));
     array(alloc, vec![in alloc; host, port, id]?)
 }
 

@@ -1,5 +1,6 @@
 //! What the sender of an event gets back.
-ghost use Rattle.std.specs.Prelude.{◌≡◌};
+ghost use Rattle.std.specs.Prelude.{◌≡◌, IfOk, IsOk};
+ghost use Rattle.node_core.specs.Outputs.{IsPlain};
 
 use crate::connections::Conn;
 use command::CommandFault;
@@ -49,10 +50,12 @@ pub enum Response {
     Replied(Answer),
 }
 
-impl Clone for Response {
-    ghost is_clone = { λ response copy. copy ≡ response };
-
-    fn clone(&self) -> Result<Response, AllocError> {
+impl Response {
+    /// An equal copy, which shares what is long. It fails only where there is a reply.
+    pub fn copy(&self) -> Result<Response, AllocError>
+        ensures same { IfOk result (λ copy. copy ≡ self.now) }
+        ensures plain { IsPlain self.now → IsOk result }
+    {
         match self {
             Response::Nothing => Ok(Response::Nothing),
             Response::Opened(conn) => Ok(Response::Opened(*conn)),

@@ -7,6 +7,7 @@ mod serving;
 
 use arguments::{Call, read_call};
 use fault::ProgramFault;
+use node_cell::{GhostJournal, Journal};
 use serving::serve;
 use std::io;
 use std::process::ExitCode;
@@ -22,7 +23,14 @@ fn main(rt: HostRuntime) -> io::Result<ExitCode> {
         }
     };
     let outcome = match call {
-        Call::Serve { config } => serve(rt, config),
+        Call::Serve {
+            config,
+            keeps_journal: false,
+        } => serve::<GhostJournal, _>(rt, config),
+        Call::Serve {
+            config,
+            keeps_journal: true,
+        } => serve::<Journal, _>(rt, config),
     };
     match outcome {
         Ok(()) => Ok(ExitCode::SUCCESS),

@@ -2,6 +2,7 @@
 use crate::fault::ProgramFault;
 use cluster::run_node;
 use cluster_config::{Config, NodeConfig, read_config};
+use node_cell::Log;
 use slot_table::NodeNo;
 use std::alloc::Global;
 use std::fs;
@@ -12,8 +13,8 @@ use std::rt::Files;
 use std::sync::Wait;
 use tickets::open;
 
-/// Serves the cluster that the file describes. It prints the address of each node once all listen.
-pub fn serve<R>(rt: R, path: &str) -> Result<(), ProgramFault>
+/// Serves the cluster that the file describes, with an `L` as the journal of a node. It prints the address of each node once all listen.
+pub fn serve<L: Log + Drop, R>(rt: R, path: &str) -> Result<(), ProgramFault>
 where
     R: Files
         + AllocGlobal
@@ -35,7 +36,7 @@ where
     if println!(rt; "node 0 {address}").is_err() {
         return Err(ProgramFault::Output);
     }
-    run_node::<Brand, R>(rt, alloc, &config, number, seat, &listener)?;
+    run_node::<Brand, L, R>(rt, alloc, &config, number, seat, &listener)?;
     Ok(())
 }
 

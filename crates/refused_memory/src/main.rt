@@ -11,7 +11,7 @@ ghost use Rattle.tickets.specs.Tickets.{IsFresh};
 use cluster::Gate;
 use cluster_config::{Config, ConfigFault, read_config};
 use listener::serve_conn;
-use node_cell::{Deployment, NodeCell};
+use node_cell::{Deployment, Journal, NodeCell};
 use resp2::Counting;
 use second_tries::{buffer_is_kept, reader_loses_nothing};
 use slot_table::NodeNo;
@@ -102,7 +102,7 @@ fn converse<K: Deployment, R: Wait + Drop>(
     requires cluster { config.now ≡ K.config }
     requires seat { IsFresh K.table K.seats seat }
 {
-    let cell = NodeCell::<K>::new(alloc, config, node, seat)?;
+    let cell = NodeCell::<K, Journal>::new(alloc, config, node, seat)?;
     let node = Arc::new(alloc, Mutex::new(cell)).map_err(AllocError::from)?;
     let mut gate = Gate::new(rt, node);
     // Reserved up front: what a socket takes is no allocation of the program.

@@ -1,5 +1,5 @@
 //! What refused memory leaves: a reader that loses nothing, and a buffer as it was, so that a second try succeeds.
-use bytes::Bytes;
+use byte_string::ByteString;
 use resp2::{Array, Fault, Reader, Reply, Words, append_reply};
 use std::alloc::{AllocError, Global};
 
@@ -49,9 +49,9 @@ pub fn buffer_is_kept(alloc: Global) -> Result<bool, AllocError> {
 // The first and the last slot of a node, and where it is reached.
 fn slots(alloc: Global) -> Result<Reply, AllocError> {
     let node = array(vec![in alloc;
-        Reply::Bulk(Bytes::from_static(b"127.0.0.1")),
+        Reply::Bulk(ByteString::from_static(b"127.0.0.1")),
         Reply::Integer(7000),
-        Reply::Bulk(Bytes::from_static(b"0")),
+        Reply::Bulk(ByteString::from_static(b"0")),
     ]?)?;
     let entry = array(vec![in alloc; Reply::Integer(0), Reply::Integer(5460), node]?)?;
     array(vec![in alloc; entry]?)

@@ -1,4 +1,4 @@
--- What reading a header gives.
+-- What reading a header gives. No public clause needs it.
 use Rattle.std.specs.Prelude.{◌≡◌, ◌≤◌, ℕ, List, length, drop, Option, None, Some, Result, Ok, Err}
 use Rattle.resp2.specs.declared.fault.Fault.{Fault}
 use Rattle.resp2.specs.declared.header.Header.{Header}

@@ -1,4 +1,4 @@
--- The pieces that replies are written from.
+-- The pieces that replies are written from. No public clause needs them.
 use Rattle.std.specs.Prelude.{ℕ, List, ◌++◌}
 use Rattle.std.specs.List.{flat_map}
 use Rattle.resp2.specs.Reply.{element_spelling}

@@ -1,4 +1,4 @@
--- How far a reader is: what it took from the front of its input, and what a step takes more.
+-- How far a reader is: what it took from the front of its input, and what a step takes more. No public clause needs it.
 use Rattle.std.specs.Prelude.{◌≡◌, ◌<◌, ◌≤◌, ◌+◌, ℕ, List, length, All, IfSome, Option, None, Some, Result, Ok, Err}
 use Rattle.resp2.specs.declared.fault.Fault.{Fault}
 use Rattle.resp2.specs.declared.fault.Fault.TheVariants.{Memory}

@@ -5,7 +5,7 @@ ghost use Rattle.resp2.specs.Reply.{array_of, elements_of};
 
 use crate::line::Line;
 use crate::reply::Reply;
-use bytes::Bytes;
+use byte_string::ByteString;
 use std::alloc::{AllocError, Global};
 use std::marker::Model;
 
@@ -19,10 +19,10 @@ pub enum Element {
     /// A signed number of 64 bits.
     Integer(i64),
     /// Any bytes.
-    Bulk(Bytes),
+    Bulk(ByteString),
     /// The bulk string that isn't there.
     Null,
-    /// The header of an array of so many replies, which follow.
+    /// The header of an array of this many replies, which follow.
     Array(usize),
 }
 

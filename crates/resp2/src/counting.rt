@@ -4,32 +4,29 @@ ghost use Rattle.std.specs.Borrow.{sem, follows};
 ghost use Rattle.std.specs.Io.{ReadsAtMost, WritesAtMost};
 ghost use Rattle.std.specs.Io.KnownBytes.{Appends, Keeps, ReadConsumes, WriteAppends};
 ghost use Rattle.resp2.specs.contracts.counting.Counting.{the_row};
-ghost use Rattle.resp2.specs.Counting.{device_of, failures_of, with_device, HasRisen};
+ghost use Rattle.resp2.specs.Counting.{inner_of, failures_of, with_inner, HasRisen};
 ghost use Rattle.resp2.specs.Writing.{AppendsBeginning};
 
 use crate::whole::write_whole;
 use std::io;
 use std::io::{Read, Write};
 
-/// A device with a count of its calls that failed.
+/// A reader or writer, with a count of its calls that failed.
 ///
 /// An error that a caller dropped on the way has still been counted.
 #[derive(Debug, Drop)]
 pub struct Counting<D> {
-    pub(crate) device: D,
+    pub(crate) inner: D,
     pub(crate) failures: u64,
 }
 
 impl<D> Counting<D> {
-    /// The device, with no failure counted.
-    pub fn new(device: D) -> Counting<D>
-        ensures device { device_of result ≡ device }
+    /// The reader or writer, with no failure counted.
+    pub fn new(inner: D) -> Counting<D>
+        ensures inner { inner_of result ≡ inner }
         ensures none { failures_of result ≡ 0 }
     {
-        Counting {
-            device,
-            failures: 0,
-        }
+        Counting { inner, failures: 0 }
     }
 
     /// How many calls failed, up to `u64::MAX`.
@@ -39,78 +36,78 @@ impl<D> Counting<D> {
         self.failures
     }
 
-    /// The device.
-    pub fn device(&self) -> &D
-        ensures { result.now ≡ device_of self.now }
+    /// The reader or writer.
+    pub fn get_ref(&self) -> &D
+        ensures { result.now ≡ inner_of self.now }
     {
-        &self.device
+        &self.inner
     }
 
-    /// The device, for calls that aren't counted.
-    pub fn device_mut(&mut self) -> &mut D
-        ensures value { result.now ≡ device_of self.old }
+    /// The reader or writer, for calls that aren't counted.
+    pub fn get_mut(&mut self) -> &mut D
+        ensures value { result.now ≡ inner_of self.old }
         ensures* writes_back { sem 𝓛 (follows (the_row D.row) D.row self.entry.ghost_name
-            result.ghost_name (with_device self.old)) }
+            result.ghost_name (with_inner self.old)) }
     {
-        &mut self.device
+        &mut self.inner
     }
 
-    /// The device, without the count.
+    /// The reader or writer, without the count.
     pub fn into_inner(self) -> D
-        ensures { result ≡ device_of self }
+        ensures { result ≡ inner_of self }
     {
-        self.device
+        self.inner
     }
 }
 
 impl<R: Read> Read for Counting<R> {
-    ghost remaining = { λ counting. R.remaining counting.device };
+    ghost remaining = { λ counting. R.remaining counting.inner };
 
     fn read(&mut self, buf: &mut [u8]) -> io::Result<usize>
         ensures bound { ReadsAtMost result buf.new }
-        ensures bytes { ReadConsumes (R.remaining (device_of self.old))
-            (R.remaining (device_of self.new)) result buf.new }
+        ensures bytes { ReadConsumes (R.remaining (inner_of self.old))
+            (R.remaining (inner_of self.new)) result buf.new }
         ensures ok { OnOk result (failures_of self.new ≡ failures_of self.old) }
         ensures err { OnErr result (HasRisen (failures_of self.old) (failures_of self.new)) }
     {
-        let outcome = self.device.read(buf);
+        let outcome = self.inner.read(buf);
         counted(outcome, &mut self.failures)
     }
 }
 
 impl<W: Write> Write for Counting<W> {
-    ghost contents = { λ counting. W.contents counting.device };
+    ghost contents = { λ counting. W.contents counting.inner };
 
     fn write(&mut self, buf: &[u8]) -> io::Result<usize>
         ensures bound { WritesAtMost result buf.now }
-        ensures bytes { WriteAppends (W.contents (device_of self.old))
-            (W.contents (device_of self.new)) result buf.now }
+        ensures bytes { WriteAppends (W.contents (inner_of self.old))
+            (W.contents (inner_of self.new)) result buf.now }
         ensures ok { OnOk result (failures_of self.new ≡ failures_of self.old) }
         ensures err { OnErr result (HasRisen (failures_of self.old) (failures_of self.new)) }
     {
-        let outcome = self.device.write(buf);
+        let outcome = self.inner.write(buf);
         counted(outcome, &mut self.failures)
     }
 
     fn flush(&mut self) -> io::Result<()>
-        ensures bytes { Keeps (W.contents (device_of self.old))
-            (W.contents (device_of self.new)) }
+        ensures bytes { Keeps (W.contents (inner_of self.old))
+            (W.contents (inner_of self.new)) }
         ensures ok { OnOk result (failures_of self.new ≡ failures_of self.old) }
         ensures err { OnErr result (HasRisen (failures_of self.old) (failures_of self.new)) }
     {
-        let outcome = self.device.flush();
+        let outcome = self.inner.flush();
         counted(outcome, &mut self.failures)
     }
 
     fn write_all(&mut self, buf: &[u8]) -> io::Result<()>
-        ensures bytes { OnOk result (Appends (W.contents (device_of self.old))
-            (W.contents (device_of self.new)) buf.now) }
-        ensures begun { OnErr result (AppendsBeginning (W.contents (device_of self.old))
-            (W.contents (device_of self.new)) buf.now) }
+        ensures bytes { OnOk result (Appends (W.contents (inner_of self.old))
+            (W.contents (inner_of self.new)) buf.now) }
+        ensures begun { OnErr result (AppendsBeginning (W.contents (inner_of self.old))
+            (W.contents (inner_of self.new)) buf.now) }
         ensures ok { OnOk result (failures_of self.new ≡ failures_of self.old) }
         ensures err { OnErr result (HasRisen (failures_of self.old) (failures_of self.new)) }
     {
-        let outcome = write_whole(buf, &mut self.device);
+        let outcome = write_whole(buf, &mut self.inner);
         counted(outcome, &mut self.failures)
     }
 }

@@ -7,7 +7,7 @@ ghost use Rattle.resp2.specs.Parts.{spelled_by};
 
 use crate::array::Element;
 use crate::reply::Reply;
-use bytes::Bytes;
+use byte_string::ByteString;
 use itoa::Buffer;
 
 /// What a reply is written from: parts in order, of which the last may be empty, and then elements.
@@ -65,7 +65,7 @@ fn line<'a>(mark: &'a [u8], text: &'a [u8]) -> [&'a [u8]; 5]
     [mark, text, b"\r\n", b"", b""]
 }
 
-fn bulk<'a>(bytes: &'a Bytes, digits: &'a mut Buffer) -> [&'a [u8]; 5]
+fn bulk<'a>(bytes: &'a ByteString, digits: &'a mut Buffer) -> [&'a [u8]; 5]
     ensures { flat_map (λ part. part.now) result ≡ bulk_spelling bytes.now }
 {
     let len = digits.format(bytes.len()).as_bytes();

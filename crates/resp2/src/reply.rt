@@ -3,7 +3,7 @@ ghost use Rattle.std.specs.Prelude.{◌≡◌};
 
 use crate::array::Array;
 use crate::line::Line;
-use bytes::Bytes;
+use byte_string::ByteString;
 use std::alloc::AllocError;
 
 /// A reply, by the kinds of the protocol.
@@ -16,7 +16,7 @@ pub enum Reply {
     /// A signed number of 64 bits.
     Integer(i64),
     /// Any bytes.
-    Bulk(Bytes),
+    Bulk(ByteString),
     /// The bulk string that isn't there.
     Null,
     /// Replies in a row.

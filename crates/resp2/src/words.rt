@@ -7,7 +7,8 @@ ghost use Rattle.resp2.specs.Progress.{Takes, HasLen, IsPartial, word_front, par
 
 use crate::fault::Fault;
 use crate::header::{Bounds, read_header};
-use bytes::{Bytes, BytesMut};
+use byte_string::ByteString;
+use bytes::BytesMut;
 use std::alloc::{AllocError, Global};
 use std::marker::Model;
 use std::mem;
@@ -27,7 +28,7 @@ const LEAST_SHARED: usize = 4096;
 /// The words of one request, the command's name first: at least one, and within the limits.
 #[derive(Debug, Drop)]
 pub struct Words {
-    items: Vec<Bytes>,
+    items: Vec<ByteString>,
 }
 
 impl Model for Words {
@@ -43,7 +44,7 @@ impl Model for Words {
 
 impl Words {
     /// The words as a request, or None where there is no word or a limit is passed.
-    pub fn new(items: Vec<Bytes>) -> Option<Words>
+    pub fn new(items: Vec<ByteString>) -> Option<Words>
         ensures words { IfSome result (λ words. words ≡ items.items) }
         ensures request { IfSome result (λ words. IsRequest items.items) }
         ensures whole { IsRequest items.items → IsSome result }
@@ -59,7 +60,7 @@ impl Words {
     }
 
     /// The words in order.
-    pub fn as_slice(&self) -> &[Bytes]
+    pub fn as_slice(&self) -> &[ByteString]
         ensures words { result.now ≡ self.now }
         ensures request { IsRequest self.now }
     {
@@ -67,14 +68,14 @@ impl Words {
     }
 
     /// The first word, which names the command.
-    pub fn name(&self) -> &Bytes
+    pub fn name(&self) -> &ByteString
         ensures { slice_get self.now 0 ≡ Some result.now }
     {
         &self.items[0]
     }
 
     /// The words in order, to be taken apart.
-    pub fn into_vec(self) -> Vec<Bytes>
+    pub fn into_vec(self) -> Vec<ByteString>
         ensures words { result.items ≡ self }
         ensures request { IsRequest self }
     {
@@ -103,7 +104,7 @@ impl Clone for Words {
 #[derive(Drop)]
 pub struct Partial {
     /// The words that came whole.
-    words: Vec<Bytes>,
+    words: Vec<ByteString>,
     /// How many words are to come after those.
     left: usize,
     /// The length of the next word in bytes, once its header was read.
@@ -151,9 +152,9 @@ impl Partial {
             (partial_onto self.new input.new.items ≡ partial_onto self.old input.old.items) }
     {
         'words: while self.left > 0 {
-            // A word that was taken is no longer in the input, so the room for it comes first:
-            // a refusal here loses no word.
-            self.words.reserve(1)?;
+            // A word that was taken is no longer in the input, so the room for it and for those
+            // behind it comes first: a refusal here loses no word.
+            self.words.reserve_exact(self.left)?;
             let Some(word) = take_word(input, &mut self.len)? else {
                 return Ok(None);
             };
@@ -173,7 +174,7 @@ impl Partial {
 ///
 /// A header is consumed as soon as it is whole, and its length is remembered: so a long word that
 /// comes in many pieces isn't looked at again with each of them.
-fn take_word(input: &mut BytesMut, len: &mut Option<usize>) -> Result<Option<Bytes>, Fault>
+fn take_word(input: &mut BytesMut, len: &mut Option<usize>) -> Result<Option<ByteString>, Fault>
     requires { HasLen len.old }
     ensures takes { Takes result
         (word_at MOST_WORD_BYTES (word_front len.old input.old.items)) input.new.items }
@@ -235,7 +236,7 @@ fn take_body(
     input: &mut BytesMut,
     len: &mut Option<usize>,
     known: usize,
-) -> Result<Option<Bytes>, Fault>
+) -> Result<Option<ByteString>, Fault>
     requires len { len.old ≡ Some known }
     requires limit { HasLen len.old }
     ensures takes { Takes result (body_at known input.old.items) input.new.items }
@@ -288,17 +289,17 @@ fn is_whole(bytes: &[u8], len: usize) -> Result<bool, Fault>
     Ok(true)
 }
 
-/// Cuts so many bytes off the front.
-fn cut(input: &mut BytesMut, len: usize) -> Result<Bytes, AllocError>
+/// Cuts this many bytes off the front.
+fn cut(input: &mut BytesMut, len: usize) -> Result<ByteString, AllocError>
     requires { len ≤ length input.old.items }
     ensures front { IfOk result (λ word. word ≡ take len input.old.items) }
     ensures rest { OnOk result (input.new.items ≡ drop len input.old.items) }
     ensures err { OnErr result (input.new.items ≡ input.old.items) }
 {
     if len >= LEAST_SHARED {
-        return input.freeze_to(len);
+        return Ok(ByteString::from(input.freeze_to(len)?));
     }
-    let word = Bytes::copy_from_slice(*input.allocator(), &input.as_slice()[..len])?;
+    let word = ByteString::copy_from_slice(*input.allocator(), &input.as_slice()[..len])?;
     input.advance(len);
     Ok(word)
 }

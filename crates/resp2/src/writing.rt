@@ -2,13 +2,14 @@
 ghost use Rattle.std.specs.Prelude.{◌≡◌, ◌++◌, OnOk, OnErr};
 ghost use Rattle.std.specs.List.{flat_map};
 ghost use Rattle.std.specs.Io.KnownBytes.{Appends};
-ghost use Rattle.resp2.specs.Counting.{device_of, failures_of, HasRisen};
+ghost use Rattle.resp2.specs.Counting.{inner_of, failures_of, HasRisen};
 ghost use Rattle.resp2.specs.Reply.{element_spelling, reply_spelling};
-ghost use Rattle.resp2.specs.Writing.{AppendsBeginning};
+ghost use Rattle.resp2.specs.Writing.{AppendsBeginning, Continues};
+ghost use Rattle.resp2.specs.Parts.{spelled_by};
 
 use crate::array::Element;
 use crate::counting::{Counting, counted};
-use crate::parts::{parts_of, pieces_of};
+use crate::parts::{Pieces, parts_of, pieces_of};
 use crate::reply::Reply;
 use crate::whole::write_whole;
 use itoa::Buffer;
@@ -32,30 +33,54 @@ pub fn write_reply<W: Write>(reply: &Reply, out: &mut W) -> io::Result<()>
     write_elements(pieces.elements, out)
 }
 
-/// Writes the reply to a device whose failures are counted: an error is one that was counted.
+/// Writes the reply where failures are counted: an error is one that was counted.
+#[inline(never)]
 pub fn send_reply<W: Write>(reply: &Reply, out: &mut Counting<W>) -> io::Result<()>
     ensures written { OnOk result
-        (Appends (W.contents (device_of out.old)) (W.contents (device_of out.new)) (reply_spelling reply.now)) }
+        (Appends (W.contents (inner_of out.old)) (W.contents (inner_of out.new)) (reply_spelling reply.now)) }
     ensures begun { OnErr result
-        (AppendsBeginning (W.contents (device_of out.old)) (W.contents (device_of out.new)) (reply_spelling reply.now)) }
+        (AppendsBeginning (W.contents (inner_of out.old)) (W.contents (inner_of out.new)) (reply_spelling reply.now)) }
     ensures ok { OnOk result (failures_of out.new ≡ failures_of out.old) }
     ensures err { OnErr result (HasRisen (failures_of out.old) (failures_of out.new)) }
 {
-    let outcome = write_reply(reply, &mut out.device);
+    let outcome = write_reply(reply, &mut out.inner);
     counted(outcome, &mut out.failures)
 }
 
 /// Appends the reply to `out`, or nothing where memory is refused.
+///
+/// It does what `write_reply` does, at half the cost: most replies go this way, and are short.
 pub fn append_reply(reply: &Reply, out: &mut Vec<u8>) -> Result<(), AllocError>
     ensures ok { OnOk result (out.new.items ≡ out.old.items ++ reply_spelling reply.now) }
     ensures err { OnErr result (out.new.items ≡ out.old.items) }
 {
     let before = out.len();
-    // A `Vec` refuses bytes only where memory is refused.
-    let Ok(()) = write_reply(reply, out) else {
+    let mut digits = Buffer::new();
+    let Ok(()) = append_pieces(&pieces_of(reply, &mut digits), out) else {
         out.truncate(before);
         return Err(AllocError);
     };
+    Ok(())
+}
+
+fn append_pieces(pieces: &Pieces, out: &mut Vec<u8>) -> Result<(), AllocError>
+    ensures ok { OnOk result (out.new.items ≡ out.old.items ++ spelled_by pieces.now) }
+    ensures err { OnErr result (Continues out.old.items out.new.items) }
+{
+    append_parts(&pieces.parts, out)?;
+    for element in pieces.elements {
+        append_parts(&parts_of(element, &mut Buffer::new()), out)?;
+    }
+    Ok(())
+}
+
+fn append_parts(parts: &[&[u8]], out: &mut Vec<u8>) -> Result<(), AllocError>
+    ensures ok { OnOk result (out.new.items ≡ out.old.items ++ flat_map (λ part. part.now) parts.now) }
+    ensures err { OnErr result (Continues out.old.items out.new.items) }
+{
+    for part in parts {
+        out.extend_from_slice(part)?;
+    }
     Ok(())
 }
 

@@ -3,8 +3,6 @@
 
 mod move_no;
 mod state;
-mod states;
 
 pub use move_no::MoveNo;
-pub use state::SlotState;
-pub use states::SlotStates;
+pub use state::{SlotState, SlotStates};

@@ -1,9 +1,10 @@
 -- The owners of the slots (Redis Cluster specification, "Clients first connection and handling of redirections",
 -- "Hash slots configuration propagation").
-use Rattle.std.specs.Prelude.{ℕ, ◌&&◌, ◌==◌, nat_le, if◌then◌else◌, Bool, List, [], ◌∷◌, map, Option, Some, None, slice_index_or}
+use Rattle.std.specs.Prelude.{◌≡◌, ℕ, ◌<◌, ◌==◌, if◌then◌else◌, List, [], ◌∷◌, map, Option, Some, None, slice_index_or}
 use Rattle.std.specs.List.{range_with_len}
+use Rattle.key_slot.specs.SlotRange.{is_in}
 use Rattle.slot_table.specs.declared.entry.SlotEntry.{SlotEntry}
-use Rattle.slot_table.specs.declared.run.Run.{Run}
+use Rattle.slot_table.specs.declared.runs.Run.{Run}
 
 -- what a table has of a slot
 abbrev pub entry_at : List (Option SlotEntry) → ℕ → Option SlotEntry
@@ -27,14 +28,14 @@ epoch_in node (Some entry) = if entry.owner == node then Some entry.epoch else N
 abbrev pub claim_at : List (Option SlotEntry) → ℕ → ℕ → Option ℕ
 claim_at table node slot = epoch_in node (entry_at table slot)
 
--- the slot is one of the run
-abbrev pub is_in : Run ℕ → ℕ → Bool
-is_in run slot = nat_le run.first slot && nat_le slot run.last
-
 -- what a slot has at the start: the owner of the first run that has it, in epoch 1
 abbrev pub first_entry : List (Run ℕ) → ℕ → Option SlotEntry
 first_entry [] slot = None
-first_entry (run ∷ runs) slot = if is_in run slot then Some (record { epoch = 1; owner = run.value }) else first_entry runs slot
+first_entry (run ∷ runs) slot = if is_in run.slots slot then Some (record { epoch = 1; owner = run.value }) else first_entry runs slot
+
+-- each slot has what it has at the start
+abbrev pub HasFirstEntries : List (Run ℕ) → List (Option SlotEntry) → Type 0
+HasFirstEntries owners table = (slot : ℕ) → slot < 16384 → entry_at table slot ≡ first_entry owners slot
 
 -- the table at the start: the slots from 0 to 16383
 unfoldable pub first_table : List (Run ℕ) → List (Option SlotEntry)

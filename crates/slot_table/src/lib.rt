@@ -1,14 +1,12 @@
 //! Who owns each of the 16384 slots of a cluster, as a node knows it.
 #![tactic(auto)]
 
-mod claim;
 mod entry;
 mod node_no;
-mod owner;
-mod run;
+mod runs;
 mod table;
 
 pub use entry::{Epoch, SlotEntry};
 pub use node_no::NodeNo;
-pub use run::Run;
+pub use runs::Run;
 pub use table::SlotTable;

@@ -1,18 +1,17 @@
 //! The table of all slots with their owners.
 ghost use Rattle.std.specs.Prelude.{◌≡◌, ◌<◌, ℕ, length, IfOk, Some, None, if◌then◌else◌};
-ghost use Rattle.slot_table.specs.Table.{entry_at, owner_at, claim_at, first_entry, first_table, is_in};
+ghost use Rattle.slot_table.specs.Table.{entry_at, owner_at, claim_at, first_table, HasFirstEntries};
+ghost use Rattle.key_slot.specs.SlotRange.{is_in};
 ghost use Rattle.slot_table.specs.Runs.{AreRunsOf};
 
-use crate::claim::claimed_runs;
 use crate::entry::{Epoch, SlotEntry};
 use crate::node_no::NodeNo;
-use crate::owner::{owned_runs, owner_in};
-use crate::run::Run;
-use key_slot::Slot;
+use crate::runs::{ClaimOf, Owner, Run, runs_of};
+use key_slot::{Slot, SlotRange};
 use std::alloc::{AllocError, Global};
 use std::marker::Model;
 
-/// For each slot its owner, and since which epoch; or that it has none.
+/// For each slot its owner and the epoch of the owner's claim, or that the slot has no owner.
 #[derive(Debug, Drop)]
 pub struct SlotTable {
     entries: Vec<Option<SlotEntry>>,
@@ -32,9 +31,9 @@ impl Model for SlotTable {
 impl SlotTable {
     /// The table at the start of a cluster: the slots of each run have that owner, in the first epoch.
     ///
-    /// A slot in several runs goes to the first of them, and one in none has no owner.
+    /// A slot in several runs goes to the first of them, and a slot in no run has no owner.
     pub fn new(alloc: Global, owners: &[Run<NodeNo>]) -> Result<SlotTable, AllocError>
-        ensures entries { IfOk result (λ table. (slot : ℕ) → slot < 16384 → entry_at table slot ≡ first_entry owners.now slot) }
+        ensures entries { IfOk result (HasFirstEntries owners.now) }
         ensures whole { IfOk result (λ table. length table ≡ 16384) }
         ensures value { IfOk result (λ table. table ≡ first_table owners.now) }
     {
@@ -53,21 +52,21 @@ impl SlotTable {
     pub fn owner(&self, slot: Slot) -> Option<NodeNo>
         ensures { result ≡ owner_at self.now slot }
     {
-        owner_in(self.entry(slot))
+        Some(self.entry(slot)?.owner)
     }
 
-    /// The longest runs of neighbouring slots with one owner, in rising order. Slots without owner stand in none.
+    /// The longest runs of neighbouring slots with one owner, in rising order. No run has a slot without an owner.
     pub fn runs(&self, alloc: Global) -> Result<Vec<Run<NodeNo>>, AllocError>
         ensures { IfOk result (λ runs. AreRunsOf (owner_at self.now) runs.items) }
     {
-        owned_runs(alloc, self.entries.as_slice())
+        runs_of(alloc, self.entries.as_slice(), Owner)
     }
 
     /// All slots of the node with their epochs, as the longest runs of one epoch, in rising order.
     pub fn claim_of(&self, alloc: Global, node: NodeNo) -> Result<Vec<Run<Epoch>>, AllocError>
         ensures { IfOk result (λ runs. AreRunsOf (claim_at self.now node) runs.items) }
     {
-        claimed_runs(alloc, self.entries.as_slice(), node)
+        runs_of(alloc, self.entries.as_slice(), ClaimOf(node))
     }
 }
 
@@ -76,7 +75,7 @@ fn first_entries(
     alloc: Global,
     owners: &[Run<NodeNo>],
 ) -> Result<Vec<Option<SlotEntry>>, AllocError>
-    ensures entries { IfOk result (λ entries. (slot : ℕ) → slot < 16384 → entry_at entries.items slot ≡ first_entry owners.now slot) }
+    ensures entries { IfOk result (λ entries. HasFirstEntries owners.now entries.items) }
     ensures whole { IfOk result (λ entries. length entries.items ≡ 16384) }
 {
     let mut entries = Vec::from_elem(alloc, None, Slot::COUNT)?;
@@ -88,21 +87,22 @@ fn first_entries(
 fn give_all(entries: &mut [Option<SlotEntry>], owners: &[Run<NodeNo>])
     requires whole { length entries.old ≡ 16384 }
     requires free { (slot : ℕ) → slot < 16384 → entry_at entries.old slot ≡ None }
-    ensures { (slot : ℕ) → slot < 16384 → entry_at entries.new slot ≡ first_entry owners.now slot }
+    ensures { HasFirstEntries owners.now entries.new }
 {
     let mut left = owners.len();
     while left > 0 {
         left -= 1;
-        give(entries, owners[left]);
+        let run = owners[left];
+        give(entries, run.slots, run.value);
     }
 }
 
-// The slots of the run have its owner, in the first epoch.
-fn give(entries: &mut [Option<SlotEntry>], run: Run<NodeNo>)
+// These slots have that owner, in the first epoch.
+fn give(entries: &mut [Option<SlotEntry>], slots: SlotRange, owner: NodeNo)
     requires { length entries.old ≡ 16384 }
-    ensures { (slot : ℕ) → slot < 16384 → entry_at entries.new slot ≡ (if is_in run slot then Some (record { epoch = 1; owner = run.value }) else entry_at entries.old slot) }
+    ensures { (slot : ℕ) → slot < 16384 → entry_at entries.new slot ≡ (if is_in slots slot then Some (record { epoch = 1; owner = owner }) else entry_at entries.old slot) }
 {
-    for at in run.first.index()..run.last.index() + 1 {
-        entries[at] = Some(SlotEntry::at_start(run.value));
+    for at in slots.first.index()..slots.last.index() + 1 {
+        entries[at] = Some(SlotEntry::at_start(owner));
     }
 }

@@ -1,4 +1,3 @@
-pub mod Totals
-pub mod Moves
-pub mod Dealing
-pub mod Gathering
+pub mod TotalLemmas
+pub mod RuleSteps
+pub mod SeatLemmas

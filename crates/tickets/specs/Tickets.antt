@@ -3,7 +3,7 @@ use Rattle.std.specs.Prelude.{◌≡◌, ℕ, ◌+◌, List, [], ◌∷◌, ◌=
 use Rattle.std.specs.Arc.{arc_value}
 use Rattle.atomic_table.specs.Seated.{TableId}
 use Rattle.tickets.specs.declared.seat.Seat.{Seat}
-use Rattle.tickets.specs.declared.table.Table.{Table}
+use Rattle.tickets.specs.declared.seat.Table.{Table}
 
 -- the tickets that the seat drew, in order
 abbrev pub drawn : Seat → List ℕ
@@ -25,7 +25,7 @@ id_of t = (arc_value t.raw).shared.table_id
 abbrev pub seat_count : Table → ℕ
 seat_count t = (arc_value t.raw).shared.key
 
--- the name of no table, for a type that stands for any
+-- the name of no table, where a type needs some name
 abbrev pub no_table : TableId
 no_table = record { words = 0; slots = 0; views_name = 0; atom = 0; block = 0; offset = 0; slot_names = [] }
 

@@ -5,62 +5,66 @@ use atomic_table::{Join, Play, Split, TableRule};
 use std::alloc::Global;
 use std::collections::LinkedList;
 
-// What a seat knows: how many of the seats it stands for, of how many, and what it drew. No value of it is made.
-pub struct Hand {
+// What the rule knows of a seat: how many of all seats it counts for, how many there are, and what it drew. It is only
+// a type for proofs, and the program makes no value of it.
+pub struct SeatView {
     pub parts: u64,
     pub all: u64,
     pub drawn: LinkedList<u64>,
 }
 
-// The key is the number of seats.
-pub struct Turnstile;
+// The rule that each step keeps; its key is the number of seats.
+pub struct TicketRule;
 
-impl<S> TableRule<S, Hand, u64> for Turnstile {
-    ghost use Rattle.tickets.specs.Rule.{Given, hand};
+impl<S> TableRule<S, SeatView, u64> for TicketRule {
+    ghost use Rattle.tickets.specs.Rule.{HoldsTickets, seat_view};
 
-    ghost holds = { Given };
+    ghost holds = { HoldsTickets };
 
-    ghost first = { λ n. hand n n [] };
+    ghost first = { λ n. seat_view n n [] };
 }
 
+// A step that draws the number that it finds.
 pub struct Draws;
 
-impl<S> Play<S, Hand> for Draws {
-    ghost use Rattle.tickets.specs.Rule.{Drew};
+impl<S> Play<S, SeatView> for Draws {
+    ghost use Rattle.tickets.specs.Rule.{HasDrawn};
 
-    ghost then = { λ _. Drew };
+    ghost then = { λ _. HasDrawn };
 }
 
-pub struct Reads;
+// A step that loads the word.
+pub struct Loads;
 
-impl<S> Play<S, Hand> for Reads {
-    ghost use Rattle.tickets.specs.Rule.{Read};
+impl<S> Play<S, SeatView> for Loads {
+    ghost use Rattle.tickets.specs.Rule.{HasLoaded};
 
-    ghost then = { λ _. Read };
+    ghost then = { λ _. HasLoaded };
 }
 
 // A new seat of one part, with nothing drawn.
 pub struct OnePart;
 
-impl Split<Hand> for OnePart {
-    ghost use Rattle.tickets.specs.Rule.{hand};
+impl Split<SeatView> for OnePart {
+    ghost use Rattle.tickets.specs.Rule.{seat_view};
 
-    ghost left = { λ v. hand (v.parts - 1) v.all v.drawn };
+    ghost left = { λ v. seat_view (v.parts - 1) v.all v.drawn };
 
-    ghost right = { λ v. hand 1 v.all [] };
+    ghost right = { λ v. seat_view 1 v.all [] };
 }
 
+// One seat with the parts and the tickets of two.
 pub struct Together;
 
-impl Join<Hand> for Together {
-    ghost use Rattle.tickets.specs.Rule.{hand};
+impl Join<SeatView> for Together {
+    ghost use Rattle.tickets.specs.Rule.{seat_view};
 
-    ghost both = { λ v w. hand (v.parts + w.parts) v.all (v.drawn ++ w.drawn) };
+    ghost both = { λ v w. seat_view (v.parts + w.parts) v.all (v.drawn ++ w.drawn) };
 
-    ghost spent = { hand 0 0 [] };
+    ghost spent = { seat_view 0 0 [] };
 }
 
-// The word, and no slots.
-pub type Raw = atomic_table::Table<u8, Hand, u64, Turnstile, Global>;
+// A table of one word and no slots.
+pub type Raw = atomic_table::Table<u8, SeatView, u64, TicketRule, Global>;
 
-pub type Token = atomic_table::Seat<u8, Hand>;
+pub type Token = atomic_table::Seat<u8, SeatView>;

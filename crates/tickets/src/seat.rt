@@ -1,15 +1,37 @@
-//! A seat, which draws tickets and reads the word.
+//! A table with a word, and its seats, which draw tickets from the word and read it.
 ghost use Rattle.std.specs.Prelude.{◌≡◌, ℕ, ◌++◌, ◌∷◌, [], ◌*◌, ◌^◌, ◌<◌, ◌≤◌, length, IfSome, IfNone, All};
 ghost use Rattle.std.specs.Arc.{arc_value};
 
-use crate::rule::{Draws, Raw, Reads, Token};
+use crate::rule::{Draws, Loads, Raw, Token};
 use std::alloc::Global;
 use std::sync::Arc;
 
-// What one seat may draw. The word of 16 seats then stays far below 2^64.
+// How many tickets one seat may draw. The word of 16 seats then stays far below 2^64.
 const MOST: u64 = 1 << 48;
 
-/// One of the seats of a [`Table`](crate::Table), with what it drew.
+/// Names the word that its seats share.
+#[derive(Drop)]
+pub struct Table {
+    raw: Arc<Raw, Global>,
+    ghost one_word: { (arc_value raw).shared.table_id.words ≡ 1 },
+}
+
+impl Table {
+    pub(crate) fn over(raw: Arc<Raw, Global>) -> Table
+        requires { (arc_value raw).shared.table_id.words ≡ 1 }
+        ensures { result.raw ≡ raw }
+    {
+        Table { raw }
+    }
+
+    pub(crate) fn raw(&self) -> &Raw
+        ensures { result.now ≡ arc_value self.now.raw }
+    {
+        &self.raw
+    }
+}
+
+/// One of the seats of a [`Table`], with what it drew.
 #[derive(Drop)]
 pub struct Seat {
     raw: Arc<Raw, Global>,
@@ -51,7 +73,7 @@ impl Seat {
 
     /// Draws the next ticket, greater than all that this seat has, by one atomic step that neither waits nor allocates.
     ///
-    /// `None` comes only after 2^48 tickets, and leaves the word as it was.
+    /// It returns `None` only after 2^48 tickets, and leaves the word as it was.
     pub fn draw(&mut self) -> Option<u64>
         ensures table { (table_of self.new ≡ table_of self.old) × (seats_of self.new ≡ seats_of self.old) }
         ensures some { IfSome result (λ n. (drawn self.new ≡ drawn self.old ++ n ∷ []) × All (λ x. x < n) (drawn self.old)) }
@@ -70,10 +92,10 @@ impl Seat {
         ensures same { (drawn self.new ≡ drawn self.old) × (table_of self.new ≡ table_of self.old) × (seats_of self.new ≡ seats_of self.old) }
         ensures above { All (λ x. x < result) (drawn self.old) }
 
-        // A seat for each 2^48 tickets, and one seat alone drew all.
+        // Each seat draws at most 2^48 tickets, and an only seat drew all of them.
         ensures within { result ≤ seats_of self.old * 2 ^ 48 }
         ensures alone { seats_of self.old ≡ 1 → result ≡ length (drawn self.old) }
     {
-        self.raw.shared.load::<Reads>(&mut self.token, 0)
+        self.raw.shared.load::<Loads>(&mut self.token, 0)
     }
 }

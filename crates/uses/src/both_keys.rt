@@ -3,7 +3,7 @@ ghost use Rattle.std.specs.Prelude.{◌≡◌, ◌≢◌, ℕ, List, Some, OnOk,
 ghost use Rattle.std.specs.FinMap as map;
 ghost use Rattle.keyspace.specs.declared.value.Value.TheVariants.{Str};
 
-use bytes::Bytes;
+use byte_string::ByteString;
 use command::DataCommand;
 use keyspace::{Store, commit, plan};
 use std::alloc::{AllocError, Global};
@@ -12,8 +12,8 @@ use std::alloc::{AllocError, Global};
 pub fn set_both<S: Store>(
     alloc: Global,
     store: &mut S,
-    first: (Bytes, Bytes),
-    second: (Bytes, Bytes),
+    first: (ByteString, ByteString),
+    second: (ByteString, ByteString),
 ) -> Result<(), AllocError>
     ensures first { OnOk result (first.0 ≢ second.0 → map.get (S.contents store.new) first.0 ≡ Some (Str first.1)) }
     ensures second { OnOk result (map.get (S.contents store.new) second.0 ≡ Some (Str second.1)) }

@@ -5,18 +5,18 @@ ghost use Rattle.resp2.specs.declared.words.TheConstants.{MOST_WORD_BYTES};
 ghost use Rattle.resp2.specs.declared.reply.Reply.TheVariants.{Bulk};
 ghost use Rattle.uses.specs.Serving.{IsServedBy, served};
 
-use bytes::Bytes;
-use node_cell::{Deployment, Entered, NodeCell};
+use byte_string::ByteString;
+use node_cell::{Deployment, Entered, Log, NodeCell};
 use node_core::{Event, Response, StepFault};
 use resp2::Words;
 use std::alloc::{AllocError, Global};
 
 /// Sets the key on a connection of its own, and asks for it. A node that serves the key answers its value.
-pub fn set_then_get<K: Deployment>(
+pub fn set_then_get<K: Deployment, L: Log>(
     alloc: Global,
-    cell: &mut NodeCell<K>,
-    key: &Bytes,
-    value: &Bytes,
+    cell: &mut NodeCell<K, L>,
+    key: &ByteString,
+    value: &ByteString,
 ) -> Result<Entered<K>, StepFault>
     requires key { length key.now ≤ MOST_WORD_BYTES }
     requires value { length value.now ≤ MOST_WORD_BYTES }
@@ -33,19 +33,20 @@ pub fn set_then_get<K: Deployment>(
     cell.apply(Event::Request(conn, get))
 }
 
-fn set_words(alloc: Global, key: &Bytes, value: &Bytes) -> Result<Words, AllocError>
+fn set_words(alloc: Global, key: &ByteString, value: &ByteString) -> Result<Words, AllocError>
     requires key { length key.now ≤ MOST_WORD_BYTES }
     requires value { length value.now ≤ MOST_WORD_BYTES }
     ensures { IfOk result (λ words. words ≡ codes "SET" ∷ key.now ∷ value.now ∷ []) }
 {
-    let items = vec![in alloc; Bytes::from_static(b"SET"), key.clone()?, value.clone()?]?;
+    let name = ByteString::from_static(b"SET");
+    let items = vec![in alloc; name, key.clone()?, value.clone()?]?;
     Ok(Words::new(items).unwrap())
 }
 
-fn get_words(alloc: Global, key: &Bytes) -> Result<Words, AllocError>
+fn get_words(alloc: Global, key: &ByteString) -> Result<Words, AllocError>
     requires { length key.now ≤ MOST_WORD_BYTES }
     ensures { IfOk result (λ words. words ≡ codes "GET" ∷ key.now ∷ []) }
 {
-    let items = vec![in alloc; Bytes::from_static(b"GET"), key.clone()?]?;
+    let items = vec![in alloc; ByteString::from_static(b"GET"), key.clone()?]?;
     Ok(Words::new(items).unwrap())
 }

@@ -8,5 +8,5 @@ returns-in-Ok c = record {
   fault = tt;
 }
 
-pub returns-else-is_memory-clause-fault : goal.returns-else-is_memory-clause-fault
-returns-else-is_memory-clause-fault c = inr (refl, value_of-none c.args.text.now (λ utf8. c.in-Err.ensures.err (search rules) utf8))
+pub returns-in-Err-2-clause-fault : goal.returns-in-Err-2-clause-fault
+returns-in-Err-2-clause-fault c = inr (refl, value_of-none c.args.text.now (λ utf8. c.in-Err.ensures.err (search rules) utf8))

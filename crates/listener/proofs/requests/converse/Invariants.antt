@@ -1,6 +1,6 @@
 use Rattle.std.proofs.Common.{◌≡◌, ◌≤◌, ℕ, List, [], length, None}
 use Rattle.std.specs.Io.KnownBytes.{Consumes}
-use Rattle.resp2.specs.Counting.{device_of, failures_of}
+use Rattle.resp2.specs.Counting.{inner_of, failures_of}
 use Rattle.resp2.specs.Request.{IsUnfinished}
 use Rattle.listener.specs.Progress.{Answers, desk}
 use Rattle.listener.specs.Streams.{IsAllowed, stream_of}
@@ -10,7 +10,7 @@ use Rattle.listener.proofs.requests.converse.Given as goal
 abbrev pub invariant-reads : goal.invariant-reads
 invariant-reads g l = record {
   came : List ℕ;
-  read : Consumes (g.R.Read.remaining (device_of l.fn.reader)) (g.R.Read.remaining (device_of l.reader)) came;
+  read : Consumes (g.R.Read.remaining (inner_of l.fn.reader)) (g.R.Read.remaining (inner_of l.reader)) came;
   long : l.counter ≤ length came;
   answers : Answers (IsAllowed g.G.NodeGate.may g.G.NodeGate.may_refuse) l.conn
       (desk (g.G.NodeGate.asked l.fn.gate) came [] (stream_of g.W.Write.contents l.fn.writer))

@@ -1,9 +1,10 @@
 use Rattle.std.proofs.Common.{◌≡◌, ◌<◌, ◌&&◌, nat_lt, ℕ, length, Some, if◌then◌else◌}
-use Rattle.slot_table.specs.Table.{entry_at, is_in}
+use Rattle.key_slot.specs.SlotRange.{is_in}
+use Rattle.slot_table.specs.Table.{entry_at}
 use Rattle.slot_table.proofs.table.give.Given as goal
 
 abbrev pub invariant-loop-at : goal.invariant-loop-at
 invariant-loop-at l = record {
   whole : length l.entries ≡ 16384;
-  given : (slot : ℕ) → slot < 16384 → entry_at l.entries slot ≡ (if is_in l.fn.run slot && nat_lt slot l.at then Some (record { epoch = 1; owner = l.fn.run.value }) else entry_at l.initial.entries slot);
+  given : (slot : ℕ) → slot < 16384 → entry_at l.entries slot ≡ (if is_in l.fn.slots slot && nat_lt slot l.at then Some (record { epoch = 1; owner = l.fn.owner }) else entry_at l.initial.entries slot);
 }

@@ -1,4 +1,4 @@
-use Rattle.std.proofs.Common.{arith}
+use Rattle.std.proofs.Common.{◌≡◌, arith, rules}
 use Rattle.cluster_config.proofs.OwnerLemmas.{owners_more}
 use Rattle.cluster_config.proofs.config.Config.first_owners.Goals as goal
 
@@ -8,7 +8,7 @@ loop-at-preserved c = record {
   few = c.loop-at.invariant.few;
   given =
       let more = owners_more c.loop-at.runs.items c.deref-node-items.result.now c.loop-at.at c.node-item.result (omega arith) c.node-item.is in
-      let same = c.in-Some.ensures.1 in
+      let same : c.unwrap-owner.result ≡ c.loop-at.at = search rules in
       let grown = c.in_ok-add_runs.ensures in
       cc;
 }

@@ -6,4 +6,4 @@ pub invariant_of-self-2 : goal.invariant_of-self-2
 invariant_of-self-2 g c =
     let entered = c.advance.ensures.entered in
     let drew = c.in-Some.ensures.some in
-    (rw (entered.entered, c.in_ok-reserve.ensures.items) (journal_adds _ _ _ _ _ _ _ _ c.self.invariant.0 entered.under entered.leads drew.0 drew.1), search rules, search rules, search rules)
+    (rw (entered.entered, c.in_ok-reserve.ensures.same) (journal_adds _ _ _ _ _ _ _ _ c.self.invariant.0 entered.under entered.leads drew.0 drew.1), search rules, search rules, search rules)

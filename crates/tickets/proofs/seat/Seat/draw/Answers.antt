@@ -1,5 +1,5 @@
 use Rattle.std.proofs.Common.{rules, arith}
-use Rattle.tickets.proofs.Moves.{draws}
+use Rattle.tickets.proofs.RuleSteps.{draws}
 use Rattle.tickets.proofs.seat.Seat.draw.Goals as goal
 
 pub fetch_add-number-requires : goal.fetch_add-number-requires

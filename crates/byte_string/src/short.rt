@@ -1,0 +1,40 @@
+//! A few bytes in place.
+ghost use Rattle.std.specs.Prelude.{◌≡◌, ◌≤◌, length, take, IfSome, IsSome, ◌↔◌};
+ghost use Rattle.byte_string.specs.declared.short.TheConstants.{MOST_SHORT};
+
+/// The largest number of bytes that lie in place: as many as the handle of a shared block takes.
+pub const MOST_SHORT: usize = 39;
+
+/// At most [`MOST_SHORT`] bytes: the first `len` of the array.
+#[derive(Clone, Copy)]
+pub struct Short {
+    len: u8,
+    bytes: [u8; MOST_SHORT],
+}
+
+impl Short {
+    /// These bytes, or None where there are too many.
+    pub fn of(source: &[u8]) -> Option<Short>
+        ensures bytes { IfSome result (λ short. take short.len short.bytes ≡ source.now) }
+        ensures len { IfSome result (λ short. short.len ≤ MOST_SHORT) }
+        ensures some { IsSome result ↔ (length source.now ≤ MOST_SHORT) }
+    {
+        if source.len() > MOST_SHORT {
+            return None;
+        }
+        let mut bytes = [0; MOST_SHORT];
+        bytes[..source.len()].copy_from_slice(source);
+        Some(Short {
+            len: source.len() as u8,
+            bytes,
+        })
+    }
+
+    /// The bytes.
+    pub fn as_slice(&self) -> &[u8]
+        requires { self.now.len ≤ MOST_SHORT }
+        ensures { result.now ≡ take self.now.len self.now.bytes }
+    {
+        &self.bytes[..self.len as usize]
+    }
+}

@@ -1,0 +1,46 @@
+use Rattle.std.proofs.Common.{◌∙◌, ap, ap₂, rules, List, ℕ, map}
+use Rattle.cluster_config.specs.Faults.{number_of}
+use Rattle.cluster_config.specs.Reading.{node_of}
+use Rattle.cluster_config.specs.declared.form.Draft.{Draft}
+use Rattle.cluster_config.specs.declared.form.NodeDraft.{NodeDraft}
+use Rattle.cluster_config.proofs.BuildLemmas.{all_known_in, all_sound, cluster_of, faultless}
+use Rattle.cluster_config.proofs.config.Config.of.Goals as goal
+
+pub overflow_cast-result : goal.overflow_cast-result
+overflow_cast-result c =
+    let within = (faultless c.args.draft.now c.requires).tick_ms in
+    search rules
+
+pub overflow_cast-result-2 : goal.overflow_cast-result-2
+overflow_cast-result-2 c =
+    let within = (faultless c.args.draft.now c.requires).node_timeout in
+    search rules
+
+pub nodes_of-requires-clause-few : goal.nodes_of-requires-clause-few
+nodes_of-requires-clause-few c =
+    let nodes = c.as_slice-nodes.ensures.value ∙ ap (λ (d : Draft). d.nodes) c.draft.view_is in
+    rw nodes (faultless c.args.draft.now c.requires).most
+
+pub nodes_of-requires-clause-sound : goal.nodes_of-requires-clause-sound
+nodes_of-requires-clause-sound c =
+    let nodes = c.as_slice-nodes.ensures.value ∙ ap (λ (d : Draft). d.nodes) c.draft.view_is in
+    rw nodes (all_sound c.args.draft.now (faultless c.args.draft.now c.requires))
+
+pub voters_of-requires-clause-few : goal.voters_of-requires-clause-few
+voters_of-requires-clause-few c =
+    let nodes = c.as_slice-nodes.ensures.value ∙ ap (λ (d : Draft). d.nodes) c.draft.view_is in
+    rw nodes (faultless c.args.draft.now c.requires).most
+
+pub voters_of-requires-clause-known : goal.voters_of-requires-clause-known
+voters_of-requires-clause-known c =
+    let nodes = c.as_slice-nodes.ensures.value ∙ ap (λ (d : Draft). d.nodes) c.draft.view_is in
+    let voters = c.as_slice.ensures.value ∙ ap (λ (d : Draft). d.voters) c.draft.view_is in
+    all_known_in c.args.draft.now (faultless c.args.draft.now c.requires) _ _ nodes voters
+
+pub invariant_of-result : goal.invariant_of-result
+invariant_of-result c =
+    let nodes = c.as_slice-nodes.ensures.value ∙ ap (λ (d : Draft). d.nodes) c.draft.view_is in
+    let voters = c.as_slice.ensures.value ∙ ap (λ (d : Draft). d.voters) c.draft.view_is in
+    cluster_of c.args.draft.now (faultless c.args.draft.now c.requires) _ _ _ _ (search rules) (search rules)
+    (c.in_ok-nodes_of.ensures ∙ ap (λ (nodes : List NodeDraft). map (node_of nodes) nodes) nodes)
+    (c.in_ok-voters_of.ensures ∙ ap₂ (λ (nodes : List NodeDraft) (voters : List (List ℕ)). map (number_of nodes) voters) nodes voters)

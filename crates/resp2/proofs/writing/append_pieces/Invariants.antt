@@ -1,0 +1,11 @@
+use Rattle.std.proofs.Common.{◌≡◌, ◌++◌, ℕ, List, take}
+use Rattle.std.specs.Borrow.{Bor}
+use Rattle.std.specs.List.{flat_map}
+use Rattle.resp2.specs.Reply.{element_spelling}
+use Rattle.resp2.proofs.writing.append_pieces.Given as goal
+
+-- the parts and the elements so far are appended
+abbrev pub invariant-loop-element : goal.invariant-loop-element
+invariant-loop-element l =
+    l.out.items ≡ l.fn.out.items
+    ++ (flat_map (λ (part : Bor (List ℕ)). part.now) l.pieces.parts ++ flat_map element_spelling (take l.element-index l.pieces.elements.now))

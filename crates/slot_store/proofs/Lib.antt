@@ -1,0 +1,4 @@
+pub mod Placed
+pub mod Changed
+pub mod Empty
+pub mod SlotEntries

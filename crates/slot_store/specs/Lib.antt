@@ -1,0 +1,2 @@
+pub mod InSlot
+pub mod Maps

@@ -1,0 +1,8 @@
+//! A store with a map for each slot: a look-up walks a small tree, and the keys of a slot are counted without a scan.
+#![tactic(auto)]
+
+mod slot_keys;
+mod store;
+
+pub use slot_keys::SlotKeys;
+pub use store::SlotStore;
