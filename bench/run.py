@@ -1,0 +1,183 @@
+#!/usr/bin/env python3
+"""What a request costs here and in Redis, under the same load in the same run.
+
+usage: bench/run.py [instructions] [throughput] [memory] [--quick] [--out FILE]
+
+Without a word all three are measured. The report goes to the output, and to FILE. The program is the built one
+(./serve builds it) or that of the variable RCLUSTER. It needs redis-server and redis-tools, and for `instructions`
+valgrind. --quick takes a tenth of the requests: good to see that all works, and too few to tell.
+"""
+
+import os
+import platform
+import re
+import statistics
+import sys
+import time
+
+import load
+import servers
+
+MIB = 1 << 20
+# The tests of redis-benchmark, by the names of their commands.
+TESTS = {"PING": "ping_mbulk", "SET": "set", "GET": "get"}
+
+
+class Report:
+    def __init__(self):
+        self.lines = []
+
+    def say(self, line=""):
+        print(line, flush=True)
+        self.lines.append(line)
+
+    def table(self, *heads):
+        self.say()
+        self.row(*heads)
+        self.row(*["---"] * len(heads))
+
+    def row(self, *cells):
+        self.say("| " + " | ".join(str(cell) for cell in cells) + " |")
+
+
+# ---- instructions a request, by callgrind: the difference of two loads, so that starting and filling don't count
+
+def instructions(report, scale):
+    count = int(40000 * scale)
+    report.say("\n## Instructions a request")
+    report.say(f"\nOne connection, pipelines of 16, 20,000 random keys that are there, {count} requests.")
+    report.table("Command", "rcluster", "Redis", "of Redis")
+    for command, test in TESTS.items():
+        ours = instructions_of(servers.rcluster, test, count)
+        theirs = instructions_of(servers.redis, test, count)
+        report.row(command, f"{ours:.0f}", f"{theirs:.0f}", f"{ours / theirs:.2f}")
+
+
+def instructions_of(server, test, count):
+    return (counted(server, test, 2 * count) - counted(server, test, count)) / count
+
+
+def counted(server, test, count):
+    under = ["valgrind", "--tool=callgrind", "--callgrind-out-file=/dev/null"]
+    with server(under=under) as it:
+        load.benchmark(it.port, "set", 60000, 20000, 16)
+        load.benchmark(it.port, test, count, 20000, 16)
+    return int(re.search(r"Collected : (\d+)", it.said)[1])
+
+
+# ---- requests a second, in alternation, of each round the ratio
+
+def throughput(report, scale):
+    report.say("\n## Requests a second")
+    report.say("\nOne connection; the middle of seven rounds, in each of which both servers get the same load in turn.")
+    report.table("Command", "Value", "Keys", "Pipeline", "rcluster", "Redis", "of Redis")
+    for keys in (1000, 1000000):
+        with servers.rcluster() as ours, servers.redis() as theirs:
+            for size in (16, 1024):
+                for it in (ours, theirs):
+                    fill(it.port, keys, size)
+                for pipeline in (1, 16):
+                    for command in ("SET", "GET"):
+                        compare(report, ours, theirs, command, size, keys, pipeline, scale)
+    with servers.rcluster() as ours, servers.redis() as theirs:
+        for it in (ours, theirs):
+            fill(it.port, 10, MIB)
+        for command in ("SET", "GET"):
+            compare(report, ours, theirs, command, MIB, 10, 1, scale / 50)
+
+
+def compare(report, ours, theirs, command, size, keys, pipeline, scale):
+    count = int((50000 if pipeline == 1 else 400000) * scale)
+    rounds = []
+    for _ in range(7):
+        load_of = lambda it: load.benchmark(it.port, TESTS[command], count, keys, pipeline, size)
+        rounds.append([load_of(it) for it in (ours, theirs)])
+    mine, other = (statistics.median(pair[at] for pair in rounds) for at in (0, 1))
+    ratio = statistics.median(pair[0] / pair[1] for pair in rounds)
+    report.row(command, f"{size:,}", f"{keys:,}", pipeline, f"{mine:,.0f}", f"{other:,.0f}", f"{ratio:.2f}")
+
+
+# The keys that redis-benchmark picks from.
+def fill(port, keys, size):
+    value = b"x" * size
+    load.send_all(port, (load.encode(b"SET", b"key:%012d" % key, value) for key in range(keys)), b"+OK\r\n")
+
+
+# ---- resident memory
+
+def memory(report, scale):
+    count = int(1000000 * scale)
+    report.say("\n## Memory")
+    report.say(f"\nBytes of resident memory, keys and values of 16 bytes, {count:,} keys or requests.")
+    report.table("What", "rcluster", "Redis")
+    sizes = [bytes_a_key(server, count) for server in (servers.rcluster, servers.redis)]
+    report.row("a key with its value", *[f"{size[0]:.0f}" for size in sizes])
+    report.row("the same, once each value was overwritten ten times", *[f"{size[1]:.0f}" for size in sizes])
+    request = {name: bytes_a_request(name, count) for name in ("SET", "GET")}
+    for name, (plain, journal) in request.items():
+        report.row(f"what a {name} over 1,000 keys leaves", f"{plain:.1f}", "")
+        report.row(f"the same with `--journal`", f"{journal:.0f}", "")
+
+
+def bytes_a_key(server, count):
+    requests = lambda value: (load.encode(b"SET", b"key:%012d" % key, value) for key in range(count))
+    with server() as it:
+        empty = it.resident_bytes()
+        load.send_all(it.port, requests(b"x" * 16), b"+OK\r\n")
+        full = it.resident_bytes()
+        for turn in range(10):
+            load.send_all(it.port, requests(b"%016d" % turn), b"+OK\r\n")
+        return (full - empty) / count, (it.resident_bytes() - empty) / count
+
+
+def bytes_a_request(name, count):
+    return [growth(name, count, options) for options in ((), ("--journal",))]
+
+
+def growth(name, count, options):
+    value = b"x" * 16
+    keys = [b"key:%012d" % key for key in range(1000)]
+    sets = [load.encode(b"SET", key, value) for key in keys]
+    requests, reply = (sets, b"+OK\r\n") if name == "SET" else (
+        [load.encode(b"GET", key) for key in keys], b"$16\r\n" + value + b"\r\n")
+    with servers.rcluster(*options) as it:
+        load.send_all(it.port, sets, b"+OK\r\n")
+        load.send_all(it.port, requests * 10, reply)
+        before = it.resident_bytes()
+        load.send_all(it.port, (request for _ in range(count // 1000) for request in requests), reply)
+        return (it.resident_bytes() - before) / count
+
+
+def machine():
+    with open("/proc/cpuinfo", encoding="utf-8") as file:
+        model = re.search(r"model name\s*: (.*)", file.read())[1]
+    return f"{os.cpu_count()} cores of {model}, {platform.system()} {platform.release()}"
+
+
+PARTS = {"instructions": instructions, "throughput": throughput, "memory": memory}
+
+
+def main(words):
+    out = None
+    if "--out" in words:
+        at = words.index("--out")
+        out = words[at + 1]
+        words = words[:at] + words[at + 2:]
+    scale = 0.1 if "--quick" in words else 1
+    wanted = [word for word in words if word != "--quick"] or list(PARTS)
+    if any(word not in PARTS for word in wanted):
+        print(__doc__, file=sys.stderr)
+        return 2
+    report = Report()
+    report.say(f"# {time.strftime('%-d %B %Y')}")
+    report.say(f"\n{machine()}; Redis {servers.redis_version()} beside it; load at the start {os.getloadavg()[0]:.1f}.")
+    for word in wanted:
+        PARTS[word](report, scale)
+    if out:
+        with open(out, "w", encoding="utf-8") as file:
+            file.write("\n".join(report.lines) + "\n")
+    return 0
+
+
+if __name__ == "__main__":
+    sys.exit(main(sys.argv[1:]))

@@ -1,0 +1,83 @@
+"""Servers on free ports of this machine: the built program, and a Redis beside it."""
+
+import json
+import os
+import random
+import re
+import signal
+import socket
+import subprocess
+import tempfile
+import time
+
+ROOT = os.path.dirname(os.path.dirname(os.path.abspath(__file__)))
+PROGRAM = os.environ.get("RCLUSTER") or os.path.join(ROOT, "crates", "rcluster", "out", "rcluster")
+NODE = "0" * 40
+# How long a server may take until it listens, in seconds: under valgrind that is long.
+PATIENCE = 60
+
+
+def free_port():
+    while True:
+        port = random.randrange(10000, 30000)
+        with socket.socket() as taken:
+            try:
+                taken.bind(("127.0.0.1", port))
+                return port
+            except OSError:
+                continue
+
+
+class Server:
+    """A server that runs until the `with` ends."""
+
+    def __init__(self, name, words, port, under=()):
+        self.name = name
+        self.port = port
+        self.process = subprocess.Popen(
+            [*under, *words], stdout=subprocess.DEVNULL, stderr=subprocess.PIPE, text=True
+        )
+        self.said = ""
+
+    def __enter__(self):
+        for _ in range(PATIENCE * 10):
+            try:
+                with socket.create_connection(("127.0.0.1", self.port), 1) as client:
+                    client.sendall(b"*1\r\n$4\r\nPING\r\n")
+                    if client.recv(16).startswith(b"+PONG"):
+                        return self
+            except OSError:
+                pass
+            time.sleep(0.1)
+        self.__exit__()
+        raise SystemExit(f"{self.name} doesn't answer: {self.said[-300:]}")
+
+    def __exit__(self, *_):
+        self.process.send_signal(signal.SIGTERM)
+        self.said = self.process.communicate(timeout=PATIENCE)[1]
+
+    def resident_bytes(self):
+        with open(f"/proc/{self.process.pid}/status", encoding="utf-8") as file:
+            return int(re.search(r"VmRSS:\s+(\d+) kB", file.read())[1]) * 1024
+
+
+def rcluster(*options, under=()):
+    """Returns one node that owns all slots."""
+    port = free_port()
+    node = {"id": NODE, "host": "127.0.0.1", "port": port, "slots": [[0, 16383]]}
+    file = tempfile.NamedTemporaryFile("w", suffix=".json", prefix="bench-", delete=False)
+    with file:
+        json.dump({"tick_ms": 100000, "node_timeout": 20, "nodes": [node], "voters": [NODE]}, file)
+    return Server("rcluster", [PROGRAM, "serve", "--config", file.name, *options], port, under)
+
+
+def redis(under=()):
+    """Returns a Redis that stores nothing on a disk."""
+    port = free_port()
+    words = ["redis-server", "--port", str(port), "--bind", "127.0.0.1", "--save", "", "--appendonly", "no"]
+    return Server("redis", words, port, under)
+
+
+def redis_version():
+    said = subprocess.run(["redis-server", "--version"], capture_output=True, text=True, check=True).stdout
+    return re.search(r"v=(\S+)", said)[1]
