@@ -1,14 +1,17 @@
 //! A byte string.
 ghost use Rattle.std.specs.Prelude.{◌≡◌, [], length, nat_eq, refl, Some, IfOk};
 ghost use Rattle.std.specs.Ordering.{nat_cmp};
-ghost use Rattle.std.specs.Cmp.Lexicographic.{pointwise, slice_cmp, nat_list_eq_equiv, nat_list_cmp_total, texts_ties, texts_po};
+ghost use Rattle.std.specs.Cmp.Lexicographic.{pointwise, slice_cmp, bytes_decides, nat_list_eq_equiv, nat_list_cmp_total, texts_ties, texts_po};
 ghost use Rattle.std.specs.Cmp.{partial_equiv_from_equiv};
+ghost use Rattle.std.specs.Hash as fed;
+ghost use Rattle.std.proofs.Common.{ap};
 
 use crate::short::Short;
 use bytes::Bytes;
 use std::alloc::{AllocError, Global};
 use std::cmp::Ordering;
 use std::fmt;
+use std::hash::{Hash, Hasher};
 use std::marker::Model;
 
 #[derive(Drop)]
@@ -142,6 +145,16 @@ impl Ord for ByteString {
 
     fn cmp(&self, other: &ByteString) -> Ordering {
         self.as_slice().cmp(&other.as_slice())
+    }
+}
+
+impl Hash for ByteString {
+    ghost hash_input = { fed.slice fed.u8 };
+
+    ghost respects_eq = { λ x y same. ap (fed.slice fed.u8) ((bytes_decides x y).0 same) };
+
+    fn hash<H: Hasher>(&self, state: &mut H) {
+        self.as_slice().hash(state);
     }
 }
 

@@ -1,0 +1,3 @@
+pub mod Foreseen
+pub mod SizeLemmas
+mod WorkedValues

@@ -1,0 +1,102 @@
+//! What a hash takes, and what it would take after changes.
+ghost use Rattle.std.specs.Prelude.{◌≡◌, ◌+◌, ◌-◌, ◌<◌, ◌≤◌, ◌^◌, length, nat_eq, IsOk, IfOk};
+ghost use Rattle.std.specs.Cmp.Lexicographic.{pointwise};
+ghost use Rattle.std.specs.Option.{option_copied, unwrap_or};
+ghost use Rattle.indexmap.specs.IndexMap.{get};
+ghost use Rattle.hash.specs.Pairs.{value_of, fields_changed};
+ghost use Rattle.hash.specs.Size.{size_of};
+ghost use Rattle.hash.specs.Sized.{pair_size, count_of, IsSized};
+
+use crate::sizes::bulk_size;
+use byte_string::ByteString;
+use indexmap::IndexMap;
+use std::alloc::{AllocError, Global};
+
+/// What a hash takes.
+#[derive(Clone, Copy, Debug)]
+pub struct Extent {
+    /// How many fields it has.
+    pub len: usize,
+    /// How many bytes these and their values take as bulk strings.
+    pub size: u128,
+}
+
+/// What a hash with these entries would take after the changes.
+pub fn extent_after(
+    alloc: Global,
+    entries: &IndexMap<ByteString, ByteString>,
+    size: u128,
+    changes: &[(ByteString, Option<ByteString>)],
+) -> Result<Extent, AllocError>
+    requires { IsSized entries.now.entries size }
+    ensures len { IfOk result (λ extent.
+        extent.len ≡ length (fields_changed entries.now.entries changes.now)) }
+    ensures size { IfOk result (λ extent.
+        extent.size ≡ size_of (fields_changed entries.now.entries changes.now)) }
+    ensures single { length changes.now ≤ 1 → IsOk result }
+{
+    // So few fields and changes have a size of 128 bits, however long they are.
+    prove!(changes.len() < 1 << 60);
+    let mut extent = Extent {
+        len: entries.len(),
+        size,
+    };
+    let Some((last, earlier)) = changes.split_last() else {
+        return Ok(extent);
+    };
+    // What the changes so far leave at the fields that they name. No change asks for what the last one leaves.
+    let mut left = IndexMap::new(alloc);
+    for (field, value) in earlier {
+        extent = extent.changed(field, value_now(entries, &left, field), value.as_ref());
+        left.insert(field.clone()?, value.clone()?)?;
+    }
+    let (field, value) = last;
+    Ok(extent.changed(field, value_now(entries, &left, field), value.as_ref()))
+}
+
+/// The value that a field has after changes that left these values.
+fn value_now<'a>(
+    entries: &'a IndexMap<ByteString, ByteString>,
+    left: &'a IndexMap<ByteString, Option<ByteString>>,
+    field: &ByteString,
+) -> Option<&'a ByteString>
+    ensures { option_copied result ≡ unwrap_or (get (pointwise nat_eq) left.now field.now)
+        (value_of entries.now.entries field.now) }
+{
+    match left.get(field) {
+        Some(value) => value.as_ref(),
+        None => entries.get(field),
+    }
+}
+
+impl Extent {
+    /// The extent once the field has the new value in place of the old one.
+    fn changed(
+        self,
+        field: &ByteString,
+        old: Option<&ByteString>,
+        new: Option<&ByteString>,
+    ) -> Extent
+        requires len { count_of (option_copied old) ≤ self.len }
+        requires size { pair_size field.now (option_copied old) ≤ self.size }
+        requires few { self.len < 2 ^ 64 - 1 }
+        requires small { self.size < 2 ^ 128 - 2 ^ 65 }
+        ensures len { result.len + count_of (option_copied old.entry) ≡
+            self.len + count_of (option_copied new.entry) }
+        ensures size { result.size + pair_size field.now (option_copied old.entry) ≡
+            self.size + pair_size field.now (option_copied new.entry) }
+        ensures short { pair_size field.now (option_copied new.entry) ≤ 2 ^ 64 + 2 ^ 6 }
+    {
+        let field_size = bulk_size(field);
+        let mut extent = self;
+        if let Some(old) = old {
+            extent.len -= 1;
+            extent.size -= field_size + bulk_size(old);
+        }
+        if let Some(new) = new {
+            extent.len += 1;
+            extent.size += field_size + bulk_size(new);
+        }
+        extent
+    }
+}
