@@ -1,17 +1,17 @@
 -- Requests that are answered one after another.
-use Rattle.std.proofs.Common.{◌≡◌, ◌≢◌, ℕ, List, Option, [], ◌∷◌, ◌++◌, Result, Ok, Err, append_assoc, append-nil, refl, sym, ◌∙◌, ap, subst, map, inr, length, length-append, ◌+◌, ◌<◌, ◌≤◌, lit≤, arith}
+use Rattle.std.proofs.Common.{◌≡◌, ◌≢◌, ℕ, List, Option, [], ◌∷◌, ◌++◌, Result, Ok, Err, append_assoc, append-nil, refl, sym, ◌∙◌, ap, subst, map, inr, length, length-append, ◌+◌, ◌<◌, ◌≤◌, replicate, arith}
 use Rattle.std.proofs.lemmas.List.{map-append}
-use Rattle.std.proofs.lemmas.List.Elements.{All-cons, All-nil}
+use Rattle.std.proofs.lemmas.List.Elements.{All-nil}
 use Rattle.std.proofs.lemmas.Grind.{flat_map-append}
 use Rattle.std.specs.Io.KnownBytes.{Consumes}
 use Rattle.std.proofs.KnownBytes.{Consumes-trans}
 use Rattle.resp2.specs.Counting.{HasRisen}
 use Rattle.resp2.specs.Reply.{reply_spelling}
 use Rattle.resp2.specs.declared.words.TheConstants.{MOST_WORD_BYTES}
-use Rattle.resp2.specs.Request.{IsRequest, IsUnfinished, request_spelling, stream_spelling}
-use Rattle.resp2.specs.Reader.{Breaks, ReaderState}
+use Rattle.resp2.specs.Request.{IsRequest, IsUnfinished, request_spelling, stream_spelling, with_words}
+use Rattle.resp2.specs.Reader.{Breaks, HandsOut, PassesOver, ReaderState, empty_requests}
 use Rattle.resp2.specs.declared.fault.Fault.{Fault}
-use Rattle.resp2.proofs.Callers.{stream_spelling-append}
+use Rattle.resp2.proofs.Callers.{none_with_words, stream_spelling-append, with_words-append}
 use Rattle.node_cell.specs.Asks.{Asked}
 use Rattle.node_core.specs.declared.connections.Conn.{Conn}
 use Rattle.node_core.specs.declared.event.Event.TheVariants.{Request}
@@ -24,21 +24,27 @@ use Rattle.listener.specs.declared.fault.ConnFault.{ConnFault}
 use Rattle.listener.specs.declared.fault.ConnFault.TheVariants.{Reader, Writer, Memory, Exhausted, Unanswered, Endless}
 use Rattle.listener.specs.declared.requests.Rest.{Rest}
 use Rattle.listener.specs.Streams.{Adds, Change, Fails, Sends, Stream, asking, change}
-use Rattle.listener.specs.Conversation.{EndsBy, Exchange, HasNoReply, IsSpoilt, ReadsTo, Tail, asked_for, fault_of, replies_bytes, requests_bytes}
+use Rattle.listener.specs.Conversation.{EndsBy, Exchange, HasNoReply, IsSpoilt, ReadsTo, Tail, asked_for, AreAnswered, fault_of, replies_bytes}
 use Rattle.listener.specs.Progress.{Answers, Desk, Halts, IsOfAnswering, Puts, Stops, WriterCount}
 use Rattle.listener.proofs.HistoryLemmas.{adds_again, adds_nothing}
 use Rattle.listener.proofs.BatchLemmas.{puts_again, puts_nothing, puts_waiting}
 
-requests_bytes-append : (xs ys : List Exchange) → requests_bytes (xs ++ ys) ≡ requests_bytes xs ++ requests_bytes ys
-requests_bytes-append xs ys =
-    let words : Exchange → List (List ℕ) = λ exchange. exchange.words in
-    ap stream_spelling (map-append words xs ys) ∙ stream_spelling-append (map words xs) (map words ys)
-
 -- one request after another, and then the rest
-spelled_again : (a b c : List ℕ) (xs ys : List Exchange) → a ≡ requests_bytes xs ++ b → b ≡ requests_bytes ys ++ c → a ≡ requests_bytes (xs ++ ys) ++ c
+spelled_again : (a b c : List ℕ) (xs ys : List (List (List ℕ))) → a ≡ stream_spelling xs ++ b → b ≡ stream_spelling ys ++ c → a ≡ stream_spelling (xs ++ ys) ++ c
 spelled_again a b c xs ys p q =
-    p ∙ ap (λ w. requests_bytes xs ++ w) q ∙ sym (append_assoc (requests_bytes xs) (requests_bytes ys) c)
-    ∙ ap (λ w. w ++ c) (sym (requests_bytes-append xs ys))
+    p ∙ ap (λ w. stream_spelling xs ++ w) q ∙ sym (append_assoc (stream_spelling xs) (stream_spelling ys) c)
+    ∙ ap (λ w. w ++ c) (sym (stream_spelling-append xs ys))
+
+-- answered are first these and then those
+answered_again : (xs ys : List (List (List ℕ))) (ps qs : List Exchange) → AreAnswered xs ps → AreAnswered ys qs → AreAnswered (xs ++ ys) (ps ++ qs)
+answered_again xs ys ps qs p q =
+    with_words-append xs ys ∙ ap (λ w. w ++ with_words ys) p ∙ ap (λ w. map (λ exchange. exchange.words) ps ++ w) q
+    ∙ sym (map-append (λ (exchange : Exchange). exchange.words) ps qs)
+
+-- a request that is answered has words
+one_answered : (words : List (List ℕ)) → IsRequest words → with_words (words ∷ []) ≡ words ∷ []
+one_answered [] is_request = absurd (let some = is_request.some in omega arith)
+one_answered (word ∷ words) is_request = refl
 
 replies_bytes-append : (xs ys : List Exchange) → replies_bytes (xs ++ ys) ≡ replies_bytes xs ++ replies_bytes ys
 replies_bytes-append xs ys = flat_map-append (λ (exchange : Exchange). reply_spelling exchange.answer.reply) xs ys
@@ -58,6 +64,8 @@ module _ (allowed : Asked → Type 0) (conn : Conn) where
       record {
         exchanges = [];
         history = adds_nothing allowed a.asked;
+        requests = [];
+        answered = refl;
         spelled = refl;
         puts = puts_nothing a.out a.waiting;
         kept = refl;
@@ -69,10 +77,37 @@ module _ (allowed : Asked → Type 0) (conn : Conn) where
       record {
         exchanges = p.exchanges ++ q.exchanges;
         history = rw (map-append (asked_for conn) p.exchanges q.exchanges) (adds_again allowed _ _ _ _ _ p.history q.history);
-        spelled = spelled_again _ _ _ p.exchanges q.exchanges p.spelled q.spelled;
+        requests = p.requests ++ q.requests;
+        answered = answered_again p.requests q.requests p.exchanges q.exchanges p.answered q.answered;
+        spelled = spelled_again _ _ _ p.requests q.requests p.spelled q.spelled;
         puts = rw (replies_bytes-append p.exchanges q.exchanges) (puts_again _ _ _ _ _ _ _ _ p.puts q.puts);
         kept = q.kept ∙ p.kept;
       }
+
+  -- requests without words were passed over
+  pub answers_over_bytes : (a b : Desk) (count : ℕ) (pending : List ℕ) → Answers allowed conn a b → b.pending ≡ empty_requests count ++ pending
+      → Answers allowed conn a (record b { pending = pending })
+  answers_over_bytes a b count pending p over =
+      record {
+        exchanges = p.exchanges;
+        history = p.history;
+        requests = p.requests ++ replicate count [];
+        answered = with_words-append p.requests (replicate count []) ∙ ap (λ w. with_words p.requests ++ w) (none_with_words count)
+            ∙ append-nil (with_words p.requests) ∙ p.answered;
+        spelled = spelled_again _ _ _ p.requests (replicate count []) p.spelled over;
+        puts = p.puts;
+        kept = p.kept;
+      }
+
+  pub answers_over : (a b : Desk) (old new : ReaderState) → Answers allowed conn a b → old.pending ≡ b.pending → PassesOver old new → Answers allowed conn a (record b { pending = new.pending })
+  answers_over a b old new p same over = answers_over_bytes a b over.count new.pending p (sym same ∙ over.consumed)
+
+  -- so they were before a request that is handed out
+  pub answers_before : (a b : Desk) (old new : ReaderState) (words : List (List ℕ)) → Answers allowed conn a b → old.pending ≡ b.pending → HandsOut old words new
+      → Answers allowed conn a (record b { pending = request_spelling words ++ new.pending })
+  answers_before a b old new words p same hands =
+      answers_over_bytes a b hands.count (request_spelling words ++ new.pending) p
+      (sym same ∙ hands.consumed ∙ append_assoc (empty_requests hands.count) (request_spelling words) new.pending)
 
   -- more bytes came, and the reader has them
   pub answers_fed : (a b : Desk) (bytes fed : List ℕ) → Answers allowed conn a b → fed ≡ b.pending ++ bytes
@@ -81,8 +116,10 @@ module _ (allowed : Asked → Type 0) (conn : Conn) where
       record {
         exchanges = p.exchanges;
         history = p.history;
-        spelled = ap (λ w. w ++ bytes) p.spelled ∙ append_assoc (requests_bytes p.exchanges) b.pending bytes
-            ∙ ap (λ w. requests_bytes p.exchanges ++ w) (sym same);
+        requests = p.requests;
+        answered = p.answered;
+        spelled = ap (λ w. w ++ bytes) p.spelled ∙ append_assoc (stream_spelling p.requests) b.pending bytes
+            ∙ ap (λ w. stream_spelling p.requests ++ w) (sym same);
         puts = p.puts;
         kept = p.kept;
       }
@@ -94,6 +131,8 @@ module _ (allowed : Asked → Type 0) (conn : Conn) where
       record {
         exchanges = p.exchanges;
         history = p.history;
+        requests = p.requests;
+        answered = p.answered;
         spelled = p.spelled;
         puts = subst (λ w. Puts (change a.out out) (change a.waiting waiting) w) (append-nil (replies_bytes p.exchanges))
             (puts_again _ _ _ _ _ _ _ _ p.puts (puts_waiting _ _ _ _ sent empty));
@@ -108,7 +147,9 @@ module _ (allowed : Asked → Type 0) (conn : Conn) where
         tail = q.tail;
         left = q.left;
         history = rw (map-append (asked_for conn) p.exchanges q.exchanges, append_assoc) (adds_again allowed _ _ _ _ _ p.history q.history);
-        spelled = spelled_again _ _ _ p.exchanges q.exchanges p.spelled q.spelled;
+        requests = p.requests ++ q.requests;
+        answered = answered_again p.requests q.requests p.exchanges q.exchanges p.answered q.answered;
+        spelled = spelled_again _ _ _ p.requests q.requests p.spelled q.spelled;
         puts = rw (replies_bytes-append p.exchanges q.exchanges) (puts_again _ _ _ _ _ _ _ _ p.puts q.puts);
         waits = q.waits;
         count = subst (λ n. WriterCount ended n c.out.failures) p.kept q.count;
@@ -125,6 +166,8 @@ module _ (allowed : Asked → Type 0) (conn : Conn) where
         tail = tail;
         left = a.waiting;
         history = history;
+        requests = [];
+        answered = refl;
         spelled = rest;
         puts = puts_nothing a.out a.waiting;
         waits = λ _. refl;
@@ -141,6 +184,8 @@ module _ (allowed : Asked → Type 0) (conn : Conn) where
         tail = record { asked = []; rest = a.pending };
         left = fails.begun.rest;
         history = adds_nothing allowed a.asked;
+        requests = [];
+        answered = refl;
         spelled = refl;
         puts = record { sent = fails.begun.written; appends = fails.begun.appends; all = fails.begun.split ∙ sym (append-nil a.waiting) };
         waits = λ other. absurd (other refl);
@@ -156,6 +201,8 @@ module _ (allowed : Asked → Type 0) (conn : Conn) where
       record {
         exchanges = record { words = words; outputs = outputs; answer = answer; is_request = is_request; replied = replied } ∷ [];
         history = history;
+        requests = words ∷ [];
+        answered = one_answered words is_request;
         spelled = spelled ∙ ap (λ w. w ++ b.pending) (sym (append-nil (request_spelling words)));
         puts = rw append-nil puts;
         kept = kept;
@@ -171,6 +218,8 @@ module _ (allowed : Asked → Type 0) (conn : Conn) where
         tail = record { asked = []; rest = behind };
         left = fails.begun.rest;
         history = history;
+        requests = words ∷ [];
+        answered = one_answered words is_request;
         spelled = spelled ∙ ap (λ w. w ++ behind) (sym (append-nil (request_spelling words)));
         puts = record {
           sent = fails.begun.written;
@@ -225,9 +274,7 @@ module _ (allowed : Asked → Type 0) (conn : Conn) where
 
 -- a bad byte is in what the reader is left with
 pub spoilt : (fault : Fault) (old new : ReaderState) → Breaks fault old new → IsSpoilt new.pending
-spoilt fault old new breaks =
-    let same : new.pending ≡ old.pending = ap (λ (state : ReaderState). state.pending) breaks.kept in
-    record { fault = fault; bad = rw same breaks.first; handed_out = rw same breaks.none }
+spoilt fault old new breaks = record { fault = fault; bad = breaks.first; handed_out = breaks.none }
 
 -- a fault of answering is not of reading
 pub reads_on : (fault : ConnFault) (input : Change Stream) (bytes : List ℕ) → IsOfAnswering fault → input.new.failures ≡ input.old.failures → ReadsTo (Err fault) input bytes
@@ -246,14 +293,12 @@ refusals_are_of_answering refused.Exhausted = tt
 pub nothing_is_unfinished : (pending : List ℕ) → pending ≡ [] → IsUnfinished pending
 nothing_is_unfinished pending none =
     record {
-      words = [] ∷ [];
-      rest = request_spelling ([] ∷ []);
-      request = record {
-        count = (omega arith, lit≤ tt);
-        short = All-cons (λ (word : List ℕ). length word ≤ MOST_WORD_BYTES) [] [] (omega arith) (All-nil (λ (word : List ℕ). length word ≤ MOST_WORD_BYTES));
-      };
+      words = [];
+      rest = request_spelling [];
+      each = record { few = omega arith; short = All-nil (λ (word : List ℕ). length word ≤ MOST_WORD_BYTES) };
+      so_far = omega (arith, ap length none);
       wanted = omega arith;
-      spelled = ap (λ w. w ++ request_spelling ([] ∷ [])) none;
+      spelled = ap (λ w. w ++ request_spelling []) none;
     }
 
 -- at least one byte more

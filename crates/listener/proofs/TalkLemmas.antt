@@ -73,10 +73,11 @@ module _ (allowed : Asked → Type 0) where
       record {
         replies = replies_bytes halts.exchanges;
         talked = inl (record {
-          talk = record { conn = conn; opening = opens.opening; exchanges = halts.exchanges; tail = halts.tail; closing = closes.closing };
+          talk = record { conn = conn; opening = opens.opening; requests = halts.requests; exchanges = halts.exchanges; tail = halts.tail; closing = closes.closing };
           opened = opens.opened;
           history = adds_again allowed _ _ _ _ _ opens.history (adds_again allowed _ _ _ _ _ halts.history closes.history);
           read = rw halts.spelled at stops.read;
+          answered = halts.answered;
           replied = refl;
           ends = halts.ends;
           reads = rw halts.spelled at stops.reads;

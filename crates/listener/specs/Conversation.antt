@@ -4,7 +4,7 @@ use Rattle.std.specs.List.{flat_map}
 use Rattle.std.specs.Io.KnownBytes.{Consumes, IsAtEnd}
 use Rattle.resp2.specs.Counting.{HasRisen}
 use Rattle.resp2.specs.Reply.{reply_spelling}
-use Rattle.resp2.specs.Request.{IsRequest, request_spelling, stream_spelling, IsUnfinished, HasFirstBadByte, HasNoRequest}
+use Rattle.resp2.specs.Request.{IsRequest, request_spelling, stream_spelling, with_words, IsUnfinished, HasFirstBadByte, HasNoRequest}
 use Rattle.resp2.specs.declared.fault.Fault.{Fault}
 use Rattle.resp2.specs.declared.reply.Reply.TheVariants.{Error}
 use Rattle.command.specs.ErrorLine.{error_text}
@@ -36,13 +36,14 @@ pub record Exchange : Type 0 where
 abbrev pub asked_for : Conn → Exchange → Asked
 asked_for conn exchange = asking (Request conn exchange.words) (Ok exchange.outputs)
 
-abbrev pub requests_bytes : List Exchange → List ℕ
-requests_bytes exchanges = stream_spelling (map (λ exchange. exchange.words) exchanges)
+-- those of the requests that have words are answered, in order; one without words is passed over
+abbrev pub AreAnswered : List (List (List ℕ)) → List Exchange → Type 0
+AreAnswered requests exchanges = with_words requests ≡ map (λ exchange. exchange.words) exchanges
 
 abbrev pub replies_bytes : List Exchange → List ℕ
 replies_bytes exchanges = flat_map (λ exchange. reply_spelling exchange.answer.reply) exchanges
 
--- what comes behind the answered requests: what the node was still asked, and the bytes that were still read
+-- what comes behind those requests: what the node was still asked, and the bytes that were still read
 pub record Tail : Type 0 where
   pub asked : List Asked
   pub rest : List ℕ
@@ -51,6 +52,7 @@ pub record Tail : Type 0 where
 pub record Conversation : Type 0 where
   pub conn : Conn
   pub opening : Outputs
+  pub requests : List (List (List ℕ))
   pub exchanges : List Exchange
   pub tail : Tail
   pub closing : Result Outputs StepFault
@@ -62,7 +64,7 @@ history_of talk =
 
 -- all that it reads
 abbrev pub input_of : Conversation → List ℕ
-input_of talk = requests_bytes talk.exchanges ++ talk.tail.rest
+input_of talk = stream_spelling talk.requests ++ talk.tail.rest
 
 -- the last request in front of the rest was asked, and this came of it
 pub record AsksLast (conn : Conn) (outcome : Result Outputs StepFault) (tail : Tail) : Type 0 where
@@ -131,6 +133,7 @@ pub record Converses (allowed : Asked → Type 0) (asked : Change (List Asked)) 
   pub opened : talk.opening.response ≡ Opened talk.conn
   pub history : Adds allowed asked (history_of talk)
   pub read : Consumes input.old.bytes input.new.bytes (input_of talk)
+  pub answered : AreAnswered talk.requests talk.exchanges
   pub replied : replies ≡ replies_bytes talk.exchanges
   pub ends : EndsBy talk.conn ended talk.tail
   pub reads : ReadsTo ended input (input_of talk)

@@ -2,6 +2,7 @@
 use Rattle.std.specs.Prelude.{◌≡◌, ◌≢◌, ℕ, List, [], ◌∷◌, ◌++◌, ◌⊎◌, map, Result, Ok, Err}
 use Rattle.std.specs.Io.KnownBytes.{Appends, Consumes}
 use Rattle.resp2.specs.Counting.{HasRisen}
+use Rattle.resp2.specs.Request.{stream_spelling}
 use Rattle.node_core.specs.declared.connections.Conn.{Conn}
 use Rattle.node_core.specs.declared.event.Event.TheVariants.{Open, Close}
 use Rattle.node_core.specs.declared.fault.StepFault.{StepFault}
@@ -12,7 +13,7 @@ use Rattle.listener.specs.declared.fault.ConnFault.{ConnFault}
 use Rattle.listener.specs.declared.fault.ConnFault.TheVariants.{Reader, Writer, Endless}
 use Rattle.listener.specs.declared.requests.Rest.{Rest}
 use Rattle.listener.specs.Streams.{Adds, Change, Stream, asking, change}
-use Rattle.listener.specs.Conversation.{Converses, EndsBy, EndsUnopened, Exchange, IsUnopened, ReadsTo, Tail, asked_for, replies_bytes, requests_bytes}
+use Rattle.listener.specs.Conversation.{Converses, EndsBy, EndsUnopened, Exchange, IsUnopened, ReadsTo, Tail, asked_for, AreAnswered, replies_bytes}
 
 -- what waited went out or still waits, and so do these bytes behind it
 pub record Puts (out : Change Stream) (waiting : Change (List ℕ)) (bytes : List ℕ) : Type 0 where
@@ -34,7 +35,9 @@ desk asked pending waiting out = record { asked = asked; pending = pending; wait
 pub record Answers (allowed : Asked → Type 0) (conn : Conn) (old new : Desk) : Type 0 where
   pub exchanges : List Exchange
   pub history : Adds allowed (change old.asked new.asked) (map (asked_for conn) exchanges)
-  pub spelled : old.pending ≡ requests_bytes exchanges ++ new.pending
+  pub requests : List (List (List ℕ))
+  pub answered : AreAnswered requests exchanges
+  pub spelled : old.pending ≡ stream_spelling requests ++ new.pending
   pub puts : Puts (change old.out new.out) (change old.waiting new.waiting) (replies_bytes exchanges)
   pub kept : new.out.failures ≡ old.out.failures
 
@@ -49,7 +52,9 @@ pub record Halts (allowed : Asked → Type 0) (conn : Conn) (ended : Result Rest
   pub tail : Tail
   pub left : List ℕ
   pub history : Adds allowed (change old.asked new.asked) (map (asked_for conn) exchanges ++ tail.asked)
-  pub spelled : old.pending ≡ requests_bytes exchanges ++ tail.rest
+  pub requests : List (List (List ℕ))
+  pub answered : AreAnswered requests exchanges
+  pub spelled : old.pending ≡ stream_spelling requests ++ tail.rest
   pub puts : Puts (change old.out new.out) (change old.waiting left) (replies_bytes exchanges)
   pub waits : ended ≢ Err Writer → left ≡ new.waiting
   pub count : WriterCount ended old.out.failures new.out.failures

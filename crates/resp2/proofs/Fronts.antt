@@ -3,13 +3,14 @@ use Rattle.std.proofs.Common.{◌≡◌, ℕ, zero, suc, ◌+◌, ◌-◌, ◌*�
 use Rattle.std.proofs.lemmas.List.{append-nil}
 use Rattle.resp2.specs.declared.fault.Fault.{Fault}
 use Rattle.resp2.specs.declared.fault.Fault.TheVariants.{Protocol, TooLong, Memory}
-use Rattle.resp2.specs.declared.words.TheConstants.{MOST_WORDS, MOST_WORD_BYTES}
+use Rattle.resp2.specs.declared.words.TheConstants.{MOST_WORDS, MOST_WORD_BYTES, MOST_REQUEST_BYTES}
 use Rattle.resp2.specs.Law.{Front, Whole, Unfinished, Malformed, Overlong, HasFront, BytesHaveOneFront}
 use Rattle.resp2.specs.Request.{request_spelling, IsUnfinished, IsBeginning, PassesLimit, IsBad, HasFirstBadByte}
-use Rattle.resp2.specs.Reading.{reading, Seen, Wants, Bad, Found, and_then, MatchSeen, after_cr, line_end_at, digits_at, number_at, header_at, body_at, word_at, with_word, words_at}
-use Rattle.resp2.proofs.ReadingDecides.{found_is, request_is_found, bad_has_no_request, waiting_is_unfinished, waiting_is_beginning, passing_decided}
+use Rattle.resp2.specs.Reading.{reading, reading_words, within_size, one_past_size, too_many, sized, Seen, Wants, Bad, Found, and_then, MatchSeen, after_cr, line_end_at, digits_at, number_at, header_at, body_at, word_at, with_word, words_at}
+use Rattle.resp2.proofs.ReadingDecides.{found_is, bad_has_no_request, waiting_is_unfinished, waiting_is_beginning, front_of_beginning, passing_decided}
 use Rattle.resp2.proofs.FirstBadByte.{first_bad}
-use Rattle.resp2.proofs.MoreBytes.{stays_bad, stays_found}
+use Rattle.resp2.proofs.SizeLimit.{stays_bad, stays_found, wants_within}
+use Rattle.resp2.proofs.WordsDecide.{front_wants}
 use Rattle.resp2.proofs.HeaderReading.{by_test}
 use Rattle.resp2.proofs.RequestRoundTrip.{IsDecided}
 use Rattle.resp2.proofs.Theorems.{no_unfinished_is_whole}
@@ -71,10 +72,25 @@ words_blame limit (suc k) bytes =
     and_then_blames (word_at limit bytes) (λ word rest. with_word word (words_at limit k rest)) (word_blames limit bytes)
     (λ word rest. and_then_blames (words_at limit k rest) (λ words last. Found (word ∷ words) last) (words_blame limit k rest) (λ _ _. tt))
 
-reading_blames : (bytes : List ℕ) → BlamesBytes (reading bytes)
-reading_blames bytes =
-    and_then_blames (header_at 42 Protocol 1 MOST_WORDS bytes) (words_at MOST_WORD_BYTES) (header_blames 42 Protocol 1 MOST_WORDS bytes (λ e. cc))
+words_reading_blames : (bytes : List ℕ) → BlamesBytes (reading_words bytes)
+words_reading_blames bytes =
+    and_then_blames (header_at 42 TooLong 0 MOST_WORDS bytes) (words_at MOST_WORD_BYTES) (header_blames 42 TooLong 0 MOST_WORDS bytes (λ e. cc))
     (λ k rest. words_blame MOST_WORD_BYTES k rest)
+
+too_many_blames : (s : Seen (List (List ℕ))) → BlamesBytes s → BlamesBytes (too_many s)
+too_many_blames Wants blames = λ e. cc
+too_many_blames (Bad fault) blames = blames
+too_many_blames (Found words rest) blames = λ e. cc
+
+sized_blames : (bytes : List ℕ) (s : Seen (List (List ℕ))) → BlamesBytes s → BlamesBytes (sized bytes s)
+sized_blames bytes Wants blames =
+    by_test (λ (u : Seen (List (List ℕ))). BlamesBytes u) (ltb MOST_REQUEST_BYTES (length bytes)) (too_many (reading_words (one_past_size bytes))) Wants
+    (λ _. too_many_blames (reading_words (one_past_size bytes)) (words_reading_blames (one_past_size bytes))) (λ _. tt)
+sized_blames bytes (Bad fault) blames = blames
+sized_blames bytes (Found words rest) blames = tt
+
+reading_blames : (bytes : List ℕ) → BlamesBytes (reading bytes)
+reading_blames bytes = sized_blames bytes (reading_words (within_size bytes)) (words_reading_blames (within_size bytes))
 
 -- ---- one of the four
 
@@ -98,7 +114,7 @@ stands bytes = by_reading (reading bytes) refl
     by_reading (Bad fault) e = broken fault e
     by_reading (Found words rest) e =
         let is = found_is bytes words rest e in
-        record { front = Whole; has = record { words = words; rest = rest; request = is.0; spelled = is.1 } }
+        record { front = Whole; has = record { words = words; rest = rest; limits = is.0; spelled = is.1 } }
 
 -- ---- and no other
 
@@ -113,32 +129,9 @@ decided_behind front rest decided = by_reading (reading front) refl decided
     by_reading (Found words last) e d =
         subst (λ (s : Seen (List (List ℕ))). IsDecided s) (sym (stays_found front rest words last e)) tt
 
-bad_is_not_found : {P : Type 0} (fault : Fault) (words : List (List ℕ)) (rest : List ℕ) → Bad fault ≡ Found words rest → P
-bad_is_not_found fault words rest e = absurd cc
-
 -- the beginning of a request is read as one
 unfinished_waits : (bytes : List ℕ) → IsUnfinished bytes → reading bytes ≡ Wants
-unfinished_waits bytes u = by_reading (reading bytes) refl
-  where
-    whole : reading (bytes ++ u.rest) ≡ Found u.words []
-    whole = ap reading (u.spelled ∙ sym (append-nil (request_spelling u.words))) ∙ request_is_found u.words [] u.request
-
-    by_reading : (s : Seen (List (List ℕ))) → reading bytes ≡ s → reading bytes ≡ Wants
-    by_reading Wants e = e
-    by_reading (Bad fault) e =
-        bad_is_not_found fault u.words [] (sym (stays_bad bytes u.rest fault e) ∙ whole)
-    by_reading (Found words rest) e =
-        let is = found_is bytes words rest e in
-        absurd (no_unfinished_is_whole bytes u words rest is.0 is.1)
-
-beginning_of_front : (front rest : List ℕ) → IsBeginning (front ++ rest) → IsBeginning front
-beginning_of_front front rest b = record {
-  requests = b.requests;
-  rest = rest ++ b.rest;
-  counts = b.counts;
-  lengths = b.lengths;
-  spelled = sym (append_assoc front rest b.rest) ∙ b.spelled;
-}
+unfinished_waits bytes u = wants_within bytes (front_wants bytes u.rest u.words u.each u.wanted u.spelled) u.so_far
 
 -- no byte of the beginning of a request is bad
 unfinished_is_sound : (bytes : List ℕ) (fault : Fault) → IsUnfinished bytes → HasFirstBadByte fault bytes → ⊥
@@ -148,7 +141,7 @@ unfinished_is_sound bytes fault u h = by_fault fault h.bad
     waits = unfinished_waits bytes u
 
     by_fault : (f : Fault) → IsBad f h.front → ⊥
-    by_fault Protocol bad = bad (beginning_of_front h.front h.rest (subst IsBeginning h.split (waiting_is_beginning bytes waits)))
+    by_fault Protocol bad = bad (front_of_beginning bytes h.front h.rest h.split (waiting_is_beginning bytes waits))
     by_fault TooLong bad =
         subst (λ (s : Seen (List (List ℕ))). IsDecided s) (ap reading (sym h.split) ∙ waits) (decided_behind h.front h.rest (passing_decided h.front bad.1))
     by_fault Memory bad = bad
@@ -201,12 +194,12 @@ one_front Whole Whole bytes h k = refl
 one_front Unfinished Unfinished bytes h k = refl
 one_front Malformed Malformed bytes h k = refl
 one_front Overlong Overlong bytes h k = refl
-one_front Whole Unfinished bytes h k = absurd (no_unfinished_is_whole bytes k h.words h.rest h.request h.spelled)
-one_front Unfinished Whole bytes h k = absurd (no_unfinished_is_whole bytes h k.words k.rest k.request k.spelled)
-one_front Whole Malformed bytes h k = absurd (k.1 h.words h.rest h.request h.spelled)
-one_front Malformed Whole bytes h k = absurd (h.1 k.words k.rest k.request k.spelled)
-one_front Whole Overlong bytes h k = absurd (k.1 h.words h.rest h.request h.spelled)
-one_front Overlong Whole bytes h k = absurd (h.1 k.words k.rest k.request k.spelled)
+one_front Whole Unfinished bytes h k = absurd (no_unfinished_is_whole bytes k h.words h.rest h.limits h.spelled)
+one_front Unfinished Whole bytes h k = absurd (no_unfinished_is_whole bytes h k.words k.rest k.limits k.spelled)
+one_front Whole Malformed bytes h k = absurd (k.1 h.words h.rest h.limits h.spelled)
+one_front Malformed Whole bytes h k = absurd (h.1 k.words k.rest k.limits k.spelled)
+one_front Whole Overlong bytes h k = absurd (k.1 h.words h.rest h.limits h.spelled)
+one_front Overlong Whole bytes h k = absurd (h.1 k.words k.rest k.limits k.spelled)
 one_front Unfinished Malformed bytes h k = absurd (unfinished_is_sound bytes Protocol h k.0)
 one_front Malformed Unfinished bytes h k = absurd (unfinished_is_sound bytes Protocol k h.0)
 one_front Unfinished Overlong bytes h k = absurd (unfinished_is_sound bytes TooLong h k.0)

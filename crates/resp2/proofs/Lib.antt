@@ -7,10 +7,13 @@ pub mod Fronts
 pub mod HeaderReading
 pub mod HeaderRoundTrip
 pub mod MoreBytes
+pub mod Overlong
 pub mod ReaderSteps
 pub mod ReadingDecides
 pub mod RequestReading
 pub mod RequestRoundTrip
+pub mod SizeLimit
 pub mod Spellings
 pub mod Theorems
+pub mod WordsDecide
 mod WorkedValues

@@ -4,7 +4,7 @@ use Rattle.std.proofs.lemmas.Bool.{ltb-true, ltb-false, lt-ltb, le-ltb}
 use Rattle.std.proofs.lemmas.List.{length-append, take-append-le, drop-append-le}
 use Rattle.resp2.specs.declared.fault.Fault.{Fault}
 use Rattle.resp2.specs.declared.fault.Fault.TheVariants.{Protocol, TooLong}
-use Rattle.resp2.specs.Reading.{Seen, Wants, Bad, Found, and_then, MatchSeen, after_cr, line_end_at, digits_at, number_at, header_at, body_at, word_at, with_word, words_at, request_at, reading}
+use Rattle.resp2.specs.Reading.{Seen, Wants, Bad, Found, and_then, MatchSeen, after_cr, line_end_at, digits_at, number_at, header_at, body_at, word_at, with_word, words_at, request_at, reading_words}
 use Rattle.resp2.specs.declared.words.TheConstants.{MOST_WORDS, MOST_WORD_BYTES}
 use Rattle.resp2.proofs.HeaderReading.{by_test}
 
@@ -88,22 +88,22 @@ words_go same limit wider le tie (suc k) bytes more =
     (λ word rest. and_then_goes same more _ _ (λ words last. Found (word ∷ words) last) (λ words last. Found (word ∷ words) last)
     (words_go same limit wider le tie k rest more) (λ _ _. refl))
 
-pub request_goes : (same : Type 0) (most limit wider : ℕ) (bytes more : List ℕ) → limit ≤ wider → (same → limit ≡ wider)
-    → Goes same more (request_at most limit bytes) (request_at most wider (bytes ++ more))
-request_goes same most limit wider bytes more le tie =
+pub request_goes : (same : Type 0) (most more_words limit wider : ℕ) (bytes more : List ℕ) → most ≤ more_words → (same → most ≡ more_words)
+    → limit ≤ wider → (same → limit ≡ wider) → Goes same more (request_at most limit bytes) (request_at more_words wider (bytes ++ more))
+request_goes same most more_words limit wider bytes more few tie_words le tie =
     and_then_goes same more _ _ (words_at limit) (words_at wider)
-    (header_goes same 42 Protocol 1 most most bytes more (omega arith) (λ _. refl))
+    (header_goes same 42 TooLong 0 most more_words bytes more few (λ k. tie_words (k refl)))
     (λ k rest. words_go same limit wider le tie k rest more)
 
 -- what a front decides, the bytes behind it leave
-front_goes : (front rest : List ℕ) (s : Seen (List (List ℕ))) → reading front ≡ s → Goes (Unit {0}) rest s (reading (front ++ rest))
+front_goes : (front rest : List ℕ) (s : Seen (List (List ℕ))) → reading_words front ≡ s → Goes (Unit {0}) rest s (reading_words (front ++ rest))
 front_goes front rest s e =
-    let goes = request_goes (Unit {0}) MOST_WORDS MOST_WORD_BYTES MOST_WORD_BYTES front rest (omega arith) (λ _. refl) in
-    subst (λ (u : Seen (List (List ℕ))). Goes (Unit {0}) rest u (reading (front ++ rest))) e goes
+    let goes = request_goes (Unit {0}) MOST_WORDS MOST_WORDS MOST_WORD_BYTES MOST_WORD_BYTES front rest (omega arith) (λ _. refl) (omega arith) (λ _. refl) in
+    subst (λ (u : Seen (List (List ℕ))). Goes (Unit {0}) rest u (reading_words (front ++ rest))) e goes
 
-pub stays_bad : (front rest : List ℕ) (fault : Fault) → reading front ≡ Bad fault → reading (front ++ rest) ≡ Bad fault
-stays_bad front rest fault e = front_goes front rest (Bad fault) e (λ _. tt)
+pub words_stay_bad : (front rest : List ℕ) (fault : Fault) → reading_words front ≡ Bad fault → reading_words (front ++ rest) ≡ Bad fault
+words_stay_bad front rest fault e = front_goes front rest (Bad fault) e (λ _. tt)
 
-pub stays_found : (front rest : List ℕ) (words : List (List ℕ)) (last : List ℕ)
-    → reading front ≡ Found words last → reading (front ++ rest) ≡ Found words (last ++ rest)
-stays_found front rest words last e = front_goes front rest (Found words last) e
+pub words_stay_found : (front rest : List ℕ) (words : List (List ℕ)) (last : List ℕ)
+    → reading_words front ≡ Found words last → reading_words (front ++ rest) ≡ Found words (last ++ rest)
+words_stay_found front rest words last e = front_goes front rest (Found words last) e

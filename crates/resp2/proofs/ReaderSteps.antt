@@ -1,5 +1,5 @@
 -- The steps of a reader, as facts on what they leave.
-use Rattle.std.proofs.Common.{◌≡◌, ℕ, ◌+◌, ◌-◌, ◌^◌, ◌<◌, ◌≤◌, zero, suc, List, [], ◌∷◌, ◌++◌, length, drop, Option, None, Some, Result, Ok, refl, sym, ap, subst, ◌∙◌, zero-add, arith}
+use Rattle.std.proofs.Common.{◌≡◌, ℕ, ◌+◌, ◌-◌, ◌^◌, ◌<◌, ◌≤◌, zero, suc, List, [], ◌∷◌, ◌++◌, length, drop, Option, None, Some, Result, Ok, refl, sym, ap, subst, ◌∙◌, append_assoc, zero-add, arith}
 use Rattle.std.specs.Prelude.{All, IfSome, IfNone}
 use Rattle.std.proofs.lemmas.List.{length-append, append-nil}
 use Rattle.resp2.specs.declared.fault.Fault.{Fault}
@@ -9,16 +9,17 @@ use Rattle.resp2.specs.declared.reader.Progress.{Progress}
 use Rattle.resp2.specs.declared.words.Partial.{Partial}
 use Rattle.resp2.specs.declared.words.TheConstants.{MOST_WORDS, MOST_WORD_BYTES}
 use Rattle.resp2.specs.Header.{Gives}
-use Rattle.resp2.specs.Reading.{reading, Seen, Wants, Bad, Found, header_at, body_at, word_at, words_at, header_onto, bulks_onto}
+use Rattle.resp2.specs.Reading.{reading, reading_words, Seen, Wants, Bad, Found, header_at, body_at, word_at, words_at, header_onto, bulks_onto}
 use Rattle.resp2.specs.Progress.{Refuses, Takes, HasLen, IsPartial, word_front, partial_onto, request_front, partial_of, pending_of}
-use Rattle.resp2.specs.Reader.{ReaderState, HandsOut, Waits, Breaks, FailsBy, remembered}
-use Rattle.resp2.specs.Request.{IsRequest}
+use Rattle.resp2.specs.Reader.{ReaderState, empty_requests, PassesOver, HandsOut, Waits, Breaks, FailsBy, remembered}
+use Rattle.resp2.specs.Request.{request_spelling, header_spelling, bulks_spelling, IsRequest, KeepsLimits, WordsKeepLimits, IsUnfinished}
 use Rattle.resp2.proofs.HeaderReading.{header_takes}
 use Rattle.resp2.proofs.RequestReading.{word_takes, header_onto-append, bulks_onto-append}
 use Rattle.resp2.proofs.RequestRoundTrip.{body_behind, request_behind, with_words}
 use Rattle.resp2.proofs.Spellings.{each_by_recursion, each_by_index}
 use Rattle.resp2.proofs.FirstBadByte.{first_bad}
-use Rattle.resp2.proofs.ReadingDecides.{found_is, waiting_is_unfinished, bad_has_no_request, AreShort-append, bulks_onto-both, bytes_some, bytes_bound, words_some, words_bound}
+use Rattle.resp2.proofs.ReadingDecides.{found_is, waiting_is_unfinished, bad_has_no_request}
+use Rattle.resp2.proofs.WordsDecide.{AreShort-append, bulks_onto-both, bytes_some, bytes_bound, words_some, words_bound}
 
 -- ---- a header
 
@@ -34,13 +35,13 @@ length_is bytes input found header same gives is =
 
 -- the header of a request, once it is read
 pub count_is : (bytes input : List ℕ) (found : Option Header) (header : Header)
-    → bytes ≡ input → Gives bytes (Ok found) (header_at 42 Protocol 1 MOST_WORDS bytes) → found ≡ Some header
-    → (1 ≤ header.number) × (header.number ≤ MOST_WORDS) × (input ≡ header_onto 42 header.number (drop header.len input))
+    → bytes ≡ input → Gives bytes (Ok found) (header_at 42 TooLong 0 MOST_WORDS bytes) → found ≡ Some header
+    → (header.number ≤ MOST_WORDS) × (input ≡ header_onto 42 header.number (drop header.len input))
 count_is bytes input found header same gives is =
     let at : List ℕ → Type 0 = λ t. t ≡ header_onto 42 header.number (drop header.len t) in
-    let read = subst (λ (o : Option Header). Gives bytes (Ok o) (header_at 42 Protocol 1 MOST_WORDS bytes)) is gives in
-    let takes = header_takes 42 Protocol 1 MOST_WORDS header.number bytes (drop header.len bytes) words_some (omega arith) words_bound read.0 in
-    (takes.0, takes.1, subst at same takes.2)
+    let read = subst (λ (o : Option Header). Gives bytes (Ok o) (header_at 42 TooLong 0 MOST_WORDS bytes)) is gives in
+    let takes = header_takes 42 TooLong 0 MOST_WORDS header.number bytes (drop header.len bytes) words_some (omega arith) words_bound read.0 in
+    (takes.1, subst at same takes.2)
 
 -- ---- a word
 
@@ -63,6 +64,7 @@ takes_word result known len number front input rest is told sized kept takes =
 pub record GoesOn (old : Partial) (before : List ℕ) (new : Partial) (after : List ℕ) : Type 0 where
   pub partial : IsPartial new
   pub kept : partial_onto new after ≡ partial_onto old before
+  pub shrinks : length after ≤ length before
 
 AreShort-push : (words : List (List ℕ)) (word : List ℕ)
     → All (λ word. length word ≤ MOST_WORD_BYTES) words → length word ≤ MOST_WORD_BYTES
@@ -75,9 +77,9 @@ AreShort-push words word each short =
 pub goes_on : (first : Partial) (start : List ℕ) (now : Partial) (input : List ℕ) (taken : Option (List ℕ)) (word rest : List ℕ) (next : Partial)
     → GoesOn first start now input → 0 < now.left
     → taken ≡ Some word → Takes (Ok taken) (word_at MOST_WORD_BYTES (word_front now.len input)) rest
-    → IfSome taken (λ _. next.len ≡ None) → next.words.items ≡ now.words.items ++ word ∷ [] → next.left ≡ now.left - 1
+    → IfSome taken (λ _. next.len ≡ None) → next.words.items ≡ now.words.items ++ word ∷ [] → next.left ≡ now.left - 1 → length rest ≤ length input
     → GoesOn first start next rest
-goes_on first start now input taken word rest next before some is takes idle pushed fewer =
+goes_on first start now input taken word rest next before some is takes idle pushed fewer shorter =
     let ws : List (List ℕ) = now.words.items in
     let found : word_at MOST_WORD_BYTES (word_front now.len input) ≡ Found word rest =
     subst (λ (o : Option (List ℕ)). Takes (Ok o) (word_at MOST_WORD_BYTES (word_front now.len input)) rest) is takes in
@@ -88,34 +90,35 @@ goes_on first start now input taken word rest next before some is takes idle pus
     let count : length next.words.items + next.left ≡ length ws + now.left = omega arith in
     let short = subst (All (λ word. length word ≤ MOST_WORD_BYTES)) (sym pushed) (AreShort-push ws word before.partial.short w.short) in
     record {
-      partial = record { some = omega arith; few = omega arith; short = short; sized = subst HasLen (sym none) tt; idle = λ _. none };
+      partial = record { few = omega arith; short = short; sized = subst HasLen (sym none) tt; idle = λ _. none };
       kept = ap (λ (o : Option ℕ). header_onto 42 (length next.words.items + next.left) (bulks_onto next.words.items (word_front o rest))) none
           ∙ ap (λ (k : ℕ). header_onto 42 k (bulks_onto next.words.items rest)) count
           ∙ ap (λ (t : List (List ℕ)). header_onto 42 (length ws + now.left) (bulks_onto t rest)) pushed
           ∙ ap (header_onto 42 (length ws + now.left)) (bulks_onto-both ws (word ∷ []) rest ∙ ap (bulks_onto ws) (sym w.spelled))
           ∙ before.kept;
+      shrinks = (let so_far = before.shrinks in omega arith);
     }
 
 -- what the words to come decide, the request does
-reading_partial : (partial : Partial) (input : List ℕ) → IsPartial partial
-    → reading (partial_onto partial input)
+pub reading_partial : (partial : Partial) (input : List ℕ) → IsPartial partial
+    → reading_words (partial_onto partial input)
     ≡ with_words partial.words.items (words_at MOST_WORD_BYTES partial.left (word_front partial.len input))
 reading_partial partial input is =
     let words_limit : MOST_WORDS < 2 ^ 60 = words_bound in
     let bytes_limit : MOST_WORD_BYTES < 2 ^ 60 = bytes_bound in
     let each = each_by_recursion (λ (word : List ℕ). length word ≤ MOST_WORD_BYTES) partial.words.items is.short in
-    request_behind MOST_WORDS MOST_WORD_BYTES partial.words.items partial.left (word_front partial.len input) (omega arith) (omega arith) is.some is.few each
+    request_behind MOST_WORDS MOST_WORD_BYTES partial.words.items partial.left (word_front partial.len input) (omega arith) (omega arith) is.few each
 
 reading_is : (first : Partial) (start : List ℕ) (now : Partial) (input : List ℕ) → GoesOn first start now input
-    → reading (partial_onto first start)
+    → reading_words (partial_onto first start)
     ≡ with_words now.words.items (words_at MOST_WORD_BYTES now.left (word_front now.len input))
-reading_is first start now input goes = ap reading (sym goes.kept) ∙ reading_partial now input goes.partial
+reading_is first start now input goes = ap reading_words (sym goes.kept) ∙ reading_partial now input goes.partial
 
 -- the next word wants more bytes
 pub waits_on : (first : Partial) (start : List ℕ) (now : Partial) (input : List ℕ) (taken : Option (List ℕ)) (rest : List ℕ)
     → GoesOn first start now input → 0 < now.left
     → taken ≡ None → Takes (Ok taken) (word_at MOST_WORD_BYTES (word_front now.len input)) rest
-    → reading (partial_onto first start) ≡ Wants
+    → reading_words (partial_onto first start) ≡ Wants
 waits_on first start now input taken rest goes some is takes =
     reading_is first start now input goes ∙ ap (with_words now.words.items) (words_want now.left some)
   where
@@ -128,7 +131,7 @@ waits_on first start now input taken rest goes some is takes =
 
 -- the next word is bad
 pub fails_on : (fault : Fault) (first : Partial) (start : List ℕ) (now : Partial) (input : List ℕ) → GoesOn first start now input → 0 < now.left
-    → Refuses fault (word_at MOST_WORD_BYTES (word_front now.len input)) → Refuses fault (reading (partial_onto first start))
+    → Refuses fault (word_at MOST_WORD_BYTES (word_front now.len input)) → Refuses fault (reading_words (partial_onto first start))
 fails_on fault first start now input goes some refuses known =
     reading_is first start now input goes ∙ ap (with_words now.words.items) (words_bad now.left some)
   where
@@ -138,7 +141,7 @@ fails_on fault first start now input goes some refuses known =
 
 -- no word is left
 pub all_taken : (first : Partial) (start : List ℕ) (now : Partial) (input : List ℕ) → GoesOn first start now input → now.left ≤ 0
-    → reading (partial_onto first start) ≡ Found now.words.items input
+    → reading_words (partial_onto first start) ≡ Found now.words.items input
 all_taken first start now input goes done =
     let none : now.left ≡ 0 = omega arith in
     reading_is first start now input goes
@@ -146,17 +149,16 @@ all_taken first start now input goes done =
     ∙ ap (λ (o : Option ℕ). with_words now.words.items (Found [] (word_front o input))) (goes.partial.idle none)
     ∙ ap (λ (ws : List (List ℕ)). Found ws input) (append-nil now.words.items)
 
-pub whole_is_request : (now : Partial) → IsPartial now → now.left ≤ 0 → IsRequest now.words.items
-whole_is_request now is done =
-    let some : 0 < length now.words.items + now.left = is.some in
+pub whole_keeps_limits : (now : Partial) → IsPartial now → now.left ≤ 0 → WordsKeepLimits now.words.items
+whole_keeps_limits now is done =
     let few : length now.words.items + now.left ≤ MOST_WORDS = is.few in
-    record { count = (omega arith, omega arith); short = is.short }
+    record { few = omega arith; short = is.short }
 
 -- a request of which only the header was read
-pub begins : (begun : Partial) → begun.words.items ≡ [] → begun.len ≡ None → 1 ≤ begun.left → begun.left ≤ MOST_WORDS → IsPartial begun
-begins begun empty none some few =
+pub begins : (begun : Partial) → begun.words.items ≡ [] → begun.len ≡ None → begun.left ≤ MOST_WORDS → IsPartial begun
+begins begun empty none few =
     let long : length begun.words.items ≡ 0 = ap length empty in
-    record { some = omega arith; few = omega arith; short = rw empty (λ k d lt. absurd (omega arith)); sized = rw none tt; idle = λ _. none }
+    record { few = omega arith; short = rw empty (λ k d lt. absurd (omega arith)); sized = rw none tt; idle = λ _. none }
 
 pub begun_onto : (begun : Partial) (input : List ℕ) → begun.words.items ≡ [] → begun.len ≡ None
     → partial_onto begun input ≡ header_onto 42 begun.left input
@@ -174,7 +176,7 @@ word_front-append : (len : Option ℕ) (input more : List ℕ) → word_front le
 word_front-append None input more = refl
 word_front-append (Some len) input more = sym (header_onto-append 36 len input more)
 
-request_front-append : (partial : Option Partial) (input more : List ℕ) → request_front partial (input ++ more) ≡ request_front partial input ++ more
+pub request_front-append : (partial : Option Partial) (input more : List ℕ) → request_front partial (input ++ more) ≡ request_front partial input ++ more
 request_front-append None input more = refl
 request_front-append (Some partial) input more =
     let count : ℕ = length partial.words.items + partial.left in
@@ -191,48 +193,95 @@ fed progress input bytes later fault old view_is grown =
     ∙ ap (λ (t : List ℕ). state t fault) (request_front-append (partial_of progress) input bytes)
     ∙ ap (λ (s : ReaderState). state (s.pending ++ bytes) s.fault) view_is
 
+-- ---- the requests without words that are passed over
+
+-- one more of them may stand behind the others as well
+empties-push : (count : ℕ) → empty_requests (suc count) ≡ empty_requests count ++ request_spelling []
+empties-push zero = append-nil (request_spelling [])
+empties-push (suc count) =
+    ap (λ (t : List ℕ). request_spelling [] ++ t) (empties-push count)
+    ∙ sym (append_assoc (request_spelling []) (empty_requests count) (request_spelling []))
+
+pub passes_none : (old : ReaderState) → PassesOver old old
+passes_none old = record { count = 0; consumed = refl }
+
+pub passes_one : (old : ReaderState) (pending later : List ℕ) (words : List (List ℕ)) → PassesOver old (state pending None) → words ≡ [] → reading pending ≡ Found words later
+    → PassesOver old (state later None)
+passes_one old pending later words so_far none found =
+    let is = found_is pending words later found in
+    let bytes : pending ≡ request_spelling [] ++ later = is.1 ∙ ap (λ (ws : List (List ℕ)). request_spelling ws ++ later) none in
+    record {
+      count = suc so_far.count;
+      consumed = so_far.consumed ∙ ap (λ (t : List ℕ). empty_requests so_far.count ++ t) bytes
+          ∙ sym (append_assoc (empty_requests so_far.count) (request_spelling []) later)
+          ∙ ap (λ (t : List ℕ). t ++ later) (sym (empties-push so_far.count));
+    }
+
 -- a request that is whole
-pub hands_out : (found : Option (List (List ℕ))) (pending later : List ℕ) (before after : Option Fault) (old : ReaderState)
-    → state pending before ≡ old → before ≡ None → after ≡ None → Takes (Ok found) (reading pending) later
-    → IfSome found (λ words. HandsOut old words (state later after))
-hands_out None pending later before after old view_is none sound takes = tt
-hands_out (Some words) pending later before after old view_is none sound takes =
-    let is = found_is pending words later takes in
-    subst (λ (s : ReaderState). HandsOut s words (state later after)) view_is
-    (record { sound = none; request = is.0; taken = is.1; still_sound = sound })
+pub hands_out : (old : ReaderState) (pending later : List ℕ) (frame words : List (List ℕ)) (after : Option Fault) → old.fault ≡ None → PassesOver old (state pending None)
+    → (words ≡ frame) × IsRequest frame → reading pending ≡ Found frame later → after ≡ None → HandsOut old words (state later after)
+hands_out old pending later frame words after sound so_far request found none =
+    let is = found_is pending frame later found in
+    subst (λ (ws : List (List ℕ)). HandsOut old ws (state later after)) (sym request.0)
+    (record {
+      sound = sound;
+      request = request.1;
+      count = so_far.count;
+      consumed = so_far.consumed ∙ ap (λ (t : List ℕ). empty_requests so_far.count ++ t) is.1
+          ∙ sym (append_assoc (empty_requests so_far.count) (request_spelling frame) later);
+      still_sound = none;
+    })
 
 -- a request that waits
-pub waits : (found : Option (List (List ℕ))) (pending later : List ℕ) (before after : Option Fault) (old : ReaderState)
-    → state pending before ≡ old → before ≡ None → after ≡ None → Takes (Ok found) (reading pending) later → IfNone found (later ≡ pending)
-    → IfNone found (Waits old (state later after))
-waits (Some words) pending later before after old view_is none sound takes kept = tt
-waits None pending later before after old view_is none sound takes kept =
-    let same : state later after ≡ state pending before = ap (λ (t : List ℕ). state t after) kept ∙ ap (state pending) (sound ∙ sym none) in
-    subst (λ (s : ReaderState). Waits s (state later after)) view_is
-    (record { sound = none; unfinished = waiting_is_unfinished pending takes; kept = same })
+pub waits : (old : ReaderState) (pending later : List ℕ) (after : Option Fault) → old.fault ≡ None → PassesOver old (state pending None) → later ≡ pending
+    → reading pending ≡ Wants → after ≡ None → Waits old (state later after)
+waits old pending later after sound so_far kept wants none = record {
+  sound = sound;
+  passes_over = record { count = so_far.count; consumed = so_far.consumed ∙ ap (λ (t : List ℕ). empty_requests so_far.count ++ t) (sym kept) };
+  unfinished = subst IsUnfinished (sym kept) (waiting_is_unfinished pending wants);
+  still_sound = none;
+}
+
+-- by what was taken
+pub wants_more : (found : Option (List (List ℕ))) (seen : Seen (List (List ℕ))) (rest : List ℕ) → found ≡ None → Takes (Ok found) seen rest → seen ≡ Wants
+wants_more found seen rest none takes = subst (λ (o : Option (List (List ℕ))). Takes (Ok o) seen rest) none takes
+
+pub same_if_none : (found : Option (List (List ℕ))) (later pending : List ℕ) → found ≡ None → IfNone found (later ≡ pending) → later ≡ pending
+same_if_none found later pending none same = subst (λ (o : Option (List (List ℕ))). IfNone o (later ≡ pending)) none same
+
+pub found_frame : (found : Option (List (List ℕ))) (frame : List (List ℕ)) (seen : Seen (List (List ℕ))) (rest : List ℕ) → found ≡ Some frame → Takes (Ok found) seen rest → seen ≡ Found frame rest
+found_frame found frame seen rest some takes = subst (λ (o : Option (List (List ℕ))). Takes (Ok o) seen rest) some takes
+
+pub frame_limits : (frame : List (List ℕ)) (pending later : List ℕ) → reading pending ≡ Found frame later → KeepsLimits frame
+frame_limits frame pending later found = (found_is pending frame later found).0
+
+pub shorter : (frame : List (List ℕ)) (pending later : List ℕ) → reading pending ≡ Found frame later → length later < length pending
+shorter frame pending later found =
+    let is = found_is pending frame later found in
+    omega (arith, ap length is.1, length-append (request_spelling frame) later, length-append (header_spelling 42 (length frame)) (bulks_spelling frame))
 
 -- a fault of the bytes
-breaks : (fault : Fault) (pending later : List ℕ) → (fault ≡ Memory → ⊥) → later ≡ pending → reading pending ≡ Bad fault
-    → Breaks fault (state pending None) (state later (Some fault))
-breaks fault pending later known kept bad = record {
+breaks : (fault : Fault) (old : ReaderState) (pending : List ℕ) → (fault ≡ Memory → ⊥) → PassesOver old (state pending None) → reading pending ≡ Bad fault
+    → Breaks fault old (state pending (Some fault))
+breaks fault old pending known so_far bad = record {
+  passes_over = record { count = so_far.count; consumed = so_far.consumed };
   first = first_bad fault pending known bad;
   none = bad_has_no_request pending fault bad;
-  kept = ap (λ (t : List ℕ). state t (Some fault)) kept;
+  kept = refl;
 }
 
 anyway : (o : Option Fault) (P : Type 0) → P → IfNone o P
 anyway None P p = p
 anyway (Some fault) P p = tt
 
-pub fails : (fault : Fault) (pending later : List ℕ) (before after : Option Fault) (old : ReaderState)
-    → state pending before ≡ old → before ≡ None → later ≡ pending → Refuses fault (reading pending) → after ≡ remembered fault
-    → IfNone old.fault (FailsBy fault old (state later after))
-fails fault pending later before after old view_is none kept refuses remembers =
+pub fails : (fault : Fault) (old : ReaderState) (pending later : List ℕ) (after : Option Fault) → old.fault ≡ None → PassesOver old (state pending None)
+    → later ≡ pending → Refuses fault (reading pending) → after ≡ remembered fault → IfNone old.fault (FailsBy fault old (state later after))
+fails fault old pending later after sound so_far kept refuses remembers =
     anyway old.fault (FailsBy fault old (state later after))
     (subst (λ (o : Option Fault). FailsBy fault old (state later o)) (sym remembers)
-    (subst (λ (s : ReaderState). FailsBy fault s (state later (remembered fault))) (ap (state pending) (sym none) ∙ view_is) (by_fault fault refuses)))
+    (subst (λ (t : List ℕ). FailsBy fault old (state t (remembered fault))) (sym kept) (by_fault fault refuses)))
   where
-    by_fault : (f : Fault) → Refuses f (reading pending) → FailsBy f (state pending None) (state later (remembered f))
-    by_fault Memory r = ap (λ (t : List ℕ). state t None) kept
-    by_fault Protocol r = breaks Protocol pending later (λ e. cc) kept (r (λ e. cc))
-    by_fault TooLong r = breaks TooLong pending later (λ e. cc) kept (r (λ e. cc))
+    by_fault : (f : Fault) → Refuses f (reading pending) → FailsBy f old (state pending (remembered f))
+    by_fault Memory r = (record { count = so_far.count; consumed = so_far.consumed }, sym sound)
+    by_fault Protocol r = breaks Protocol old pending (λ e. cc) so_far (r (λ e. cc))
+    by_fault TooLong r = breaks TooLong old pending (λ e. cc) so_far (r (λ e. cc))

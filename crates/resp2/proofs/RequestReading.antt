@@ -1,5 +1,5 @@
 -- What a request that is read says of the bytes, and how those that wait go on.
-use Rattle.std.proofs.Common.{◌≡◌, ℕ, zero, suc, ◌+◌, ◌-◌, ◌*◌, ◌^◌, ◌<◌, ◌≤◌, ltb, eqb, List, [], ◌∷◌, ◌++◌, length, take, drop, refl, sym, ap, subst, ◌∙◌, append_assoc, arith}
+use Rattle.std.proofs.Common.{◌≡◌, ℕ, zero, suc, ◌+◌, ◌-◌, ◌*◌, ◌^◌, ◌<◌, ◌≤◌, ◌⊎◌, inl, inr, ltb, eqb, List, [], ◌∷◌, ◌++◌, length, take, drop, refl, sym, ap, subst, ◌∙◌, append_assoc, arith}
 use Rattle.std.specs.Prelude.{decimal, replicate}
 use Rattle.std.specs.List.{AllByRecursion}
 use Rattle.std.proofs.lemmas.Bool.{ltb-true, ltb-false, eqb-true}
@@ -239,14 +239,21 @@ words_mean limit (suc k) bytes some bound =
 pub record RequestEnds (most limit : ℕ) (bytes : List ℕ) : Type 0 where
   pub words : List (List ℕ)
   pub more : List ℕ
-  pub some : 0 < length words
   pub few : length words ≤ most
   pub short : AreShort limit words
   pub wanted : 0 < length more
   pub spelled : bytes ++ more ≡ request_onto words []
 
+-- the count of its words passes its limit
+pub record CountIsOver (most : ℕ) (bytes : List ℕ) : Type 0 where
+  pub count : ℕ
+  pub rest : List ℕ
+  pub above : most < count
+  pub near : count ≤ 10 * most + 9
+  pub spelled : bytes ≡ 42 ∷ (decimal count ++ rest)
+
 -- behind these words of a request the length of one passes its limit
-pub record RequestPasses (most limit : ℕ) (bytes : List ℕ) : Type 0 where
+pub record LengthIsOver (most limit : ℕ) (bytes : List ℕ) : Type 0 where
   pub count : ℕ
   pub words : List (List ℕ)
   pub number : ℕ
@@ -259,25 +266,24 @@ pub record RequestPasses (most limit : ℕ) (bytes : List ℕ) : Type 0 where
   pub spelled : bytes ≡ header_onto 42 count (bulks_onto words (36 ∷ (decimal number ++ rest)))
 
 pub record RequestIs (most limit : ℕ) (bytes : List ℕ) (words : List (List ℕ)) (rest : List ℕ) : Type 0 where
-  pub some : 0 < length words
   pub few : length words ≤ most
   pub short : AreShort limit words
   pub spelled : bytes ≡ request_onto words rest
 
 abbrev pub RequestMeans : ℕ → ℕ → List ℕ → Seen (List (List ℕ)) → Type 0
-RequestMeans most limit bytes seen = MatchSeen seen (RequestEnds most limit bytes) (λ fault. fault ≡ TooLong → RequestPasses most limit bytes) (RequestIs most limit bytes)
+RequestMeans most limit bytes seen =
+    MatchSeen seen (RequestEnds most limit bytes) (λ fault. fault ≡ TooLong → CountIsOver most bytes ⊎ LengthIsOver most limit bytes) (RequestIs most limit bytes)
 
-behind_count : (most limit n : ℕ) (rest : List ℕ) (s : Seen (List (List ℕ))) → 1 ≤ n → n ≤ most → WordsMean limit n rest s → RequestMeans most limit (header_onto 42 n rest) s
-behind_count most limit n rest Wants some few m = record {
+behind_count : (most limit n : ℕ) (rest : List ℕ) (s : Seen (List (List ℕ))) → n ≤ most → WordsMean limit n rest s → RequestMeans most limit (header_onto 42 n rest) s
+behind_count most limit n rest Wants few m = record {
   words = m.words;
   more = m.more;
-  some = omega (arith, m.count);
   few = omega (arith, m.count);
   short = m.short;
   wanted = m.wanted;
   spelled = header_onto-append 42 n rest m.more ∙ ap (header_onto 42 n) m.spelled ∙ ap (λ (k : ℕ). header_onto 42 k (bulks_onto m.words [])) (sym m.count);
 }
-behind_count most limit n rest (Bad fault) some few m = λ p. record {
+behind_count most limit n rest (Bad fault) few m = λ p. inr (record {
   count = n;
   words = (m p).words;
   number = (m p).number;
@@ -288,18 +294,17 @@ behind_count most limit n rest (Bad fault) some few m = λ p. record {
   above = (m p).above;
   near = (m p).near;
   spelled = ap (header_onto 42 n) (m p).spelled;
-}
-behind_count most limit n rest (Found words last) some few m = record {
-  some = omega (arith, m.count);
+})
+behind_count most limit n rest (Found words last) few m = record {
   few = omega (arith, m.count);
   short = m.short;
   spelled = ap (header_onto 42 n) m.spelled ∙ ap (λ (k : ℕ). header_onto 42 k (bulks_onto words last)) (sym m.count);
 }
 
 pub request_means : (most limit : ℕ) (bytes : List ℕ) → 0 < most → most < 2 ^ 60 → 0 < limit → limit < 2 ^ 60 → RequestMeans most limit bytes (request_at most limit bytes)
-request_means most limit bytes words_some words_bound some bound = behind (header_at 42 Protocol 1 most bytes) (header_means 42 Protocol 1 most bytes words_some (omega arith) words_bound)
+request_means most limit bytes words_some words_bound some bound = behind (header_at 42 TooLong 0 most bytes) (header_means 42 TooLong 0 most bytes words_some (omega arith) words_bound)
   where
-    behind : (s : Seen ℕ) → HeaderMeans 42 Protocol 1 most bytes s → RequestMeans most limit bytes (and_then s (words_at limit))
+    behind : (s : Seen ℕ) → HeaderMeans 42 TooLong 0 most bytes s → RequestMeans most limit bytes (and_then s (words_at limit))
     behind Wants m =
         let number = m.0 in
         let words = empty_words number in
@@ -307,7 +312,6 @@ request_means most limit bytes words_some words_bound some bound = behind (heade
         record {
           words = words;
           more = m.1 ++ bulks_onto words [];
-          some = omega (arith, count, m.2);
           few = omega (arith, count, m.3);
           short = empty_short limit number;
           wanted = omega (arith, length-append m.1 (bulks_onto words []), m.4);
@@ -316,10 +320,10 @@ request_means most limit bytes words_some words_bound some bound = behind (heade
               ∙ header_onto-append 42 number [] (bulks_onto words [])
               ∙ ap (λ (k : ℕ). header_onto 42 k (bulks_onto words [])) (sym count);
         }
-    behind (Bad fault) m = λ p. absurd (let e : Protocol ≡ TooLong = (m p).0 in cc)
+    behind (Bad fault) m = λ p. inl (record { count = (m p).1; rest = (m p).2; above = (m p).3; near = (m p).4; spelled = (m p).5 })
     behind (Found n rest) m =
         subst (λ (t : List ℕ). RequestMeans most limit t (words_at limit n rest)) (sym m.2)
-        (behind_count most limit n rest (words_at limit n rest) m.0 m.1 (words_mean limit n rest some bound))
+        (behind_count most limit n rest (words_at limit n rest) m.1 (words_mean limit n rest some bound))
 
 -- ---- what was found
 

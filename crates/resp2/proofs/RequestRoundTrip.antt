@@ -3,7 +3,7 @@ use Rattle.std.proofs.Common.{◌≡◌, ℕ, zero, suc, ◌+◌, ◌^◌, ◌<�
 use Rattle.std.specs.Prelude.{decimal}
 use Rattle.std.proofs.lemmas.Bool.{le-ltb}
 use Rattle.std.proofs.lemmas.List.{length-append, append-nil, take_at, drop_at}
-use Rattle.resp2.specs.declared.fault.Fault.TheVariants.{Protocol, TooLong}
+use Rattle.resp2.specs.declared.fault.Fault.TheVariants.{TooLong}
 use Rattle.resp2.specs.Reading.{Seen, Wants, Bad, Found, and_then, MatchSeen, header_at, body_at, word_at, with_word, words_at, request_at, header_onto, bulk_onto, bulks_onto, request_onto}
 use Rattle.resp2.proofs.HeaderRoundTrip.{header_again, header_decides, header_passes, IsBad}
 use Rattle.resp2.proofs.RequestReading.{AreShort}
@@ -43,19 +43,19 @@ words_again limit (word ∷ words) k rest bound short =
     (ap (with_word word) (words_again limit words k rest bound short.1) ∙ with_one_more word words (words_at limit k rest))
 
 -- a request, as far as its words are read
-pub request_behind : (most limit : ℕ) (words : List (List ℕ)) (k : ℕ) (rest : List ℕ) → most < 2 ^ 64 → limit < 2 ^ 64 → 0 < length words + k
+pub request_behind : (most limit : ℕ) (words : List (List ℕ)) (k : ℕ) (rest : List ℕ) → most < 2 ^ 64 → limit < 2 ^ 64
     → length words + k ≤ most → AreShort limit words
     → request_at most limit (header_onto 42 (length words + k) (bulks_onto words rest)) ≡ with_words words (words_at limit k rest)
-request_behind most limit words k rest words_bound bound some few short =
-    ap (λ (s : Seen ℕ). and_then s (words_at limit)) (header_again 42 Protocol 1 most (length words + k) (bulks_onto words rest) (omega arith) (omega arith) some few)
+request_behind most limit words k rest words_bound bound few short =
+    ap (λ (s : Seen ℕ). and_then s (words_at limit)) (header_again 42 TooLong 0 most (length words + k) (bulks_onto words rest) (omega arith) (omega arith) (omega arith) few)
     ∙ words_again limit words k rest bound short
 
-pub request_again : (most limit : ℕ) (words : List (List ℕ)) (rest : List ℕ) → most < 2 ^ 64 → limit < 2 ^ 64 → 0 < length words → length words ≤ most
+pub request_again : (most limit : ℕ) (words : List (List ℕ)) (rest : List ℕ) → most < 2 ^ 64 → limit < 2 ^ 64 → length words ≤ most
     → AreShort limit words → request_at most limit (request_onto words rest) ≡ Found words rest
-request_again most limit words rest words_bound bound some few short =
+request_again most limit words rest words_bound bound few short =
     let all : length words + 0 ≡ length words = omega arith in
     ap (λ (k : ℕ). request_at most limit (header_onto 42 k (bulks_onto words rest))) (sym all)
-    ∙ request_behind most limit words 0 rest words_bound bound (omega arith) (omega arith) short
+    ∙ request_behind most limit words 0 rest words_bound bound (omega arith) short
     ∙ ap (λ (ws : List (List ℕ)). Found ws rest) (append-nil words)
 
 -- ---- decided
@@ -105,7 +105,7 @@ words_decided limit (word ∷ words) k rest bound decided =
 pub request_decided : (most limit count : ℕ) (words : List (List ℕ)) (k : ℕ) (rest : List ℕ) → most < 10 ^ 62 → limit < 10 ^ 62
     → length words + k ≡ count → IsDecided (words_at limit k rest) → IsDecided (request_at most limit (header_onto 42 count (bulks_onto words rest)))
 request_decided most limit count words k rest words_bound bound all decided =
-    behind (header_at 42 Protocol 1 most (header_onto 42 count (bulks_onto words rest))) (header_decides 42 Protocol 1 most count (bulks_onto words rest) (omega arith) words_bound)
+    behind (header_at 42 TooLong 0 most (header_onto 42 count (bulks_onto words rest))) (header_decides 42 TooLong 0 most count (bulks_onto words rest) (omega arith) words_bound)
   where
     behind : (s : Seen ℕ) → MatchSeen s ⊥ (λ _. Unit {0}) (λ m last. (m ≡ count) × (last ≡ bulks_onto words rest)) → IsDecided (and_then s (words_at limit))
     behind Wants h = h
@@ -119,6 +119,16 @@ length_decided limit (suc k) number rest bound above some =
     behind (header_at 36 TooLong 0 limit (36 ∷ (decimal number ++ rest))) (header_passes 36 TooLong 0 limit number rest (omega arith) bound above)
   where
     behind : (s : Seen ℕ) → IsBad s → IsDecided (and_then (and_then s body_at) (λ v last. with_word v (words_at limit k last)))
+    behind Wants h = h
+    behind (Bad fault) h = tt
+    behind (Found m last) h = absurd h
+
+-- a count above the limit is bad
+pub count_decided : (most limit count : ℕ) (rest : List ℕ) → most < 10 ^ 62 → most < count → IsDecided (request_at most limit (42 ∷ (decimal count ++ rest)))
+count_decided most limit count rest bound above =
+    behind (header_at 42 TooLong 0 most (42 ∷ (decimal count ++ rest))) (header_passes 42 TooLong 0 most count rest (omega arith) bound above)
+  where
+    behind : (s : Seen ℕ) → IsBad s → IsDecided (and_then s (words_at limit))
     behind Wants h = h
     behind (Bad fault) h = tt
     behind (Found m last) h = absurd h

@@ -2,37 +2,29 @@
 use Rattle.std.proofs.Common.{◌≡◌, ℕ, ◌<◌, List, [], ◌∷◌, ◌++◌, length, refl, sym, ap, ◌∙◌, append_assoc, arith}
 use Rattle.std.proofs.lemmas.List.{append-nil}
 use Rattle.resp2.specs.Law.{NoSpellingBeginsAnother, NoUnfinishedIsWhole, StreamIsReadInOneWay}
-use Rattle.resp2.specs.Reading.{reading, Found}
-use Rattle.resp2.specs.Request.{request_spelling, stream_spelling, IsRequest, HasNoRequest}
+use Rattle.resp2.specs.Reading.{reading, reading_words, Wants, Found}
+use Rattle.resp2.specs.Request.{request_spelling, stream_spelling, KeepsLimits, HasNoRequest}
 use Rattle.std.specs.List.{AllByRecursion}
 use Rattle.resp2.proofs.Spellings.{each_by_recursion}
-use Rattle.resp2.proofs.ReadingDecides.{request_is_found}
+use Rattle.resp2.proofs.SizeLimit.{found_within}
+use Rattle.resp2.proofs.WordsDecide.{front_wants, words_are_found}
 
 -- reading is one function, and it finds both
 pub no_spelling_begins_another : NoSpellingBeginsAnother
 no_spelling_begins_another one other rest more is_one is_other same =
-    let first : reading (request_spelling one ++ rest) ≡ Found one rest = request_is_found one rest is_one in
-    let second : reading (request_spelling one ++ rest) ≡ Found other more = ap reading same ∙ request_is_found other more is_other in
+    let first : reading (request_spelling one ++ rest) ≡ Found one rest = found_within one rest is_one in
+    let second : reading (request_spelling one ++ rest) ≡ Found other more = ap reading same ∙ found_within other more is_other in
     (cc, cc)
 
 -- what is wanted would be left over
 pub no_unfinished_is_whole : NoUnfinishedIsWhole
-no_unfinished_is_whole bytes unfinished words rest is_request whole =
-    let spelled : request_spelling words ++ (rest ++ unfinished.rest) ≡ request_spelling unfinished.words ++ [] =
-    sym (append_assoc (request_spelling words) rest unfinished.rest)
-    ∙ ap (λ (t : List ℕ). t ++ unfinished.rest) (sym whole)
-    ∙ unfinished.spelled
-    ∙ sym (append-nil (request_spelling unfinished.words)) in
-    let left = no_spelling_begins_another words unfinished.words (rest ++ unfinished.rest) [] is_request unfinished.request spelled in
-    empty rest unfinished.rest left.1 unfinished.wanted
-  where
-    empty : (xs ys : List ℕ) → xs ++ ys ≡ [] → 0 < length ys → ⊥
-    empty [] [] e some = omega arith
-    empty [] (y ∷ ys) e some = cc
-    empty (x ∷ xs) ys e some = cc
+no_unfinished_is_whole bytes unfinished words rest limits whole =
+    let wants : reading_words bytes ≡ Wants = front_wants bytes unfinished.rest unfinished.words unfinished.each unfinished.wanted unfinished.spelled in
+    let found : reading_words bytes ≡ Found words rest = ap reading_words whole ∙ words_are_found words rest limits.each in
+    cc
 
 -- the first request is one, and so are those behind it
-streams_are_one : (requests others : List (List (List ℕ))) (rest more : List ℕ) → AllByRecursion IsRequest requests → AllByRecursion IsRequest others
+streams_are_one : (requests others : List (List (List ℕ))) (rest more : List ℕ) → AllByRecursion KeepsLimits requests → AllByRecursion KeepsLimits others
     → HasNoRequest rest → HasNoRequest more → stream_spelling requests ++ rest ≡ stream_spelling others ++ more → (requests ≡ others) × (rest ≡ more)
 streams_are_one [] [] rest more each all none nothing same = (refl, same)
 streams_are_one [] (words ∷ others) rest more each all none nothing same =
@@ -51,5 +43,5 @@ streams_are_one (words ∷ requests) (other ∷ others) rest more each all none 
 pub a_stream_is_read_in_one_way : StreamIsReadInOneWay
 a_stream_is_read_in_one_way bytes requests others rest more one other =
     streams_are_one requests others rest more
-    (each_by_recursion IsRequest requests one.each) (each_by_recursion IsRequest others other.each)
+    (each_by_recursion KeepsLimits requests one.each) (each_by_recursion KeepsLimits others other.each)
     one.none other.none (sym one.spelled ∙ other.spelled)

@@ -6,12 +6,12 @@ use Rattle.resp2.specs.declared.fault.Fault.TheVariants.{Protocol, TooLong}
 use Rattle.resp2.specs.declared.reply.Reply.{Reply}
 use Rattle.resp2.specs.Array.{is_array, depth_of}
 use Rattle.resp2.specs.Reply.{array_of, is_reply, greatest_depth}
-use Rattle.resp2.specs.Request.{request_spelling, stream_spelling, IsRequest, IsUnfinished, HasFirstBadByte, HasNoRequest}
+use Rattle.resp2.specs.Request.{request_spelling, stream_spelling, KeepsLimits, IsUnfinished, HasFirstBadByte, HasNoRequest}
 
--- bytes begin with one request at most, and its end is where the next begins
+-- bytes begin with one request at most, perhaps one without words, and its end is where the next begins
 abbrev pub NoSpellingBeginsAnother : Type 0
 NoSpellingBeginsAnother =
-    (one other : List (List ℕ)) (rest more : List ℕ) → IsRequest one → IsRequest other
+    (one other : List (List ℕ)) (rest more : List ℕ) → KeepsLimits one → KeepsLimits other
     → request_spelling one ++ rest ≡ request_spelling other ++ more → (one ≡ other) × (rest ≡ more)
 
 -- bytes that want more have no whole request in front
@@ -21,7 +21,7 @@ NoUnfinishedIsWhole = (bytes : List ℕ) → IsUnfinished bytes → HasNoRequest
 -- the bytes are these requests, and then no whole one
 pub record IsStream (bytes : List ℕ) (requests : List (List (List ℕ))) (rest : List ℕ) : Type 0 where
   pub spelled : bytes ≡ stream_spelling requests ++ rest
-  pub each : All IsRequest requests
+  pub each : All KeepsLimits requests
   pub none : HasNoRequest rest
 
 -- so it doesn't matter in which pieces the bytes came
@@ -36,7 +36,7 @@ StreamIsReadInOneWay =
 pub record HasRequest (bytes : List ℕ) : Type 0 where
   pub words : List (List ℕ)
   pub rest : List ℕ
-  pub request : IsRequest words
+  pub limits : KeepsLimits words
   pub spelled : bytes ≡ request_spelling words ++ rest
 
 -- what bytes can have in front: a request, the beginning of one, or one with a bad byte, which breaks the protocol or

@@ -1,12 +1,12 @@
 -- How far a reader is: what it took from the front of its input, and what a step takes more. No public clause needs it.
-use Rattle.std.specs.Prelude.{◌≡◌, ◌<◌, ◌≤◌, ◌+◌, ℕ, List, length, All, IfSome, Option, None, Some, Result, Ok, Err}
+use Rattle.std.specs.Prelude.{◌≡◌, ◌<◌, ◌≤◌, ◌+◌, ℕ, List, length, All, IfSome, IfNone, Option, None, Some, Result, Ok, Err}
 use Rattle.resp2.specs.declared.fault.Fault.{Fault}
-use Rattle.resp2.specs.declared.fault.Fault.TheVariants.{Memory}
-use Rattle.resp2.specs.declared.words.TheConstants.{MOST_WORDS, MOST_WORD_BYTES}
+use Rattle.resp2.specs.declared.fault.Fault.TheVariants.{Memory, TooLong}
+use Rattle.resp2.specs.declared.words.TheConstants.{MOST_WORDS, MOST_WORD_BYTES, MOST_REQUEST_BYTES}
 use Rattle.resp2.specs.declared.words.Partial.{Partial}
 use Rattle.resp2.specs.declared.reader.Progress.{Progress}
 use Rattle.resp2.specs.declared.reader.Progress.TheVariants.{Between, Reading, Broken}
-use Rattle.resp2.specs.Reading.{Seen, Wants, Bad, Found, header_onto, bulks_onto}
+use Rattle.resp2.specs.Reading.{Seen, Wants, Bad, Found, too_many, header_onto, bulks_onto}
 
 -- ---- what a step answers
 
@@ -61,17 +61,52 @@ HasLen len = IfSome len (λ number. number ≤ MOST_WORD_BYTES)
 
 -- what was read of a request keeps the limits
 pub record IsPartial (partial : Partial) : Type 0 where
-  pub some : 0 < length partial.words.items + partial.left
   pub few : length partial.words.items + partial.left ≤ MOST_WORDS
   pub short : All (λ word. length word ≤ MOST_WORD_BYTES) partial.words.items
   pub sized : HasLen partial.len
   pub idle : partial.left ≡ 0 → partial.len ≡ None
+
+-- no word of the request is left
+pub record IsWhole (words : List (List ℕ)) (partial : Partial) : Type 0 where
+  pub all : partial.words.items ≡ words
+  pub none_left : partial.left ≡ 0
+  pub no_len : partial.len ≡ None
 
 -- the same of a request that is being read
 abbrev pub IsProgress : Progress → Type 0
 IsProgress Between = Unit {0}
 IsProgress (Reading partial) = IsPartial partial
 IsProgress (Broken _ _) = Unit {0}
+
+-- so many bytes of what is pending were consumed: one more than a request may have, at most
+pub record IsCounted (consumed : ℕ) (progress : Progress) (input : List ℕ) : Type 0 where
+  pub counted : consumed + length input ≡ length (pending_of progress input)
+  pub few : consumed ≤ MOST_REQUEST_BYTES + 1
+
+-- that is known until a bad byte is found
+abbrev pub IsCountedOrBroken : ℕ → Progress → List ℕ → Type 0
+IsCountedOrBroken consumed progress input = IfNone (fault_of progress) (IsCounted consumed progress input)
+
+-- the words are those of the request in front, which was found to be too long
+abbrev pub IsPutBack : List (List ℕ) → Progress → Type 0
+IsPutBack words Between = ⊥
+IsPutBack words (Reading _) = ⊥
+IsPutBack words (Broken _ None) = ⊥
+IsPutBack words (Broken fault (Some partial)) = (fault ≡ TooLong) × IsWhole words partial
+
+-- the bytes of a request that came whole, or all that came of one that didn't
+abbrev pub so_many : Option (List (List ℕ)) → ℕ → ℕ → ℕ
+so_many None consumed pending = pending
+so_many (Some words) consumed pending = consumed
+
+-- what came whole or not is handed over, unless so many bytes are too many
+abbrev pub HandsOver : Option (List (List ℕ)) → ℕ → ℕ → Result (Option (List (List ℕ))) Fault → Type 0
+HandsOver found consumed pending (Ok handed) = (handed ≡ found) × (so_many found consumed pending ≤ MOST_REQUEST_BYTES)
+HandsOver found consumed pending (Err fault) = (fault ≡ TooLong) × (MOST_REQUEST_BYTES < so_many found consumed pending)
+
+-- memory was refused, or this is wrong with bytes that are as many as a request may have and one more
+abbrev pub FaultOfFront : Fault → Seen (List (List ℕ)) → Type 0
+FaultOfFront fault seen = (fault ≡ Memory → ⊥) → too_many seen ≡ Bad fault
 
 -- a request was begun, or this holds
 abbrev pub BeginsOr : Progress → Type 0 → Type 0

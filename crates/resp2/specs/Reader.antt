@@ -1,36 +1,48 @@
 -- What a reader of requests holds, and what its answers say of the bytes.
-use Rattle.std.specs.Prelude.{◌≡◌, ℕ, List, ◌++◌, Option, None, Some}
+use Rattle.std.specs.Prelude.{◌≡◌, ℕ, List, [], ◌++◌, replicate, Option, None, Some}
 use Rattle.resp2.specs.declared.fault.Fault.{Fault}
 use Rattle.resp2.specs.declared.fault.Fault.TheVariants.{Protocol, TooLong, Memory}
-use Rattle.resp2.specs.Request.{request_spelling, IsRequest, HasFirstBadByte, HasNoRequest, IsUnfinished}
+use Rattle.resp2.specs.Request.{request_spelling, stream_spelling, IsRequest, HasFirstBadByte, HasNoRequest, IsUnfinished}
 
--- the bytes that were fed and not handed out, and the fault that was found in them
+-- the bytes that were fed and not consumed, and the fault that was found in them
 pub record ReaderState : Type 0 where
   pub pending : List ℕ
   pub fault : Option Fault
 
--- a request stood whole in front, and the bytes behind it are left
+-- so many requests without words
+abbrev pub empty_requests : ℕ → List ℕ
+empty_requests count = stream_spelling (replicate count [])
+
+-- only requests without words were consumed
+pub record PassesOver (old new : ReaderState) : Type 0 where
+  pub count : ℕ
+  pub consumed : old.pending ≡ empty_requests count ++ new.pending
+
+-- a request stood whole in front, perhaps behind some without words, and the bytes behind it are left
 pub record HandsOut (old : ReaderState) (words : List (List ℕ)) (new : ReaderState) : Type 0 where
   pub sound : old.fault ≡ None
   pub request : IsRequest words
-  pub taken : old.pending ≡ request_spelling words ++ new.pending
+  pub count : ℕ
+  pub consumed : old.pending ≡ empty_requests count ++ request_spelling words ++ new.pending
   pub still_sound : new.fault ≡ None
 
 -- the bytes are the beginning of a request, and stay
 pub record Waits (old new : ReaderState) : Type 0 where
   pub sound : old.fault ≡ None
-  pub unfinished : IsUnfinished old.pending
-  pub kept : new ≡ old
+  pub passes_over : PassesOver old new
+  pub unfinished : IsUnfinished new.pending
+  pub still_sound : new.fault ≡ None
 
 -- a bad byte stands where a request is expected, and its fault is kept for good
 pub record Breaks (fault : Fault) (old new : ReaderState) : Type 0 where
-  pub first : HasFirstBadByte fault old.pending
-  pub none : HasNoRequest old.pending
-  pub kept : new ≡ record old { fault = Some fault }
+  pub passes_over : PassesOver old new
+  pub first : HasFirstBadByte fault new.pending
+  pub none : HasNoRequest new.pending
+  pub kept : new.fault ≡ Some fault
 
--- want of memory changes nothing, and a fault of the bytes is where they have it
+-- want of memory changes nothing else, and a fault of the bytes is where they have it
 abbrev pub FailsBy : Fault → ReaderState → ReaderState → Type 0
-FailsBy Memory old new = new ≡ old
+FailsBy Memory old new = PassesOver old new × (new.fault ≡ old.fault)
 FailsBy Protocol old new = Breaks Protocol old new
 FailsBy TooLong old new = Breaks TooLong old new
 

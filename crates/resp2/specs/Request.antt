@@ -1,8 +1,8 @@
 -- Requests as a client sends them (RESP protocol, "Sending commands to a Redis server": an array of bulk strings).
-use Rattle.std.specs.Prelude.{◌≡◌, ◌≢◌, ◌<◌, ◌≤◌, ◌^◌, ℕ, List, [], ◌∷◌, ◌++◌, length, decimal, All}
+use Rattle.std.specs.Prelude.{◌≡◌, ◌≢◌, ◌<◌, ◌≤◌, ◌+◌, ◌^◌, ℕ, List, [], ◌∷◌, ◌++◌, length, decimal, All, ◌⊎◌}
 use Rattle.resp2.specs.declared.fault.Fault.{Fault}
 use Rattle.resp2.specs.declared.fault.Fault.TheVariants.{Protocol, TooLong, Memory}
-use Rattle.resp2.specs.declared.words.TheConstants.{MOST_WORDS, MOST_WORD_BYTES}
+use Rattle.resp2.specs.declared.words.TheConstants.{MOST_WORDS, MOST_WORD_BYTES, MOST_REQUEST_BYTES}
 
 -- the end of a line
 abbrev pub crlf : List ℕ
@@ -21,7 +21,7 @@ abbrev pub bulks_spelling : List (List ℕ) → List ℕ
 bulks_spelling [] = []
 bulks_spelling (word ∷ words) = bulk_spelling word ++ bulks_spelling words
 
--- a request: `*<count>\r\n` and its words as bulk strings
+-- a request: `*<count>\r\n` and its words as bulk strings. One without words is `*0\r\n`
 abbrev pub request_spelling : List (List ℕ) → List ℕ
 request_spelling words = header_spelling 42 (length words) ++ bulks_spelling words
 
@@ -30,29 +30,52 @@ abbrev pub stream_spelling : List (List (List ℕ)) → List ℕ
 stream_spelling [] = []
 stream_spelling (words ∷ requests) = request_spelling words ++ stream_spelling requests
 
--- as many words as a request may have
-abbrev pub HasCount : List (List ℕ) → Type 0
-HasCount words = (0 < length words) × (length words ≤ MOST_WORDS)
+-- those with words: a server passes over one without, and replies nothing to it
+abbrev pub with_words : List (List (List ℕ)) → List (List (List ℕ))
+with_words [] = []
+with_words ([] ∷ requests) = with_words requests
+with_words ((word ∷ words) ∷ requests) = (word ∷ words) ∷ with_words requests
 
--- the words of a request that keeps the limits
-pub record IsRequest (words : List (List ℕ)) : Type 0 where
-  pub count : HasCount words
+-- ---- limits, which are ours
+
+-- there are not too many words, and none is too long
+pub record WordsKeepLimits (words : List (List ℕ)) : Type 0 where
+  pub few : length words ≤ MOST_WORDS
   pub short : All (λ word. length word ≤ MOST_WORD_BYTES) words
 
--- each word's length is a number of 64 bits, whatever its limit (`decimal` writes 64 digits at most)
-abbrev pub HasLengths : List (List ℕ) → Type 0
-HasLengths words = All (λ word. length word < 2 ^ 64) words
+-- and their request doesn't have too many bytes
+pub record KeepsLimits (words : List (List ℕ)) : Type 0 where
+  pub each : WordsKeepLimits words
+  pub all : length (request_spelling words) ≤ MOST_REQUEST_BYTES
 
--- more bytes may make a list of requests of these bytes, with words of any such length
+-- the words of a request that a server replies to
+pub record IsRequest (words : List (List ℕ)) : Type 0 where
+  pub some : 0 < length words
+  pub limits : KeepsLimits words
+
+-- ---- beginnings
+
+-- counts and lengths are numbers of 64 bits, whatever their limits (`decimal` writes 64 digits at most)
+pub record HasNumbers (words : List (List ℕ)) : Type 0 where
+  pub count : length words < 2 ^ 64
+  pub lengths : All (λ word. length word < 2 ^ 64) words
+
+-- more bytes may make a list of requests of these bytes, with any such numbers
 pub record IsBeginning (bytes : List ℕ) : Type 0 where
   pub requests : List (List (List ℕ))
   pub rest : List ℕ
-  pub counts : All HasCount requests
-  pub lengths : All HasLengths requests
+  pub numbers : All HasNumbers requests
   pub spelled : bytes ++ rest ≡ stream_spelling requests
 
--- the bytes end in the digit at which the length of a word passes its limit
-pub record PassesLimit (bytes : List ℕ) : Type 0 where
+-- the bytes end in the digit at which the count of a request's words passes its limit
+pub record CountPasses (bytes : List ℕ) : Type 0 where
+  pub requests : List (List (List ℕ))
+  pub count : ℕ
+  pub above : MOST_WORDS < count
+  pub spelled : bytes ≡ stream_spelling requests ++ 42 ∷ decimal count
+
+-- in the digit at which the length of a word passes its limit
+pub record LengthPasses (bytes : List ℕ) : Type 0 where
   pub requests : List (List (List ℕ))
   pub count : ℕ
   pub words : List (List ℕ)
@@ -60,6 +83,19 @@ pub record PassesLimit (bytes : List ℕ) : Type 0 where
   pub wanted : length words < count
   pub above : MOST_WORD_BYTES < number
   pub spelled : bytes ≡ stream_spelling requests ++ header_spelling 42 count ++ bulks_spelling words ++ 36 ∷ decimal number
+
+-- in the first byte that is too many for one request
+pub record SizePasses (bytes : List ℕ) : Type 0 where
+  pub requests : List (List (List ℕ))
+  pub words : List (List ℕ)
+  pub front : List ℕ
+  pub rest : List ℕ
+  pub one : front ++ rest ≡ request_spelling words
+  pub above : length front ≡ MOST_REQUEST_BYTES + 1
+  pub spelled : bytes ≡ stream_spelling requests ++ front
+
+abbrev pub PassesLimit : List ℕ → Type 0
+PassesLimit bytes = CountPasses bytes ⊎ (LengthPasses bytes ⊎ SizePasses bytes)
 
 -- the last of these bytes is bad, and this is what is wrong with it
 abbrev pub IsBad : Fault → List ℕ → Type 0
@@ -75,14 +111,15 @@ pub record HasFirstBadByte (fault : Fault) (bytes : List ℕ) : Type 0 where
   pub bad : IsBad fault front
   pub first : (shorter : List ℕ) (more : List ℕ) → front ≡ shorter ++ more → 0 < length more → IsBeginning shorter × ¬ PassesLimit shorter
 
--- no whole request stands in front of these bytes
+-- no whole request stands in front of these bytes, and none without words
 abbrev pub HasNoRequest : List ℕ → Type 0
-HasNoRequest bytes = (words : List (List ℕ)) (rest : List ℕ) → IsRequest words → bytes ≢ request_spelling words ++ rest
+HasNoRequest bytes = (words : List (List ℕ)) (rest : List ℕ) → KeepsLimits words → bytes ≢ request_spelling words ++ rest
 
--- more bytes, and at least one, make one request of these bytes
+-- more bytes, and at least one, make one request of these bytes, which are not too many for one
 pub record IsUnfinished (bytes : List ℕ) : Type 0 where
   pub words : List (List ℕ)
   pub rest : List ℕ
-  pub request : IsRequest words
+  pub each : WordsKeepLimits words
+  pub so_far : length bytes ≤ MOST_REQUEST_BYTES
   pub wanted : 0 < length rest
   pub spelled : bytes ++ rest ≡ request_spelling words

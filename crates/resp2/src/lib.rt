@@ -25,5 +25,5 @@ pub use law::{
 pub use line::Line;
 pub use reader::Reader;
 pub use reply::Reply;
-pub use words::{MOST_WORD_BYTES, MOST_WORDS, Words};
+pub use words::{MOST_REQUEST_BYTES, MOST_WORD_BYTES, MOST_WORDS, Words};
 pub use writing::{append_reply, send_reply, write_reply};

@@ -1,11 +1,13 @@
 //! Requests from bytes that come in any pieces.
-ghost use Rattle.std.specs.Prelude.{◌≡◌, [], ◌++◌, Some, None, IfOk, IfErr, IfSome, IfNone, OnOk, OnErr, unwrap_or};
-ghost use Rattle.resp2.specs.Reading.{Wants, Bad, reading};
+ghost use Rattle.std.specs.Prelude.{◌≡◌, ◌≢◌, ◌+◌, ◌<◌, ◌≤◌, [], ◌++◌, length, take, Some, None, Ok, Err, IfOk, IfErr, IfSome, IfNone, OnOk, OnErr, unwrap_or};
+ghost use Rattle.resp2.specs.declared.fault.Fault.TheVariants.{Memory, TooLong};
+ghost use Rattle.resp2.specs.declared.words.TheConstants.{MOST_REQUEST_BYTES};
+ghost use Rattle.resp2.specs.Reading.{Wants, Bad, reading, reading_words};
 ghost use Rattle.resp2.specs.Reader.{HandsOut, Waits, FailsBy, remembered};
-ghost use Rattle.resp2.specs.Progress.{Takes, IsProgress, BeginsOr, partial_of, fault_of, pending_of};
+ghost use Rattle.resp2.specs.Progress.{Takes, Refuses, IsProgress, IsCounted, IsCountedOrBroken, IsPutBack, HandsOver, FaultOfFront, BeginsOr, partial_of, fault_of, pending_of};
 
 use crate::fault::Fault;
-use crate::words::{Partial, Words};
+use crate::words::{Frame, MOST_REQUEST_BYTES, Partial, Words};
 use bytes::BytesMut;
 use std::alloc::Global;
 use std::marker::Model;
@@ -21,6 +23,8 @@ pub struct Reader {
     input: BytesMut,
     /// What was consumed before that, and not yet handed out.
     progress: Progress,
+    /// How many bytes that is.
+    consumed: usize,
 }
 
 /// How far a reader is.
@@ -40,14 +44,14 @@ impl Model for Reader {
 
     ghost Value = { ReaderState };
 
-    ghost use Rattle.resp2.specs.Progress.{IsProgress, pending_of, fault_of};
+    ghost use Rattle.resp2.specs.Progress.{IsProgress, IsCountedOrBroken, pending_of, fault_of};
 
     ghost view = { λ reader. record {
       pending = pending_of reader.progress reader.input.items;
       fault = fault_of reader.progress;
     } };
 
-    ghost invariant = { λ reader. IsProgress reader.progress };
+    ghost invariant = { λ reader. IsProgress reader.progress × IsCountedOrBroken reader.consumed reader.progress reader.input.items };
 }
 
 // It does what the derive would. Written out it is one call wherever a reader is let go, and not a
@@ -57,6 +61,7 @@ impl Drop for Reader {
         let Reader {
             input: _input,
             progress: _progress,
+            consumed: _,
         } = self;
     }
 }
@@ -70,6 +75,7 @@ impl Reader {
         Reader {
             input: BytesMut::new(alloc),
             progress: Progress::Between,
+            consumed: 0,
         }
     }
 
@@ -88,9 +94,9 @@ impl Reader {
         Ok(())
     }
 
-    /// The request in front, once it is whole, or None where more bytes have to come.
+    /// The request in front, once it is whole, or None where more bytes have to come. One without words is passed over.
     ///
-    /// `Fault::Memory` changes nothing, and the call can be made again. Another error is what is
+    /// After `Fault::Memory` the call can be made again: nothing is lost. Another error is what is
     /// wrong with the first byte after which no request can come, and it ends the reader.
     pub fn next(&mut self) -> Result<Option<Words>, Fault>
         ensures request { IfOk result
@@ -102,13 +108,138 @@ impl Reader {
             (λ fault. IfSome self.old.fault (λ kept. (fault ≡ kept) × (self.new ≡ self.old))) }
     {
         self.progress.check()?;
-        match self.progress.take_request(&mut self.input) {
-            Ok(found) => Ok(found),
-            Err(fault) => {
-                self.progress.stop_at(fault);
-                Err(fault)
+        'requests: loop {
+            let Some(frame) = take_request(&mut self.progress, &mut self.input, &mut self.consumed)?
+            else {
+                return Ok(None);
+            };
+            if let Some(words) = frame.into_words() {
+                return Ok(Some(words));
             }
         }
+    }
+}
+
+// Takes the request in front, perhaps one without words, once it is whole. A fault of the bytes is kept.
+fn take_request(
+    progress: &mut Progress,
+    input: &mut BytesMut,
+    consumed: &mut usize,
+) -> Result<Option<Frame>, Fault>
+    requires progress { IsProgress progress.old }
+    requires sound { fault_of progress.old ≡ None }
+    requires counted { IsCounted consumed.old progress.old input.old.items }
+    ensures takes { Takes result (reading (pending_of progress.old input.old.items))
+        (pending_of progress.new input.new.items) }
+    ensures unfinished { IfOk result (λ found. IfNone found
+        (pending_of progress.new input.new.items ≡ pending_of progress.old input.old.items)) }
+    ensures unchanged { OnErr result
+        (pending_of progress.new input.new.items ≡ pending_of progress.old input.old.items) }
+    ensures sound { OnOk result (fault_of progress.new ≡ None) }
+    ensures fault { IfErr result (λ fault. fault_of progress.new ≡ remembered fault) }
+    ensures progress { IsProgress progress.new }
+    ensures counted { IsCountedOrBroken consumed.new progress.new input.new.items }
+{
+    let pending = *consumed + input.len();
+    let taken = progress.take_frame(input);
+    *consumed = pending - input.len();
+    match taken {
+        Ok(found) => hand_out(found, progress, consumed, pending),
+        Err(fault) => {
+            let fault = first_fault(fault, progress, input, *consumed);
+            *consumed = pending - input.len();
+            progress.stop_at(fault);
+            Err(fault)
+        }
+    }
+}
+
+// Hands out what was taken, unless the request has more bytes than it may have: `pending` are all bytes that were fed and
+// not handed out.
+fn hand_out(
+    found: Option<Frame>,
+    progress: &mut Progress,
+    consumed: &mut usize,
+    pending: usize,
+) -> Result<Option<Frame>, Fault>
+    requires { fault_of progress.old ≡ None }
+    ensures outcome { HandsOver found consumed.old pending result }
+    ensures none { found ≡ None → partial_of progress.new ≡ partial_of progress.old }
+    ensures sound { OnOk result ((progress.new ≡ progress.old) × (found ≡ None → consumed.new ≡ consumed.old)) }
+    ensures again { IfOk result (λ found. IfSome found (λ _. consumed.new ≡ 0)) }
+    ensures broken { OnErr result (fault_of progress.new ≡ Some TooLong) }
+    ensures back { OnErr result (IfSome found (λ frame. IsPutBack frame progress.new)) }
+{
+    let Some(frame) = found else {
+        if pending > MOST_REQUEST_BYTES {
+            progress.stop_at(Fault::TooLong);
+            return Err(Fault::TooLong);
+        }
+        return Ok(None);
+    };
+    if *consumed > MOST_REQUEST_BYTES {
+        let partial = Partial::from(frame);
+        *progress = Progress::Broken(Fault::TooLong, Some(partial));
+        return Err(Fault::TooLong);
+    }
+    *consumed = 0;
+    Ok(Some(frame))
+}
+
+// The fault of the first bad byte. The one at hand may be behind the first byte that is too many for a request.
+fn first_fault(
+    fault: Fault,
+    progress: &mut Progress,
+    input: &mut BytesMut,
+    consumed: usize,
+) -> Fault
+    requires progress { IsProgress progress.old }
+    requires sound { fault_of progress.old ≡ None }
+    requires counted { consumed + length input.old.items ≡ length (pending_of progress.old input.old.items) }
+    requires refuses { Refuses fault (reading_words (pending_of progress.old input.old.items)) }
+    ensures refuses { Refuses result (reading (pending_of progress.old input.old.items)) }
+    ensures few { result ≡ Memory → consumed + length input.old.items ≤ MOST_REQUEST_BYTES + 1 + length input.new.items }
+    ensures kept { pending_of progress.new input.new.items ≡ pending_of progress.old input.old.items }
+    ensures progress { IsProgress progress.new }
+    ensures sound { fault_of progress.new ≡ None }
+    ensures shrinks { length input.new.items ≤ length input.old.items }
+{
+    if consumed > MOST_REQUEST_BYTES {
+        return Fault::TooLong;
+    }
+    if fault == Fault::Memory {
+        return fault;
+    }
+    let len = MOST_REQUEST_BYTES - consumed + 1;
+    if input.len() <= len {
+        return fault;
+    }
+    fault_within(progress, input, len)
+}
+
+// The fault of the first bad byte among the first `len` bytes of the input, which are as many as the request may have and one
+// more. Where none of them is bad alone, that last one is.
+fn fault_within(progress: &mut Progress, input: &mut BytesMut, len: usize) -> Fault
+    requires progress { IsProgress progress.old }
+    requires sound { fault_of progress.old ≡ None }
+    requires within { len < length input.old.items }
+    requires bad { (fault : Fault) × (fault ≢ Memory) × (reading_words (pending_of progress.old input.old.items) ≡ Bad fault) }
+    ensures fault { FaultOfFront result (reading_words (pending_of progress.old (take len input.old.items))) }
+    ensures kept { pending_of progress.new input.new.items ≡ pending_of progress.old input.old.items }
+    ensures progress { IsProgress progress.new }
+    ensures sound { fault_of progress.new ≡ None }
+    ensures shrinks { length input.new.items ≤ length input.old.items }
+    ensures few { length input.old.items ≤ length input.new.items + len }
+{
+    let Ok(mut front) = BytesMut::copy_from_slice(*input.allocator(), &input.as_slice()[..len])
+    else {
+        return Fault::Memory;
+    };
+    let taken = progress.take_frame(&mut front);
+    input.advance(len - front.len());
+    match taken {
+        Ok(_) => Fault::TooLong,
+        Err(fault) => fault,
     }
 }
 
@@ -124,28 +255,30 @@ impl Progress {
         }
     }
 
-    /// The request in front, once it is whole.
-    fn take_request(&mut self, input: &mut BytesMut) -> Result<Option<Words>, Fault>
+    /// The words of the request in front, once it is whole, however many bytes it has.
+    fn take_frame(&mut self, input: &mut BytesMut) -> Result<Option<Frame>, Fault>
         requires progress { IsProgress self.old }
         requires sound { fault_of self.old ≡ None }
-        ensures takes { Takes result (reading (pending_of self.old input.old.items))
+        ensures takes { Takes result (reading_words (pending_of self.old input.old.items))
             (pending_of self.new input.new.items) }
+        ensures found { IfOk result (λ found. IfSome found (λ _. self.new ≡ Progress.Between)) }
         ensures unfinished { IfOk result (λ found. IfNone found
             (pending_of self.new input.new.items ≡ pending_of self.old input.old.items)) }
         ensures unchanged { OnErr result
             (pending_of self.new input.new.items ≡ pending_of self.old input.old.items) }
         ensures sound { fault_of self.new ≡ None }
         ensures progress { IsProgress self.new }
+        ensures shrinks { length input.new.items ≤ length input.old.items }
     {
         self.begin(input)?;
         let Progress::Reading(partial) = self else {
             return Ok(None);
         };
-        let Some(words) = partial.take_words(input)? else {
+        let Some(frame) = partial.take_words(input)? else {
             return Ok(None);
         };
         *self = Progress::Between;
-        Ok(Some(words))
+        Ok(Some(frame))
     }
 
     /// Reads the header of the request in front, where it is the next to be read and whole.
@@ -153,12 +286,13 @@ impl Progress {
         requires progress { IsProgress self.old }
         requires sound { fault_of self.old ≡ None }
         ensures begins { OnOk result
-            (BeginsOr self.new (reading (pending_of self.old input.old.items) ≡ Wants)) }
+            (BeginsOr self.new (reading_words (pending_of self.old input.old.items) ≡ Wants)) }
         ensures err { IfErr result
-            (λ fault. reading (pending_of self.old input.old.items) ≡ Bad fault) }
+            (λ fault. Refuses fault (reading_words (pending_of self.old input.old.items))) }
         ensures kept { pending_of self.new input.new.items ≡ pending_of self.old input.old.items }
         ensures sound { fault_of self.new ≡ None }
         ensures progress { IsProgress self.new }
+        ensures shrinks { length input.new.items ≤ length input.old.items }
     {
         match self {
             Progress::Between => {

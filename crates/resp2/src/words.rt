@@ -1,29 +1,37 @@
 //! The words of a request, and a request of which some words are still to come.
-ghost use Rattle.std.specs.Prelude.{◌≡◌, ◌+◌, ◌<◌, ◌≤◌, ◌↔◌, length, take, drop, slice_get, Some, None, IfOk, IfErr, IfSome, IsSome, IfNone, OnOk, OnErr};
+ghost use Rattle.std.specs.Prelude.{◌≡◌, ◌+◌, ◌<◌, ◌≤◌, ◌↔◌, ◌^◌, [], ℕ, All, length, take, drop, slice_get, Some, None, IfOk, IfErr, IfSome, IsSome, IfNone, OnOk, OnErr};
 ghost use Rattle.std.specs.Bool.{OnTrue, OnFalse};
-ghost use Rattle.resp2.specs.Request.{IsRequest};
-ghost use Rattle.resp2.specs.Reading.{Wants, Bad, Found, body_at, word_at, reading};
-ghost use Rattle.resp2.specs.Progress.{Takes, HasLen, IsPartial, word_front, partial_onto};
+ghost use Rattle.resp2.specs.Request.{IsRequest, KeepsLimits, bulk_spelling, header_spelling, request_spelling};
+ghost use Rattle.resp2.specs.Reading.{Wants, Bad, Found, body_at, word_at, reading_words};
+ghost use Rattle.resp2.specs.Progress.{Takes, Refuses, HasLen, IsPartial, word_front, partial_onto};
 
 use crate::fault::Fault;
 use crate::header::{Bounds, read_header};
 use byte_string::ByteString;
 use bytes::BytesMut;
+use itoa::Buffer;
 use std::alloc::{AllocError, Global};
 use std::marker::Model;
 use std::mem;
 
 /// The most words of a request.
-pub const MOST_WORDS: usize = 3;
+pub const MOST_WORDS: usize = 65_536;
 
 /// The most bytes of a word: one mebibyte.
 pub const MOST_WORD_BYTES: usize = 1_048_576;
+
+/// The most bytes of a request, its counts, lengths and line ends among them: 16 mebibytes.
+pub const MOST_REQUEST_BYTES: usize = 16_777_216;
 
 /// From this length on, in bytes, a word shares the memory that it came in: copying it costs several
 /// times what counting one more owner does. A shorter word is copied, which costs no more than that:
 /// it may be kept for as long as its key lives, and would keep the whole block of input around it,
 /// which is often a thousand times as large.
 const LEAST_SHARED: usize = 4096;
+
+/// For so many words room is made as soon as their count is known, and for more as they come: so a count alone takes
+/// little memory.
+const MOST_ROOM: usize = 16;
 
 /// The words of one request, the command's name first: at least one, and within the limits.
 #[derive(Debug, Drop)]
@@ -52,11 +60,13 @@ impl Words {
         if items.is_empty() || items.len() > MOST_WORDS {
             return None;
         }
-        if items.iter().all(|word| word.len() <= MOST_WORD_BYTES) {
-            Some(Words { items })
-        } else {
-            None
+        if items.iter().any(|word| word.len() > MOST_WORD_BYTES) {
+            return None;
         }
+        if !fit_in_request(items.as_slice()) {
+            return None;
+        }
+        Some(Words { items })
     }
 
     /// The words in order.
@@ -100,6 +110,71 @@ impl Clone for Words {
     }
 }
 
+// Whether a request with these words has no more bytes than it may have.
+fn fit_in_request(words: &[ByteString]) -> bool
+    requires { All (λ word. length word ≤ MOST_WORD_BYTES) words.now }
+    ensures fit { OnTrue result (length (request_spelling words.now) ≤ MOST_REQUEST_BYTES) }
+    ensures not { OnFalse result (MOST_REQUEST_BYTES < length (request_spelling words.now)) }
+{
+    let mut len = header_len(words.len());
+    for word in words {
+        if len > MOST_REQUEST_BYTES {
+            return false;
+        }
+        len += bulk_len(word);
+    }
+    len <= MOST_REQUEST_BYTES
+}
+
+// How many bytes a request takes for this word.
+fn bulk_len(word: &ByteString) -> usize
+    requires { length word.now ≤ MOST_WORD_BYTES }
+    ensures len { result ≡ length (bulk_spelling word.now) }
+    ensures small { result < 2 ^ 63 + 2 ^ 21 }
+{
+    header_len(word.len()) + word.len() + 2
+}
+
+// How many bytes a number takes with its mark and the end of its line.
+fn header_len(number: usize) -> usize
+    ensures len { (mark : ℕ) → result ≡ length (header_spelling mark number) }
+    ensures small { result < 2 ^ 63 + 3 }
+{
+    Buffer::new().format(number).len() + 3
+}
+
+/// The words of a request that came whole. There may be none, and they may take too many bytes.
+#[derive(Drop)]
+pub struct Frame {
+    words: Vec<ByteString>,
+}
+
+impl Model for Frame {
+    ghost use Rattle.std.specs.Prelude.{List, ℕ};
+    ghost use Rattle.resp2.specs.Request.{WordsKeepLimits};
+
+    ghost Value = { List (List ℕ) };
+
+    ghost view = { λ frame. frame.words.items };
+
+    ghost invariant = { λ frame. WordsKeepLimits frame.words.items };
+}
+
+impl Frame {
+    /// The request, or None where there is no word.
+    pub fn into_words(self) -> Option<Words>
+        requires { KeepsLimits self }
+        ensures some { IfSome result (λ words. (words ≡ self) × IsRequest self) }
+        ensures none { IfNone result (self ≡ []) }
+    {
+        if self.words.is_empty() {
+            return None;
+        }
+        let Frame { words } = self;
+        Some(Words { items: words })
+    }
+}
+
 /// A request of which the header was read.
 #[derive(Drop)]
 pub struct Partial {
@@ -111,28 +186,44 @@ pub struct Partial {
     len: Option<usize>,
 }
 
+impl From<Frame> for Partial {
+    ghost use Rattle.resp2.specs.Progress.{IsWhole};
+
+    ghost from_gives = { λ frame partial. IsWhole frame partial };
+
+    fn from(frame: Frame) -> Partial {
+        Partial {
+            words: frame.words,
+            left: 0,
+            len: None,
+        }
+    }
+}
+
 impl Partial {
     /// The request whose header is in front, or None where the header isn't whole.
     pub fn begin(input: &mut BytesMut) -> Result<Option<Partial>, Fault>
         ensures partial { IfOk result (λ begun. IfSome begun (λ partial. IsPartial partial)) }
         ensures begun { IfOk result (λ begun. IfSome begun
             (λ partial. partial_onto partial input.new.items ≡ input.old.items)) }
-        ensures unfinished { IfOk result (λ begun. IfNone begun (reading input.old.items ≡ Wants)) }
+        ensures unfinished { IfOk result (λ begun. IfNone begun (reading_words input.old.items ≡ Wants)) }
         ensures same { IfOk result (λ begun. IfNone begun (input.new.items ≡ input.old.items)) }
-        ensures err { IfErr result (λ fault. reading input.old.items ≡ Bad fault) }
+        ensures err { IfErr result (λ fault. Refuses fault (reading_words input.old.items)) }
         ensures unchanged { OnErr result (input.new.items ≡ input.old.items) }
+        ensures shrinks { length input.new.items ≤ length input.old.items }
     {
         let bounds = Bounds {
-            least: 1,
+            least: 0,
             most: MOST_WORDS,
-            above: Fault::Protocol,
+            above: Fault::TooLong,
         };
         let Some(header) = read_header(input.as_slice(), b'*', bounds)? else {
             return Ok(None);
         };
+        let words = Vec::with_capacity(*input.allocator(), header.number.min(MOST_ROOM))?;
         input.advance(header.len);
         Ok(Some(Partial {
-            words: Vec::new(*input.allocator()),
+            words,
             left: header.number,
             len: None,
         }))
@@ -141,20 +232,20 @@ impl Partial {
     /// Takes the words that came whole, and hands all of them out once none is left.
     ///
     /// An error leaves what can be gone on with: nothing is lost.
-    pub fn take_words(&mut self, input: &mut BytesMut) -> Result<Option<Words>, Fault>
+    pub fn take_words(&mut self, input: &mut BytesMut) -> Result<Option<Frame>, Fault>
         requires { IsPartial self.old }
-        ensures takes { Takes result (reading (partial_onto self.old input.old.items)) input.new.items }
+        ensures takes { Takes result (reading_words (partial_onto self.old input.old.items)) input.new.items }
         ensures partial { IfOk result (λ found. IfNone found (IsPartial self.new)) }
         ensures unfinished { IfOk result (λ found. IfNone found
             (partial_onto self.new input.new.items ≡ partial_onto self.old input.old.items)) }
         ensures err { OnErr result (IsPartial self.new) }
         ensures unchanged { OnErr result
             (partial_onto self.new input.new.items ≡ partial_onto self.old input.old.items) }
+        ensures shrinks { length input.new.items ≤ length input.old.items }
     {
         'words: while self.left > 0 {
-            // A word that was taken is no longer in the input, so the room for it and for those
-            // behind it comes first: a refusal here loses no word.
-            self.words.reserve_exact(self.left)?;
+            // A word that was taken is no longer in the input, so the room for it comes first: a refusal here loses no word.
+            self.words.reserve(1)?;
             let Some(word) = take_word(input, &mut self.len)? else {
                 return Ok(None);
             };
@@ -164,8 +255,8 @@ impl Partial {
             self.left -= 1;
         }
         let none = Vec::new(*self.words.allocator());
-        Ok(Some(Words {
-            items: mem::replace(&mut self.words, none),
+        Ok(Some(Frame {
+            words: mem::replace(&mut self.words, none),
         }))
     }
 }
@@ -184,6 +275,7 @@ fn take_word(input: &mut BytesMut, len: &mut Option<usize>) -> Result<Option<Byt
     ensures err { OnErr result
         (word_front len.new input.new.items ≡ word_front len.old input.old.items) }
     ensures len { HasLen len.new }
+    ensures shrinks { length input.new.items ≤ length input.old.items }
 {
     let Some(known) = take_len(input, len)? else {
         return Ok(None);
@@ -201,6 +293,7 @@ fn take_len(input: &mut BytesMut, len: &mut Option<usize>) -> Result<Option<usiz
         word_at MOST_WORD_BYTES (word_front len.old input.old.items) ≡ Bad fault) }
     ensures kept { word_front len.new input.new.items ≡ word_front len.old input.old.items }
     ensures len { HasLen len.new }
+    ensures shrinks { length input.new.items ≤ length input.old.items }
 {
     match *len {
         Some(known) => Ok(Some(known)),
@@ -217,6 +310,7 @@ fn read_len(input: &mut BytesMut, len: &mut Option<usize>) -> Result<Option<usiz
     ensures err { IfErr result (λ fault. word_at MOST_WORD_BYTES input.old.items ≡ Bad fault) }
     ensures kept { word_front len.new input.new.items ≡ input.old.items }
     ensures len { HasLen len.new }
+    ensures shrinks { length input.new.items ≤ length input.old.items }
 {
     let bounds = Bounds {
         least: 0,
@@ -246,6 +340,7 @@ fn take_body(
     ensures err { OnErr result
         (word_front len.new input.new.items ≡ word_front len.old input.old.items) }
     ensures len { HasLen len.new }
+    ensures shrinks { length input.new.items ≤ length input.old.items }
 {
     if !is_whole(input.as_slice(), known)? {
         make_room(input, known);

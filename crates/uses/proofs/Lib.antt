@@ -1,3 +1,4 @@
+pub mod FewWords
 pub mod KeyLemmas
 pub mod NodeLemmas
 pub mod OutcomeLemmas

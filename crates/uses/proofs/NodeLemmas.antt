@@ -7,6 +7,7 @@ use Rattle.resp2.specs.declared.reply.Reply.TheVariants.{Bulk}
 use Rattle.command.specs.Keys.{data_keys}
 use Rattle.command.specs.declared.command.DataCommand.{DataCommand}
 use Rattle.command.specs.declared.command.DataCommand.TheVariants.{Get, Set}
+use Rattle.command.specs.declared.command.Condition.TheVariants.{Always}
 use Rattle.keyspace.specs.Commands.{bulk_or_null}
 use Rattle.redirect.specs.Decision.{decision}
 use Rattle.redirect.specs.declared.decision.Decision.TheVariants.{Serve}
@@ -57,7 +58,7 @@ set_is_got t0 t1 t2 s0 s1 s2 s3 conn key value o1 o2 o3 opens is_conn setting ge
     let may : may_ask (connection_at s1.connections conn) ≡ true = rw (is_opened s0 s1 o1.response conn is_conn opening) at (opened_may_ask _ _ _ opening.opens) in
     let first : IsServedBy s1 (key ∷ []) = still_served s0 s1 (key ∷ []) (ap (λ (s : NodeState). s.table) opening.state) (ap (λ (s : NodeState). s.states) opening.state) serves in
     let asked_set = asked t1 s1 s2 conn _ o2 may setting in
-    let set = executed s1 (Set key value) (record { answer = asked_set.answer; after = s2.keyspace }) first asked_set.answered.comes_to in
+    let set = executed s1 (Set key value Always) (record { answer = asked_set.answer; after = s2.keyspace }) first asked_set.answered.comes_to in
     let there : map.get s2.keyspace key ≡ Some (Str value) =
     ap (λ (o : Outcome). map.get o.after key) set ∙ get_set s1.keyspace key (Str value) in
     let still : may_ask (connection_at s2.connections conn) ≡ true =

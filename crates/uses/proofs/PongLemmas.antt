@@ -5,7 +5,7 @@ use Rattle.std.specs.List.{AllByRecursion}
 use Rattle.std.proofs.lemmas.List.Elements.{All-from_recursion, All-head, All-tail}
 use Rattle.resp2.specs.Law.{IsStream, NoUnfinishedIsWhole, StreamIsReadInOneWay}
 use Rattle.resp2.specs.Reply.{reply_spelling}
-use Rattle.resp2.specs.Request.{IsRequest, IsUnfinished, HasFirstBadByte, stream_spelling}
+use Rattle.resp2.specs.Request.{IsRequest, IsUnfinished, HasFirstBadByte, KeepsLimits, stream_spelling, with_words}
 use Rattle.resp2.specs.declared.fault.Fault.{Fault}
 use Rattle.node_cell.specs.Asks.{Asked}
 use Rattle.node_core.specs.declared.connections.Conn.{Conn}
@@ -20,6 +20,7 @@ use Rattle.listener.specs.declared.requests.Rest.TheVariants.{Unfinished, BadByt
 use Rattle.listener.specs.declared.fault.ConnFault.{ConnFault}
 use Rattle.listener.specs.Conversation.{Converses, EndsUnopened, Exchange, Serves, Tells, asked_for, line_of, replies_bytes}
 use Rattle.listener.specs.Streams.{Change, IsAllowed, Stream, asking}
+use Rattle.uses.proofs.RequestLemmas.{all_keep_limits}
 use Rattle.uses.specs.Pongs.{pong, pongs, pong_answer, outputs_for, AreAnsweredExactly, EndsInTime, EndsBadly}
 
 abbrev may : Event → Outputs → Type 0
@@ -71,11 +72,15 @@ module _ (none_whole : NoUnfinishedIsWhole) (one_way : StreamIsReadInOneWay) (as
   ConversesOn rest replies = Converses allowed asked (known r r' input left) (Ok rest) replies
 
   spelled : (rest : Rest) (replies : List ℕ) (c : ConversesOn rest replies)
-      → input ≡ stream_spelling (map words_of c.talk.exchanges) ++ (c.talk.tail.rest ++ left)
-  spelled rest replies c = c.read ∙ append_assoc (stream_spelling (map words_of c.talk.exchanges)) c.talk.tail.rest left
+      → input ≡ stream_spelling c.talk.requests ++ (c.talk.tail.rest ++ left)
+  spelled rest replies c = c.read ∙ append_assoc (stream_spelling c.talk.requests) c.talk.tail.rest left
 
   each : (rest : Rest) (replies : List ℕ) (c : ConversesOn rest replies) → All IsRequest (map words_of c.talk.exchanges)
   each rest replies c = All-from_recursion IsRequest (map words_of c.talk.exchanges) (each_is_request c.talk.exchanges)
+
+  keep_limits : (rest : Rest) (replies : List ℕ) (c : ConversesOn rest replies) → All KeepsLimits c.talk.requests
+  keep_limits rest replies c =
+      All-from_recursion KeepsLimits c.talk.requests (all_keep_limits c.talk.requests (subst (AllByRecursion IsRequest) (sym c.answered) (each_is_request c.talk.exchanges)))
 
   replies_are : (rest : Rest) (replies : List ℕ) (c : ConversesOn rest replies) → replies ≡ pongs (length (map words_of c.talk.exchanges))
   replies_are rest replies c =
@@ -93,12 +98,12 @@ module _ (none_whole : NoUnfinishedIsWhole) (one_way : StreamIsReadInOneWay) (as
       let rest = c.talk.tail.rest in
       let same : rest ≡ rest ++ left = sym (append-nil rest) ∙ ap (λ bytes. rest ++ bytes) (sym c.reads.0) in
       let unfinished = subst IsUnfinished same c.ends.1 in
-      let stream : IsStream input (map words_of c.talk.exchanges) (rest ++ left) =
-      record { spelled = spelled Unfinished replies c; each = each Unfinished replies c; none = none_whole _ unfinished } in
+      let stream : IsStream input c.talk.requests (rest ++ left) =
+      record { spelled = spelled Unfinished replies c; each = keep_limits Unfinished replies c; none = none_whole _ unfinished } in
       record {
         unfinished = unfinished;
         nothing_more = refl;
-        only = λ others more other. (one_way input others (map words_of c.talk.exchanges) more (rest ++ left) other stream).0;
+        only = λ others more other. ap with_words (one_way input others c.talk.requests more (rest ++ left) other stream).0 ∙ c.answered;
       }
 
   badly : (replies : List ℕ) (c : ConversesOn BadByte replies) → EndsBadly (c.talk.tail.rest ++ left) (line_of (Ok BadByte))
@@ -109,20 +114,24 @@ module _ (none_whole : NoUnfinishedIsWhole) (one_way : StreamIsReadInOneWay) (as
   answered : (rest : Rest) (replies : List ℕ) → ConversesOn rest replies → output ≡ replies ++ line_of (Ok rest) → AreAnsweredExactly input output
   answered Unfinished replies c wrote =
       record {
+        all = c.talk.requests;
         requests = map words_of c.talk.exchanges;
         rest = c.talk.tail.rest ++ left;
         last = [];
         spelled = spelled Unfinished replies c;
+        are = c.answered;
         each = each Unfinished replies c;
         ends = inl (in_time replies c);
         written = written Unfinished replies c wrote;
       }
   answered BadByte replies c wrote =
       record {
+        all = c.talk.requests;
         requests = map words_of c.talk.exchanges;
         rest = c.talk.tail.rest ++ left;
         last = line_of (Ok BadByte);
         spelled = spelled BadByte replies c;
+        are = c.answered;
         each = each BadByte replies c;
         ends = inr (badly replies c);
         written = written BadByte replies c wrote;

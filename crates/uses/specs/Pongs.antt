@@ -2,7 +2,7 @@
 use Rattle.std.specs.Prelude.{◌≡◌, ◌++◌, ◌⊎◌, ℕ, zero, suc, List, [], length, All, codes}
 use Rattle.resp2.specs.Law.{IsStream}
 use Rattle.resp2.specs.Reply.{reply_spelling}
-use Rattle.resp2.specs.Request.{stream_spelling, IsRequest, IsUnfinished, HasFirstBadByte}
+use Rattle.resp2.specs.Request.{stream_spelling, with_words, IsRequest, IsUnfinished, HasFirstBadByte}
 use Rattle.resp2.specs.declared.fault.Fault.{Fault}
 use Rattle.resp2.specs.declared.reply.Reply.{Reply}
 use Rattle.resp2.specs.declared.reply.Reply.TheVariants.{Simple}
@@ -39,11 +39,11 @@ abbrev pub pongs : ℕ → List ℕ
 pongs zero = []
 pongs (suc n) = reply_spelling pong ++ pongs n
 
--- the client sent these requests and no other, and then the beginning of one; and it was told nothing more
+-- the client sent these requests with words and no other, and then the beginning of one; and it was told nothing more
 pub record EndsInTime (input : List ℕ) (requests : List (List (List ℕ))) (rest last : List ℕ) : Type 0 where
   pub unfinished : IsUnfinished rest
   pub nothing_more : last ≡ []
-  pub only : (others : List (List (List ℕ))) (more : List ℕ) → IsStream input others more → others ≡ requests
+  pub only : (others : List (List (List ℕ))) (more : List ℕ) → IsStream input others more → with_words others ≡ requests
 
 -- a bad byte came behind the requests, and the client was told
 pub record EndsBadly (rest last : List ℕ) : Type 0 where
@@ -51,12 +51,14 @@ pub record EndsBadly (rest last : List ℕ) : Type 0 where
   pub bad : HasFirstBadByte fault rest
   pub told : last ≡ error_bytes line.Protocol
 
--- the client read a PONG for each request that it sent, and was told of a bad byte
+-- the client read a PONG for each request with words that it sent, and was told of a bad byte
 pub record AreAnsweredExactly (input output : List ℕ) : Type 0 where
+  pub all : List (List (List ℕ))
   pub requests : List (List (List ℕ))
   pub rest : List ℕ
   pub last : List ℕ
-  pub spelled : input ≡ stream_spelling requests ++ rest
+  pub spelled : input ≡ stream_spelling all ++ rest
+  pub are : with_words all ≡ requests
   pub each : All IsRequest requests
   pub ends : EndsInTime input requests rest last ⊎ EndsBadly rest last
   pub written : output ≡ pongs (length requests) ++ last

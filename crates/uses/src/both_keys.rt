@@ -4,7 +4,7 @@ ghost use Rattle.std.specs.FinMap as map;
 ghost use Rattle.keyspace.specs.declared.value.Value.TheVariants.{Str};
 
 use byte_string::ByteString;
-use command::DataCommand;
+use command::{Condition, DataCommand};
 use keyspace::{Store, commit, plan};
 use std::alloc::{AllocError, Global};
 
@@ -24,10 +24,12 @@ pub fn set_both<S: Store>(
         DataCommand::Set {
             key: first.0,
             value: first.1,
+            condition: Condition::Always,
         },
         DataCommand::Set {
             key: second.0,
             value: second.1,
+            condition: Condition::Always,
         },
     ];
     let (_replies, changes) = plan(alloc, store, &commands)?;

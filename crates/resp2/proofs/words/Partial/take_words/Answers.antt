@@ -5,8 +5,8 @@ use Rattle.resp2.proofs.words.Partial.take_words.Goals as goal
 
 pub words-preserved : goal.words-preserved
 words-preserved c =
-    let pushed = c.in-Ok.ensures.items ∙ ap (λ (ws : List (List ℕ)). ws ++ c.in-Some.word ∷ []) c.reserve_exact.ensures.items in
-    goes_on _ _ _ _ _ c.in-Some.word _ _ c.words.invariant (omega (arith, c.words-test.true)) c.in-Some.is c.in_ok-word.ensures.takes c.in_ok-word.ensures.next pushed refl
+    let pushed = c.in-Ok.ensures.items ∙ ap (λ (ws : List (List ℕ)). ws ++ c.in-Some.word ∷ []) c.reserve.ensures.items in
+    goes_on _ _ _ _ _ c.in-Some.word _ _ c.words.invariant (omega (arith, c.words-test.true)) c.in-Some.is c.in_ok-word.ensures.takes c.in_ok-word.ensures.next pushed refl c.take_word.ensures.shrinks
 
 pub returns-in_default-clause-takes : goal.returns-in_default-clause-takes
 returns-in_default-clause-takes c =

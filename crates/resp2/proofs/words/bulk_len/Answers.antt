@@ -1,0 +1,9 @@
+use Rattle.std.proofs.Common.{◌∙◌, ap, length, arith}
+use Rattle.resp2.specs.Request.{header_spelling}
+use Rattle.resp2.proofs.Spellings.{bulk_len}
+use Rattle.resp2.proofs.words.bulk_len.Goals as goal
+
+pub returns-clause-len : goal.returns-clause-len
+returns-clause-len c =
+    let header = c.header_len.ensures.len 36 ∙ ap (λ n. length (header_spelling 36 n)) c.len.ensures in
+    omega (arith, header, c.len-2.ensures, bulk_len c.args.word.now)
