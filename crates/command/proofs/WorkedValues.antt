@@ -8,17 +8,48 @@ use Rattle.command.specs.Names.{name_of}
 use Rattle.command.specs.Table.{command_of}
 use Rattle.command.specs.declared.names.Name.TheVariants as name
 use Rattle.command.specs.declared.command.Command.TheVariants.{Data, Cluster}
-use Rattle.command.specs.declared.command.DataCommand.TheVariants.{Ping, Echo, Get, Set, Mget, Setnx, Getset, Getdel, Append, Incr, Decr, Incrby, Strlen, Del, Exists, TypeOf}
+use Rattle.command.specs.declared.command.DataCommand.TheVariants.{Ping, Echo, Get, Set, Mget, Mset, Setnx, Getset, Getdel, Append, Incr, Decr, Incrby, Strlen, Del, Exists, TypeOf}
+use Rattle.command.specs.declared.command.Condition.TheVariants.{Always, IfMissing, IfThere}
 use Rattle.command.specs.declared.command.ClusterCommand.TheVariants.{KeySlot, MyId, Slots}
-use Rattle.command.specs.declared.fault.CommandFault.TheVariants.{Unknown, UnknownSubcommand, Arity}
+use Rattle.command.specs.declared.fault.CommandFault.TheVariants.{Unknown, UnknownSubcommand, Arity, Syntax}
 
 -- letters of any case
 get_a : command_of (codes "GeT" ∷ codes "a" ∷ []) ≡ Ok (Data (Get (codes "a")))
 get_a = refl
 
 -- key, then value
-set_a_1 : command_of (codes "SET" ∷ codes "a" ∷ codes "1" ∷ []) ≡ Ok (Data (Set (codes "a") (codes "1")))
+set_a_1 : command_of (codes "SET" ∷ codes "a" ∷ codes "1" ∷ []) ≡ Ok (Data (Set (codes "a") (codes "1") Always))
 set_a_1 = refl
+
+-- with a condition
+set_a_1_nx : command_of (codes "SET" ∷ codes "a" ∷ codes "1" ∷ codes "nX" ∷ []) ≡ Ok (Data (Set (codes "a") (codes "1") IfMissing))
+set_a_1_nx = refl
+
+set_a_1_xx : command_of (codes "SET" ∷ codes "a" ∷ codes "1" ∷ codes "XX" ∷ []) ≡ Ok (Data (Set (codes "a") (codes "1") IfThere))
+set_a_1_xx = refl
+
+-- and no other option
+set_a_1_ex : command_of (codes "SET" ∷ codes "a" ∷ codes "1" ∷ codes "EX" ∷ []) ≡ Err Syntax
+set_a_1_ex = refl
+
+-- nor two of them
+set_a_1_nx_xx : command_of (codes "SET" ∷ codes "a" ∷ codes "1" ∷ codes "NX" ∷ codes "XX" ∷ []) ≡ Err Syntax
+set_a_1_nx_xx = refl
+
+-- too few arguments are a wrong number of them
+set_a : command_of (codes "SET" ∷ codes "a" ∷ []) ≡ Err (Arity name.Set)
+set_a = refl
+
+-- pairs, in their order; a key may be repeated
+mset_a_1_a_2 : command_of (codes "MSET" ∷ codes "a" ∷ codes "1" ∷ codes "a" ∷ codes "2" ∷ []) ≡ Ok (Data (Mset ((codes "a", codes "1") ∷ (codes "a", codes "2") ∷ [])))
+mset_a_1_a_2 = refl
+
+-- at least one, and none is half
+mset : command_of (codes "MSET" ∷ []) ≡ Err (Arity name.Mset)
+mset = refl
+
+mset_a_1_b : command_of (codes "MSET" ∷ codes "a" ∷ codes "1" ∷ codes "b" ∷ []) ≡ Err (Arity name.Mset)
+mset_a_1_b = refl
 
 ping : command_of (codes "ping" ∷ []) ≡ Ok (Data Ping)
 ping = refl
@@ -94,6 +125,9 @@ get_a_b = refl
 get_a_b_reply : error_text (line_of (Arity name.Get)) ≡ codes "ERR wrong number of arguments for 'get' command"
 get_a_b_reply = refl
 
+syntax_reply : error_text (line_of Syntax) ≡ codes "ERR syntax error"
+syntax_reply = refl
+
 cluster_keyslot_foo : command_of (codes "CLUSTER" ∷ codes "KEYSLOT" ∷ codes "foo" ∷ []) ≡ Ok (Cluster (KeySlot (codes "foo")))
 cluster_keyslot_foo = refl
 
@@ -123,18 +157,22 @@ keyslot_foo : command_of (codes "KEYSLOT" ∷ codes "foo" ∷ []) ≡ Err Unknow
 keyslot_foo = refl
 
 -- the value is no key
-keys_of_set : keys_of (Data (Set (codes "a") (codes "1"))) ≡ codes "a" ∷ []
+keys_of_set : keys_of (Data (Set (codes "a") (codes "1") Always)) ≡ codes "a" ∷ []
 keys_of_set = refl
 
 keys_of_mget : keys_of (Data (Mget (codes "a" ∷ codes "b" ∷ []))) ≡ codes "a" ∷ codes "b" ∷ []
 keys_of_mget = refl
+
+-- the strings of pairs are no keys
+keys_of_mset : keys_of (Data (Mset ((codes "b", codes "1") ∷ (codes "a", codes "2") ∷ (codes "b", codes "3") ∷ []))) ≡ codes "b" ∷ codes "a" ∷ codes "b" ∷ []
+keys_of_mset = refl
 
 -- a message is no key
 keys_of_echo : keys_of (Data (Echo (codes "a"))) ≡ []
 keys_of_echo = refl
 
 -- MGET takes a list of keys, even where it has one
-only_key_of_set : only_key (Data (Set (codes "a") (codes "1"))) ≡ Some (codes "a")
+only_key_of_set : only_key (Data (Set (codes "a") (codes "1") Always)) ≡ Some (codes "a")
 only_key_of_set = refl
 
 only_key_of_mget : only_key (Data (Mget (codes "a" ∷ []))) ≡ None
@@ -144,8 +182,11 @@ only_key_of_mget = refl
 keys_of_keyslot : keys_of (Cluster (KeySlot (codes "foo"))) ≡ []
 keys_of_keyslot = refl
 
-writes_set : is_write (Data (Set (codes "a") (codes "1"))) ≡ true
+writes_set : is_write (Data (Set (codes "a") (codes "1") Always)) ≡ true
 writes_set = refl
+
+writes_mset : is_write (Data (Mset ((codes "a", codes "1") ∷ []))) ≡ true
+writes_mset = refl
 
 writes_no_mget : is_write (Data (Mget (codes "a" ∷ []))) ≡ false
 writes_no_mget = refl

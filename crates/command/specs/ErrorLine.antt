@@ -2,9 +2,9 @@
 use Rattle.std.specs.Prelude.{List, ℕ, ◌++◌, codes, decimal}
 use Rattle.command.specs.Names.{name_text}
 use Rattle.command.specs.declared.fault.CommandFault.{CommandFault}
-use Rattle.command.specs.declared.fault.CommandFault.TheVariants.{Unknown, UnknownSubcommand, Arity, Memory}
+use Rattle.command.specs.declared.fault.CommandFault.TheVariants.{Unknown, UnknownSubcommand, Arity, Syntax, Memory}
 use Rattle.command.specs.declared.error_line.ErrorLine.{ErrorLine}
-use Rattle.command.specs.declared.error_line.ErrorLine.TheVariants.{Protocol, OutOfMemory, Exhausted, UnknownCommand, UnknownSubcommand as UnknownWord, WrongArity, CrossSlot, SlotDown, TooLong, NotAnInteger, Overflow}
+use Rattle.command.specs.declared.error_line.ErrorLine.TheVariants.{Protocol, OutOfMemory, Exhausted, UnknownCommand, UnknownSubcommand as UnknownWord, WrongArity, Syntax as WrongSyntax, CrossSlot, SlotDown, TooLong, NotAnInteger, Overflow}
 
 -- what follows the `-`
 abbrev pub error_text : ErrorLine → List ℕ
@@ -13,6 +13,7 @@ error_text OutOfMemory = codes "OOM out of memory"
 error_text Exhausted = codes "EXHAUSTED no next number"
 error_text UnknownCommand = codes "ERR unknown command"
 error_text UnknownWord = codes "ERR unknown subcommand"
+error_text WrongSyntax = codes "ERR syntax error"
 error_text CrossSlot = codes "CROSSSLOT Keys in request don't hash to the same slot"
 error_text SlotDown = codes "CLUSTERDOWN Hash slot not served"
 error_text TooLong = codes "ERR value exceeds maximum allowed size"
@@ -25,6 +26,7 @@ abbrev pub line_of : CommandFault → ErrorLine
 line_of Unknown = UnknownCommand
 line_of UnknownSubcommand = UnknownWord
 line_of (Arity name) = WrongArity name
+line_of Syntax = WrongSyntax
 line_of Memory = OutOfMemory
 
 -- the slot of the keys, and the address of the node that owns it (Redis Cluster specification, "MOVED Redirection")

@@ -1,17 +1,22 @@
 -- The keys of a command, and whether it writes (Redis command reference: key specifications and command flags).
-use Rattle.std.specs.Prelude.{List, [], ◌∷◌, ℕ, Bool, true, false, Option, Some, None}
+use Rattle.std.specs.Prelude.{List, [], ◌∷◌, ℕ, Bool, true, false, Option, Some, None, map}
 use Rattle.command.specs.declared.command.Command.{Command}
 use Rattle.command.specs.declared.command.Command.TheVariants.{Data, Cluster}
 use Rattle.command.specs.declared.command.DataCommand.{DataCommand}
-use Rattle.command.specs.declared.command.DataCommand.TheVariants.{Ping, Echo, Get, Set, Mget, Setnx, Getset, Getdel, Append, Incr, Decr, Incrby, Strlen, Del, Exists, TypeOf}
+use Rattle.command.specs.declared.command.DataCommand.TheVariants.{Ping, Echo, Get, Set, Mget, Mset, Setnx, Getset, Getdel, Append, Incr, Decr, Incrby, Strlen, Del, Exists, TypeOf}
+
+-- the keys of pairs, in the order of the request
+abbrev pub pair_keys : List (List ℕ × List ℕ) → List (List ℕ)
+pair_keys pairs = map (λ pair. pair.0) pairs
 
 -- the arguments that are keys
 abbrev pub data_keys : DataCommand → List (List ℕ)
 data_keys Ping = []
 data_keys (Echo message) = []
 data_keys (Get key) = key ∷ []
-data_keys (Set key value) = key ∷ []
+data_keys (Set key value condition) = key ∷ []
 data_keys (Mget keys) = keys
+data_keys (Mset pairs) = pair_keys pairs
 data_keys (Setnx key value) = key ∷ []
 data_keys (Getset key value) = key ∷ []
 data_keys (Getdel key) = key ∷ []
@@ -34,8 +39,9 @@ abbrev pub only_data_key : DataCommand → Option (List ℕ)
 only_data_key Ping = None
 only_data_key (Echo message) = None
 only_data_key (Get key) = Some key
-only_data_key (Set key value) = Some key
+only_data_key (Set key value condition) = Some key
 only_data_key (Mget keys) = None
+only_data_key (Mset pairs) = None
 only_data_key (Setnx key value) = Some key
 only_data_key (Getset key value) = Some key
 only_data_key (Getdel key) = Some key
@@ -57,8 +63,9 @@ abbrev pub is_data_write : DataCommand → Bool
 is_data_write Ping = false
 is_data_write (Echo message) = false
 is_data_write (Get key) = false
-is_data_write (Set key value) = true
+is_data_write (Set key value condition) = true
 is_data_write (Mget keys) = false
+is_data_write (Mset pairs) = true
 is_data_write (Setnx key value) = true
 is_data_write (Getset key value) = true
 is_data_write (Getdel key) = true

@@ -2,7 +2,7 @@
 use Rattle.std.specs.Prelude.{List, [], ◌∷◌, ℕ, Option, codes, find}
 use Rattle.std.specs.Str.{str_eq_ignore_ascii_case}
 use Rattle.command.specs.declared.names.Name.{Name}
-use Rattle.command.specs.declared.names.Name.TheVariants.{Get, Set, Ping, Echo, Mget, Setnx, Getset, Getdel, Append, Incr, Decr, Incrby, Strlen, Del, Exists, TypeOf, Cluster}
+use Rattle.command.specs.declared.names.Name.TheVariants.{Get, Set, Ping, Echo, Mget, Mset, Setnx, Getset, Getdel, Append, Incr, Decr, Incrby, Strlen, Del, Exists, TypeOf, Cluster}
 use Rattle.command.specs.declared.names.Subcommand.{Subcommand}
 use Rattle.command.specs.declared.names.Subcommand.TheVariants.{KeySlot, MyId, Slots}
 
@@ -13,6 +13,7 @@ name_text Set = codes "set"
 name_text Ping = codes "ping"
 name_text Echo = codes "echo"
 name_text Mget = codes "mget"
+name_text Mset = codes "mset"
 name_text Setnx = codes "setnx"
 name_text Getset = codes "getset"
 name_text Getdel = codes "getdel"
@@ -27,7 +28,7 @@ name_text TypeOf = codes "type"
 name_text Cluster = codes "cluster"
 
 abbrev pub names : List Name
-names = Get ∷ Set ∷ Ping ∷ Echo ∷ Mget ∷ Setnx ∷ Getset ∷ Getdel ∷ Append ∷ Incr ∷ Decr ∷ Incrby ∷ Strlen ∷ Del ∷ Exists ∷ TypeOf ∷ Cluster ∷ []
+names = Get ∷ Set ∷ Ping ∷ Echo ∷ Mget ∷ Mset ∷ Setnx ∷ Getset ∷ Getdel ∷ Append ∷ Incr ∷ Decr ∷ Incrby ∷ Strlen ∷ Del ∷ Exists ∷ TypeOf ∷ Cluster ∷ []
 
 -- the name that a word spells, in letters of any case
 abbrev pub name_of : List ℕ → Option Name

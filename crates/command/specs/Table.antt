@@ -1,5 +1,7 @@
 -- Which words are a command (Redis command reference: the name, then the arguments of its syntax).
-use Rattle.std.specs.Prelude.{◌≡◌, List, [], ◌∷◌, ℕ, Option, Some, None, Result, Ok, Err}
+use Rattle.std.specs.Prelude.{◌≡◌, List, [], ◌∷◌, ℕ, Option, Some, None, Result, Ok, Err, codes, if◌then◌else◌}
+use Rattle.std.specs.Option.{option_map}
+use Rattle.std.specs.Str.{str_eq_ignore_ascii_case}
 use Rattle.command.specs.Names.{name_of, subcommand_of}
 use Rattle.command.specs.declared.names.Name.{Name}
 use Rattle.command.specs.declared.names.Name.TheVariants as name
@@ -8,10 +10,12 @@ use Rattle.command.specs.declared.names.Subcommand.TheVariants as subcommand
 use Rattle.command.specs.declared.command.Command.{Command}
 use Rattle.command.specs.declared.command.Command.TheVariants.{Data, Cluster}
 use Rattle.command.specs.declared.command.DataCommand.{DataCommand}
-use Rattle.command.specs.declared.command.DataCommand.TheVariants.{Ping, Echo, Get, Set, Mget, Setnx, Getset, Getdel, Append, Incr, Decr, Incrby, Strlen, Del, Exists, TypeOf}
+use Rattle.command.specs.declared.command.DataCommand.TheVariants.{Ping, Echo, Get, Set, Mget, Mset, Setnx, Getset, Getdel, Append, Incr, Decr, Incrby, Strlen, Del, Exists, TypeOf}
+use Rattle.command.specs.declared.command.Condition.{Condition}
+use Rattle.command.specs.declared.command.Condition.TheVariants.{Always, IfMissing, IfThere}
 use Rattle.command.specs.declared.command.ClusterCommand.TheVariants.{KeySlot, MyId, Slots}
 use Rattle.command.specs.declared.fault.CommandFault.{CommandFault}
-use Rattle.command.specs.declared.fault.CommandFault.TheVariants.{Unknown, UnknownSubcommand, Arity, Memory}
+use Rattle.command.specs.declared.fault.CommandFault.TheVariants.{Unknown, UnknownSubcommand, Arity, Syntax, Memory}
 
 -- a row a subcommand: the arguments that it takes
 abbrev pub with_subcommand : Option Subcommand → List (List ℕ) → Result Command CommandFault
@@ -38,6 +42,36 @@ abbrev pub with_keys : Name → (List (List ℕ) → DataCommand) → List (List
 with_keys n make (key ∷ keys) = Ok (Data (make (key ∷ keys)))
 with_keys n make [] = Err (Arity n)
 
+-- the words two by two, or None where one is left over
+abbrev pub pairs_of : List (List ℕ) → Option (List (List ℕ × List ℕ))
+pairs_of [] = Some []
+pairs_of (word ∷ []) = None
+pairs_of (key ∷ value ∷ words) = option_map (λ pairs. (key, value) ∷ pairs) (pairs_of words)
+
+-- MSET takes one or more pairs
+abbrev pub with_pairs : Option (List (List ℕ × List ℕ)) → Result Command CommandFault
+with_pairs (Some (pair ∷ pairs)) = Ok (Data (Mset (pair ∷ pairs)))
+with_pairs _ = Err (Arity name.Mset)
+
+-- the condition that an option of SET spells, in letters of any case
+abbrev pub condition_of : List ℕ → Option Condition
+condition_of word =
+    if str_eq_ignore_ascii_case word (codes "nx") then Some IfMissing
+    else if str_eq_ignore_ascii_case word (codes "xx") then Some IfThere
+    else None
+
+-- SET under the condition of its option
+abbrev pub with_condition : List ℕ → List ℕ → Option Condition → Result Command CommandFault
+with_condition key value (Some condition) = Ok (Data (Set key value condition))
+with_condition key value None = Err Syntax
+
+-- SET takes a key, a value and at most one option
+abbrev pub with_option : List (List ℕ) → Result Command CommandFault
+with_option (key ∷ value ∷ []) = Ok (Data (Set key value Always))
+with_option (key ∷ value ∷ word ∷ []) = with_condition key value (condition_of word)
+with_option (key ∷ value ∷ first ∷ second ∷ words) = Err Syntax
+with_option _ = Err (Arity name.Set)
+
 -- PING with a message is ECHO
 abbrev pub with_message : List (List ℕ) → Result Command CommandFault
 with_message [] = Ok (Data Ping)
@@ -52,10 +86,11 @@ with_subcommands [] = Err (Arity name.Cluster)
 -- a row a command: the arguments that it takes
 abbrev pub with_arguments : Name → List (List ℕ) → Result Command CommandFault
 with_arguments name.Get arguments = with_one name.Get Get arguments
-with_arguments name.Set arguments = with_two name.Set Set arguments
+with_arguments name.Set arguments = with_option arguments
 with_arguments name.Ping arguments = with_message arguments
 with_arguments name.Echo arguments = with_one name.Echo Echo arguments
 with_arguments name.Mget arguments = with_keys name.Mget Mget arguments
+with_arguments name.Mset arguments = with_pairs (pairs_of arguments)
 with_arguments name.Setnx arguments = with_two name.Setnx Setnx arguments
 with_arguments name.Getset arguments = with_two name.Getset Getset arguments
 with_arguments name.Getdel arguments = with_one name.Getdel Getdel arguments
@@ -83,4 +118,5 @@ abbrev pub IsFaultOf : CommandFault → Result Command CommandFault → Type 0
 IsFaultOf Unknown parsed = parsed ≡ Err Unknown
 IsFaultOf UnknownSubcommand parsed = parsed ≡ Err UnknownSubcommand
 IsFaultOf (Arity n) parsed = parsed ≡ Err (Arity n)
+IsFaultOf Syntax parsed = parsed ≡ Err Syntax
 IsFaultOf Memory parsed = Unit {0}

@@ -1,7 +1,8 @@
 //! Commands with their arguments, and the keys that they name.
 ghost use Rattle.std.specs.Prelude.{◌≡◌, ◌≢◌, ◌∷◌, [], ◌↔◌, IfOk, IfSome, IsSome, map};
 ghost use Rattle.std.specs.Option.{option_copied};
-ghost use Rattle.command.specs.Keys.{data_keys, is_data_write, is_write, keys_of, only_data_key, only_key};
+ghost use Rattle.command.specs.Keys.{data_keys, is_data_write, is_write, keys_of, only_data_key, only_key, pair_keys};
+ghost use Rattle.command.specs.Table.{condition_of};
 
 use byte_string::ByteString;
 use std::alloc::{AllocError, Global};
@@ -54,17 +55,24 @@ pub enum DataCommand {
         /// The key.
         key: ByteString,
     },
-    /// Puts a string at a key, and replaces whatever is there.
+    /// Puts a string at a key where the condition holds, and replaces whatever is there.
     Set {
         /// The key.
         key: ByteString,
         /// The string.
         value: ByteString,
+        /// When the string is put.
+        condition: Condition,
     },
     /// Reads the strings at several keys.
     Mget {
         /// The keys; one may be repeated.
         keys: KeyList,
+    },
+    /// Puts strings at several keys, from left to right, and replaces whatever is there.
+    Mset {
+        /// Each key with its string; of a repeated key the last string stays.
+        pairs: PairList,
     },
     /// Puts a string at a key that is missing.
     Setnx {
@@ -138,6 +146,7 @@ impl DataCommand {
     {
         match self {
             DataCommand::Set { .. }
+            | DataCommand::Mset { .. }
             | DataCommand::Setnx { .. }
             | DataCommand::Getset { .. }
             | DataCommand::Getdel { .. }
@@ -176,6 +185,7 @@ impl DataCommand {
             DataCommand::Ping
             | DataCommand::Echo { .. }
             | DataCommand::Mget { .. }
+            | DataCommand::Mset { .. }
             | DataCommand::Del { .. }
             | DataCommand::Exists { .. } => None,
         }
@@ -191,8 +201,36 @@ impl DataCommand {
         match self {
             DataCommand::Mget { keys } | DataCommand::Del { keys } | DataCommand::Exists { keys } =>
                 all_keys(alloc, keys.as_slice()),
+            DataCommand::Mset { pairs } => first_words(alloc, pairs.as_slice()),
             _ => Ok(Vec::new(alloc)),
         }
+    }
+}
+
+/// When SET puts its string.
+#[derive(Clone, Copy, PartialEq, Eq, Debug)]
+pub enum Condition {
+    /// Whatever is at the key.
+    Always,
+    /// Only where the key is missing (option `NX`).
+    IfMissing,
+    /// Only where the key is there, with a value of any type (option `XX`).
+    IfThere,
+}
+
+impl Condition {
+    /// The condition that the word spells as an option of SET, in letters of any ASCII case, or None.
+    #[inline(never)]
+    pub fn of(word: &[u8]) -> Option<Condition>
+        ensures { result ≡ condition_of word.now }
+    {
+        if word.eq_ignore_ascii_case(b"nx") {
+            return Some(Condition::IfMissing);
+        }
+        if word.eq_ignore_ascii_case(b"xx") {
+            return Some(Condition::IfThere);
+        }
+        None
     }
 }
 
@@ -256,6 +294,43 @@ impl Clone for KeyList {
     }
 }
 
+/// One or more pairs of words, in the order of the request: a key and its string.
+#[derive(Debug, Drop)]
+pub struct PairList {
+    pairs: Vec<(ByteString, ByteString)>,
+}
+
+impl Model for PairList {
+    ghost use Rattle.std.specs.Prelude.{◌≢◌, List, ℕ, []};
+
+    ghost Value = { List (List ℕ × List ℕ) };
+
+    ghost view = { λ list. list.pairs.items };
+
+    ghost invariant = { λ list. list.pairs.items ≢ [] };
+}
+
+impl PairList {
+    /// A list of these pairs, or None where there are none.
+    pub fn new(pairs: Vec<(ByteString, ByteString)>) -> Option<PairList>
+        ensures pairs { IfSome result (λ list. list ≡ pairs.items) }
+        ensures some { IsSome result ↔ pairs.items ≢ [] }
+    {
+        if pairs.is_empty() {
+            return None;
+        }
+        Some(PairList { pairs })
+    }
+
+    /// The pairs in order.
+    pub fn as_slice(&self) -> &[(ByteString, ByteString)]
+        ensures pairs { result.now ≡ self.now }
+        ensures some { self.now ≢ [] }
+    {
+        self.pairs.as_slice()
+    }
+}
+
 /// The keys that the command names, in its order.
 pub fn keys(alloc: Global, command: &Command) -> Result<Vec<&[u8]>, AllocError>
     ensures { IfOk result (λ keys. map (λ key. key.now) keys.items ≡ keys_of command.now) }
@@ -282,4 +357,14 @@ fn all_keys(alloc: Global, keys: &[ByteString]) -> Result<Vec<&[u8]>, AllocError
         slices.push(key.as_slice())?;
     }
     Ok(slices)
+}
+
+fn first_words(alloc: Global, pairs: &[(ByteString, ByteString)]) -> Result<Vec<&[u8]>, AllocError>
+    ensures { IfOk result (λ keys. map (λ key. key.now) keys.items ≡ pair_keys pairs.now) }
+{
+    let mut keys = Vec::with_capacity(alloc, pairs.len())?;
+    for (key, _) in pairs {
+        keys.push(key.as_slice())?;
+    }
+    Ok(keys)
 }

@@ -24,6 +24,8 @@ pub enum ErrorLine {
     UnknownSubcommand,
     /// The command does not take this number of arguments.
     WrongArity(Name),
+    /// An argument is not an option of the command, or there are too many options.
+    Syntax,
     /// The keys of the command are in more than one slot.
     CrossSlot,
     /// No node owns the slot of the keys.
@@ -48,6 +50,7 @@ impl ErrorLine {
             ErrorLine::UnknownCommand => b"ERR unknown command",
             ErrorLine::WrongArity(name) => wrong_arity(name),
             ErrorLine::UnknownSubcommand => b"ERR unknown subcommand",
+            ErrorLine::Syntax => b"ERR syntax error",
             ErrorLine::CrossSlot => b"CROSSSLOT Keys in request don't hash to the same slot",
             ErrorLine::SlotDown => b"CLUSTERDOWN Hash slot not served",
             ErrorLine::TooLong => b"ERR value exceeds maximum allowed size",
@@ -57,6 +60,7 @@ impl ErrorLine {
     }
 
     /// The reply with this text.
+    #[inline(never)]
     pub fn reply(self) -> Reply
         ensures { result ≡ Reply.Error (error_text self) }
     {
@@ -80,6 +84,7 @@ fn wrong_arity(name: Name) -> &'static [u8]
         Name::Ping => wrong_arity!("ping"),
         Name::Echo => wrong_arity!("echo"),
         Name::Mget => wrong_arity!("mget"),
+        Name::Mset => wrong_arity!("mset"),
         Name::Setnx => wrong_arity!("setnx"),
         Name::Getset => wrong_arity!("getset"),
         Name::Getdel => wrong_arity!("getdel"),

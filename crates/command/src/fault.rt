@@ -20,6 +20,9 @@ pub enum CommandFault {
     /// The command does not take this number of arguments.
     #[error("wrong number of arguments")]
     Arity(Name),
+    /// An argument is not an option of the command, or there are too many options.
+    #[error("syntax error")]
+    Syntax,
     /// An allocation failed.
     #[error("out of memory")]
     Memory,
@@ -34,6 +37,7 @@ impl CommandFault {
             CommandFault::Unknown => ErrorLine::UnknownCommand,
             CommandFault::UnknownSubcommand => ErrorLine::UnknownSubcommand,
             CommandFault::Arity(name) => ErrorLine::WrongArity(name),
+            CommandFault::Syntax => ErrorLine::Syntax,
             CommandFault::Memory => ErrorLine::OutOfMemory,
         }
     }

@@ -7,7 +7,7 @@ ghost use Rattle.command.specs.Names.{name_of, name_text, subcommand_of, subcomm
 pub enum Name {
     /// GET key
     Get,
-    /// SET key value
+    /// SET key value [NX | XX]
     Set,
     /// PING [message]
     Ping,
@@ -15,6 +15,8 @@ pub enum Name {
     Echo,
     /// MGET key [key ...]
     Mget,
+    /// MSET key value [key value ...]
+    Mset,
     /// SETNX key value
     Setnx,
     /// GETSET key value
@@ -42,12 +44,13 @@ pub enum Name {
 }
 
 // The names that are asked for most come first.
-const NAMES: [Name; 17] = [
+const NAMES: [Name; 18] = [
     Name::Get,
     Name::Set,
     Name::Ping,
     Name::Echo,
     Name::Mget,
+    Name::Mset,
     Name::Setnx,
     Name::Getset,
     Name::Getdel,
@@ -83,6 +86,7 @@ impl Name {
             Name::Ping => b"ping",
             Name::Echo => b"echo",
             Name::Mget => b"mget",
+            Name::Mset => b"mset",
             Name::Setnx => b"setnx",
             Name::Getset => b"getset",
             Name::Getdel => b"getdel",

@@ -1,8 +1,8 @@
 //! From the words of a request to a command.
-ghost use Rattle.std.specs.Prelude.{◌≡◌, ◌∷◌, [], IfOk, IfErr, Ok, List, ℕ};
-ghost use Rattle.command.specs.Table.{command_of, with_arguments, with_keys, with_message, with_one, with_two, IsFaultOf};
+ghost use Rattle.std.specs.Prelude.{◌≡◌, ◌∷◌, [], IfOk, IfErr, IfSome, IfNone, Ok, Some, None, List, ℕ};
+ghost use Rattle.command.specs.Table.{command_of, pairs_of, with_arguments, with_keys, with_message, with_one, with_option, with_pairs, with_two, IsFaultOf};
 
-use crate::command::{ClusterCommand, Command, DataCommand, KeyList};
+use crate::command::{ClusterCommand, Command, Condition, DataCommand, KeyList, PairList};
 use crate::fault::CommandFault;
 use crate::names::{Name, Subcommand};
 use byte_string::ByteString;
@@ -11,7 +11,7 @@ use std::alloc::{AllocError, Global};
 
 /// The command that the words ask for. It shares their bytes.
 ///
-/// Unknown, UnknownSubcommand and Arity mean that the words are not a command. Memory means that an allocation failed.
+/// Unknown, UnknownSubcommand, Arity and Syntax mean that the words are not a command. Memory means that an allocation failed.
 pub fn parse(alloc: Global, words: &Words) -> Result<Command, CommandFault>
     ensures command { IfOk result (λ command. command_of words.now ≡ Ok command) }
     ensures fault { IfErr result (λ fault. IsFaultOf fault (command_of words.now)) }
@@ -32,10 +32,11 @@ fn with_arguments(alloc: Global, name: Name, words: &[ByteString]) -> Result<Com
 {
     match name {
         Name::Get => with_one(name, words, |key| DataCommand::Get { key }),
-        Name::Set => with_two(name, words, |key, value| DataCommand::Set { key, value }),
+        Name::Set => with_option(words),
         Name::Ping => with_message(words),
         Name::Echo => with_one(name, words, |message| DataCommand::Echo { message }),
         Name::Mget => with_keys(alloc, name, words, |keys| DataCommand::Mget { keys }),
+        Name::Mset => with_pairs(alloc, words),
         Name::Setnx => with_two(name, words, |key, value| DataCommand::Setnx { key, value }),
         Name::Getset => with_two(name, words, |key, value| DataCommand::Getset { key, value }),
         Name::Getdel => with_one(name, words, |key| DataCommand::Getdel { key }),
@@ -66,6 +67,60 @@ fn with_message(arguments: &[ByteString]) -> Result<Command, CommandFault>
         })),
         _ => Err(CommandFault::Arity(Name::Ping)),
     }
+}
+
+// SET takes a key, a value and at most one option.
+#[inline(never)]
+fn with_option(arguments: &[ByteString]) -> Result<Command, CommandFault>
+    ensures command { IfOk result (λ command. with_option arguments.now ≡ Ok command) }
+    ensures fault { IfErr result (λ fault. IsFaultOf fault (with_option arguments.now)) }
+{
+    let (key, value, condition) = match arguments {
+        [key, value] => (key, value, Condition::Always),
+        [key, value, word] => {
+            let condition = Condition::of(word.as_slice()).ok_or(CommandFault::Syntax)?;
+            (key, value, condition)
+        }
+        [] | [_] => return Err(CommandFault::Arity(Name::Set)),
+        _ => return Err(CommandFault::Syntax),
+    };
+    Ok(Command::Data(DataCommand::Set {
+        key: key.clone()?,
+        value: value.clone()?,
+        condition,
+    }))
+}
+
+// MSET takes one or more pairs.
+#[inline(never)]
+fn with_pairs(alloc: Global, arguments: &[ByteString]) -> Result<Command, CommandFault>
+    ensures command { IfOk result (λ command. with_pairs (pairs_of arguments.now) ≡ Ok command) }
+    ensures fault { IfErr result (λ fault. IsFaultOf fault (with_pairs (pairs_of arguments.now))) }
+{
+    let Some(pairs) = pairs_of(alloc, arguments)? else {
+        return Err(CommandFault::Arity(Name::Mset));
+    };
+    match PairList::new(pairs) {
+        Some(pairs) => Ok(Command::Data(DataCommand::Mset { pairs })),
+        None => Err(CommandFault::Arity(Name::Mset)),
+    }
+}
+
+// The words two by two, or None where one is left over. The pairs share their bytes.
+fn pairs_of(
+    alloc: Global,
+    words: &[ByteString],
+) -> Result<Option<Vec<(ByteString, ByteString)>>, AllocError>
+    ensures some { IfOk result (λ found. IfSome found (λ pairs. pairs_of words.now ≡ Some pairs.items)) }
+    ensures none { IfOk result (λ found. IfNone found (pairs_of words.now ≡ None)) }
+{
+    let mut pairs = Vec::with_capacity(alloc, words.len() / 2)?;
+    let mut rest = words;
+    while let [key, value, others @ ..] = rest {
+        pairs.push((key.clone()?, value.clone()?))?;
+        rest = others;
+    }
+    Ok(rest.is_empty().then_some(pairs))
 }
 
 // A command that takes one argument.

@@ -3,6 +3,5 @@ pub mod NumberLemmas
 pub mod CrcLemmas
 pub mod RemainderLemmas
 pub mod TableLemmas
-pub mod ByteLemmas
 pub mod TagLemmas
 pub mod WorkedValues

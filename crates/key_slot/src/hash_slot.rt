@@ -5,7 +5,6 @@ ghost use Rattle.key_slot.specs.Slot.{IsSlotOf, hash_slot};
 
 use crate::crc16_table::crc16;
 use crate::slots::Slot;
-use memchr::memchr;
 
 /// The slot of a key: the CRC16 of its tag, modulo 16384. It takes no memory.
 #[tactic(auto, unfolding(crate::specs::Slot::hash_slot))]
@@ -45,5 +44,5 @@ fn position_of(byte: u8, bytes: &[u8]) -> Option<usize>
     ensures first { result ≡ position (λ b. b == byte) bytes.now }
     ensures within { IfSome result (λ i. i < length bytes.now) }
 {
-    memchr(byte, bytes)
+    bytes.iter().position(|other| *other == byte)
 }

@@ -5,6 +5,7 @@ pub mod NumberTexts
 pub mod FirstChange
 pub mod CommitLoop
 pub mod Placeholders
+pub mod Setting
 pub mod Deleting
 pub mod Counting
 mod WorkedValues

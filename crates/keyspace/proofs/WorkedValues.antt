@@ -21,6 +21,18 @@ set_again : (replay ((codes "SET" ∷ codes "a" ∷ codes "1" ∷ []) ∷ (codes
     ≡ Simple (codes "OK") ∷ Simple (codes "OK") ∷ Bulk (codes "2") ∷ Null ∷ []
 set_again = grind (gets, rules)
 
+-- SET with XX needs the key, and with NX that it is missing
+set_on_conditions : (replay ((codes "SET" ∷ codes "a" ∷ codes "1" ∷ codes "XX" ∷ []) ∷ (codes "SET" ∷ codes "a" ∷ codes "1" ∷ codes "NX" ∷ [])
+    ∷ (codes "SET" ∷ codes "a" ∷ codes "2" ∷ codes "nx" ∷ []) ∷ (codes "GET" ∷ codes "a" ∷ [])
+    ∷ (codes "SET" ∷ codes "a" ∷ codes "3" ∷ codes "xx" ∷ []) ∷ (codes "GET" ∷ codes "a" ∷ []) ∷ [])).replies
+    ≡ Null ∷ Simple (codes "OK") ∷ Null ∷ Bulk (codes "1") ∷ Simple (codes "OK") ∷ Bulk (codes "3") ∷ []
+set_on_conditions = grind (gets, rules)
+
+-- of a key that is repeated in an MSET the last string stays
+set_several : (replay ((codes "MSET" ∷ codes "a" ∷ codes "1" ∷ codes "b" ∷ codes "2" ∷ codes "a" ∷ codes "3" ∷ []) ∷ (codes "MGET" ∷ codes "a" ∷ codes "b" ∷ []) ∷ [])).replies
+    ≡ Simple (codes "OK") ∷ Array (array_of (Bulk (codes "3") ∷ Bulk (codes "2") ∷ [])) ∷ []
+set_several = grind (gets, rules)
+
 -- MGET of a key that is there, one that is missing, and the first again
 several : (replay ((codes "SET" ∷ codes "a" ∷ codes "1" ∷ []) ∷ (codes "MGET" ∷ codes "a" ∷ codes "b" ∷ codes "a" ∷ []) ∷ [])).replies
     ≡ Simple (codes "OK") ∷ Array (array_of (Bulk (codes "1") ∷ Null ∷ Bulk (codes "1") ∷ [])) ∷ []
@@ -34,6 +46,11 @@ no_cluster = refl
 no_command : (replay ((codes "PING" ∷ []) ∷ (codes "GET" ∷ []) ∷ (codes "foo" ∷ []) ∷ [])).replies
     ≡ Simple (codes "PONG") ∷ Error (codes "ERR wrong number of arguments for 'get' command") ∷ Error (codes "ERR unknown command") ∷ []
 no_command = refl
+
+-- a wrong option changes nothing, and a half pair neither
+no_option : (replay ((codes "SET" ∷ codes "a" ∷ codes "1" ∷ codes "EX" ∷ []) ∷ (codes "MSET" ∷ codes "a" ∷ codes "1" ∷ codes "b" ∷ []) ∷ (codes "EXISTS" ∷ codes "a" ∷ []) ∷ [])).replies
+    ≡ Error (codes "ERR syntax error") ∷ Error (codes "ERR wrong number of arguments for 'mset' command") ∷ Integer (pos 0) ∷ []
+no_option = grind (gets, rules)
 
 -- PING and ECHO with a message
 messages : (replay ((codes "PING" ∷ codes "a" ∷ []) ∷ (codes "ECHO" ∷ codes "b" ∷ []) ∷ [])).replies ≡ Bulk (codes "a") ∷ Bulk (codes "b") ∷ []

@@ -1,5 +1,5 @@
 -- What each command replies, and what it leaves (Redis command reference).
-use Rattle.std.specs.Prelude.{ℕ, ◌+◌, nat_lt, ℤ, pos, neg_ℤ, ◌+ℤ◌, Bool, not, ◌&&◌, if◌then◌else◌, List, [], ◌∷◌, ◌++◌, map, length, count_by, Option, Some, None, is_some, Result, Ok, Err, codes}
+use Rattle.std.specs.Prelude.{ℕ, ◌+◌, nat_lt, ℤ, pos, neg_ℤ, ◌+ℤ◌, Bool, true, false, not, ◌&&◌, if◌then◌else◌, List, [], ◌∷◌, ◌++◌, map, length, count_by, Option, Some, None, is_some, Result, Ok, Err, codes}
 use Rattle.std.specs.List.{list_any}
 use Rattle.std.specs.Ordering.{nat_cmp, eq_by_cmp}
 use Rattle.std.specs.Cmp.Lexicographic.{slice_cmp}
@@ -16,7 +16,9 @@ use Rattle.command.specs.declared.error_line.ErrorLine.TheVariants.{TooLong, Not
 use Rattle.command.specs.declared.command.Command.{Command}
 use Rattle.command.specs.declared.command.Command.TheVariants.{Data, Cluster}
 use Rattle.command.specs.declared.command.DataCommand.{DataCommand}
-use Rattle.command.specs.declared.command.DataCommand.TheVariants.{Ping, Echo, Get, Set, Mget, Setnx, Getset, Getdel, Append, Incr, Decr, Incrby, Strlen, Del, Exists, TypeOf}
+use Rattle.command.specs.declared.command.DataCommand.TheVariants.{Ping, Echo, Get, Set, Mget, Mset, Setnx, Getset, Getdel, Append, Incr, Decr, Incrby, Strlen, Del, Exists, TypeOf}
+use Rattle.command.specs.declared.command.Condition.{Condition}
+use Rattle.command.specs.declared.command.Condition.TheVariants.{Always, IfMissing, IfThere}
 use Rattle.command.specs.declared.fault.CommandFault.{CommandFault}
 use Rattle.command.specs.declared.fault.CommandFault.TheVariants.{Unknown}
 use Rattle.keyspace.specs.Keyspace.{Keyspace, changed}
@@ -56,6 +58,21 @@ told answer = record { reply = answer; leaves = [] }
 -- and one that leaves a value at its only key, or removes it
 abbrev pub left : Reply → Option Value → Effect
 left answer value = record { reply = answer; leaves = value ∷ [] }
+
+-- the condition of SET, at the value that is there
+abbrev pub holds : Condition → Option Value → Bool
+holds Always old = true
+holds IfMissing old = not (is_some old)
+holds IfThere old = is_some old
+
+-- SET sets where its condition holds
+abbrev pub set_of : List ℕ → Bool → Effect
+set_of value true = left (Simple (codes "OK")) (Some (Str value))
+set_of value false = told Null
+
+-- the strings of pairs, in the order of the request
+abbrev pub strings_left : List (List ℕ × List ℕ) → List (Option Value)
+strings_left pairs = map (λ pair. Some (Str pair.1)) pairs
 
 -- SETNX sets a key that is missing
 abbrev pub setnx_of : List ℕ → Option Value → Effect
@@ -111,8 +128,9 @@ abbrev pub effect : DataCommand → List (Option Value) → Effect
 effect Ping values = told (Simple (codes "PONG"))
 effect (Echo message) values = told (Bulk message)
 effect (Get key) values = told (bulk_or_null (first_of values))
-effect (Set key value) values = left (Simple (codes "OK")) (Some (Str value))
+effect (Set key value condition) values = set_of value (holds condition (first_of values))
 effect (Mget keys) values = told (Array (array_of (map bulk_or_null values)))
+effect (Mset pairs) values = record { reply = Simple (codes "OK"); leaves = strings_left pairs }
 effect (Setnx key value) values = setnx_of value (first_of values)
 effect (Getset key value) values = left (bulk_or_null (first_of values)) (Some (Str value))
 effect (Getdel key) values = getdel_of (first_of values)

@@ -1,11 +1,13 @@
 //! The command table in code: what each command replies and changes, over any store.
-ghost use Rattle.std.specs.Prelude.{◌≡◌, ◌<◌, ◌∷◌, [], codes, ◌++◌, ◌^◌, OnOk, OnErr, IfOk, IfErr, IsTrue, Some, count_by, is_some, pos, if◌then◌else◌};
+ghost use Rattle.std.specs.Prelude.{◌≡◌, ◌<◌, ◌∷◌, [], codes, ◌++◌, ◌^◌, length, OnOk, OnErr, IfOk, IfErr, IsTrue, Some, count_by, is_some, pos, if◌then◌else◌};
 ghost use Rattle.std.specs.Prelude.{map as each};
 ghost use Rattle.std.specs.Option.{option_copied};
 ghost use Rattle.std.specs.FinMap as map;
 ghost use Rattle.std.specs.Fmt.{signed_decimal};
 ghost use Rattle.command.specs.ErrorLine.{error_text};
-ghost use Rattle.keyspace.specs.Commands.{exec, replies_of, keyspace_after, all_removed, bulk_or_null, deleted, fitting, number_at, number_left, string_of, sum_of, taken_at, told, type_of, values_at, with_values};
+ghost use Rattle.command.specs.Keys.{pair_keys};
+ghost use Rattle.keyspace.specs.Commands.{exec, replies_of, keyspace_after, all_removed, bulk_or_null, deleted, fitting, holds, number_at, number_left, string_of, strings_left, sum_of, taken_at, told, type_of, values_at, with_values};
+ghost use Rattle.keyspace.specs.Keyspace.{Keyspace};
 ghost use Rattle.keyspace.specs.Locality.{CommandsAreLocal};
 ghost use Rattle.keyspace.specs.Plan.{applied};
 ghost use Rattle.resp2.specs.Line.{is_one_line};
@@ -17,7 +19,7 @@ use crate::store::Store;
 use crate::value::Value;
 use byte_string::ByteString;
 use bytes::Bytes;
-use command::{DataCommand, ErrorLine};
+use command::{Condition, DataCommand, ErrorLine};
 use resp2::{Array, Line, MOST_WORD_BYTES, Reply};
 use std::alloc::{AllocError, Global};
 
@@ -72,13 +74,23 @@ pub fn plan_command<S: Store>(
         record { reply = reply; after = applied (S.contents store.now) plan.new }
         ≡ exec (applied (S.contents store.now) plan.old) command.now) }
 {
-    // What is called for the rarer commands isn't inlined: so the frame of each request stays small.
+    // No command's function is inlined: so the frame of each request stays small.
     match command {
         DataCommand::Ping => Ok(simple(b"PONG")),
-        DataCommand::Echo { message } => Ok(Reply::Bulk(message.clone()?)),
-        DataCommand::Get { key } => bulk_or_null(plan.look(store, key)),
-        DataCommand::Set { key, value } => set(plan, key, value),
+        DataCommand::Echo { message } => echo(message),
+        DataCommand::Get { key } => get(store, plan, key),
+        DataCommand::Set {
+            key,
+            value,
+            condition: Condition::Always,
+        } => set(plan, key, value),
+        DataCommand::Set {
+            key,
+            value,
+            condition,
+        } => set_where(store, plan, key, value, *condition),
         DataCommand::Mget { keys } => strings_at(alloc, store, plan, keys.as_slice()),
+        DataCommand::Mset { pairs } => set_each(plan, pairs.as_slice()),
         DataCommand::Setnx { key, value } => setnx(store, plan, key, value),
         DataCommand::Getset { key, value } => getset(store, plan, key, value),
         DataCommand::Getdel { key } => getdel(store, plan, key),
@@ -86,11 +98,26 @@ pub fn plan_command<S: Store>(
         DataCommand::Incr { key } => add(alloc, store, plan, key, 1),
         DataCommand::Decr { key } => add(alloc, store, plan, key, -1),
         DataCommand::Incrby { key, increment } => incrby(alloc, store, plan, key, increment),
-        DataCommand::Strlen { key } => Ok(integer(string_of(plan.look(store, key)).len())),
+        DataCommand::Strlen { key } => Ok(integer(len_at(store, plan, key))),
         DataCommand::Del { keys } => delete(store, plan, keys.as_slice()),
         DataCommand::Exists { keys } => Ok(integer(count_there(store, plan, keys.as_slice()))),
-        DataCommand::TypeOf { key } => Ok(simple(type_of(plan.look(store, key)))),
+        DataCommand::TypeOf { key } => Ok(simple(type_at(store, plan, key))),
     }
+}
+
+#[inline(never)]
+fn echo(message: &ByteString) -> Result<Reply, AllocError>
+    ensures { IfOk result (λ reply. reply ≡ Reply.Bulk message.now) }
+{
+    Ok(Reply::Bulk(message.clone()?))
+}
+
+#[inline(never)]
+fn get<S: Store>(store: &S, plan: &Plan, key: &ByteString) -> Result<Reply, AllocError>
+    ensures { IfOk result (λ reply.
+        reply ≡ bulk_or_null (map.get (applied (S.contents store.now) plan.now) key.now)) }
+{
+    bulk_or_null(plan.look(store, key))
 }
 
 // The string at each of the keys, once the plan is committed.
@@ -113,11 +140,56 @@ fn strings_at<S: Store>(
     Ok(Reply::Array(Array::of(alloc, strings)?))
 }
 
+#[inline(never)]
 fn set(plan: &mut Plan, key: &ByteString, value: &ByteString) -> Result<Reply, AllocError>
     ensures reply { IfOk result (λ reply. reply ≡ Reply.Simple (codes "OK")) }
     ensures after { OnOk result (plan.new ≡ map.insert plan.old key.now (Some (Value.Str value.now))) }
 {
     put(plan, key, value.clone()?)?;
+    Ok(simple(b"OK"))
+}
+
+// SET where the condition holds.
+#[inline(never)]
+#[tactic(auto, using(crate::proofs::Applied::applied_insert))]
+fn set_where<S: Store>(
+    store: &S,
+    plan: &mut Plan,
+    key: &ByteString,
+    value: &ByteString,
+    condition: Condition,
+) -> Result<Reply, AllocError>
+    ensures { IfOk result (λ reply.
+        record { reply = reply; after = applied (S.contents store.now) plan.new }
+        ≡ exec (applied (S.contents store.now) plan.old) (DataCommand.Set key.now value.now condition)) }
+{
+    if !holds(condition, plan.look(store, key)) {
+        return Ok(Reply::Null);
+    }
+    set(plan, key, value)
+}
+
+// Whether the condition of SET holds at the value that is there.
+fn holds(condition: Condition, value: Option<&Value>) -> bool
+    ensures { result ≡ holds condition (option_copied value.entry) }
+{
+    match condition {
+        Condition::Always => true,
+        Condition::IfMissing => value.is_none(),
+        Condition::IfThere => value.is_some(),
+    }
+}
+
+// Puts the string of each pair at its key, from left to right.
+#[inline(never)]
+fn set_each(plan: &mut Plan, pairs: &[(ByteString, ByteString)]) -> Result<Reply, AllocError>
+    ensures reply { IfOk result (λ reply. reply ≡ Reply.Simple (codes "OK")) }
+    ensures after { OnOk result ((keyspace : Keyspace) → applied keyspace plan.new
+        ≡ with_values (applied keyspace plan.old) (pair_keys pairs.now) (strings_left pairs.now)) }
+{
+    for (key, value) in pairs {
+        put(plan, key, value.clone()?)?;
+    }
     Ok(simple(b"OK"))
 }
 
@@ -331,6 +403,25 @@ fn count_there<S: Store>(store: &S, plan: &Plan, keys: &[ByteString]) -> usize
     count
 }
 
+// The number of bytes of the string at the key.
+#[inline(never)]
+fn len_at<S: Store>(store: &S, plan: &Plan, key: &ByteString) -> usize
+    ensures len { result ≡ length (string_of (map.get (applied (S.contents store.now) plan.now) key.now)) }
+    ensures small { result < 2 ^ 63 }
+{
+    string_of(plan.look(store, key)).len()
+}
+
+// The name of the type of the value at the key.
+#[inline(never)]
+fn type_at<S: Store>(store: &S, plan: &Plan, key: &ByteString) -> &'static [u8]
+    ensures name { result.now ≡ type_of (map.get (applied (S.contents store.now) plan.now) key.now) }
+    ensures line { IsTrue (is_one_line result.now) }
+{
+    type_of(plan.look(store, key))
+}
+
+#[inline(never)]
 fn simple(text: &'static [u8]) -> Reply
     requires { IsTrue (is_one_line text.now) }
     ensures { result ≡ Reply.Simple text.now }
