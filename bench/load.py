@@ -10,11 +10,13 @@ WINDOW = 1000
 
 
 def benchmark(port, test, count, keys, pipeline=1, size=16):
-    """Lets redis-benchmark send so many requests of a test of its own, and returns how many were answered a second.
+    """Lets redis-benchmark send so many requests, and returns how many were answered a second.
 
-    Keys are picked at random from as many, and values have that many bytes.
+    The test is one of its own, by name, or the words of a request. Keys are picked at random from as many, as is what
+    `__rand_int__` stands for in a word, and values have that many bytes.
     """
-    options = ["-p", port, "-c", 1, "-P", pipeline, "-n", count, "-r", keys, "-d", size, "-t", test, "--csv"]
+    options = ["-p", port, "-c", 1, "-P", pipeline, "-n", count, "-r", keys, "-d", size, "--csv"]
+    options += ["-t", test] if isinstance(test, str) else test
     said = subprocess.run(
         ["redis-benchmark", *map(str, options)], capture_output=True, text=True, check=True
     ).stdout

@@ -1,9 +1,9 @@
 #!/usr/bin/env python3
 """What a request costs here and in Redis, under the same load in the same run.
 
-usage: bench/run.py [instructions] [throughput] [memory] [--quick] [--out FILE]
+usage: bench/run.py [instructions] [throughput] [commands] [memory] [--quick] [--out FILE]
 
-Without a word all three are measured. The report goes to the output, and to FILE. The program is the built one
+Without a word all four are measured. The report goes to the output, and to FILE. The program is the built one
 (./serve builds it) or that of the variable RCLUSTER. It needs redis-server and redis-tools, and for `instructions`
 valgrind. --quick takes a tenth of the requests: good to see that all works, and too few to tell.
 """
@@ -21,6 +21,15 @@ import servers
 MIB = 1 << 20
 # The tests of redis-benchmark, by the names of their commands.
 TESTS = {"PING": "ping_mbulk", "SET": "set", "GET": "get"}
+VALUE = "x" * 16
+TEN_KEYS = [f"{{ten}}{number}" for number in range(10)]
+# Requests that redis-benchmark has no test for, or one with keys in several slots.
+REQUESTS = {
+    "INCR": ["INCR", "counter:__rand_int__"],
+    "APPEND of a byte": ["APPEND", "log:__rand_int__", "x"],
+    "MSET of 10 keys": ["MSET", *(word for key in TEN_KEYS for word in (key, VALUE))],
+    "MGET of 10 keys": ["MGET", *TEN_KEYS],
+}
 
 
 class Report:
@@ -87,14 +96,31 @@ def throughput(report, scale):
 
 
 def compare(report, ours, theirs, command, size, keys, pipeline, scale):
+    rates = rates_of(ours, theirs, TESTS[command], size, keys, pipeline, scale)
+    report.row(command, f"{size:,}", f"{keys:,}", pipeline, *rates)
+
+
+# The middle rate of each server, and of the ratios of the rounds the middle one.
+def rates_of(ours, theirs, test, size, keys, pipeline, scale):
     count = int((50000 if pipeline == 1 else 400000) * scale)
     rounds = []
     for _ in range(7):
-        load_of = lambda it: load.benchmark(it.port, TESTS[command], count, keys, pipeline, size)
-        rounds.append([load_of(it) for it in (ours, theirs)])
+        rounds.append([load.benchmark(it.port, test, count, keys, pipeline, size) for it in (ours, theirs)])
     mine, other = (statistics.median(pair[at] for pair in rounds) for at in (0, 1))
     ratio = statistics.median(pair[0] / pair[1] for pair in rounds)
-    report.row(command, f"{size:,}", f"{keys:,}", pipeline, f"{mine:,.0f}", f"{other:,.0f}", f"{ratio:.2f}")
+    return f"{mine:,.0f}", f"{other:,.0f}", f"{ratio:.2f}"
+
+
+def commands(report, scale):
+    report.say("\n## Requests a second of other commands")
+    report.say("\nThe same over 1,000 keys, or ten keys of one slot, with values of 16 bytes.")
+    report.table("Command", "Pipeline", "rcluster", "Redis", "of Redis")
+    with servers.rcluster() as ours, servers.redis() as theirs:
+        for it in (ours, theirs):
+            load.benchmark(it.port, REQUESTS["MSET of 10 keys"], 1, 1)
+        for name, words in REQUESTS.items():
+            for pipeline in (1, 16):
+                report.row(name, pipeline, *rates_of(ours, theirs, words, 16, 1000, pipeline, scale))
 
 
 # The keys that redis-benchmark picks from.
@@ -154,7 +180,7 @@ def machine():
     return f"{os.cpu_count()} cores of {model}, {platform.system()} {platform.release()}"
 
 
-PARTS = {"instructions": instructions, "throughput": throughput, "memory": memory}
+PARTS = {"instructions": instructions, "throughput": throughput, "commands": commands, "memory": memory}
 
 
 def main(words):

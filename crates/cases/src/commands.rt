@@ -3,8 +3,8 @@ use crate::script::{bytes_of, push_bytes, push_word, shared_bytes_of, verb_of, w
 use anyhow::{Context, Result, bail};
 use byte_string::ByteString;
 use command::{
-    ClusterCommand, Command, CommandFault, DataCommand, ErrorLine, KeyList, Name, keys,
-    moved_reply, parse,
+    ClusterCommand, Command, CommandFault, Condition, DataCommand, ErrorLine, KeyList, Name,
+    PairList, keys, moved_reply, parse,
 };
 use resp2::{Line, Reply, Words, append_reply};
 use std::alloc::{AllocError, Global};
@@ -75,8 +75,16 @@ fn push_data(given: &mut String, command: &DataCommand) -> Result<(), AllocError
         DataCommand::Ping => push_words(given, "PING", &[]),
         DataCommand::Echo { message } => push_words(given, "ECHO", &[message.as_slice()]),
         DataCommand::Get { key } => push_words(given, "GET", &[key.as_slice()]),
-        DataCommand::Set { key, value } => push_pair(given, "SET", key, value),
+        DataCommand::Set {
+            key,
+            value,
+            condition,
+        } => {
+            push_pair(given, "SET", key, value)?;
+            given.push_str(option_of(*condition))
+        }
         DataCommand::Mget { keys } => push_keys(given, "MGET", keys),
+        DataCommand::Mset { pairs } => push_pairs(given, "MSET", pairs),
         DataCommand::Setnx { key, value } => push_pair(given, "SETNX", key, value),
         DataCommand::Getset { key, value } => push_pair(given, "GETSET", key, value),
         DataCommand::Getdel { key } => push_words(given, "GETDEL", &[key.as_slice()]),
@@ -98,6 +106,23 @@ fn push_pair(
     value: &ByteString,
 ) -> Result<(), AllocError> {
     push_words(given, name, &[key.as_slice(), value.as_slice()])
+}
+
+// The option of SET behind its value.
+fn option_of(condition: Condition) -> &'static str {
+    match condition {
+        Condition::Always => "",
+        Condition::IfMissing => " NX",
+        Condition::IfThere => " XX",
+    }
+}
+
+fn push_pairs(given: &mut String, name: &str, pairs: &PairList) -> Result<(), AllocError> {
+    given.push_str(name)?;
+    for (key, value) in pairs.as_slice() {
+        push_words(given, "", &[key.as_slice(), value.as_slice()])?;
+    }
+    Ok(())
 }
 
 fn push_keys(given: &mut String, name: &str, keys: &KeyList) -> Result<(), AllocError> {
@@ -151,6 +176,7 @@ fn fault_of(text: &str) -> Result<CommandFault> {
         ("Arity", name) => {
             CommandFault::Arity(Name::of(name.as_bytes()).context("no such command")?)
         }
+        ("Syntax", "") => CommandFault::Syntax,
         ("Memory", "") => CommandFault::from(AllocError),
         _ => bail!("no such fault"),
     })
@@ -161,6 +187,7 @@ fn line_of(text: &str) -> Result<ErrorLine> {
         "Protocol" => ErrorLine::Protocol,
         "OutOfMemory" => ErrorLine::OutOfMemory,
         "Exhausted" => ErrorLine::Exhausted,
+        "Syntax" => ErrorLine::Syntax,
         "CrossSlot" => ErrorLine::CrossSlot,
         "SlotDown" => ErrorLine::SlotDown,
         "TooLong" => ErrorLine::TooLong,

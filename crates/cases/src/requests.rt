@@ -10,23 +10,36 @@ const PING: &[u8] = b"*1\r\n$4\r\nPING\r\n";
 // A longer word is shown by its length.
 const MOST_SHOWN: usize = 64;
 
-// How many bytes a piece of a long word has.
+// Of more words their number is shown.
+const MOST_WORDS_SHOWN: usize = 16;
+
+// The longest word comes in pieces of so many bytes.
 const PIECE: usize = 1024;
 
-/// `feed BYTES` and `feed-pieces COUNT`, which feeds COUNT times 1024 `x` and asks after each, go on with one reader, and
-/// `next` asks it. `bytewise BYTES` feeds a new one byte by byte and asks after each, and `cuts BYTES` cuts the bytes at
-/// each place.
+/// These go on with one reader: `feed BYTES`; `feed-run COUNT`, which feeds COUNT times `x` in pieces and asks after each;
+/// `feed-words COUNT`, which feeds COUNT times the word `x` and asks after each; `feed-long-words COUNT`, which does so with
+/// words of a mebibyte; `next`, which asks.
+///
+/// `bytewise BYTES` feeds a new one byte by byte and asks after each, and `cuts BYTES` cuts the bytes at each place.
 pub fn play(alloc: Global, script: &str) -> Result<String> {
     let mut given = String::new(alloc);
     let mut reader = Reader::new(alloc);
     for command in script.lines() {
         match verb_of(command) {
             ("feed", bytes) => feed(&mut given, &mut reader, bytes_of(alloc, bytes)?.as_slice())?,
-            ("feed-pieces", count) => feed_pieces(&mut given, &mut reader, count.parse::<u16>()?)?,
-            ("next", _) => {
-                push_answer(&mut given, reader.next())?;
-                given.push('\n')?;
+            ("feed-run", count) => {
+                let answer = feed_run(&mut reader, count.parse::<usize>()?)?;
+                push_answer_line(&mut given, answer)?
             }
+            ("feed-words", count) => {
+                let answer = feed_words(&mut reader, count.parse::<u32>()?)?;
+                push_answer_line(&mut given, answer)?
+            }
+            ("feed-long-words", count) => {
+                let answer = feed_long_words(&mut reader, count.parse::<u32>()?)?;
+                push_answer_line(&mut given, answer)?
+            }
+            ("next", _) => push_answer_line(&mut given, reader.next())?,
             ("bytewise", bytes) => {
                 push_bytewise(
                     &mut given,
@@ -50,17 +63,47 @@ fn feed(given: &mut String, reader: &mut Reader, bytes: &[u8]) -> Result<(), All
 }
 
 // The first answer that isn't to wait for more, or that.
-fn feed_pieces(given: &mut String, reader: &mut Reader, count: u16) -> Result<()> {
-    let mut answer = Ok(None);
-    for _ in 0..count {
+fn feed_run(reader: &mut Reader, count: usize) -> Result<Result<Option<Words>, Fault>> {
+    for _ in 0..count / PIECE {
         reader.feed(&[b'x'; PIECE])?;
-        answer = reader.next();
+        let answer = reader.next();
         if !matches!(&answer, Ok(None)) {
-            break;
+            return Ok(answer);
         }
     }
+    reader.feed(&[b'x'; PIECE][..count % PIECE])?;
+    Ok(reader.next())
+}
+
+fn feed_words(reader: &mut Reader, count: u32) -> Result<Result<Option<Words>, Fault>> {
+    for _ in 0..count {
+        reader.feed(b"$1\r\nx\r\n")?;
+        let answer = reader.next();
+        if !matches!(&answer, Ok(None)) {
+            return Ok(answer);
+        }
+    }
+    Ok(Ok(None))
+}
+
+fn feed_long_words(reader: &mut Reader, count: u32) -> Result<Result<Option<Words>, Fault>> {
+    for _ in 0..count {
+        reader.feed(b"$1048576\r\n")?;
+        let answer = feed_run(reader, 1_048_576)?;
+        if !matches!(&answer, Ok(None)) {
+            return Ok(answer);
+        }
+        reader.feed(b"\r\n")?;
+    }
+    Ok(reader.next())
+}
+
+fn push_answer_line(
+    given: &mut String,
+    answer: Result<Option<Words>, Fault>,
+) -> Result<(), AllocError> {
     push_answer(given, answer)?;
-    Ok(given.push('\n')?)
+    given.push('\n')
 }
 
 fn push_answer(given: &mut String, answer: Result<Option<Words>, Fault>) -> Result<(), AllocError> {
@@ -72,6 +115,9 @@ fn push_answer(given: &mut String, answer: Result<Option<Words>, Fault>) -> Resu
 }
 
 fn push_request(given: &mut String, words: &Words) -> Result<(), AllocError> {
+    if words.len() > MOST_WORDS_SHOWN {
+        return write!(given, "request ({} words)", words.len());
+    }
     given.push_str("request")?;
     for word in words.as_slice() {
         given.push(' ')?;

@@ -1,4 +1,6 @@
 //! Commands on a store.
+ghost use Rattle.std.specs.Prelude.{◌≡◌};
+
 use crate::narrow::Narrow;
 use crate::script::{string_of, verb_of};
 use crate::words::{command_of, push_reply, push_values, push_words};
@@ -64,12 +66,18 @@ fn play_on<S: Store + Drop>(alloc: Global, store: S, script: &str) -> Result<Str
 
 // The request that makes the key with its value.
 fn request_making(alloc: Global, key: &ByteString, value: &Value) -> Result<Words> {
-    let Value::Str(bytes) = value;
-    if key.len() > MOST_WORD_BYTES || bytes.len() > MOST_WORD_BYTES {
+    if key.len() > MOST_WORD_BYTES || string_in(value).len() > MOST_WORD_BYTES {
         bail!("the word is too long");
     }
     rebuilding_makes_the_key();
     Ok(rebuild(alloc, key, value)?)
+}
+
+fn string_in(value: &Value) -> &ByteString
+    ensures { value.now ≡ Value.Str result.now }
+{
+    let Value::Str(bytes) = value;
+    bytes
 }
 
 // A store, what was planned last, and what the commands gave.

@@ -2,7 +2,7 @@
 use crate::script::{push_bytes, push_word, words_of};
 use anyhow::{Context, Result, bail};
 use byte_string::ByteString;
-use command::{Command, DataCommand, KeyList, parse};
+use command::{Command, DataCommand, parse};
 use keyspace::{Store, Value};
 use resp2::{Reply, Words, append_reply};
 use std::alloc::Global;
@@ -13,13 +13,8 @@ pub fn request_of(alloc: Global, text: &str) -> Result<Words> {
     Words::new(words).context("the words are no request")
 }
 
-/// The command of these words. Its MGET takes more keys than one request carries.
+/// The command of these words.
 pub fn command_of(alloc: Global, text: &str) -> Result<DataCommand> {
-    if let Some(keys) = text.strip_prefix("MGET ") {
-        let keys = words_of(alloc, keys)?;
-        let keys = KeyList::new(keys).context("there is no key")?;
-        return Ok(DataCommand::Mget { keys });
-    }
     match parse(alloc, &request_of(alloc, text)?)? {
         Command::Data(command) => Ok(command),
         Command::Cluster(_) => bail!("this command has no keys"),
