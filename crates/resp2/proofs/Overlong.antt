@@ -1,23 +1,22 @@
 -- The steps of a reader at a request of too many bytes, as facts on what they leave.
-use Rattle.std.proofs.Common.{◌≡◌, ◌≢◌, ℕ, zero, suc, ◌+◌, ◌-◌, ◌^◌, ◌<◌, ◌≤◌, Bool, cond, List, [], ◌∷◌, ◌++◌, length, take, drop, Option, None, Some, Result, Ok, Err, refl, sym, ap, subst, ◌∙◌, append_assoc, take-append-drop, arith}
-use Rattle.std.specs.Prelude.{IfOk, IfSome, IfNone, OnOk, OnErr}
+use Rattle.std.proofs.Common.{◌≡◌, ℕ, zero, suc, ◌+◌, ◌-◌, ◌<◌, ◌≤◌, Bool, true, false, cond, List, [], ◌∷◌, ◌++◌, length, take, drop, Option, None, Some, Ok, refl, sym, ap, subst, ◌∙◌, append_assoc, take-append-drop, arith}
+use Rattle.std.specs.Prelude.{IfSome, IfNone}
 use Rattle.std.proofs.lemmas.Bool.{lt-ltb}
-use Rattle.std.proofs.lemmas.List.{append-nil, length-append, length-take, take_all, take-append-le, drop-append-le}
+use Rattle.std.proofs.lemmas.List.{length-append, length-take, take_all, take-append-le}
 use Rattle.resp2.specs.declared.fault.Fault.{Fault}
 use Rattle.resp2.specs.declared.fault.Fault.TheVariants.{Memory, Protocol, TooLong}
 use Rattle.resp2.specs.declared.reader.Progress.{Progress}
 use Rattle.resp2.specs.declared.reader.Progress.TheVariants.{Between, Reading, Broken}
 use Rattle.resp2.specs.declared.words.Partial.{Partial}
-use Rattle.resp2.specs.declared.words.TheConstants.{MOST_WORDS, MOST_WORD_BYTES, MOST_REQUEST_BYTES}
-use Rattle.resp2.specs.Progress.{Takes, Refuses, FaultOfFront, IsCounted, IsCountedOrBroken, IsPutBack, IsWhole, HandsOver, IsPartial, IsProgress, word_front, partial_onto, partial_of, request_front, pending_of, fault_of}
-use Rattle.resp2.specs.Reading.{reading, reading_words, one_past_size, too_many, Seen, Wants, Bad, Found, line_end_at, body_at, word_at, words_at, header_onto, bulks_onto, request_onto}
+use Rattle.resp2.specs.declared.words.TheConstants.{MOST_WORD_BYTES, MOST_REQUEST_BYTES}
+use Rattle.resp2.specs.Progress.{Refuses, TakesAll, FaultOfFront, IsCounted, IsCountedOrBroken, IsProgress, word_front, partial_onto, partial_of, request_front, pending_of, fault_of}
+use Rattle.resp2.specs.Reading.{reading, reading_words, one_past_size, too_many, Seen, Wants, Bad, Found, line_end_at, word_at, words_at}
 use Rattle.resp2.specs.Reader.{remembered}
 use Rattle.resp2.specs.Request.{request_spelling}
-use Rattle.resp2.proofs.MoreBytes.{words_stay_bad, words_stay_found}
+use Rattle.resp2.proofs.MoreBytes.{words_stay_found}
 use Rattle.resp2.proofs.ReaderSteps.{request_front-append, reading_partial}
 use Rattle.resp2.proofs.RequestRoundTrip.{body_behind, with_words}
 use Rattle.resp2.proofs.SizeLimit.{wants_before, wants_within, wants_past, all_want_past, found_within, found_past, bad_within}
-use Rattle.resp2.proofs.Spellings.{request_spelling-onto}
 use Rattle.resp2.proofs.WordsDecide.{found_words_are, bytes_bound}
 
 -- ---- what was consumed, and what is left
@@ -199,16 +198,6 @@ pub front_kept_of : (progress next : Progress) (input front left later : List �
 front_kept_of progress next input front left later len is within fewer kept dropped =
     front_kept progress next input left later len within (subst (λ (t : List ℕ). length left ≤ length t) is fewer) (kept ∙ ap (pending_of progress) is) dropped
 
--- what the front leaves, which has no request in it
-pub front_left : (found : Option (List (List ℕ))) (progress next : Progress) (input front left later : List ℕ) (len : ℕ) (fault : Fault) → front ≡ take len input
-    → Takes (Ok found) (reading_words (pending_of progress front)) (pending_of next left) → IfNone found (pending_of next left ≡ pending_of progress front)
-    → reading_words (pending_of progress input) ≡ Bad fault
-    → len < length input → length left ≤ length front → later ≡ drop (len - length left) input → pending_of next later ≡ pending_of progress input
-front_left None progress next input front left later len fault is takes kept bad within fewer dropped =
-    front_kept_of progress next input front left later len is within fewer kept dropped
-front_left (Some words) progress next input front left later len fault is takes kept bad within fewer dropped =
-    front_not_found progress input (pending_of next left) len words fault (ap (λ (t : List ℕ). reading_words (pending_of progress t)) (sym is) ∙ takes) bad
-
 -- ---- a request that came whole
 
 -- so many bytes are its spelling
@@ -216,59 +205,37 @@ size_is : (pending rest : List ℕ) (words : List (List ℕ)) (consumed : ℕ) �
     → length (request_spelling words) ≡ consumed
 size_is pending rest words consumed spelled counted = omega (arith, ap length spelled, length-append (request_spelling words) rest)
 
-pub counted_found : (found : Option (List (List ℕ))) (before : Progress) (input : List ℕ) (consumed total : ℕ) → IfSome found (λ _. before ≡ Between) → consumed + length input ≡ total
-    → IfSome found (λ _. consumed + length (pending_of before input) ≡ total)
-counted_found None before input consumed total between counted = tt
-counted_found (Some words) before input consumed total between counted =
-    ap (λ (p : Progress). consumed + length (pending_of p input)) between ∙ counted
+pub whole_is_found : (all : Bool) (seen : Seen (List (List ℕ))) (words : List (List ℕ)) (rest : List ℕ) → all ≡ true → TakesAll (Ok all) seen words rest → seen ≡ Found words rest
+whole_is_found all seen words rest is takes = subst (λ (b : Bool). TakesAll (Ok b) seen words rest) is takes
 
-pub same_pending : (A : Type 0) (result : Result (Option (List (List ℕ))) Fault) (progress before : Progress) (input : List ℕ) → OnOk result ((progress ≡ before) × A)
-    → OnOk result (pending_of progress input ≡ pending_of before input)
-same_pending A (Ok found) progress before input same = ap (λ (p : Progress). pending_of p input) same.0
-same_pending A (Err fault) progress before input same = tt
-
--- what was taken is handed over, or it is too long
-pub hands_over : (found : Option (List (List ℕ))) (result : Result (Option (List (List ℕ))) Fault) (pending rest later : List ℕ) (consumed total : ℕ)
-    → Takes (Ok found) (reading_words pending) rest → IfSome found (λ _. consumed + length rest ≡ length pending) → total ≡ length pending
-    → HandsOver found consumed total result → OnOk result (later ≡ rest) → Takes result (reading pending) later
-hands_over None (Ok handed) pending rest later consumed total takes counted all is same =
-    subst (λ (o : Option (List (List ℕ))). Takes (Ok o) (reading pending) later) (sym is.0) (let short = is.1 in wants_within pending takes (omega arith))
-hands_over None (Err fault) pending rest later consumed total takes counted all is same =
-    λ known. (let long = is.1 in all_want_past pending (omega arith) takes) ∙ ap (λ (f : Fault). Bad f) (sym is.0)
-hands_over (Some words) (Ok handed) pending rest later consumed total takes counted all is same =
+-- it is handed out where it isn't too long
+pub handed_out : (pending rest : List ℕ) (words frame : List (List ℕ)) (next : Progress) (consumed : ℕ) → reading_words pending ≡ Found words rest
+    → consumed + length rest ≡ length pending → consumed ≤ MOST_REQUEST_BYTES → frame ≡ words → next ≡ Between → reading pending ≡ Found frame (pending_of next rest)
+handed_out pending rest words frame next consumed takes counted short same between =
     let found = found_words_are pending words rest takes in
     let size = size_is pending rest words consumed found.1 counted in
-    let short = is.1 in
-    subst (λ (o : Option (List (List ℕ))). Takes (Ok o) (reading pending) later) (sym is.0)
-    (ap reading found.1 ∙ found_within words rest (record { each = found.0; all = omega arith }) ∙ ap (Found words) (sym same))
-hands_over (Some words) (Err fault) pending rest later consumed total takes counted all is same =
+    ap reading found.1 ∙ found_within words rest (record { each = found.0; all = omega arith })
+    ∙ ap (λ (ws : List (List ℕ)). Found ws rest) (sym same) ∙ ap (λ (p : Progress). Found frame (pending_of p rest)) (sym between)
+
+-- and is a fault where it is
+pub whole_too_long : (fault : Fault) (pending rest : List ℕ) (words : List (List ℕ)) (consumed : ℕ) → reading_words pending ≡ Found words rest
+    → consumed + length rest ≡ length pending → MOST_REQUEST_BYTES < consumed → fault ≡ TooLong → Refuses fault (reading pending)
+whole_too_long fault pending rest words consumed takes counted long is known =
     let found = found_words_are pending words rest takes in
     let size = size_is pending rest words consumed found.1 counted in
-    let long = is.1 in
-    λ known. found_past pending words rest takes (omega arith) ∙ ap (λ (f : Fault). Bad f) (sym is.0)
+    found_past pending words rest takes (omega arith) ∙ ap (λ (f : Fault). Bad f) (sym is)
 
-put_back_onto : (progress : Progress) (words : List (List ℕ)) (input : List ℕ) → IsPutBack words progress → pending_of progress input ≡ request_onto words input
-put_back_onto Between words input is = absurd is
-put_back_onto (Reading partial) words input is = absurd is
-put_back_onto (Broken fault None) words input is = absurd is
-put_back_onto (Broken fault (Some partial)) words input is =
-    ap (λ (o : Option ℕ). header_onto 42 (length partial.words.items + partial.left) (bulks_onto partial.words.items (word_front o input))) is.1.no_len
-    ∙ ap (λ (k : ℕ). header_onto 42 (length partial.words.items + k) (bulks_onto partial.words.items input)) is.1.none_left
-    ∙ ap (λ (ws : List (List ℕ)). header_onto 42 (length ws + 0) (bulks_onto ws input)) is.1.all
-    ∙ ap (λ (k : ℕ). header_onto 42 k (bulks_onto words input)) (let same : length words + 0 ≡ length words = omega arith in same)
+-- ---- a request that didn't
 
--- what was taken of a request that is too long stands in front again
-pub put_back : (found : Option (List (List ℕ))) (result : Result (Option (List (List ℕ))) Fault) (progress before : Progress) (pending input : List ℕ)
-    → Takes (Ok found) (reading_words pending) (pending_of before input) → IfSome found (λ _. before ≡ Between) → IfNone found (pending_of before input ≡ pending)
-    → (found ≡ None → partial_of progress ≡ partial_of before)
-    → OnErr result (IfSome found (λ words. IsPutBack words progress)) → OnErr result (pending_of progress input ≡ pending)
-put_back found (Ok handed) progress before pending input takes between kept same back = tt
-put_back None (Err fault) progress before pending input takes between kept same back =
-    ap (λ (p : Option Partial). request_front p input) (same refl) ∙ kept
-put_back (Some words) (Err fault) progress before pending input takes between kept same back =
-    let is = found_words_are pending words (pending_of before input) takes in
-    put_back_onto progress words input back ∙ sym (request_spelling-onto words input)
-    ∙ ap (λ (p : Progress). request_spelling words ++ pending_of p input) (sym between) ∙ sym is.1
+pub part_wants : (all : Bool) (seen : Seen (List (List ℕ))) (words : List (List ℕ)) (rest : List ℕ) → all ≡ false → TakesAll (Ok all) seen words rest → seen ≡ Wants
+part_wants all seen words rest is takes = subst (λ (b : Bool). TakesAll (Ok b) seen words rest) is takes
+
+pub waits_for_more : (pending : List ℕ) (total : ℕ) → reading_words pending ≡ Wants → total ≡ length pending → total ≤ MOST_REQUEST_BYTES → reading pending ≡ Wants
+waits_for_more pending total wants all short = wants_within pending wants (omega arith)
+
+pub part_too_long : (fault : Fault) (pending : List ℕ) (total : ℕ) → reading_words pending ≡ Wants → total ≡ length pending → MOST_REQUEST_BYTES < total
+    → fault ≡ TooLong → Refuses fault (reading pending)
+part_too_long fault pending total wants all long is known = all_want_past pending (omega arith) wants ∙ ap (λ (f : Fault). Bad f) (sym is)
 
 -- ---- none came whole
 

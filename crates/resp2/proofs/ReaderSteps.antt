@@ -1,5 +1,6 @@
 -- The steps of a reader, as facts on what they leave.
-use Rattle.std.proofs.Common.{◌≡◌, ℕ, ◌+◌, ◌-◌, ◌^◌, ◌<◌, ◌≤◌, zero, suc, List, [], ◌∷◌, ◌++◌, length, drop, Option, None, Some, Result, Ok, refl, sym, ap, subst, ◌∙◌, append_assoc, zero-add, arith}
+use Rattle.std.proofs.Common.{◌≡◌, ℕ, Bool, true, false, ◌+◌, ◌-◌, ◌^◌, ◌<◌, ◌≤◌, zero, suc, List, [], ◌∷◌, ◌++◌, length, drop, Option, None, Some, Result, Ok, refl, sym, ap, subst, ◌∙◌, append_assoc, zero-add, arith}
+use Rattle.std.specs.Bool.{OnTrue}
 use Rattle.std.specs.Prelude.{All, IfSome, IfNone}
 use Rattle.std.proofs.lemmas.List.{length-append, append-nil}
 use Rattle.resp2.specs.declared.fault.Fault.{Fault}
@@ -10,7 +11,7 @@ use Rattle.resp2.specs.declared.words.Partial.{Partial}
 use Rattle.resp2.specs.declared.words.TheConstants.{MOST_WORDS, MOST_WORD_BYTES}
 use Rattle.resp2.specs.Header.{Gives}
 use Rattle.resp2.specs.Reading.{reading, reading_words, Seen, Wants, Bad, Found, header_at, body_at, word_at, words_at, header_onto, bulks_onto}
-use Rattle.resp2.specs.Progress.{Refuses, Takes, HasLen, IsPartial, word_front, partial_onto, request_front, partial_of, pending_of}
+use Rattle.resp2.specs.Progress.{Refuses, Takes, TakesWord, HasLen, IsPartial, word_front, partial_onto, request_front, partial_of, pending_of}
 use Rattle.resp2.specs.Reader.{ReaderState, empty_requests, PassesOver, HandsOut, Waits, Breaks, FailsBy, remembered}
 use Rattle.resp2.specs.Request.{request_spelling, header_spelling, bulks_spelling, IsRequest, KeepsLimits, WordsKeepLimits, IsUnfinished}
 use Rattle.resp2.proofs.HeaderReading.{header_takes}
@@ -46,17 +47,17 @@ count_is bytes input found header same gives is =
 -- ---- a word
 
 -- a word whose length was read is the word in front
-pub takes_word : (result : Result (Option (List ℕ)) Fault) (known len : Option ℕ) (number : ℕ) (front input rest : List ℕ)
+pub takes_word : (result : Result Bool Fault) (known len : Option ℕ) (number : ℕ) (front input rest : List ℕ) (old new : List (List ℕ))
     → known ≡ Some number → IfSome known (λ number. len ≡ Some number) → HasLen len → word_front len input ≡ front
-    → Takes result (body_at number input) rest → Takes result (word_at MOST_WORD_BYTES front) rest
-takes_word result known len number front input rest is told sized kept takes =
+    → TakesWord result (body_at number input) old new rest → TakesWord result (word_at MOST_WORD_BYTES front) old new rest
+takes_word result known len number front input rest old new is told sized kept takes =
     let len_is : len ≡ Some number = subst (λ (o : Option ℕ). IfSome o (λ number. len ≡ Some number)) is told in
     let bound : MOST_WORD_BYTES < 2 ^ 60 = bytes_bound in
     let short : number ≤ MOST_WORD_BYTES = subst HasLen len_is sized in
     let front_is : header_onto 36 number input ≡ front = ap (λ (o : Option ℕ). word_front o input) (sym len_is) ∙ kept in
     let same : body_at number input ≡ word_at MOST_WORD_BYTES front =
     sym (body_behind MOST_WORD_BYTES number input (omega arith) short) ∙ ap (word_at MOST_WORD_BYTES) front_is in
-    subst (λ (s : Seen (List ℕ)). Takes result s rest) same takes
+    subst (λ (s : Seen (List ℕ)). TakesWord result s old new rest) same takes
 
 -- ---- words, one after another
 
@@ -73,17 +74,30 @@ AreShort-push words word each short =
     let IsShort : List ℕ → Type 0 = λ word. length word ≤ MOST_WORD_BYTES in
     each_by_index IsShort (words ++ word ∷ []) (AreShort-append MOST_WORD_BYTES words (word ∷ []) (each_by_recursion IsShort words each) (short, tt))
 
+pub taken_behind : (taken : Bool) (seen : Seen (List ℕ)) (old now new : List (List ℕ)) (rest : List ℕ) → taken ≡ true → old ≡ now
+    → TakesWord (Ok taken) seen old new rest → TakesWord (Ok true) seen now new rest
+taken_behind taken seen old now new rest is same takes =
+    subst (λ (ws : List (List ℕ)). TakesWord (Ok true) seen ws new rest) same (subst (λ (b : Bool). TakesWord (Ok b) seen old new rest) is takes)
+
+pub none_left_of : (taken : Bool) (len : Option ℕ) → taken ≡ true → OnTrue taken (len ≡ None) → len ≡ None
+none_left_of taken len is idle = subst (λ (b : Bool). OnTrue b (len ≡ None)) is idle
+
+pub word_wants : (taken : Bool) (seen : Seen (List ℕ)) (old new : List (List ℕ)) (rest : List ℕ) → taken ≡ false → TakesWord (Ok taken) seen old new rest → seen ≡ Wants
+word_wants taken seen old new rest is takes =
+    let none : TakesWord (Ok false) seen old new rest = subst (λ (b : Bool). TakesWord (Ok b) seen old new rest) is takes in
+    none.0
+
 -- one more word was taken
-pub goes_on : (first : Partial) (start : List ℕ) (now : Partial) (input : List ℕ) (taken : Option (List ℕ)) (word rest : List ℕ) (next : Partial)
+pub goes_on : (first : Partial) (start : List ℕ) (now : Partial) (input : List ℕ) (rest : List ℕ) (next : Partial)
     → GoesOn first start now input → 0 < now.left
-    → taken ≡ Some word → Takes (Ok taken) (word_at MOST_WORD_BYTES (word_front now.len input)) rest
-    → IfSome taken (λ _. next.len ≡ None) → next.words.items ≡ now.words.items ++ word ∷ [] → next.left ≡ now.left - 1 → length rest ≤ length input
+    → TakesWord (Ok true) (word_at MOST_WORD_BYTES (word_front now.len input)) now.words.items next.words.items rest
+    → next.len ≡ None → next.left ≡ now.left - 1 → length rest ≤ length input
     → GoesOn first start next rest
-goes_on first start now input taken word rest next before some is takes idle pushed fewer shorter =
+goes_on first start now input rest next before some takes none fewer shorter =
     let ws : List (List ℕ) = now.words.items in
-    let found : word_at MOST_WORD_BYTES (word_front now.len input) ≡ Found word rest =
-    subst (λ (o : Option (List ℕ)). Takes (Ok o) (word_at MOST_WORD_BYTES (word_front now.len input)) rest) is takes in
-    let none : next.len ≡ None = subst (λ (o : Option (List ℕ)). IfSome o (λ _. next.len ≡ None)) is idle in
+    let word : List ℕ = takes.0 in
+    let found : word_at MOST_WORD_BYTES (word_front now.len input) ≡ Found word rest = takes.1 in
+    let pushed : next.words.items ≡ ws ++ word ∷ [] = takes.2 in
     let w = word_takes MOST_WORD_BYTES (word_front now.len input) word rest bytes_some bytes_bound found in
     let few : length ws + now.left ≤ MOST_WORDS = before.partial.few in
     let longer : length next.words.items ≡ length ws + 1 = ap length pushed ∙ length-append ws (word ∷ []) in
@@ -115,16 +129,13 @@ reading_is : (first : Partial) (start : List ℕ) (now : Partial) (input : List 
 reading_is first start now input goes = ap reading_words (sym goes.kept) ∙ reading_partial now input goes.partial
 
 -- the next word wants more bytes
-pub waits_on : (first : Partial) (start : List ℕ) (now : Partial) (input : List ℕ) (taken : Option (List ℕ)) (rest : List ℕ)
+pub waits_on : (first : Partial) (start : List ℕ) (now : Partial) (input : List ℕ)
     → GoesOn first start now input → 0 < now.left
-    → taken ≡ None → Takes (Ok taken) (word_at MOST_WORD_BYTES (word_front now.len input)) rest
+    → word_at MOST_WORD_BYTES (word_front now.len input) ≡ Wants
     → reading_words (partial_onto first start) ≡ Wants
-waits_on first start now input taken rest goes some is takes =
+waits_on first start now input goes some wants =
     reading_is first start now input goes ∙ ap (with_words now.words.items) (words_want now.left some)
   where
-    wants : word_at MOST_WORD_BYTES (word_front now.len input) ≡ Wants
-    wants = subst (λ (o : Option (List ℕ)). Takes (Ok o) (word_at MOST_WORD_BYTES (word_front now.len input)) rest) is takes
-
     words_want : (k : ℕ) → 0 < k → words_at MOST_WORD_BYTES k (word_front now.len input) ≡ Wants
     words_want zero none = absurd (omega arith)
     words_want (suc k) more = rw wants refl

@@ -1,6 +1,5 @@
 -- The crate's laws of spellings.
-use Rattle.std.proofs.Common.{◌≡◌, ℕ, ◌<◌, List, [], ◌∷◌, ◌++◌, length, refl, sym, ap, ◌∙◌, append_assoc, arith}
-use Rattle.std.proofs.lemmas.List.{append-nil}
+use Rattle.std.proofs.Common.{◌≡◌, ℕ, List, [], ◌∷◌, ◌++◌, refl, sym, ap, ◌∙◌, append_assoc}
 use Rattle.resp2.specs.Law.{NoSpellingBeginsAnother, NoUnfinishedIsWhole, StreamIsReadInOneWay}
 use Rattle.resp2.specs.Reading.{reading, reading_words, Wants, Found}
 use Rattle.resp2.specs.Request.{request_spelling, stream_spelling, KeepsLimits, HasNoRequest}

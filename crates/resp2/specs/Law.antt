@@ -40,7 +40,7 @@ pub record HasRequest (bytes : List ℕ) : Type 0 where
   pub spelled : bytes ≡ request_spelling words ++ rest
 
 -- what bytes can have in front: a request, the beginning of one, or one with a bad byte, which breaks the protocol or
--- makes a length too long
+-- makes a count, a length or the whole request pass its limit
 pub data Front : Type 0 where
   Whole : Front
   Unfinished : Front

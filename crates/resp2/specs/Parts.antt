@@ -1,9 +1,19 @@
 -- The pieces that replies are written from. No public clause needs them.
 use Rattle.std.specs.Prelude.{ℕ, List, ◌++◌}
 use Rattle.std.specs.List.{flat_map}
-use Rattle.resp2.specs.Reply.{element_spelling}
+use Rattle.resp2.specs.Reply.{element_spelling, line_spelling}
+use Rattle.resp2.specs.Request.{crlf}
+use Rattle.resp2.specs.declared.parts.Parts.{Parts}
+use Rattle.resp2.specs.declared.parts.Parts.TheVariants.{Line, Bulk}
 use Rattle.resp2.specs.declared.parts.Pieces.{Pieces}
+use Rattle.resp2.specs.declared.parts.Pieces.TheVariants.{One, Many}
 
--- the bytes that they spell
+-- the bytes that the parts spell
+abbrev pub parts_spelling : Parts → List ℕ
+parts_spelling (Line mark text) = line_spelling mark text.now
+parts_spelling (Bulk len bytes) = line_spelling 36 len.now ++ (bytes.now ++ crlf)
+
+-- and those of the pieces
 abbrev pub spelled_by : Pieces → List ℕ
-spelled_by pieces = flat_map (λ part. part.now) pieces.parts ++ flat_map element_spelling pieces.elements.now
+spelled_by (One parts) = parts_spelling parts
+spelled_by (Many elements) = flat_map element_spelling elements.now

@@ -1,7 +1,7 @@
 -- How far a reader is: what it took from the front of its input, and what a step takes more. No public clause needs it.
-use Rattle.std.specs.Prelude.{◌≡◌, ◌<◌, ◌≤◌, ◌+◌, ℕ, List, length, All, IfSome, IfNone, Option, None, Some, Result, Ok, Err}
+use Rattle.std.specs.Prelude.{◌≡◌, ◌≤◌, ◌+◌, ℕ, Bool, true, false, List, [], ◌∷◌, ◌++◌, length, All, IfSome, IfNone, Option, None, Some, Result, Ok, Err}
 use Rattle.resp2.specs.declared.fault.Fault.{Fault}
-use Rattle.resp2.specs.declared.fault.Fault.TheVariants.{Memory, TooLong}
+use Rattle.resp2.specs.declared.fault.Fault.TheVariants.{Memory}
 use Rattle.resp2.specs.declared.words.TheConstants.{MOST_WORDS, MOST_WORD_BYTES, MOST_REQUEST_BYTES}
 use Rattle.resp2.specs.declared.words.Partial.{Partial}
 use Rattle.resp2.specs.declared.reader.Progress.{Progress}
@@ -19,6 +19,18 @@ abbrev pub Takes : {X : Type 0} → Result (Option X) Fault → Seen X → List 
 Takes (Ok None) seen rest = seen ≡ Wants
 Takes (Ok (Some x)) seen rest = seen ≡ Found x rest
 Takes (Err fault) seen rest = Refuses fault seen
+
+-- the answer says whether a word was taken, which then stands behind the others
+abbrev pub TakesWord : Result Bool Fault → Seen (List ℕ) → List (List ℕ) → List (List ℕ) → List ℕ → Type 0
+TakesWord (Ok true) seen old new rest = (word : List ℕ) × (seen ≡ Found word rest) × (new ≡ old ++ word ∷ [])
+TakesWord (Ok false) seen old new rest = (seen ≡ Wants) × (new ≡ old)
+TakesWord (Err fault) seen old new rest = Refuses fault seen × (new ≡ old)
+
+-- the answer says whether all words of the request were taken, which are then these
+abbrev pub TakesAll : Result Bool Fault → Seen (List (List ℕ)) → List (List ℕ) → List ℕ → Type 0
+TakesAll (Ok true) seen words rest = seen ≡ Found words rest
+TakesAll (Ok false) seen words rest = seen ≡ Wants
+TakesAll (Err fault) seen words rest = Refuses fault seen
 
 -- ---- what was read stands again in front of what is left
 
@@ -43,6 +55,12 @@ partial_of Between = None
 partial_of (Reading partial) = Some partial
 partial_of (Broken _ partial) = partial
 
+-- its words
+abbrev pub words_of : Progress → List (List ℕ)
+words_of Between = []
+words_of (Reading partial) = partial.words.items
+words_of (Broken _ _) = []
+
 -- all bytes that were not handed out
 abbrev pub pending_of : Progress → List ℕ → List ℕ
 pending_of progress input = request_front (partial_of progress) input
@@ -66,17 +84,17 @@ pub record IsPartial (partial : Partial) : Type 0 where
   pub sized : HasLen partial.len
   pub idle : partial.left ≡ 0 → partial.len ≡ None
 
--- no word of the request is left
-pub record IsWhole (words : List (List ℕ)) (partial : Partial) : Type 0 where
-  pub all : partial.words.items ≡ words
-  pub none_left : partial.left ≡ 0
-  pub no_len : partial.len ≡ None
-
 -- the same of a request that is being read
 abbrev pub IsProgress : Progress → Type 0
 IsProgress Between = Unit {0}
 IsProgress (Reading partial) = IsPartial partial
 IsProgress (Broken _ _) = Unit {0}
+
+-- a request is being read, and no word of it is to come
+abbrev pub IsWhole : Progress → Type 0
+IsWhole Between = ⊥
+IsWhole (Reading partial) = partial.left ≡ 0
+IsWhole (Broken _ _) = ⊥
 
 -- so many bytes of what is pending were consumed: one more than a request may have, at most
 pub record IsCounted (consumed : ℕ) (progress : Progress) (input : List ℕ) : Type 0 where
@@ -86,23 +104,6 @@ pub record IsCounted (consumed : ℕ) (progress : Progress) (input : List ℕ) :
 -- that is known until a bad byte is found
 abbrev pub IsCountedOrBroken : ℕ → Progress → List ℕ → Type 0
 IsCountedOrBroken consumed progress input = IfNone (fault_of progress) (IsCounted consumed progress input)
-
--- the words are those of the request in front, which was found to be too long
-abbrev pub IsPutBack : List (List ℕ) → Progress → Type 0
-IsPutBack words Between = ⊥
-IsPutBack words (Reading _) = ⊥
-IsPutBack words (Broken _ None) = ⊥
-IsPutBack words (Broken fault (Some partial)) = (fault ≡ TooLong) × IsWhole words partial
-
--- the bytes of a request that came whole, or all that came of one that didn't
-abbrev pub so_many : Option (List (List ℕ)) → ℕ → ℕ → ℕ
-so_many None consumed pending = pending
-so_many (Some words) consumed pending = consumed
-
--- what came whole or not is handed over, unless so many bytes are too many
-abbrev pub HandsOver : Option (List (List ℕ)) → ℕ → ℕ → Result (Option (List (List ℕ))) Fault → Type 0
-HandsOver found consumed pending (Ok handed) = (handed ≡ found) × (so_many found consumed pending ≤ MOST_REQUEST_BYTES)
-HandsOver found consumed pending (Err fault) = (fault ≡ TooLong) × (MOST_REQUEST_BYTES < so_many found consumed pending)
 
 -- memory was refused, or this is wrong with bytes that are as many as a request may have and one more
 abbrev pub FaultOfFront : Fault → Seen (List (List ℕ)) → Type 0

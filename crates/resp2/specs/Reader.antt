@@ -26,7 +26,7 @@ pub record HandsOut (old : ReaderState) (words : List (List ℕ)) (new : ReaderS
   pub consumed : old.pending ≡ empty_requests count ++ request_spelling words ++ new.pending
   pub still_sound : new.fault ≡ None
 
--- the bytes are the beginning of a request, and stay
+-- the bytes are the beginning of a request, perhaps behind some without words, which are passed over; the beginning stays
 pub record Waits (old new : ReaderState) : Type 0 where
   pub sound : old.fault ≡ None
   pub passes_over : PassesOver old new

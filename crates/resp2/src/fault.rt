@@ -11,7 +11,7 @@ pub enum Fault {
     /// No request begins so: the peer doesn't speak the protocol.
     #[error("protocol error")]
     Protocol,
-    /// A word is longer than a request may carry.
+    /// A request has too many words, a word is too long, or a request has too many bytes.
     #[error("too long")]
     TooLong,
     /// Memory was refused: nothing changed, and the call can be made again.

@@ -17,11 +17,11 @@ pub struct Header {
 /// Which numbers a header may have. A smaller one breaks the protocol.
 #[derive(Clone, Copy)]
 pub struct Bounds {
-    /// The smallest number: a request has a word at least, and a word may be empty.
+    /// The smallest number.
     pub least: usize,
     /// The greatest number.
     pub most: usize,
-    /// What a greater number is: too many words break the protocol, a long word is too long.
+    /// What is wrong with a greater number.
     pub above: Fault,
 }
 

@@ -17,7 +17,7 @@ pub fn a_stream_is_read_in_one_way()
 {}
 
 /// Any bytes have exactly one of four things in front: a whole request, the beginning of one, a byte
-/// that breaks the protocol, or one that makes a length too long.
+/// that breaks the protocol, or one that makes a count, a length or a whole request pass its limit.
 pub fn bytes_have_one_front()
     ensures { BytesHaveOneFront }
 {}

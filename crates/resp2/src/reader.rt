@@ -1,10 +1,11 @@
 //! Requests from bytes that come in any pieces.
+ghost use Rattle.std.specs.Bool.{OnTrue};
 ghost use Rattle.std.specs.Prelude.{◌≡◌, ◌≢◌, ◌+◌, ◌<◌, ◌≤◌, [], ◌++◌, length, take, Some, None, Ok, Err, IfOk, IfErr, IfSome, IfNone, OnOk, OnErr, unwrap_or};
 ghost use Rattle.resp2.specs.declared.fault.Fault.TheVariants.{Memory, TooLong};
 ghost use Rattle.resp2.specs.declared.words.TheConstants.{MOST_REQUEST_BYTES};
 ghost use Rattle.resp2.specs.Reading.{Wants, Bad, reading, reading_words};
 ghost use Rattle.resp2.specs.Reader.{HandsOut, Waits, FailsBy, remembered};
-ghost use Rattle.resp2.specs.Progress.{Takes, Refuses, IsProgress, IsCounted, IsCountedOrBroken, IsPutBack, HandsOver, FaultOfFront, BeginsOr, partial_of, fault_of, pending_of};
+ghost use Rattle.resp2.specs.Progress.{Takes, TakesAll, Refuses, IsProgress, IsWhole, IsCounted, IsCountedOrBroken, FaultOfFront, BeginsOr, partial_of, fault_of, pending_of, words_of};
 
 use crate::fault::Fault;
 use crate::words::{Frame, MOST_REQUEST_BYTES, Partial, Words};
@@ -141,10 +142,14 @@ fn take_request(
     ensures counted { IsCountedOrBroken consumed.new progress.new input.new.items }
 {
     let pending = *consumed + input.len();
-    let taken = progress.take_frame(input);
+    let taken = progress.take_words(input);
     *consumed = pending - input.len();
     match taken {
-        Ok(found) => hand_out(found, progress, consumed, pending),
+        Ok(true) => Ok(Some(hand_out(progress, consumed)?)),
+        Ok(false) => {
+            wait(progress, pending)?;
+            Ok(None)
+        }
         Err(fault) => {
             let fault = first_fault(fault, progress, input, *consumed);
             *consumed = pending - input.len();
@@ -154,39 +159,43 @@ fn take_request(
     }
 }
 
-// Hands out what was taken, unless the request has more bytes than it may have: `pending` are all bytes that were fed and
-// not handed out.
-fn hand_out(
-    found: Option<Frame>,
-    progress: &mut Progress,
-    consumed: &mut usize,
-    pending: usize,
-) -> Result<Option<Frame>, Fault>
-    requires { fault_of progress.old ≡ None }
-    ensures outcome { HandsOver found consumed.old pending result }
-    ensures none { found ≡ None → partial_of progress.new ≡ partial_of progress.old }
-    ensures sound { OnOk result ((progress.new ≡ progress.old) × (found ≡ None → consumed.new ≡ consumed.old)) }
-    ensures again { IfOk result (λ found. IfSome found (λ _. consumed.new ≡ 0)) }
-    ensures broken { OnErr result (fault_of progress.new ≡ Some TooLong) }
-    ensures back { OnErr result (IfSome found (λ frame. IsPutBack frame progress.new)) }
+// Hands out a request that came whole, unless it has more bytes than it may have.
+fn hand_out(progress: &mut Progress, consumed: &mut usize) -> Result<Frame, Fault>
+    requires progress { IsProgress progress.old }
+    requires whole { IsWhole progress.old }
+    ensures few { OnOk result (consumed.old ≤ MOST_REQUEST_BYTES) }
+    ensures frame { IfOk result (λ frame. frame ≡ words_of progress.old) }
+    ensures again { OnOk result ((progress.new ≡ Progress.Between) × (consumed.new ≡ 0)) }
+    ensures many { IfErr result (λ fault. (fault ≡ TooLong) × (MOST_REQUEST_BYTES < consumed.old)) }
+    ensures broken { OnErr result ((fault_of progress.new ≡ Some TooLong) × (partial_of progress.new ≡ partial_of progress.old)) }
 {
-    let Some(frame) = found else {
-        if pending > MOST_REQUEST_BYTES {
-            progress.stop_at(Fault::TooLong);
-            return Err(Fault::TooLong);
-        }
-        return Ok(None);
-    };
     if *consumed > MOST_REQUEST_BYTES {
-        let partial = Partial::from(frame);
-        *progress = Progress::Broken(Fault::TooLong, Some(partial));
+        progress.stop_at(Fault::TooLong);
         return Err(Fault::TooLong);
     }
+    let Progress::Reading(partial) = mem::replace(progress, Progress::Between) else {
+        unreachable!();
+    };
     *consumed = 0;
-    Ok(Some(frame))
+    Ok(partial.into_frame())
+}
+
+// Waits for more bytes of a request, unless more came than it may have: `pending` are all that were fed and not handed out.
+fn wait(progress: &mut Progress, pending: usize) -> Result<(), Fault>
+    requires { fault_of progress.old ≡ None }
+    ensures few { OnOk result ((progress.new ≡ progress.old) × (pending ≤ MOST_REQUEST_BYTES)) }
+    ensures many { IfErr result (λ fault. (fault ≡ TooLong) × (MOST_REQUEST_BYTES < pending)) }
+    ensures broken { OnErr result ((fault_of progress.new ≡ Some TooLong) × (partial_of progress.new ≡ partial_of progress.old)) }
+{
+    if pending > MOST_REQUEST_BYTES {
+        progress.stop_at(Fault::TooLong);
+        return Err(Fault::TooLong);
+    }
+    Ok(())
 }
 
 // The fault of the first bad byte. The one at hand may be behind the first byte that is too many for a request.
+#[inline(never)]
 fn first_fault(
     fault: Fault,
     progress: &mut Progress,
@@ -218,7 +227,7 @@ fn first_fault(
 }
 
 // The fault of the first bad byte among the first `len` bytes of the input, which are as many as the request may have and one
-// more. Where none of them is bad alone, that last one is.
+// more. Where nothing else is wrong with them, the last one is too many.
 fn fault_within(progress: &mut Progress, input: &mut BytesMut, len: usize) -> Fault
     requires progress { IsProgress progress.old }
     requires sound { fault_of progress.old ≡ None }
@@ -235,7 +244,7 @@ fn fault_within(progress: &mut Progress, input: &mut BytesMut, len: usize) -> Fa
     else {
         return Fault::Memory;
     };
-    let taken = progress.take_frame(&mut front);
+    let taken = progress.take_words(&mut front);
     input.advance(len - front.len());
     match taken {
         Ok(_) => Fault::TooLong,
@@ -255,30 +264,22 @@ impl Progress {
         }
     }
 
-    /// The words of the request in front, once it is whole, however many bytes it has.
-    fn take_frame(&mut self, input: &mut BytesMut) -> Result<Option<Frame>, Fault>
+    /// Takes the words of the request in front, however many bytes it has, and says whether those are all.
+    fn take_words(&mut self, input: &mut BytesMut) -> Result<bool, Fault>
         requires progress { IsProgress self.old }
         requires sound { fault_of self.old ≡ None }
-        ensures takes { Takes result (reading_words (pending_of self.old input.old.items))
-            (pending_of self.new input.new.items) }
-        ensures found { IfOk result (λ found. IfSome found (λ _. self.new ≡ Progress.Between)) }
-        ensures unfinished { IfOk result (λ found. IfNone found
-            (pending_of self.new input.new.items ≡ pending_of self.old input.old.items)) }
-        ensures unchanged { OnErr result
-            (pending_of self.new input.new.items ≡ pending_of self.old input.old.items) }
+        ensures takes { TakesAll result (reading_words (pending_of self.old input.old.items)) (words_of self.new) input.new.items }
+        ensures whole { IfOk result (λ all. OnTrue all (IsWhole self.new)) }
+        ensures kept { pending_of self.new input.new.items ≡ pending_of self.old input.old.items }
         ensures sound { fault_of self.new ≡ None }
         ensures progress { IsProgress self.new }
         ensures shrinks { length input.new.items ≤ length input.old.items }
     {
         self.begin(input)?;
         let Progress::Reading(partial) = self else {
-            return Ok(None);
+            return Ok(false);
         };
-        let Some(frame) = partial.take_words(input)? else {
-            return Ok(None);
-        };
-        *self = Progress::Between;
-        Ok(Some(frame))
+        partial.take_words(input)
     }
 
     /// Reads the header of the request in front, where it is the next to be read and whole.

@@ -1,9 +1,9 @@
 //! The words of a request, and a request of which some words are still to come.
-ghost use Rattle.std.specs.Prelude.{◌≡◌, ◌+◌, ◌<◌, ◌≤◌, ◌↔◌, ◌^◌, [], ℕ, All, length, take, drop, slice_get, Some, None, IfOk, IfErr, IfSome, IsSome, IfNone, OnOk, OnErr};
+ghost use Rattle.std.specs.Prelude.{◌≡◌, ◌+◌, ◌<◌, ◌≤◌, ◌↔◌, ◌^◌, [], ℕ, All, length, take, drop, slice_get, Some, None, IfOk, IfErr, IfSome, IsSome, IfNone, OnOk, OnErr, vec_len, vec_capacity};
 ghost use Rattle.std.specs.Bool.{OnTrue, OnFalse};
 ghost use Rattle.resp2.specs.Request.{IsRequest, KeepsLimits, bulk_spelling, header_spelling, request_spelling};
 ghost use Rattle.resp2.specs.Reading.{Wants, Bad, Found, body_at, word_at, reading_words};
-ghost use Rattle.resp2.specs.Progress.{Takes, Refuses, HasLen, IsPartial, word_front, partial_onto};
+ghost use Rattle.resp2.specs.Progress.{TakesWord, TakesAll, Refuses, HasLen, IsPartial, word_front, partial_onto};
 
 use crate::fault::Fault;
 use crate::header::{Bounds, read_header};
@@ -12,7 +12,6 @@ use bytes::BytesMut;
 use itoa::Buffer;
 use std::alloc::{AllocError, Global};
 use std::marker::Model;
-use std::mem;
 
 /// The most words of a request.
 pub const MOST_WORDS: usize = 65_536;
@@ -186,20 +185,6 @@ pub struct Partial {
     len: Option<usize>,
 }
 
-impl From<Frame> for Partial {
-    ghost use Rattle.resp2.specs.Progress.{IsWhole};
-
-    ghost from_gives = { λ frame partial. IsWhole frame partial };
-
-    fn from(frame: Frame) -> Partial {
-        Partial {
-            words: frame.words,
-            left: 0,
-            len: None,
-        }
-    }
-}
-
 impl Partial {
     /// The request whose header is in front, or None where the header isn't whole.
     pub fn begin(input: &mut BytesMut) -> Result<Option<Partial>, Fault>
@@ -229,35 +214,35 @@ impl Partial {
         }))
     }
 
-    /// Takes the words that came whole, and hands all of them out once none is left.
+    /// Takes the words that came whole, and says whether those are all.
     ///
     /// An error leaves what can be gone on with: nothing is lost.
-    pub fn take_words(&mut self, input: &mut BytesMut) -> Result<Option<Frame>, Fault>
+    pub fn take_words(&mut self, input: &mut BytesMut) -> Result<bool, Fault>
         requires { IsPartial self.old }
-        ensures takes { Takes result (reading_words (partial_onto self.old input.old.items)) input.new.items }
-        ensures partial { IfOk result (λ found. IfNone found (IsPartial self.new)) }
-        ensures unfinished { IfOk result (λ found. IfNone found
-            (partial_onto self.new input.new.items ≡ partial_onto self.old input.old.items)) }
-        ensures err { OnErr result (IsPartial self.new) }
-        ensures unchanged { OnErr result
-            (partial_onto self.new input.new.items ≡ partial_onto self.old input.old.items) }
+        ensures takes { TakesAll result (reading_words (partial_onto self.old input.old.items)) self.new.words.items input.new.items }
+        ensures all { IfOk result (λ all. OnTrue all (self.new.left ≡ 0)) }
+        ensures partial { IsPartial self.new }
+        ensures kept { partial_onto self.new input.new.items ≡ partial_onto self.old input.old.items }
         ensures shrinks { length input.new.items ≤ length input.old.items }
     {
         'words: while self.left > 0 {
             // A word that was taken is no longer in the input, so the room for it comes first: a refusal here loses no word.
             self.words.reserve(1)?;
-            let Some(word) = take_word(input, &mut self.len)? else {
-                return Ok(None);
-            };
-            let Ok(()) = self.words.push(word) else {
-                unreachable!();
-            };
+            if !take_word(input, &mut self.len, &mut self.words)? {
+                return Ok(false);
+            }
             self.left -= 1;
         }
-        let none = Vec::new(*self.words.allocator());
-        Ok(Some(Frame {
-            words: mem::replace(&mut self.words, none),
-        }))
+        Ok(true)
+    }
+
+    /// The words, where none is to come.
+    pub fn into_frame(self) -> Frame
+        requires partial { IsPartial self }
+        requires all { self.left ≡ 0 }
+        ensures { result ≡ self.words.items }
+    {
+        Frame { words: self.words }
     }
 }
 
@@ -265,12 +250,17 @@ impl Partial {
 ///
 /// A header is consumed as soon as it is whole, and its length is remembered: so a long word that
 /// comes in many pieces isn't looked at again with each of them.
-fn take_word(input: &mut BytesMut, len: &mut Option<usize>) -> Result<Option<ByteString>, Fault>
-    requires { HasLen len.old }
-    ensures takes { Takes result
-        (word_at MOST_WORD_BYTES (word_front len.old input.old.items)) input.new.items }
-    ensures next { IfOk result (λ found. IfSome found (λ _. len.new ≡ None)) }
-    ensures unfinished { IfOk result (λ found. IfNone found
+fn take_word(
+    input: &mut BytesMut,
+    len: &mut Option<usize>,
+    words: &mut Vec<ByteString>,
+) -> Result<bool, Fault>
+    requires len { HasLen len.old }
+    requires room { vec_len words.old < vec_capacity words.old }
+    ensures takes { TakesWord result (word_at MOST_WORD_BYTES (word_front len.old input.old.items))
+        words.old.items words.new.items input.new.items }
+    ensures next { IfOk result (λ taken. OnTrue taken (len.new ≡ None)) }
+    ensures unfinished { IfOk result (λ taken. OnFalse taken
         (word_front len.new input.new.items ≡ word_front len.old input.old.items)) }
     ensures err { OnErr result
         (word_front len.new input.new.items ≡ word_front len.old input.old.items) }
@@ -278,9 +268,9 @@ fn take_word(input: &mut BytesMut, len: &mut Option<usize>) -> Result<Option<Byt
     ensures shrinks { length input.new.items ≤ length input.old.items }
 {
     let Some(known) = take_len(input, len)? else {
-        return Ok(None);
+        return Ok(false);
     };
-    take_body(input, len, known)
+    take_body(input, len, known, words)
 }
 
 /// The word's length, which is read and remembered where it wasn't yet.
@@ -330,12 +320,15 @@ fn take_body(
     input: &mut BytesMut,
     len: &mut Option<usize>,
     known: usize,
-) -> Result<Option<ByteString>, Fault>
+    words: &mut Vec<ByteString>,
+) -> Result<bool, Fault>
     requires len { len.old ≡ Some known }
     requires limit { HasLen len.old }
-    ensures takes { Takes result (body_at known input.old.items) input.new.items }
-    ensures next { IfOk result (λ found. IfSome found (λ _. len.new ≡ None)) }
-    ensures unfinished { IfOk result (λ found. IfNone found
+    requires room { vec_len words.old < vec_capacity words.old }
+    ensures takes { TakesWord result (body_at known input.old.items)
+        words.old.items words.new.items input.new.items }
+    ensures next { IfOk result (λ taken. OnTrue taken (len.new ≡ None)) }
+    ensures unfinished { IfOk result (λ taken. OnFalse taken
         (word_front len.new input.new.items ≡ word_front len.old input.old.items)) }
     ensures err { OnErr result
         (word_front len.new input.new.items ≡ word_front len.old input.old.items) }
@@ -344,12 +337,13 @@ fn take_body(
 {
     if !is_whole(input.as_slice(), known)? {
         make_room(input, known);
-        return Ok(None);
+        return Ok(false);
     }
     let word = cut(input, known)?;
+    words.push_reserved(word);
     input.advance(2);
     *len = None;
-    Ok(Some(word))
+    Ok(true)
 }
 
 /// Asks at once for the room that a whole word takes, so that a long one doesn't move as its bytes

@@ -3,13 +3,14 @@ ghost use Rattle.std.specs.Prelude.{◌≡◌, ◌++◌, OnOk, OnErr};
 ghost use Rattle.std.specs.List.{flat_map};
 ghost use Rattle.std.specs.Io.KnownBytes.{Appends};
 ghost use Rattle.resp2.specs.Counting.{inner_of, failures_of, HasRisen};
-ghost use Rattle.resp2.specs.Reply.{element_spelling, reply_spelling};
+ghost use Rattle.resp2.specs.Reply.{element_spelling, line_spelling, reply_spelling};
 ghost use Rattle.resp2.specs.Writing.{AppendsBeginning, Continues};
-ghost use Rattle.resp2.specs.Parts.{spelled_by};
+ghost use Rattle.resp2.specs.Request.{crlf};
+ghost use Rattle.resp2.specs.Parts.{parts_spelling, spelled_by};
 
 use crate::array::Element;
 use crate::counting::{Counting, counted};
-use crate::parts::{Pieces, parts_of, pieces_of};
+use crate::parts::{Parts, Pieces, parts_of, pieces_of};
 use crate::reply::Reply;
 use crate::whole::write_whole;
 use itoa::Buffer;
@@ -28,9 +29,10 @@ pub fn write_reply<W: Write>(reply: &Reply, out: &mut W) -> io::Result<()>
         (AppendsBeginning (W.contents out.old) (W.contents out.new) (reply_spelling reply.now)) }
 {
     let mut digits = Buffer::new();
-    let pieces = pieces_of(reply, &mut digits);
-    write_parts(&pieces.parts, out)?;
-    write_elements(pieces.elements, out)
+    match pieces_of(reply, &mut digits) {
+        Pieces::One(parts) => write_parts(&parts, out),
+        Pieces::Many(elements) => write_elements(elements, out),
+    }
 }
 
 /// Writes the reply where failures are counted: an error is one that was counted.
@@ -49,7 +51,7 @@ pub fn send_reply<W: Write>(reply: &Reply, out: &mut Counting<W>) -> io::Result<
 
 /// Appends the reply to `out`, or nothing where memory is refused.
 ///
-/// It does what `write_reply` does, at half the cost: most replies go this way, and are short.
+/// It does what `write_reply` does, and costs less: most replies go this way, and are short.
 pub fn append_reply(reply: &Reply, out: &mut Vec<u8>) -> Result<(), AllocError>
     ensures ok { OnOk result (out.new.items ≡ out.old.items ++ reply_spelling reply.now) }
     ensures err { OnErr result (out.new.items ≡ out.old.items) }
@@ -67,21 +69,52 @@ fn append_pieces(pieces: &Pieces, out: &mut Vec<u8>) -> Result<(), AllocError>
     ensures ok { OnOk result (out.new.items ≡ out.old.items ++ spelled_by pieces.now) }
     ensures err { OnErr result (Continues out.old.items out.new.items) }
 {
-    append_parts(&pieces.parts, out)?;
-    for element in pieces.elements {
+    match pieces {
+        Pieces::One(parts) => append_parts(parts, out),
+        Pieces::Many(elements) => append_elements(elements, out),
+    }
+}
+
+fn append_elements(elements: &[Element], out: &mut Vec<u8>) -> Result<(), AllocError>
+    ensures ok { OnOk result (out.new.items ≡ out.old.items ++ flat_map element_spelling elements.now) }
+    ensures err { OnErr result (Continues out.old.items out.new.items) }
+{
+    for element in elements {
         append_parts(&parts_of(element, &mut Buffer::new()), out)?;
     }
     Ok(())
 }
 
-fn append_parts(parts: &[&[u8]], out: &mut Vec<u8>) -> Result<(), AllocError>
-    ensures ok { OnOk result (out.new.items ≡ out.old.items ++ flat_map (λ part. part.now) parts.now) }
+#[inline(always)]
+fn append_parts(parts: &Parts, out: &mut Vec<u8>) -> Result<(), AllocError>
+    ensures ok { OnOk result (out.new.items ≡ out.old.items ++ parts_spelling parts.now) }
     ensures err { OnErr result (Continues out.old.items out.new.items) }
 {
-    for part in parts {
-        out.extend_from_slice(part)?;
+    match parts {
+        Parts::Line(mark, text) => append_line(*mark, text, out),
+        Parts::Bulk(len, bytes) => {
+            append_line(b'$', len, out)?;
+            append_end(bytes, out)
+        }
     }
-    Ok(())
+}
+
+#[inline(always)]
+fn append_line(mark: u8, text: &[u8], out: &mut Vec<u8>) -> Result<(), AllocError>
+    ensures ok { OnOk result (out.new.items ≡ out.old.items ++ line_spelling mark text.now) }
+    ensures err { OnErr result (Continues out.old.items out.new.items) }
+{
+    out.extend_from_slice(&[mark])?;
+    append_end(text, out)
+}
+
+// Appends bytes and the end of their line.
+fn append_end(bytes: &[u8], out: &mut Vec<u8>) -> Result<(), AllocError>
+    ensures ok { OnOk result (out.new.items ≡ out.old.items ++ (bytes.now ++ crlf)) }
+    ensures err { OnErr result (Continues out.old.items out.new.items) }
+{
+    out.extend_from_slice(bytes)?;
+    out.extend_from_slice(b"\r\n")
 }
 
 fn write_elements<W: Write>(elements: &[Element], out: &mut W) -> io::Result<()>
@@ -96,14 +129,26 @@ fn write_elements<W: Write>(elements: &[Element], out: &mut W) -> io::Result<()>
     Ok(())
 }
 
-fn write_parts<W: Write>(parts: &[&[u8]], out: &mut W) -> io::Result<()>
+fn write_parts<W: Write>(parts: &Parts, out: &mut W) -> io::Result<()>
     ensures written { OnOk result
-        (Appends (W.contents out.old) (W.contents out.new) (flat_map (λ part. part.now) parts.now)) }
+        (Appends (W.contents out.old) (W.contents out.new) (parts_spelling parts.now)) }
     ensures begun { OnErr result
-        (AppendsBeginning (W.contents out.old) (W.contents out.new) (flat_map (λ part. part.now) parts.now)) }
+        (AppendsBeginning (W.contents out.old) (W.contents out.new) (parts_spelling parts.now)) }
 {
-    for part in parts {
-        write_whole(part, out)?;
+    match parts {
+        Parts::Line(mark, text) => write_slices(&[&[*mark], text, b"\r\n"], out),
+        Parts::Bulk(len, bytes) => write_slices(&[b"$", len, b"\r\n", bytes, b"\r\n"], out),
+    }
+}
+
+fn write_slices<W: Write>(slices: &[&[u8]], out: &mut W) -> io::Result<()>
+    ensures written { OnOk result
+        (Appends (W.contents out.old) (W.contents out.new) (flat_map (λ slice. slice.now) slices.now)) }
+    ensures begun { OnErr result
+        (AppendsBeginning (W.contents out.old) (W.contents out.new) (flat_map (λ slice. slice.now) slices.now)) }
+{
+    for slice in slices {
+        write_whole(slice, out)?;
     }
     Ok(())
 }
