@@ -1,7 +1,7 @@
 //! Commands of words, and the error lines that answer words that are none.
-use crate::script::{bytes_of, push_bytes, push_word, shared_bytes_of, verb_of, words_of};
 use anyhow::{Context, Result, bail};
 use byte_string::ByteString;
+use case_files::{bytes_of, push_bytes, push_word, shared_bytes_of, verb_of, words_of};
 use command::{
     ClusterCommand, Command, CommandFault, Condition, DataCommand, ErrorLine, KeyList, Name,
     PairList, keys, moved_reply, parse,

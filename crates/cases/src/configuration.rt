@@ -1,7 +1,7 @@
 //! Clusters from JSON texts.
-use crate::script::{bytes_of, push_bytes, push_space, shared_bytes_of, verb_of};
 use anyhow::{Context, Result, bail};
 use bytes::Bytes;
+use case_files::{bytes_of, push_bytes, push_space, shared_bytes_of, verb_of};
 use cluster_config::{Config, Host, NodeConfig, NodeId, Role, read_config};
 use slot_table::NodeNo;
 use std::alloc::{AllocError, Global};

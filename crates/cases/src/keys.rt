@@ -1,6 +1,6 @@
 //! Slots of keys.
-use crate::script::{bytes_of, push_word, verb_of};
 use anyhow::{Result, bail};
+use case_files::{bytes_of, push_word, verb_of};
 use key_slot::{Slot, slot, tag};
 use std::alloc::{AllocError, Global};
 

@@ -1,6 +1,6 @@
 //! Replies as bytes on a connection.
-use crate::script::{push_bytes, push_space, push_word, shared_bytes_of, string_of, verb_of};
 use anyhow::{Context, Result, bail};
+use case_files::{push_bytes, push_space, push_word, shared_bytes_of, string_of, verb_of};
 use resp2::{Array, Counting, Element, Line, Reply, append_reply, send_reply, write_reply};
 use std::alloc::{AllocError, Global};
 use std::io;

@@ -1,6 +1,6 @@
 //! Requests from bytes that come in any pieces.
-use crate::script::{bytes_of, push_word, verb_of};
 use anyhow::{Context, Result, bail};
+use case_files::{bytes_of, push_word, verb_of};
 use resp2::{Fault, Reader, Words};
 use std::alloc::{AllocError, Global};
 

@@ -1,6 +1,6 @@
 //! Who has which slots, and what a node does with commands on their keys.
-use crate::script::{bytes_of, verb_of, words_of};
 use anyhow::{Context, Result, bail};
+use case_files::{bytes_of, verb_of, words_of};
 use key_slot::{Slot, SlotRange, slot};
 use redirect::{Decision, decide};
 use slot_state::{MoveNo, SlotStates};

@@ -1,17 +1,18 @@
 //! Commands on a store.
-ghost use Rattle.std.specs.Prelude.{◌≡◌};
+ghost use Rattle.std.specs.Prelude.{◌≡◌, IfOk};
+ghost use Rattle.keyspace.specs.Rebuild.{rebuilding};
 
 use crate::narrow::Narrow;
-use crate::script::{string_of, verb_of};
-use crate::words::{command_of, push_reply, push_values, push_words};
 use anyhow::{Context, Result, bail};
 use byte_string::ByteString;
+use case_files::{push_reply, push_values, push_words, request_of, string_of, verb_of};
+use command::{Command, DataCommand, parse};
 use key_slot::Slot;
 use keyspace::{
     Plan, Store, TreeStore, Value, commit, exec, plan, plan_command, rebuild,
     rebuilding_makes_the_key,
 };
-use resp2::{MOST_WORD_BYTES, Words};
+use resp2::Words;
 use slot_store::{SlotKeys, SlotStore};
 use std::alloc::Global;
 
@@ -64,20 +65,31 @@ fn play_on<S: Store + Drop>(alloc: Global, store: S, script: &str) -> Result<Str
     Ok(bench.given)
 }
 
+// The command of these words.
+fn command_of(alloc: Global, text: &str) -> Result<DataCommand> {
+    match parse(alloc, &request_of(alloc, text)?)? {
+        Command::Data(command) => Ok(command),
+        Command::Cluster(_) => bail!("this command has no keys"),
+    }
+}
+
 // The request that makes the key with its value.
 fn request_making(alloc: Global, key: &ByteString, value: &Value) -> Result<Words> {
-    if key.len() > MOST_WORD_BYTES || string_in(value).len() > MOST_WORD_BYTES {
-        bail!("the word is too long");
+    let words = words_making(alloc, key, value)?;
+    if Words::new(words).is_none() {
+        bail!("the value is too large for a request");
     }
     rebuilding_makes_the_key();
     Ok(rebuild(alloc, key, value)?)
 }
 
-fn string_in(value: &Value) -> &ByteString
-    ensures { value.now ≡ Value.Str result.now }
+// Its words, of which there may be too many, or too long ones.
+fn words_making(alloc: Global, key: &ByteString, value: &Value) -> Result<Vec<ByteString>>
+    ensures { IfOk result (λ words. words.items ≡ rebuilding key.now value.now) }
 {
     let Value::Str(bytes) = value;
-    bytes
+    let name = ByteString::from_static(b"SET");
+    Ok(vec![in alloc; name, key.clone()?, bytes.clone()?]?)
 }
 
 // A store, what was planned last, and what the commands gave.

@@ -1,7 +1,6 @@
 //! What a client sends in a conversation.
-use crate::script::{bytes_of, verb_of};
-use crate::words::request_of;
 use anyhow::{Context, Result, bail};
+use case_files::{bytes_of, request_of, verb_of};
 use std::alloc::{AllocError, Global};
 use std::io::Write;
 use std::mem;

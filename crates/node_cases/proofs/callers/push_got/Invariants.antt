@@ -1,5 +1,5 @@
 use Rattle.tickets.specs.Tickets.{table_of, seats_of}
-use Rattle.cases.proofs.callers.push_got.Given as goal
+use Rattle.node_cases.proofs.callers.push_got.Given as goal
 
 -- the cluster is the one of the configuration and of the seat
 abbrev pub ghosts-push_got_of : goal.ghosts-push_got_of

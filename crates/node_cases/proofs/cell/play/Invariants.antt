@@ -1,5 +1,5 @@
 use Rattle.tickets.specs.Tickets.{table_of, seats_of}
-use Rattle.cases.proofs.cell.play.Given as goal
+use Rattle.node_cases.proofs.cell.play.Given as goal
 
 -- the cluster is the one of the configuration and of the seat
 abbrev pub ghosts-hold : goal.ghosts-hold

@@ -1,7 +1,7 @@
 //! The connections of a node's clients.
 use crate::events::{conn_of, push_conn};
-use crate::script::verb_of;
 use anyhow::{Result, bail};
+use case_files::verb_of;
 use node_core::{Asking, Conn, Connection, Connections};
 use std::alloc::Global;
 

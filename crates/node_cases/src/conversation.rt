@@ -4,9 +4,9 @@ ghost use Rattle.tickets.specs.Tickets.{IsFresh};
 
 use crate::client::Client;
 use crate::clusters::node_of;
-use crate::script::push_bytes;
 use crate::streams::{Pieces, Written};
 use anyhow::{Context, Result, bail};
+use case_files::push_bytes;
 use cluster::Gate;
 use cluster_config::Config;
 use listener::{ConnFault, serve_conn};

@@ -4,10 +4,9 @@ ghost use Rattle.tickets.specs.Tickets.{IsFresh};
 
 use crate::clusters::node_of;
 use crate::events::push_outputs;
-use crate::script::{bytes_of, push_bytes, string_of, verb_of};
-use crate::words::{push_values, push_words};
 use anyhow::{Context, Result, bail};
 use byte_string::ByteString;
+use case_files::{bytes_of, push_bytes, push_values, push_words, string_of, verb_of};
 use cluster_config::Config;
 use keyspace::TreeStore;
 use node_cell::{Deployment, Journal, NodeCell};

@@ -2,8 +2,8 @@
 ghost use Rattle.std.specs.Prelude.{◌≡◌, All, vec_len};
 ghost use Rattle.tickets.specs.Tickets.{id_of, seats_of, table_of};
 
-use crate::script::verb_of;
 use anyhow::{Context, Result, bail};
+use case_files::verb_of;
 use std::alloc::Global;
 use tickets::{Seat, Table};
 

@@ -2,7 +2,6 @@
 use crate::script::{push_bytes, push_word, words_of};
 use anyhow::{Context, Result, bail};
 use byte_string::ByteString;
-use command::{Command, DataCommand, parse};
 use keyspace::{Store, Value};
 use resp2::{Reply, Words, append_reply};
 use std::alloc::Global;
@@ -11,14 +10,6 @@ use std::alloc::Global;
 pub fn request_of(alloc: Global, text: &str) -> Result<Words> {
     let words = words_of(alloc, text)?;
     Words::new(words).context("the words are no request")
-}
-
-/// The command of these words.
-pub fn command_of(alloc: Global, text: &str) -> Result<DataCommand> {
-    match parse(alloc, &request_of(alloc, text)?)? {
-        Command::Data(command) => Ok(command),
-        Command::Cluster(_) => bail!("this command has no keys"),
-    }
 }
 
 /// Puts the bytes of the reply behind the text, as a line.

@@ -1,7 +1,6 @@
 //! Events and outputs of nodes, as the files have them.
-use crate::script::verb_of;
-use crate::words::{push_reply, push_words, request_of};
 use anyhow::{Result, bail};
+use case_files::{push_reply, push_words, request_of, verb_of};
 use command::CommandFault;
 use node_core::{Conn, Event, Outputs, Response, Why};
 use redirect::Decision;
