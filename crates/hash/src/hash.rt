@@ -47,6 +47,7 @@ impl Hash {
     /// The number of fields.
     pub fn len(&self) -> usize
         ensures len { result ≡ length self.now }
+        ensures small { result < 2 ^ 63 }
         ensures distinct { HasDistinctFields self.now }
     {
         self.entries.len()
