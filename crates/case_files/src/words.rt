@@ -2,9 +2,10 @@
 use crate::script::{push_bytes, push_word, words_of};
 use anyhow::{Context, Result, bail};
 use byte_string::ByteString;
+use hash::Hash;
 use keyspace::{Store, Value};
 use resp2::{Reply, Words, append_reply};
-use std::alloc::Global;
+use std::alloc::{AllocError, Global};
 
 /// The request of these words.
 pub fn request_of(alloc: Global, text: &str) -> Result<Words> {
@@ -49,8 +50,21 @@ pub fn push_values<S: Store>(
                 push_word(text, bytes.as_slice())?;
                 text.push('\n')?;
             }
+            Some(Value::Hash(hash)) => push_fields(text, hash.get())?,
             None => text.push_str(" isn't there\n")?,
         }
     }
     Ok(())
+}
+
+// Each field before its value, in their order, and the end of the line.
+fn push_fields(text: &mut String, hash: &Hash) -> Result<(), AllocError> {
+    text.push_str(" has the fields")?;
+    for (field, value) in hash.iter() {
+        text.push(' ')?;
+        push_word(text, field.as_slice())?;
+        text.push(' ')?;
+        push_word(text, value.as_slice())?;
+    }
+    text.push('\n')
 }

@@ -3,11 +3,12 @@ use anyhow::{Context, Result, bail};
 use byte_string::ByteString;
 use case_files::{bytes_of, push_bytes, push_word, shared_bytes_of, verb_of, words_of};
 use command::{
-    ClusterCommand, Command, CommandFault, Condition, DataCommand, ErrorLine, KeyList, Name,
-    PairList, keys, moved_reply, parse,
+    ClusterCommand, Command, CommandFault, Condition, DataCommand, ErrorLine, Name, PairList,
+    WordList, keys, moved_reply, parse,
 };
 use resp2::{Line, Reply, Words, append_reply};
 use std::alloc::{AllocError, Global};
+use std::mem;
 
 /// `parse WORDS` gives the command with its keys, or the error that answers the words; `name WORD` and `long-name COUNT`,
 /// which is COUNT times `g`, the name that is spelled. `fault` and `error` give the texts of a fault and of an error, and
@@ -38,7 +39,12 @@ fn push_parsed(given: &mut String, words: &str) -> Result<()> {
         return Ok(given.push_str("no request")?);
     };
     match parse(alloc, &words) {
-        Ok(command) => Ok(push_command(given, &command)?),
+        Ok(command) => {
+            let pushed = push_command(given, &command);
+            // It is let go here alone, and not on each way out.
+            mem::drop(command);
+            Ok(pushed?)
+        }
         Err(fault) => Ok(push_bytes(given, fault.line().text())?),
     }
 }
@@ -83,7 +89,7 @@ fn push_data(given: &mut String, command: &DataCommand) -> Result<(), AllocError
             push_pair(given, "SET", key, value)?;
             given.push_str(option_of(*condition))
         }
-        DataCommand::Mget { keys } => push_keys(given, "MGET", keys),
+        DataCommand::Mget { keys } => push_list(given, "MGET", keys),
         DataCommand::Mset { pairs } => push_pairs(given, "MSET", pairs),
         DataCommand::Setnx { key, value } => push_pair(given, "SETNX", key, value),
         DataCommand::Getset { key, value } => push_pair(given, "GETSET", key, value),
@@ -93,9 +99,27 @@ fn push_data(given: &mut String, command: &DataCommand) -> Result<(), AllocError
         DataCommand::Decr { key } => push_words(given, "DECR", &[key.as_slice()]),
         DataCommand::Incrby { key, increment } => push_pair(given, "INCRBY", key, increment),
         DataCommand::Strlen { key } => push_words(given, "STRLEN", &[key.as_slice()]),
-        DataCommand::Del { keys } => push_keys(given, "DEL", keys),
-        DataCommand::Exists { keys } => push_keys(given, "EXISTS", keys),
+        DataCommand::Del { keys } => push_list(given, "DEL", keys),
+        DataCommand::Exists { keys } => push_list(given, "EXISTS", keys),
         DataCommand::TypeOf { key } => push_words(given, "TYPE", &[key.as_slice()]),
+        DataCommand::Hset { key, pairs } => push_setting(given, key, pairs),
+        DataCommand::Hsetnx { key, field, value } => {
+            push_field_change(given, "HSETNX", key, field, value)
+        }
+        DataCommand::Hget { key, field } => push_pair(given, "HGET", key, field),
+        DataCommand::Hmget { key, fields } => push_fields(given, "HMGET", key, fields),
+        DataCommand::Hdel { key, fields } => push_fields(given, "HDEL", key, fields),
+        DataCommand::Hexists { key, field } => push_pair(given, "HEXISTS", key, field),
+        DataCommand::Hlen { key } => push_words(given, "HLEN", &[key.as_slice()]),
+        DataCommand::Hstrlen { key, field } => push_pair(given, "HSTRLEN", key, field),
+        DataCommand::Hkeys { key } => push_words(given, "HKEYS", &[key.as_slice()]),
+        DataCommand::Hvals { key } => push_words(given, "HVALS", &[key.as_slice()]),
+        DataCommand::Hgetall { key } => push_words(given, "HGETALL", &[key.as_slice()]),
+        DataCommand::Hincrby {
+            key,
+            field,
+            increment,
+        } => push_field_change(given, "HINCRBY", key, field, increment),
     }
 }
 
@@ -125,11 +149,37 @@ fn push_pairs(given: &mut String, name: &str, pairs: &PairList) -> Result<(), Al
     Ok(())
 }
 
-fn push_keys(given: &mut String, name: &str, keys: &KeyList) -> Result<(), AllocError> {
+fn push_setting(given: &mut String, key: &ByteString, pairs: &PairList) -> Result<(), AllocError> {
+    push_words(given, "HSET", &[key.as_slice()])?;
+    push_pairs(given, "", pairs)
+}
+
+fn push_field_change(
+    given: &mut String,
+    name: &str,
+    key: &ByteString,
+    field: &ByteString,
+    value: &ByteString,
+) -> Result<(), AllocError> {
+    push_pair(given, name, key, field)?;
+    push_words(given, "", &[value.as_slice()])
+}
+
+fn push_fields(
+    given: &mut String,
+    name: &str,
+    key: &ByteString,
+    fields: &WordList,
+) -> Result<(), AllocError> {
+    push_words(given, name, &[key.as_slice()])?;
+    push_list(given, "", fields)
+}
+
+fn push_list(given: &mut String, name: &str, words: &WordList) -> Result<(), AllocError> {
     given.push_str(name)?;
-    for key in keys.as_slice() {
+    for word in words.as_slice() {
         given.push(' ')?;
-        push_word(given, key.as_slice())?;
+        push_word(given, word.as_slice())?;
     }
     Ok(())
 }
@@ -192,7 +242,9 @@ fn line_of(text: &str) -> Result<ErrorLine> {
         "SlotDown" => ErrorLine::SlotDown,
         "TooLong" => ErrorLine::TooLong,
         "NotAnInteger" => ErrorLine::NotAnInteger,
+        "HashNotAnInteger" => ErrorLine::HashNotAnInteger,
         "Overflow" => ErrorLine::Overflow,
+        "WrongType" => ErrorLine::WrongType,
         _ => bail!("no such error"),
     })
 }

@@ -2,7 +2,7 @@
 ghost use Rattle.std.specs.Prelude.{◌≡◌};
 
 use byte_string::ByteString;
-use keyspace::{Store, Value};
+use keyspace::{FieldChanges, Store, Value};
 use std::alloc::AllocError;
 
 /// A store that has room for a number of new keys.
@@ -31,5 +31,16 @@ impl<S: Store> Store for Narrow<S> {
 
     fn remove(&mut self, key: &ByteString) {
         self.inner.remove(key)
+    }
+
+    // A missing key takes room, whatever the changes leave.
+    fn change_fields(&mut self, key: ByteString, changes: FieldChanges) -> Result<(), AllocError> {
+        if self.inner.get(&key).is_none() {
+            if self.room == 0 {
+                return Err(AllocError);
+            }
+            self.room -= 1;
+        }
+        self.inner.change_fields(key, changes)
     }
 }

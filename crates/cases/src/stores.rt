@@ -1,12 +1,14 @@
 //! Commands on a store.
-ghost use Rattle.std.specs.Prelude.{◌≡◌, IfOk};
-ghost use Rattle.keyspace.specs.Rebuild.{rebuilding};
+ghost use Rattle.std.specs.Prelude.{◌≡◌, ◌∷◌, codes, IfOk};
+ghost use Rattle.hash.specs.Size.{words_of};
+ghost use Rattle.keyspace.specs.Rebuilding.{rebuilding};
 
 use crate::narrow::Narrow;
 use anyhow::{Context, Result, bail};
 use byte_string::ByteString;
 use case_files::{push_reply, push_values, push_words, request_of, string_of, verb_of};
 use command::{Command, DataCommand, parse};
+use hash::Hash;
 use key_slot::Slot;
 use keyspace::{
     Plan, Store, TreeStore, Value, commit, exec, plan, plan_command, rebuild,
@@ -15,13 +17,15 @@ use keyspace::{
 use resp2::Words;
 use slot_store::{SlotKeys, SlotStore};
 use std::alloc::Global;
+use std::mem;
 
 /// A script is played on a store of each kind, and both have to give the same. A line `room COUNT` in front
 /// limits the new keys that they take to that number.
 ///
-/// `exec WORD..`, `plan_command WORD..` and `plan WORD.. | WORD..` give the replies, and `commit` makes the changes of the
-/// last plan. `insert KEY VALUE`, `insert-long KEY COUNT`, a string of COUNT times `x`, and `remove KEY` change the store
-/// themselves, and `values KEY..` reads it. `rebuild KEY` gives the request that makes the key with its value.
+/// `exec WORD..`, `exec-fields KEY COUNT`, which is HSET of so many numbered fields, `plan_command WORD..` and
+/// `plan WORD.. | WORD..` give the replies, and `commit` makes the changes of the last plan. `insert KEY VALUE`,
+/// `insert-long KEY COUNT`, a string of COUNT times `x`, and `remove KEY` change the store themselves, and `values KEY..`
+/// reads it. `rebuild KEY` gives the request that makes the key with its value.
 ///
 /// Behind a first line `slots` there are also `count SLOT`, the number of keys in a slot, and `keys SLOT COUNT`, the first
 /// of them.
@@ -87,9 +91,26 @@ fn request_making(alloc: Global, key: &ByteString, value: &Value) -> Result<Word
 fn words_making(alloc: Global, key: &ByteString, value: &Value) -> Result<Vec<ByteString>>
     ensures { IfOk result (λ words. words.items ≡ rebuilding key.now value.now) }
 {
-    let Value::Str(bytes) = value;
-    let name = ByteString::from_static(b"SET");
-    Ok(vec![in alloc; name, key.clone()?, bytes.clone()?]?)
+    match value {
+        Value::Str(bytes) => {
+            let name = ByteString::from_static(b"SET");
+            Ok(vec![in alloc; name, key.clone()?, bytes.clone()?]?)
+        }
+        Value::Hash(hash) => words_setting(alloc, key, hash.get()),
+    }
+}
+
+// HSET with each field before its value.
+fn words_setting(alloc: Global, key: &ByteString, hash: &Hash) -> Result<Vec<ByteString>>
+    ensures { IfOk result (λ words. words.items ≡ codes "HSET" ∷ key.now ∷ words_of hash.now) }
+{
+    let name = ByteString::from_static(b"HSET");
+    let mut words = vec![in alloc; name, key.clone()?]?;
+    for (field, value) in hash.iter() {
+        words.push(field.clone()?)?;
+        words.push(value.clone()?)?;
+    }
+    Ok(words)
 }
 
 // A store, what was planned last, and what the commands gave.
@@ -117,6 +138,7 @@ impl<S: Store> Bench<S> {
             ("plan_command", words) => self.plan_command(words),
             ("plan", commands) => self.plan(commands),
             ("commit", "") => self.commit(),
+            ("exec-fields", words) => self.exec_fields(words),
             ("insert", words) => self.insert(words),
             ("insert-long", words) => self.insert_long(words),
             ("remove", key) => self.remove(key),
@@ -128,10 +150,23 @@ impl<S: Store> Bench<S> {
 
     fn exec(&mut self, words: &str) -> Result<()> {
         let command = command_of(self.alloc, words)?;
-        match exec(self.alloc, &mut self.store, &command) {
+        let answer = exec(self.alloc, &mut self.store, &command);
+        // It is let go here alone, and not on each way out.
+        mem::drop(command);
+        match answer {
             Ok(reply) => push_reply(self.alloc, &mut self.given, &reply),
             Err(_) => self.say("refused"),
         }
+    }
+
+    // HSET of COUNT fields, `0` and the numbers behind it, each with the value `1`.
+    fn exec_fields(&mut self, words: &str) -> Result<()> {
+        let (key, count) = verb_of(words);
+        let mut words = format!(in self.alloc; "HSET {key}")?;
+        for field in 0..count.parse::<u32>()? {
+            write!(words, " {field} 1")?;
+        }
+        self.exec(words.as_str())
     }
 
     fn plan_command(&mut self, words: &str) -> Result<()> {
@@ -159,7 +194,7 @@ impl<S: Store> Bench<S> {
 
     fn commit(&mut self) -> Result<()> {
         let nothing = Plan::new(self.alloc);
-        let planned = std::mem::replace(&mut self.planned, nothing);
+        let planned = mem::replace(&mut self.planned, nothing);
         match commit(self.alloc, &mut self.store, planned) {
             Ok(()) => self.say("committed"),
             Err(_) => self.say("refused"),

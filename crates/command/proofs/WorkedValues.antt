@@ -8,10 +8,11 @@ use Rattle.command.specs.Names.{name_of}
 use Rattle.command.specs.Table.{command_of}
 use Rattle.command.specs.declared.names.Name.TheVariants as name
 use Rattle.command.specs.declared.command.Command.TheVariants.{Data, Cluster}
-use Rattle.command.specs.declared.command.DataCommand.TheVariants.{Ping, Echo, Get, Set, Mget, Mset, Setnx, Getset, Getdel, Append, Incr, Decr, Incrby, Strlen, Del, Exists, TypeOf}
+use Rattle.command.specs.declared.command.DataCommand.TheVariants.{Ping, Echo, Get, Set, Mget, Mset, Setnx, Getset, Getdel, Append, Incr, Decr, Incrby, Strlen, Del, Exists, TypeOf, Hset, Hsetnx, Hget, Hmget, Hdel, Hlen, Hgetall, Hincrby}
 use Rattle.command.specs.declared.command.Condition.TheVariants.{Always, IfMissing, IfThere}
 use Rattle.command.specs.declared.command.ClusterCommand.TheVariants.{KeySlot, MyId, Slots}
 use Rattle.command.specs.declared.fault.CommandFault.TheVariants.{Unknown, UnknownSubcommand, Arity, Syntax}
+use Rattle.command.specs.declared.error_line.ErrorLine.TheVariants.{HashNotAnInteger, WrongType}
 
 -- letters of any case
 get_a : command_of (codes "GeT" ∷ codes "a" ∷ []) ≡ Ok (Data (Get (codes "a")))
@@ -101,6 +102,44 @@ strlen_a = refl
 type_a : command_of (codes "TYPE" ∷ codes "a" ∷ []) ≡ Ok (Data (TypeOf (codes "a")))
 type_a = refl
 
+-- a key, then fields with their values; a field may be repeated
+hset_a_f_1_f_2 : command_of (codes "HSET" ∷ codes "a" ∷ codes "f" ∷ codes "1" ∷ codes "f" ∷ codes "2" ∷ []) ≡ Ok (Data (Hset (codes "a") ((codes "f", codes "1") ∷ (codes "f", codes "2") ∷ [])))
+hset_a_f_1_f_2 = refl
+
+-- at least one pair, and none is half
+hset_a : command_of (codes "HSET" ∷ codes "a" ∷ []) ≡ Err (Arity name.Hset)
+hset_a = refl
+
+hset_a_f_1_g : command_of (codes "HSET" ∷ codes "a" ∷ codes "f" ∷ codes "1" ∷ codes "g" ∷ []) ≡ Err (Arity name.Hset)
+hset_a_f_1_g = refl
+
+hsetnx_a_f_1 : command_of (codes "HSETNX" ∷ codes "a" ∷ codes "f" ∷ codes "1" ∷ []) ≡ Ok (Data (Hsetnx (codes "a") (codes "f") (codes "1")))
+hsetnx_a_f_1 = refl
+
+hsetnx_a_f : command_of (codes "HSETNX" ∷ codes "a" ∷ codes "f" ∷ []) ≡ Err (Arity name.Hsetnx)
+hsetnx_a_f = refl
+
+hget_a_f : command_of (codes "hGet" ∷ codes "a" ∷ codes "f" ∷ []) ≡ Ok (Data (Hget (codes "a") (codes "f")))
+hget_a_f = refl
+
+-- a key, then fields in their order
+hmget_a_f_g : command_of (codes "HMGET" ∷ codes "a" ∷ codes "f" ∷ codes "g" ∷ []) ≡ Ok (Data (Hmget (codes "a") (codes "f" ∷ codes "g" ∷ [])))
+hmget_a_f_g = refl
+
+-- and at least one
+hdel_a : command_of (codes "HDEL" ∷ codes "a" ∷ []) ≡ Err (Arity name.Hdel)
+hdel_a = refl
+
+hlen_a : command_of (codes "HLEN" ∷ codes "a" ∷ []) ≡ Ok (Data (Hlen (codes "a")))
+hlen_a = refl
+
+hgetall_a_f : command_of (codes "HGETALL" ∷ codes "a" ∷ codes "f" ∷ []) ≡ Err (Arity name.Hgetall)
+hgetall_a_f = refl
+
+-- as with INCRBY, an increment that is no number is a fault of the execution
+hincrby_a_f_x : command_of (codes "HINCRBY" ∷ codes "a" ∷ codes "f" ∷ codes "x" ∷ []) ≡ Ok (Data (Hincrby (codes "a") (codes "f") (codes "x")))
+hincrby_a_f_x = refl
+
 -- a key may be repeated
 exists_a_a : command_of (codes "EXISTS" ∷ codes "a" ∷ codes "a" ∷ []) ≡ Ok (Data (Exists (codes "a" ∷ codes "a" ∷ [])))
 exists_a_a = refl
@@ -127,6 +166,12 @@ get_a_b_reply = refl
 
 syntax_reply : error_text (line_of Syntax) ≡ codes "ERR syntax error"
 syntax_reply = refl
+
+wrong_type_reply : error_text WrongType ≡ codes "WRONGTYPE Operation against a key holding the wrong kind of value"
+wrong_type_reply = refl
+
+hash_not_an_integer_reply : error_text HashNotAnInteger ≡ codes "ERR hash value is not an integer"
+hash_not_an_integer_reply = refl
 
 cluster_keyslot_foo : command_of (codes "CLUSTER" ∷ codes "KEYSLOT" ∷ codes "foo" ∷ []) ≡ Ok (Cluster (KeySlot (codes "foo")))
 cluster_keyslot_foo = refl
@@ -167,6 +212,10 @@ keys_of_mget = refl
 keys_of_mset : keys_of (Data (Mset ((codes "b", codes "1") ∷ (codes "a", codes "2") ∷ (codes "b", codes "3") ∷ []))) ≡ codes "b" ∷ codes "a" ∷ codes "b" ∷ []
 keys_of_mset = refl
 
+-- nor are fields and values
+keys_of_hset : keys_of (Data (Hset (codes "a") ((codes "f", codes "1") ∷ []))) ≡ codes "a" ∷ []
+keys_of_hset = refl
+
 -- a message is no key
 keys_of_echo : keys_of (Data (Echo (codes "a"))) ≡ []
 keys_of_echo = refl
@@ -178,6 +227,10 @@ only_key_of_set = refl
 only_key_of_mget : only_key (Data (Mget (codes "a" ∷ []))) ≡ None
 only_key_of_mget = refl
 
+-- fields are not keys, so HMGET has one key
+only_key_of_hmget : only_key (Data (Hmget (codes "a") (codes "f" ∷ codes "g" ∷ []))) ≡ Some (codes "a")
+only_key_of_hmget = refl
+
 -- KEYSLOT neither reads nor writes the key
 keys_of_keyslot : keys_of (Cluster (KeySlot (codes "foo"))) ≡ []
 keys_of_keyslot = refl
@@ -187,6 +240,12 @@ writes_set = refl
 
 writes_mset : is_write (Data (Mset ((codes "a", codes "1") ∷ []))) ≡ true
 writes_mset = refl
+
+writes_hdel : is_write (Data (Hdel (codes "a") (codes "f" ∷ []))) ≡ true
+writes_hdel = refl
+
+writes_no_hgetall : is_write (Data (Hgetall (codes "a"))) ≡ false
+writes_no_hgetall = refl
 
 writes_no_mget : is_write (Data (Mget (codes "a" ∷ []))) ≡ false
 writes_no_mget = refl

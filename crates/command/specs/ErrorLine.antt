@@ -4,7 +4,7 @@ use Rattle.command.specs.Names.{name_text}
 use Rattle.command.specs.declared.fault.CommandFault.{CommandFault}
 use Rattle.command.specs.declared.fault.CommandFault.TheVariants.{Unknown, UnknownSubcommand, Arity, Syntax, Memory}
 use Rattle.command.specs.declared.error_line.ErrorLine.{ErrorLine}
-use Rattle.command.specs.declared.error_line.ErrorLine.TheVariants.{Protocol, OutOfMemory, Exhausted, UnknownCommand, UnknownSubcommand as UnknownWord, WrongArity, Syntax as WrongSyntax, CrossSlot, SlotDown, TooLong, NotAnInteger, Overflow}
+use Rattle.command.specs.declared.error_line.ErrorLine.TheVariants.{Protocol, OutOfMemory, Exhausted, UnknownCommand, UnknownSubcommand as UnknownWord, WrongArity, Syntax as WrongSyntax, CrossSlot, SlotDown, TooLong, NotAnInteger, HashNotAnInteger, Overflow, WrongType}
 
 -- what follows the `-`
 abbrev pub error_text : ErrorLine → List ℕ
@@ -18,7 +18,9 @@ error_text CrossSlot = codes "CROSSSLOT Keys in request don't hash to the same s
 error_text SlotDown = codes "CLUSTERDOWN Hash slot not served"
 error_text TooLong = codes "ERR value exceeds maximum allowed size"
 error_text NotAnInteger = codes "ERR value is not an integer or out of range"
+error_text HashNotAnInteger = codes "ERR hash value is not an integer"
 error_text Overflow = codes "ERR increment or decrement would overflow"
+error_text WrongType = codes "WRONGTYPE Operation against a key holding the wrong kind of value"
 error_text (WrongArity name) = codes "ERR wrong number of arguments for '" ++ name_text name ++ codes "' command"
 
 -- the reply to words that are not a command

@@ -3,7 +3,7 @@ use Rattle.std.specs.Prelude.{List, [], ◌∷◌, ℕ, Bool, true, false, Optio
 use Rattle.command.specs.declared.command.Command.{Command}
 use Rattle.command.specs.declared.command.Command.TheVariants.{Data, Cluster}
 use Rattle.command.specs.declared.command.DataCommand.{DataCommand}
-use Rattle.command.specs.declared.command.DataCommand.TheVariants.{Ping, Echo, Get, Set, Mget, Mset, Setnx, Getset, Getdel, Append, Incr, Decr, Incrby, Strlen, Del, Exists, TypeOf}
+use Rattle.command.specs.declared.command.DataCommand.TheVariants.{Ping, Echo, Get, Set, Mget, Mset, Setnx, Getset, Getdel, Append, Incr, Decr, Incrby, Strlen, Del, Exists, TypeOf, Hset, Hsetnx, Hget, Hmget, Hdel, Hexists, Hlen, Hstrlen, Hkeys, Hvals, Hgetall, Hincrby}
 
 -- the keys of pairs, in the order of the request
 abbrev pub pair_keys : List (List ℕ × List ℕ) → List (List ℕ)
@@ -28,6 +28,18 @@ data_keys (Strlen key) = key ∷ []
 data_keys (Del keys) = keys
 data_keys (Exists keys) = keys
 data_keys (TypeOf key) = key ∷ []
+data_keys (Hset key pairs) = key ∷ []
+data_keys (Hsetnx key field value) = key ∷ []
+data_keys (Hget key field) = key ∷ []
+data_keys (Hmget key fields) = key ∷ []
+data_keys (Hdel key fields) = key ∷ []
+data_keys (Hexists key field) = key ∷ []
+data_keys (Hlen key) = key ∷ []
+data_keys (Hstrlen key field) = key ∷ []
+data_keys (Hkeys key) = key ∷ []
+data_keys (Hvals key) = key ∷ []
+data_keys (Hgetall key) = key ∷ []
+data_keys (Hincrby key field increment) = key ∷ []
 
 -- a command about the cluster names none
 abbrev pub keys_of : Command → List (List ℕ)
@@ -53,6 +65,18 @@ only_data_key (Strlen key) = Some key
 only_data_key (Del keys) = None
 only_data_key (Exists keys) = None
 only_data_key (TypeOf key) = Some key
+only_data_key (Hset key pairs) = Some key
+only_data_key (Hsetnx key field value) = Some key
+only_data_key (Hget key field) = Some key
+only_data_key (Hmget key fields) = Some key
+only_data_key (Hdel key fields) = Some key
+only_data_key (Hexists key field) = Some key
+only_data_key (Hlen key) = Some key
+only_data_key (Hstrlen key field) = Some key
+only_data_key (Hkeys key) = Some key
+only_data_key (Hvals key) = Some key
+only_data_key (Hgetall key) = Some key
+only_data_key (Hincrby key field increment) = Some key
 
 abbrev pub only_key : Command → Option (List ℕ)
 only_key (Data command) = only_data_key command
@@ -77,6 +101,18 @@ is_data_write (Strlen key) = false
 is_data_write (Del keys) = true
 is_data_write (Exists keys) = false
 is_data_write (TypeOf key) = false
+is_data_write (Hset key pairs) = true
+is_data_write (Hsetnx key field value) = true
+is_data_write (Hget key field) = false
+is_data_write (Hmget key fields) = false
+is_data_write (Hdel key fields) = true
+is_data_write (Hexists key field) = false
+is_data_write (Hlen key) = false
+is_data_write (Hstrlen key field) = false
+is_data_write (Hkeys key) = false
+is_data_write (Hvals key) = false
+is_data_write (Hgetall key) = false
+is_data_write (Hincrby key field increment) = true
 
 abbrev pub is_write : Command → Bool
 is_write (Data command) = is_data_write command

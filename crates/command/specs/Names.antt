@@ -2,7 +2,7 @@
 use Rattle.std.specs.Prelude.{List, [], ◌∷◌, ℕ, Option, codes, find}
 use Rattle.std.specs.Str.{str_eq_ignore_ascii_case}
 use Rattle.command.specs.declared.names.Name.{Name}
-use Rattle.command.specs.declared.names.Name.TheVariants.{Get, Set, Ping, Echo, Mget, Mset, Setnx, Getset, Getdel, Append, Incr, Decr, Incrby, Strlen, Del, Exists, TypeOf, Cluster}
+use Rattle.command.specs.declared.names.Name.TheVariants.{Get, Set, Ping, Echo, Hget, Hset, Mget, Mset, Setnx, Getset, Getdel, Append, Incr, Decr, Incrby, Strlen, Del, Exists, TypeOf, Hsetnx, Hmget, Hdel, Hexists, Hlen, Hstrlen, Hkeys, Hvals, Hgetall, Hincrby, Cluster}
 use Rattle.command.specs.declared.names.Subcommand.{Subcommand}
 use Rattle.command.specs.declared.names.Subcommand.TheVariants.{KeySlot, MyId, Slots}
 
@@ -12,6 +12,8 @@ name_text Get = codes "get"
 name_text Set = codes "set"
 name_text Ping = codes "ping"
 name_text Echo = codes "echo"
+name_text Hget = codes "hget"
+name_text Hset = codes "hset"
 name_text Mget = codes "mget"
 name_text Mset = codes "mset"
 name_text Setnx = codes "setnx"
@@ -25,10 +27,20 @@ name_text Strlen = codes "strlen"
 name_text Del = codes "del"
 name_text Exists = codes "exists"
 name_text TypeOf = codes "type"
+name_text Hsetnx = codes "hsetnx"
+name_text Hmget = codes "hmget"
+name_text Hdel = codes "hdel"
+name_text Hexists = codes "hexists"
+name_text Hlen = codes "hlen"
+name_text Hstrlen = codes "hstrlen"
+name_text Hkeys = codes "hkeys"
+name_text Hvals = codes "hvals"
+name_text Hgetall = codes "hgetall"
+name_text Hincrby = codes "hincrby"
 name_text Cluster = codes "cluster"
 
 abbrev pub names : List Name
-names = Get ∷ Set ∷ Ping ∷ Echo ∷ Mget ∷ Mset ∷ Setnx ∷ Getset ∷ Getdel ∷ Append ∷ Incr ∷ Decr ∷ Incrby ∷ Strlen ∷ Del ∷ Exists ∷ TypeOf ∷ Cluster ∷ []
+names = Get ∷ Set ∷ Ping ∷ Echo ∷ Hget ∷ Hset ∷ Mget ∷ Mset ∷ Setnx ∷ Getset ∷ Getdel ∷ Append ∷ Incr ∷ Decr ∷ Incrby ∷ Strlen ∷ Del ∷ Exists ∷ TypeOf ∷ Hsetnx ∷ Hmget ∷ Hdel ∷ Hexists ∷ Hlen ∷ Hstrlen ∷ Hkeys ∷ Hvals ∷ Hgetall ∷ Hincrby ∷ Cluster ∷ []
 
 -- the name that a word spells, in letters of any case
 abbrev pub name_of : List ℕ → Option Name

@@ -10,7 +10,7 @@ use Rattle.command.specs.declared.names.Subcommand.TheVariants as subcommand
 use Rattle.command.specs.declared.command.Command.{Command}
 use Rattle.command.specs.declared.command.Command.TheVariants.{Data, Cluster}
 use Rattle.command.specs.declared.command.DataCommand.{DataCommand}
-use Rattle.command.specs.declared.command.DataCommand.TheVariants.{Ping, Echo, Get, Set, Mget, Mset, Setnx, Getset, Getdel, Append, Incr, Decr, Incrby, Strlen, Del, Exists, TypeOf}
+use Rattle.command.specs.declared.command.DataCommand.TheVariants.{Ping, Echo, Get, Set, Mget, Mset, Setnx, Getset, Getdel, Append, Incr, Decr, Incrby, Strlen, Del, Exists, TypeOf, Hset, Hsetnx, Hget, Hmget, Hdel, Hexists, Hlen, Hstrlen, Hkeys, Hvals, Hgetall, Hincrby}
 use Rattle.command.specs.declared.command.Condition.{Condition}
 use Rattle.command.specs.declared.command.Condition.TheVariants.{Always, IfMissing, IfThere}
 use Rattle.command.specs.declared.command.ClusterCommand.TheVariants.{KeySlot, MyId, Slots}
@@ -37,21 +37,36 @@ abbrev pub with_two : Name → (List ℕ → List ℕ → DataCommand) → List 
 with_two n make (first ∷ second ∷ []) = Ok (Data (make first second))
 with_two n make _ = Err (Arity n)
 
+-- with three
+abbrev pub with_three : Name → (List ℕ → List ℕ → List ℕ → DataCommand) → List (List ℕ) → Result Command CommandFault
+with_three n make (first ∷ second ∷ third ∷ []) = Ok (Data (make first second third))
+with_three n make _ = Err (Arity n)
+
 -- with one or more keys
 abbrev pub with_keys : Name → (List (List ℕ) → DataCommand) → List (List ℕ) → Result Command CommandFault
 with_keys n make (key ∷ keys) = Ok (Data (make (key ∷ keys)))
 with_keys n make [] = Err (Arity n)
 
+-- with a key, and one or more fields of its hash
+abbrev pub with_fields : Name → (List ℕ → List (List ℕ) → DataCommand) → List (List ℕ) → Result Command CommandFault
+with_fields n make (key ∷ field ∷ fields) = Ok (Data (make key (field ∷ fields)))
+with_fields n make _ = Err (Arity n)
+
 -- the words two by two, or None where one is left over
 abbrev pub pairs_of : List (List ℕ) → Option (List (List ℕ × List ℕ))
 pairs_of [] = Some []
 pairs_of (word ∷ []) = None
-pairs_of (key ∷ value ∷ words) = option_map (λ pairs. (key, value) ∷ pairs) (pairs_of words)
+pairs_of (first ∷ second ∷ words) = option_map (λ pairs. (first, second) ∷ pairs) (pairs_of words)
 
--- MSET takes one or more pairs
-abbrev pub with_pairs : Option (List (List ℕ × List ℕ)) → Result Command CommandFault
-with_pairs (Some (pair ∷ pairs)) = Ok (Data (Mset (pair ∷ pairs)))
-with_pairs _ = Err (Arity name.Mset)
+-- a command with one or more pairs
+abbrev pub with_pairs : Name → (List (List ℕ × List ℕ) → DataCommand) → Option (List (List ℕ × List ℕ)) → Result Command CommandFault
+with_pairs n make (Some (pair ∷ pairs)) = Ok (Data (make (pair ∷ pairs)))
+with_pairs n make _ = Err (Arity n)
+
+-- HSET takes a key, and one or more pairs of a field and its value
+abbrev pub with_field_pairs : List (List ℕ) → Result Command CommandFault
+with_field_pairs (key ∷ words) = with_pairs name.Hset (Hset key) (pairs_of words)
+with_field_pairs [] = Err (Arity name.Hset)
 
 -- the condition that an option of SET spells, in letters of any case
 abbrev pub condition_of : List ℕ → Option Condition
@@ -89,8 +104,10 @@ with_arguments name.Get arguments = with_one name.Get Get arguments
 with_arguments name.Set arguments = with_option arguments
 with_arguments name.Ping arguments = with_message arguments
 with_arguments name.Echo arguments = with_one name.Echo Echo arguments
+with_arguments name.Hget arguments = with_two name.Hget Hget arguments
+with_arguments name.Hset arguments = with_field_pairs arguments
 with_arguments name.Mget arguments = with_keys name.Mget Mget arguments
-with_arguments name.Mset arguments = with_pairs (pairs_of arguments)
+with_arguments name.Mset arguments = with_pairs name.Mset Mset (pairs_of arguments)
 with_arguments name.Setnx arguments = with_two name.Setnx Setnx arguments
 with_arguments name.Getset arguments = with_two name.Getset Getset arguments
 with_arguments name.Getdel arguments = with_one name.Getdel Getdel arguments
@@ -102,6 +119,16 @@ with_arguments name.Strlen arguments = with_one name.Strlen Strlen arguments
 with_arguments name.Del arguments = with_keys name.Del Del arguments
 with_arguments name.Exists arguments = with_keys name.Exists Exists arguments
 with_arguments name.TypeOf arguments = with_one name.TypeOf TypeOf arguments
+with_arguments name.Hsetnx arguments = with_three name.Hsetnx Hsetnx arguments
+with_arguments name.Hmget arguments = with_fields name.Hmget Hmget arguments
+with_arguments name.Hdel arguments = with_fields name.Hdel Hdel arguments
+with_arguments name.Hexists arguments = with_two name.Hexists Hexists arguments
+with_arguments name.Hlen arguments = with_one name.Hlen Hlen arguments
+with_arguments name.Hstrlen arguments = with_two name.Hstrlen Hstrlen arguments
+with_arguments name.Hkeys arguments = with_one name.Hkeys Hkeys arguments
+with_arguments name.Hvals arguments = with_one name.Hvals Hvals arguments
+with_arguments name.Hgetall arguments = with_one name.Hgetall Hgetall arguments
+with_arguments name.Hincrby arguments = with_three name.Hincrby Hincrby arguments
 with_arguments name.Cluster arguments = with_subcommands arguments
 
 abbrev pub named_command : Option Name → List (List ℕ) → Result Command CommandFault

@@ -67,7 +67,7 @@ pub enum DataCommand {
     /// Reads the strings at several keys.
     Mget {
         /// The keys; one may be repeated.
-        keys: KeyList,
+        keys: WordList,
     },
     /// Puts strings at several keys, from left to right, and replaces whatever is there.
     Mset {
@@ -125,17 +125,97 @@ pub enum DataCommand {
     /// Removes keys.
     Del {
         /// The keys; one may be repeated.
-        keys: KeyList,
+        keys: WordList,
     },
     /// Counts the keys that are there.
     Exists {
         /// The keys; a repeated one is counted again.
-        keys: KeyList,
+        keys: WordList,
     },
     /// Reads the type of the value at a key.
     TypeOf {
         /// The key.
         key: ByteString,
+    },
+    /// Puts values at fields of the hash at a key, from left to right, and makes the hash where the key is missing.
+    Hset {
+        /// The key.
+        key: ByteString,
+        /// Each field with its value; of a repeated field the last value stays.
+        pairs: PairList,
+    },
+    /// Puts a value at a field that is missing.
+    Hsetnx {
+        /// The key.
+        key: ByteString,
+        /// The field.
+        field: ByteString,
+        /// The value.
+        value: ByteString,
+    },
+    /// Reads the value at a field.
+    Hget {
+        /// The key.
+        key: ByteString,
+        /// The field.
+        field: ByteString,
+    },
+    /// Reads the values at several fields.
+    Hmget {
+        /// The key.
+        key: ByteString,
+        /// The fields; one may be repeated.
+        fields: WordList,
+    },
+    /// Removes fields, and the key once no field is left.
+    Hdel {
+        /// The key.
+        key: ByteString,
+        /// The fields; one may be repeated.
+        fields: WordList,
+    },
+    /// Asks whether a field is there.
+    Hexists {
+        /// The key.
+        key: ByteString,
+        /// The field.
+        field: ByteString,
+    },
+    /// Counts the fields of the hash at a key.
+    Hlen {
+        /// The key.
+        key: ByteString,
+    },
+    /// Reads the length of the value at a field.
+    Hstrlen {
+        /// The key.
+        key: ByteString,
+        /// The field.
+        field: ByteString,
+    },
+    /// Reads all fields of the hash at a key, without their values.
+    Hkeys {
+        /// The key.
+        key: ByteString,
+    },
+    /// Reads all values of the hash at a key, without their fields.
+    Hvals {
+        /// The key.
+        key: ByteString,
+    },
+    /// Reads all fields of the hash at a key, each with its value.
+    Hgetall {
+        /// The key.
+        key: ByteString,
+    },
+    /// Adds to the number at a field.
+    Hincrby {
+        /// The key.
+        key: ByteString,
+        /// The field.
+        field: ByteString,
+        /// The text of what is added. It is read when the command is executed, and may be no number.
+        increment: ByteString,
     },
 }
 
@@ -154,14 +234,26 @@ impl DataCommand {
             | DataCommand::Incr { .. }
             | DataCommand::Decr { .. }
             | DataCommand::Incrby { .. }
-            | DataCommand::Del { .. } => true,
+            | DataCommand::Del { .. }
+            | DataCommand::Hset { .. }
+            | DataCommand::Hsetnx { .. }
+            | DataCommand::Hdel { .. }
+            | DataCommand::Hincrby { .. } => true,
             DataCommand::Ping
             | DataCommand::Echo { .. }
             | DataCommand::Get { .. }
             | DataCommand::Mget { .. }
             | DataCommand::Strlen { .. }
             | DataCommand::Exists { .. }
-            | DataCommand::TypeOf { .. } => false,
+            | DataCommand::TypeOf { .. }
+            | DataCommand::Hget { .. }
+            | DataCommand::Hmget { .. }
+            | DataCommand::Hexists { .. }
+            | DataCommand::Hlen { .. }
+            | DataCommand::Hstrlen { .. }
+            | DataCommand::Hkeys { .. }
+            | DataCommand::Hvals { .. }
+            | DataCommand::Hgetall { .. } => false,
         }
     }
 
@@ -181,7 +273,19 @@ impl DataCommand {
             | DataCommand::Decr { key }
             | DataCommand::Incrby { key, .. }
             | DataCommand::Strlen { key }
-            | DataCommand::TypeOf { key } => Some(key),
+            | DataCommand::TypeOf { key }
+            | DataCommand::Hset { key, .. }
+            | DataCommand::Hsetnx { key, .. }
+            | DataCommand::Hget { key, .. }
+            | DataCommand::Hmget { key, .. }
+            | DataCommand::Hdel { key, .. }
+            | DataCommand::Hexists { key, .. }
+            | DataCommand::Hlen { key }
+            | DataCommand::Hstrlen { key, .. }
+            | DataCommand::Hkeys { key }
+            | DataCommand::Hvals { key }
+            | DataCommand::Hgetall { key }
+            | DataCommand::Hincrby { key, .. } => Some(key),
             DataCommand::Ping
             | DataCommand::Echo { .. }
             | DataCommand::Mget { .. }
@@ -248,53 +352,44 @@ pub enum ClusterCommand {
     Slots,
 }
 
-/// One or more keys, in the order of the request.
+/// One or more words, in the order of the request: keys, or fields of a hash.
 #[derive(Debug, Drop)]
-pub struct KeyList {
-    keys: Vec<ByteString>,
+pub struct WordList {
+    words: Vec<ByteString>,
 }
 
-impl Model for KeyList {
+impl Model for WordList {
     ghost use Rattle.std.specs.Prelude.{◌≢◌, List, ℕ, []};
 
     ghost Value = { List (List ℕ) };
 
-    ghost view = { λ list. list.keys.items };
+    ghost view = { λ list. list.words.items };
 
-    ghost invariant = { λ list. list.keys.items ≢ [] };
+    ghost invariant = { λ list. list.words.items ≢ [] };
 }
 
-impl KeyList {
-    /// A list of these keys, or None where there are none.
-    pub fn new(keys: Vec<ByteString>) -> Option<KeyList>
-        ensures keys { IfSome result (λ list. list ≡ keys.items) }
-        ensures some { IsSome result ↔ keys.items ≢ [] }
+impl WordList {
+    /// A list of these words, or None where there are none.
+    pub fn new(words: Vec<ByteString>) -> Option<WordList>
+        ensures words { IfSome result (λ list. list ≡ words.items) }
+        ensures some { IsSome result ↔ words.items ≢ [] }
     {
-        if keys.is_empty() {
+        if words.is_empty() {
             return None;
         }
-        Some(KeyList { keys })
+        Some(WordList { words })
     }
 
-    /// The keys in order.
+    /// The words in order.
     pub fn as_slice(&self) -> &[ByteString]
-        ensures keys { result.now ≡ self.now }
+        ensures words { result.now ≡ self.now }
         ensures some { self.now ≢ [] }
     {
-        self.keys.as_slice()
+        self.words.as_slice()
     }
 }
 
-impl Clone for KeyList {
-    ghost is_clone = { λ list copy. copy ≡ list };
-
-    fn clone(&self) -> Result<KeyList, AllocError> {
-        let keys = self.keys.clone()?;
-        Ok(KeyList { keys })
-    }
-}
-
-/// One or more pairs of words, in the order of the request: a key and its string.
+/// One or more pairs of words, in the order of the request: a key and its string, or a field and its value.
 #[derive(Debug, Drop)]
 pub struct PairList {
     pairs: Vec<(ByteString, ByteString)>,

@@ -34,8 +34,12 @@ pub enum ErrorLine {
     TooLong,
     /// The string or the argument is not the text of a number in 64 bits, and nothing changed.
     NotAnInteger,
+    /// The value of the field is not the text of a number in 64 bits, and nothing changed.
+    HashNotAnInteger,
     /// The new number does not fit in 64 bits, and nothing changed.
     Overflow,
+    /// A key has a value of another type than the command is for, and nothing changed.
+    WrongType,
 }
 
 impl ErrorLine {
@@ -55,7 +59,11 @@ impl ErrorLine {
             ErrorLine::SlotDown => b"CLUSTERDOWN Hash slot not served",
             ErrorLine::TooLong => b"ERR value exceeds maximum allowed size",
             ErrorLine::NotAnInteger => b"ERR value is not an integer or out of range",
+            ErrorLine::HashNotAnInteger => b"ERR hash value is not an integer",
             ErrorLine::Overflow => b"ERR increment or decrement would overflow",
+            ErrorLine::WrongType => {
+                b"WRONGTYPE Operation against a key holding the wrong kind of value"
+            }
         }
     }
 
@@ -83,6 +91,8 @@ fn wrong_arity(name: Name) -> &'static [u8]
         Name::Set => wrong_arity!("set"),
         Name::Ping => wrong_arity!("ping"),
         Name::Echo => wrong_arity!("echo"),
+        Name::Hget => wrong_arity!("hget"),
+        Name::Hset => wrong_arity!("hset"),
         Name::Mget => wrong_arity!("mget"),
         Name::Mset => wrong_arity!("mset"),
         Name::Setnx => wrong_arity!("setnx"),
@@ -96,6 +106,16 @@ fn wrong_arity(name: Name) -> &'static [u8]
         Name::Del => wrong_arity!("del"),
         Name::Exists => wrong_arity!("exists"),
         Name::TypeOf => wrong_arity!("type"),
+        Name::Hsetnx => wrong_arity!("hsetnx"),
+        Name::Hmget => wrong_arity!("hmget"),
+        Name::Hdel => wrong_arity!("hdel"),
+        Name::Hexists => wrong_arity!("hexists"),
+        Name::Hlen => wrong_arity!("hlen"),
+        Name::Hstrlen => wrong_arity!("hstrlen"),
+        Name::Hkeys => wrong_arity!("hkeys"),
+        Name::Hvals => wrong_arity!("hvals"),
+        Name::Hgetall => wrong_arity!("hgetall"),
+        Name::Hincrby => wrong_arity!("hincrby"),
         Name::Cluster => wrong_arity!("cluster"),
     }
 }

@@ -7,7 +7,7 @@ mod fault;
 mod names;
 mod parsing;
 
-pub use command::{ClusterCommand, Command, Condition, DataCommand, KeyList, PairList, keys};
+pub use command::{ClusterCommand, Command, Condition, DataCommand, PairList, WordList, keys};
 pub use error_line::{ErrorLine, moved_reply};
 pub use fault::CommandFault;
 pub use names::{Name, Subcommand};

@@ -13,6 +13,10 @@ pub enum Name {
     Ping,
     /// ECHO message
     Echo,
+    /// HGET key field
+    Hget,
+    /// HSET key field value [field value ...]
+    Hset,
     /// MGET key [key ...]
     Mget,
     /// MSET key value [key value ...]
@@ -39,16 +43,38 @@ pub enum Name {
     Exists,
     /// TYPE key
     TypeOf,
+    /// HSETNX key field value
+    Hsetnx,
+    /// HMGET key field [field ...]
+    Hmget,
+    /// HDEL key field [field ...]
+    Hdel,
+    /// HEXISTS key field
+    Hexists,
+    /// HLEN key
+    Hlen,
+    /// HSTRLEN key field
+    Hstrlen,
+    /// HKEYS key
+    Hkeys,
+    /// HVALS key
+    Hvals,
+    /// HGETALL key
+    Hgetall,
+    /// HINCRBY key field increment
+    Hincrby,
     /// CLUSTER subcommand [argument ...]
     Cluster,
 }
 
 // The names that are asked for most come first.
-const NAMES: [Name; 18] = [
+const NAMES: [Name; 30] = [
     Name::Get,
     Name::Set,
     Name::Ping,
     Name::Echo,
+    Name::Hget,
+    Name::Hset,
     Name::Mget,
     Name::Mset,
     Name::Setnx,
@@ -62,6 +88,16 @@ const NAMES: [Name; 18] = [
     Name::Del,
     Name::Exists,
     Name::TypeOf,
+    Name::Hsetnx,
+    Name::Hmget,
+    Name::Hdel,
+    Name::Hexists,
+    Name::Hlen,
+    Name::Hstrlen,
+    Name::Hkeys,
+    Name::Hvals,
+    Name::Hgetall,
+    Name::Hincrby,
     Name::Cluster,
 ];
 
@@ -85,6 +121,8 @@ impl Name {
             Name::Set => b"set",
             Name::Ping => b"ping",
             Name::Echo => b"echo",
+            Name::Hget => b"hget",
+            Name::Hset => b"hset",
             Name::Mget => b"mget",
             Name::Mset => b"mset",
             Name::Setnx => b"setnx",
@@ -98,6 +136,16 @@ impl Name {
             Name::Del => b"del",
             Name::Exists => b"exists",
             Name::TypeOf => b"type",
+            Name::Hsetnx => b"hsetnx",
+            Name::Hmget => b"hmget",
+            Name::Hdel => b"hdel",
+            Name::Hexists => b"hexists",
+            Name::Hlen => b"hlen",
+            Name::Hstrlen => b"hstrlen",
+            Name::Hkeys => b"hkeys",
+            Name::Hvals => b"hvals",
+            Name::Hgetall => b"hgetall",
+            Name::Hincrby => b"hincrby",
             Name::Cluster => b"cluster",
         }
     }

@@ -10,7 +10,7 @@ use Rattle.std.specs.FinMap.{FinMap}
 use Rattle.std.specs.Ordering.{nat_cmp, eq_by_cmp}
 use Rattle.std.specs.Prelude.{Option, Some, None}
 use Rattle.keyspace.specs.Keyspace.{Keyspace, changed}
-use Rattle.keyspace.specs.Plan.{Changes, change_each, applied}
+use Rattle.keyspace.specs.Changes.{Changes, change_each, applied}
 use Rattle.keyspace.specs.declared.value.Value.{Value}
 
 -- whether two keys are one

@@ -6,7 +6,7 @@ use Rattle.keyspace.proofs.Applied.{applied_done, applied_empty}
 use Rattle.keyspace.proofs.Placeholders.{add_no_keys-changed}
 use Rattle.keyspace.specs.Commit.{AddNoKeys}
 use Rattle.keyspace.specs.Keyspace.{Keyspace, changed}
-use Rattle.keyspace.specs.Plan.{changes_of, applied}
+use Rattle.keyspace.specs.Changes.{changes_of, applied}
 use Rattle.keyspace.specs.declared.value.Value.{Value}
 
 -- what holds on success, where there is success

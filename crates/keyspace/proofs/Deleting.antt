@@ -4,7 +4,8 @@ use Rattle.std.proofs.lemmas.Cmp.{nat_list_cmp_total, eq_by_cmp_equiv}
 use Rattle.std.specs.FinMap as map
 use Rattle.std.specs.Prelude.{Option, None, is_some}
 use Rattle.keyspace.proofs.Applied.{is_key, is_key-same}
-use Rattle.keyspace.specs.Commands.{all_removed, deleted, is_among, values_at, with_values}
+use Rattle.keyspace.specs.Commands.{values_at, with_values}
+use Rattle.keyspace.specs.Strings.{all_removed, deleted, is_among}
 use Rattle.keyspace.specs.Keyspace.{Keyspace}
 use Rattle.keyspace.specs.declared.value.Value.{Value}
 

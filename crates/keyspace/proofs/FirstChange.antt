@@ -6,7 +6,7 @@ use Rattle.std.specs.FinMap as map
 use Rattle.std.specs.Prelude.{Option, Some, None}
 use Rattle.keyspace.proofs.Applied.{is_key, is_key-same, insert_again, insert_apart, applied_insert, applied_empty}
 use Rattle.keyspace.specs.Keyspace.{Keyspace, changed}
-use Rattle.keyspace.specs.Plan.{Changes, changes_of, applied, with_first}
+use Rattle.keyspace.specs.Changes.{Changes, changes_of, applied, with_first}
 use Rattle.keyspace.specs.declared.value.Value.{Value}
 
 -- `==` of keys agrees with their order

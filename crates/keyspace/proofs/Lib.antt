@@ -9,3 +9,8 @@ pub mod Setting
 pub mod Deleting
 pub mod Counting
 mod WorkedValues
+pub mod Committed
+pub mod Left
+pub mod Rebuilt
+pub mod InPlace
+pub mod Fitting

@@ -11,7 +11,7 @@ use Rattle.std.specs.Prelude.{Option, Some, None, is_some}
 use Rattle.keyspace.proofs.Applied.{is_key, is_key-same, same, value_after, get_changed, get_applied}
 use Rattle.keyspace.specs.Commit.{is_new, new_keys, with_placeholders, without, is_put, AddNoKeys, AddsNoKey}
 use Rattle.keyspace.specs.Keyspace.{Keyspace, changed}
-use Rattle.keyspace.specs.Plan.{Changes, changes_of, applied}
+use Rattle.keyspace.specs.Changes.{Changes, changes_of, applied}
 use Rattle.keyspace.specs.declared.value.Value.{Value}
 use Rattle.keyspace.specs.declared.value.Value.TheVariants.{Str}
 

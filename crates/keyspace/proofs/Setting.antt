@@ -3,9 +3,10 @@ use Rattle.std.proofs.Common.{◌≡◌, ℕ, ◌+◌, ◌<◌, length, get_or, 
 use Rattle.std.specs.FinMap as map
 use Rattle.command.specs.Keys.{pair_keys}
 use Rattle.keyspace.proofs.Applied.{applied_insert}
-use Rattle.keyspace.specs.Commands.{strings_left, with_values}
+use Rattle.keyspace.specs.Commands.{with_values}
+use Rattle.keyspace.specs.Strings.{strings_left}
 use Rattle.keyspace.specs.Keyspace.{Keyspace}
-use Rattle.keyspace.specs.Plan.{Changes, applied}
+use Rattle.keyspace.specs.Changes.{Changes, applied}
 use Rattle.keyspace.specs.declared.value.Value.TheVariants.{Str}
 
 -- once a pair is put, the pairs after it lead to the same keyspace

@@ -5,7 +5,8 @@ use Rattle.std.specs.FinMap.{gets}
 use Rattle.std.specs.Fmt.{digits}
 use Rattle.resp2.specs.Reply.{array_of}
 use Rattle.resp2.specs.declared.reply.Reply.TheVariants.{Simple, Error, Integer, Bulk, Null, Array}
-use Rattle.keyspace.specs.Commands.{effect, left, replay, told}
+use Rattle.keyspace.specs.Commands.{effect, replay}
+use Rattle.keyspace.specs.Effect.{left, told}
 use Rattle.keyspace.specs.Numbers.{fitting_number, number_of}
 use Rattle.keyspace.specs.declared.value.Value.TheVariants.{Str}
 use Rattle.command.specs.declared.command.DataCommand.TheVariants.{Incr, Decr, Incrby}

@@ -1,15 +1,36 @@
 -- The keyspace (Redis documentation, "Redis keyspace": keys are any bytes, each with one value).
-use Rattle.std.specs.Prelude.{ℕ, List, Option, Some, None}
+use Rattle.std.specs.Prelude.{ℕ, List, [], ◌∷◌, Option, Some, None}
 use Rattle.std.specs.FinMap as map
 use Rattle.std.specs.Ordering.{nat_cmp}
 use Rattle.std.specs.Cmp.Lexicographic.{slice_cmp}
+use Rattle.hash.specs.Pairs.{Pairs, Changes, fields_changed}
 use Rattle.keyspace.specs.declared.value.Value.{Value}
+use Rattle.keyspace.specs.declared.value.Value.TheVariants.{Str, Hash}
 
 -- a finite map from keys to values, in the order of the keys' bytes
 abbrev pub Keyspace : Type 0
 Keyspace = map.FinMap (slice_cmp nat_cmp) Value
 
+-- the keyspace of these keys and values; of two at one key the first counts
+abbrev pub keyspace_of : List (List ℕ × Value) → Keyspace
+keyspace_of entries = map.from_entries entries
+
 -- one key changed: it gets the value, or is removed
 abbrev pub changed : Keyspace → List ℕ → Option Value → Keyspace
 changed keyspace key (Some value) = map.insert keyspace key value
 changed keyspace key None = map.remove keyspace key
+
+-- the hash with these fields; one without fields is gone
+abbrev pub hash_of : Pairs → Option Value
+hash_of [] = None
+hash_of (pair ∷ pairs) = Some (Hash (pair ∷ pairs))
+
+-- the value once its fields were changed: a missing hash begins with no fields, and a string stays
+abbrev pub fields_left : Option Value → Changes → Option Value
+fields_left None changes = hash_of (fields_changed [] changes)
+fields_left (Some (Hash pairs)) changes = hash_of (fields_changed pairs changes)
+fields_left (Some (Str bytes)) changes = Some (Str bytes)
+
+-- the fields of one key changed
+abbrev pub with_fields : Keyspace → List ℕ → Changes → Keyspace
+with_fields keyspace key changes = changed keyspace key (fields_left (map.get keyspace key) changes)

@@ -1,7 +1,12 @@
+pub mod Changes
 pub mod Commands
 pub mod Commit
+pub mod Effect
+pub mod Hashes
 pub mod Keyspace
 pub mod Locality
 pub mod Numbers
 pub mod Plan
 pub mod Rebuild
+pub mod Rebuilding
+pub mod Strings

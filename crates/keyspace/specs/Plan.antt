@@ -1,29 +1,15 @@
--- Changes that are decided and not made yet.
-use Rattle.std.specs.Prelude.{ℕ, List, [], ◌∷◌, Option, Some, None}
-use Rattle.std.specs.FinMap as map
-use Rattle.std.specs.Ordering.{nat_cmp}
-use Rattle.std.specs.Cmp.Lexicographic.{slice_cmp}
-use Rattle.keyspace.specs.Keyspace.{Keyspace, changed}
-use Rattle.keyspace.specs.declared.value.Value.{Value}
+-- A plan: changes that are decided and not made yet.
+use Rattle.std.specs.Prelude.{Option, Some, None}
+use Rattle.keyspace.specs.Keyspace.{Keyspace, with_fields}
+use Rattle.keyspace.specs.Changes.{applied}
+use Rattle.keyspace.specs.declared.plans.Plan.{Plan}
+use Rattle.keyspace.specs.declared.plans.PlannedFields.{PlannedFields}
 
--- the new value of each key that changes, or None where the key is removed
-abbrev pub Changes : Type 0
-Changes = map.FinMap (slice_cmp nat_cmp) (Option Value)
+-- the changes of fields that are planned, made
+abbrev pub with_planned_fields : Keyspace → Option PlannedFields → Keyspace
+with_planned_fields keyspace None = keyspace
+with_planned_fields keyspace (Some planned) = with_fields keyspace planned.key planned.changes.items
 
--- the changes in a list; of two at one key the first counts
-abbrev pub changes_of : List (List ℕ × Option Value) → Changes
-changes_of changes = map.from_entries changes
-
--- all changes of a list made, from the last to the first
-abbrev pub change_each : Keyspace → List (List ℕ × Option Value) → Keyspace
-change_each keyspace [] = keyspace
-change_each keyspace (change ∷ changes) = changed (change_each keyspace changes) change.0 change.1
-
--- the keyspace with all changes made
-unfoldable pub applied : Keyspace → Changes → Keyspace
-applied keyspace changes = change_each keyspace (map.entries changes)
-
--- the changes, of which at most one is kept apart
-abbrev pub with_first : Option (List ℕ × Option Value) → Changes → Changes
-with_first None more = more
-with_first (Some change) more = map.insert more change.0 change.1
+-- the keyspace once the plan is committed: first the values, then the fields
+unfoldable pub committed : Keyspace → Plan → Keyspace
+committed keyspace plan = with_planned_fields (applied keyspace plan.values) plan.fields

@@ -1,14 +1,18 @@
--- The request that makes a key with its value.
-use Rattle.std.specs.Prelude.{◌≡◌, ℕ, List, [], ◌∷◌, codes}
+-- What comes of the request that makes a key with its value.
+use Rattle.std.specs.Prelude.{◌≡◌, ◌<◌, ℕ, List, [], ◌∷◌, length}
 use Rattle.std.specs.FinMap as map
+use Rattle.hash.specs.Pairs.{HasDistinctFields}
+use Rattle.resp2.specs.Request.{IsRequest}
 use Rattle.keyspace.specs.Commands.{replay}
+use Rattle.keyspace.specs.Rebuilding.{rebuilding}
 use Rattle.keyspace.specs.declared.value.Value.{Value}
-use Rattle.keyspace.specs.declared.value.Value.TheVariants.{Str}
+use Rattle.keyspace.specs.declared.value.Value.TheVariants.{Str, Hash}
 
--- SET, for a string
-abbrev pub rebuilding : List ℕ → Value → List (List ℕ)
-rebuilding key (Str bytes) = codes "SET" ∷ key ∷ bytes ∷ []
+-- a value as keys have it: a hash has some field, and none stands twice
+abbrev pub IsStored : Value → Type 0
+IsStored (Str bytes) = Unit {0}
+IsStored (Hash pairs) = (0 < length pairs) × HasDistinctFields pairs
 
--- executed on no key, the request makes this key with this value, and no other key
+-- executed on no key, the request makes this key with this value, fields in their order, and no other key
 abbrev pub Rebuilds : Type 0
-Rebuilds = (key : List ℕ) (value : Value) → (replay (rebuilding key value ∷ [])).last ≡ map.insert map.empty key value
+Rebuilds = (key : List ℕ) (value : Value) → IsStored value → IsRequest (rebuilding key value) → (replay (rebuilding key value ∷ [])).last ≡ map.insert map.empty key value

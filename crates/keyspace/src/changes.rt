@@ -1,10 +1,10 @@
-//! Changes to any number of keys: a plan of them, and its commit.
+//! New values of any number of keys: decided first, and put later.
 ghost use Rattle.std.specs.Prelude.{◌≡◌, OnOk, OnErr, IfOk, IsOk, IsTrue, []};
 ghost use Rattle.std.specs.Option.{option_copied};
 ghost use Rattle.std.specs.FinMap as map;
 ghost use Rattle.keyspace.specs.Commit.{new_keys, with_placeholders, without, AddsNoKey, AddNoKeys};
-ghost use Rattle.keyspace.specs.Keyspace.{Keyspace, changed};
-ghost use Rattle.keyspace.specs.Plan.{changes_of, applied};
+ghost use Rattle.keyspace.specs.Keyspace.{changed};
+ghost use Rattle.keyspace.specs.Changes.{changes_of, applied};
 
 use crate::store::Store;
 use crate::value::Value;
@@ -13,51 +13,49 @@ use std::alloc::{AllocError, Global};
 use std::collections::BTreeMap;
 use std::marker::Model;
 
-/// Changes that are decided and not made yet: at most one for each key. A plan with one change allocates nothing.
+/// New values of keys that are decided and not put yet: at most one for each key. A single one allocates nothing.
 #[derive(Drop)]
-pub struct Plan {
-    // The key that was changed first, with its latest change. It stands apart so that a plan with one change needs no tree.
+pub(crate) struct NewValues {
+    // The key that was changed first, with its latest change. It stands apart so that a single change needs no tree.
     first: Option<(ByteString, Option<Value>)>,
     // The changes of all other keys.
     more: BTreeMap<ByteString, Option<Value>>,
 }
 
-impl Model for Plan {
+impl Model for NewValues {
     ghost use Rattle.std.specs.Prelude.{ℕ};
     ghost use Rattle.std.specs.Coded.{codes, coded_list, coded_ℕ};
     ghost use Rattle.std.specs.Ordering.{nat_cmp};
     ghost use Rattle.std.specs.Cmp.Lexicographic.{slice_cmp};
     ghost use Rattle.std.specs.FinMap as map;
-    ghost use Rattle.keyspace.specs.Plan.{Changes, changes_of, with_first};
+    ghost use Rattle.keyspace.specs.Changes.{Changes, changes_of, with_first};
 
     ghost Value = { Changes };
 
     ghost coded = { map.code {R = slice_cmp nat_cmp} (coded_list coded_ℕ) (Prim.hlevel codes) };
 
-    ghost view = { λ plan. with_first plan.first (changes_of plan.more.entries) };
+    ghost view = { λ values. with_first values.first (changes_of values.more.entries) };
 }
 
-impl Plan {
-    /// A plan that changes nothing.
-    #[tactic(auto, using(crate::proofs::Applied::applied_empty))]
-    pub fn new(alloc: Global) -> Plan
-        ensures empty { result ≡ map.empty }
-        ensures nothing { (keyspace : Keyspace) → applied keyspace result ≡ keyspace }
+impl NewValues {
+    // No changes.
+    pub(crate) fn new(alloc: Global) -> NewValues
+        ensures { result ≡ map.empty }
     {
-        Plan {
+        NewValues {
             first: None,
             more: BTreeMap::new(alloc),
         }
     }
 
-    // Whether the plan changes nothing.
-    fn changes_nothing(&self) -> bool
+    // Whether nothing changes.
+    pub(crate) fn is_empty(&self) -> bool
         ensures { IsTrue result → self.now ≡ map.empty }
     {
         self.first.is_none() && self.more.is_empty()
     }
 
-    // The change of the key, or None where the plan has none.
+    // The change of the key, or None where there is none.
     fn get(&self, key: &ByteString) -> Option<&Option<Value>>
         ensures { option_copied result ≡ map.get self.now key.now }
     {
@@ -84,7 +82,7 @@ impl Plan {
         Ok(())
     }
 
-    // The value at the key once the plan is committed.
+    // The value at the key once all changes are made.
     #[tactic(auto, using(crate::proofs::Applied::get_applied))]
     pub(crate) fn look<'a, S: Store>(&'a self, store: &'a S, key: &ByteString) -> Option<&'a Value>
         ensures { option_copied result ≡ map.get (applied (S.contents store.now) self.now) key.now }
@@ -97,15 +95,16 @@ impl Plan {
 }
 
 #[tactic(auto, using(crate::proofs::Applied::applied_empty))]
-/// Makes all changes of the plan, or none where an allocation fails. A plan with one change walks down the store once.
-pub fn commit<S: Store>(alloc: Global, store: &mut S, plan: Plan) -> Result<(), AllocError>
-    ensures ok { OnOk result (S.contents store.new ≡ applied (S.contents store.old) plan) }
+/// Makes all changes, or none where an allocation fails. A single one walks down the store once.
+pub(crate) fn put_values<S: Store>(
+    alloc: Global,
+    store: &mut S,
+    values: NewValues,
+) -> Result<(), AllocError>
+    ensures ok { OnOk result (S.contents store.new ≡ applied (S.contents store.old) values) }
     ensures err { OnErr result (S.contents store.new ≡ S.contents store.old) }
 {
-    if plan.changes_nothing() {
-        return Ok(());
-    }
-    let Plan { first, mut more } = plan;
+    let NewValues { first, mut more } = values;
     let Some((key, value)) = first else {
         return change_all(alloc, store, more);
     };

@@ -2,7 +2,9 @@
 ghost use Rattle.std.specs.Prelude.{◌≡◌, OnOk, OnErr, IsSome, IsOk};
 ghost use Rattle.std.specs.Option.{option_copied};
 ghost use Rattle.std.specs.FinMap as map;
+ghost use Rattle.keyspace.specs.Keyspace.{with_fields};
 
+use crate::fields::{FieldChanges, change_fields_in, remove_from};
 use crate::value::Value;
 use byte_string::ByteString;
 use std::alloc::{AllocError, Global};
@@ -28,6 +30,13 @@ pub trait Store {
     /// Removes the key, if it is there.
     fn remove(&mut self, key: &ByteString)
         ensures { contents self.new ≡ map.remove (contents self.old) key.now };
+
+    /// Changes fields of the hash at the key, and copies nothing else of it.
+    ///
+    /// A missing hash begins with no fields, and one that is left with none is removed. A string stays.
+    fn change_fields(&mut self, key: ByteString, changes: FieldChanges) -> Result<(), AllocError>
+        ensures ok { OnOk result (contents self.new ≡ with_fields (contents self.old) key changes.items) }
+        ensures err { OnErr result (contents self.new ≡ contents self.old) };
 }
 
 /// A store in a balanced tree, in the byte order of its keys.
@@ -75,6 +84,10 @@ impl Store for TreeStore {
     }
 
     fn remove(&mut self, key: &ByteString) {
-        let _old = self.entries.remove(key);
+        remove_from(&mut self.entries, key);
+    }
+
+    fn change_fields(&mut self, key: ByteString, changes: FieldChanges) -> Result<(), AllocError> {
+        change_fields_in(&mut self.entries, key, changes)
     }
 }

@@ -1,9 +1,12 @@
 //! The values of keys, and the request that makes a key with its value.
-ghost use Rattle.std.specs.Prelude.{◌≡◌, IfOk};
-ghost use Rattle.keyspace.specs.Rebuild.{rebuilding, Rebuilds};
+ghost use Rattle.std.specs.Prelude.{◌≡◌, ◌++◌, ◌∷◌, [], codes, IfOk};
+ghost use Rattle.hash.specs.Size.{words_of};
+ghost use Rattle.keyspace.specs.Rebuild.{Rebuilds};
+ghost use Rattle.keyspace.specs.Rebuilding.{rebuilding};
 ghost use Rattle.resp2.specs.Request.{IsRequest};
 
 use byte_string::ByteString;
+use hash::{BoxedHash, Hash};
 use resp2::Words;
 use std::alloc::{AllocError, Global};
 
@@ -12,6 +15,8 @@ use std::alloc::{AllocError, Global};
 pub enum Value {
     /// A string: any bytes.
     Str(ByteString),
+    /// A hash: fields with their values, in the order in which the fields came. One without fields is kept at no key.
+    Hash(BoxedHash),
 }
 
 impl Clone for Value {
@@ -20,6 +25,7 @@ impl Clone for Value {
     fn clone(&self) -> Result<Value, AllocError> {
         match self {
             Value::Str(bytes) => Ok(Value::Str(bytes.clone()?)),
+            Value::Hash(hash) => Ok(Value::Hash(hash.clone()?)),
         }
     }
 }
@@ -34,8 +40,26 @@ pub fn rebuild(alloc: Global, key: &ByteString, value: &Value) -> Result<Words, 
             let name = ByteString::from_static(b"SET");
             vec![in alloc; name, key.clone()?, bytes.clone()?]?
         }
+        Value::Hash(hash) => setting_words(alloc, key, hash.get())?,
     };
     Ok(Words::new(items).unwrap())
+}
+
+// HSET, the key, and each field before its value.
+fn setting_words(
+    alloc: Global,
+    key: &ByteString,
+    hash: &Hash,
+) -> Result<Vec<ByteString>, AllocError>
+    ensures { IfOk result (λ words. words.items ≡ codes "HSET" ∷ key.now ∷ words_of hash.now) }
+{
+    let name = ByteString::from_static(b"HSET");
+    let mut words = vec![in alloc; name, key.clone()?]?;
+    for (field, value) in hash.iter() {
+        words.push(field.clone()?)?;
+        words.push(value.clone()?)?;
+    }
+    Ok(words)
 }
 
 /// Executed on no key, the request of `rebuild` makes its key with its value, and no other key.

@@ -3,7 +3,7 @@ ghost use Rattle.std.specs.Prelude.{◌≡◌, IfOk, IfErr, OnErr, Ok, Err, slic
 ghost use Rattle.std.specs.FinMap as map;
 ghost use Rattle.command.specs.Keys.{data_keys};
 ghost use Rattle.command.specs.Table.{command_of};
-ghost use Rattle.keyspace.specs.Plan.{applied};
+ghost use Rattle.keyspace.specs.Plan.{committed};
 ghost use Rattle.redirect.specs.Decision.{decision};
 ghost use Rattle.node_core.specs.Connections.{IsUsedUp};
 ghost use Rattle.node_core.specs.Outputs.{IsPlain};
@@ -29,6 +29,7 @@ use slot_store::SlotStore;
 use slot_table::{NodeNo, SlotTable};
 use std::alloc::{AllocError, Global};
 use std::marker::Model;
+use std::mem;
 
 /// A node of the cluster: what it holds, and the steps that it takes.
 #[derive(Drop)]
@@ -161,12 +162,17 @@ impl<S: Store> NodeCore<S> {
 
     // The answer to the words. What is going to change goes into the plan.
     fn answer(&self, words: &Words, plan: &mut Plan) -> Result<Answer, StepFault>
-        requires { applied self.now.keyspace plan.old ≡ self.now.keyspace }
-        ensures answer { IfOk result (λ answer. IsAnswered self.now (command_of words.now) answer (applied self.now.keyspace plan.new)) }
+        requires { committed self.now.keyspace plan.old ≡ self.now.keyspace }
+        ensures answer { IfOk result (λ answer. IsAnswered self.now (command_of words.now) answer (committed self.now.keyspace plan.new)) }
         ensures err { IfErr result (λ fault. fault ≡ Memory) }
     {
         match parse(self.alloc, words) {
-            Ok(command) => Ok(self.answer_command(&command, plan)?),
+            Ok(command) => {
+                let answer = self.answer_command(&command, plan);
+                // It is let go here alone, and not on each way out.
+                mem::drop(command);
+                Ok(answer?)
+            }
             Err(CommandFault::Memory) => Err(StepFault::Memory),
             Err(fault) => Ok(Answer {
                 why: Why::NotACommand(fault),
@@ -176,8 +182,8 @@ impl<S: Store> NodeCore<S> {
     }
 
     fn answer_command(&self, command: &Command, plan: &mut Plan) -> Result<Answer, AllocError>
-        requires { applied self.now.keyspace plan.old ≡ self.now.keyspace }
-        ensures { IfOk result (λ answer. IsAnswered self.now (Ok command.now) answer (applied self.now.keyspace plan.new)) }
+        requires { committed self.now.keyspace plan.old ≡ self.now.keyspace }
+        ensures { IfOk result (λ answer. IsAnswered self.now (Ok command.now) answer (committed self.now.keyspace plan.new)) }
     {
         match command {
             Command::Data(data_command) => {
@@ -212,8 +218,8 @@ impl<S: Store> NodeCore<S> {
         command: &DataCommand,
         plan: &mut Plan,
     ) -> Result<Reply, AllocError>
-        requires { applied self.now.keyspace plan.old ≡ self.now.keyspace }
-        ensures { IfOk result (λ reply. record { reply = reply; after = applied self.now.keyspace plan.new } ≡ execution_by decision.now self.now command.now) }
+        requires { committed self.now.keyspace plan.old ≡ self.now.keyspace }
+        ensures { IfOk result (λ reply. record { reply = reply; after = committed self.now.keyspace plan.new } ≡ execution_by decision.now self.now command.now) }
     {
         match decision {
             Decision::Serve => plan_command(self.alloc, &self.store, plan, command),

@@ -30,14 +30,22 @@ const CLUSTER: &[u8] = b"{\"tick_ms\":100,\"node_timeout\":20,\"nodes\":[\
 const REQUESTS: &[u8] = b"*3\r\n$3\r\nSET\r\n$1\r\nb\r\n$1\r\n1\r\n\
 *2\r\n$3\r\nget\r\n$1\r\nb\r\n\
 *3\r\n$4\r\nMGET\r\n$1\r\nb\r\n$4\r\n{b}1\r\n\
+*6\r\n$4\r\nHSET\r\n$4\r\n{b}h\r\n$1\r\nf\r\n$1\r\n1\r\n$1\r\ng\r\n$1\r\n2\r\n\
+*4\r\n$7\r\nHINCRBY\r\n$4\r\n{b}h\r\n$1\r\nf\r\n$1\r\n1\r\n\
+*3\r\n$4\r\nHDEL\r\n$4\r\n{b}h\r\n$1\r\ng\r\n\
+*2\r\n$7\r\nHGETALL\r\n$4\r\n{b}h\r\n\
 *2\r\n$3\r\nGET\r\n$1\r\na\r\n\
 *2\r\n$7\r\nCLUSTER\r\n$5\r\nSLOTS\r\n";
 
 // What a client reads where memory is ample.
-const REPLIES: [&[u8]; 5] = [
+const REPLIES: [&[u8]; 9] = [
     b"+OK\r\n",
     b"$1\r\n1\r\n",
     b"*2\r\n$1\r\n1\r\n$-1\r\n",
+    b":2\r\n",
+    b":2\r\n",
+    b":1\r\n",
+    b"*2\r\n$1\r\nf\r\n$1\r\n2\r\n",
     b"-MOVED 15495 127.0.0.1:7001\r\n",
     b"*2\r\n\
 *3\r\n:0\r\n:8191\r\n*3\r\n$9\r\n127.0.0.1\r\n:7000\r\n$40\r\n0000000000000000000000000000000000000000\r\n\

@@ -2,3 +2,4 @@ pub mod Placed
 pub mod Changed
 pub mod Empty
 pub mod SlotEntries
+pub mod Touched

@@ -8,7 +8,7 @@ ghost use Rattle.std.specs.Ordering.{nat_cmp};
 use crate::slot_keys::SlotKeys;
 use byte_string::ByteString;
 use key_slot::{Slot, slot};
-use keyspace::{Store, Value};
+use keyspace::{FieldChanges, Store, Value, change_fields_in};
 use std::alloc::{AllocError, Global};
 use std::collections::BTreeMap;
 use std::marker::Model;
@@ -66,6 +66,11 @@ impl Store for SlotStore {
 
     fn remove(&mut self, key: &ByteString) {
         let _old = self.maps[slot(key.as_slice()).index()].remove(key);
+    }
+
+    fn change_fields(&mut self, key: ByteString, changes: FieldChanges) -> Result<(), AllocError> {
+        let slot = slot(key.as_slice());
+        change_fields_in(&mut self.maps[slot.index()], key, changes)
     }
 }
 

@@ -8,7 +8,7 @@ use Rattle.command.specs.Keys.{data_keys}
 use Rattle.command.specs.declared.command.DataCommand.{DataCommand}
 use Rattle.command.specs.declared.command.DataCommand.TheVariants.{Get, Set}
 use Rattle.command.specs.declared.command.Condition.TheVariants.{Always}
-use Rattle.keyspace.specs.Commands.{bulk_or_null}
+use Rattle.keyspace.specs.Strings.{string_reply}
 use Rattle.redirect.specs.Decision.{decision}
 use Rattle.redirect.specs.declared.decision.Decision.TheVariants.{Serve}
 use Rattle.keyspace.specs.declared.value.Value.TheVariants.{Str}
@@ -66,7 +66,7 @@ set_is_got t0 t1 t2 s0 s1 s2 s3 conn key value o1 o2 o3 opens is_conn setting ge
     let second : IsServedBy s2 (key ∷ []) = still_served s1 s2 (key ∷ []) (ap (λ (s : NodeState). s.table) asked_set.state) (ap (λ (s : NodeState). s.states) asked_set.state) first in
     let asked_get = asked t2 s2 s3 conn _ o3 still getting in
     let got = executed s2 (Get key) (record { answer = asked_get.answer; after = s3.keyspace }) second asked_get.answered.comes_to in
-    asked_get.responds ∙ ap (λ (o : Outcome). Replied o.answer) got ∙ ap (λ found. served (bulk_or_null found)) there
+    asked_get.responds ∙ ap (λ (o : Outcome). Replied o.answer) got ∙ ap (λ found. served (string_reply found)) there
 
 -- an event that was answered is one more entry
 pub one_entry : (old new : CellView) (event : Event) (entered : EnteredView) → Enters old event entered new → length new.journal ≡ length old.journal + 1

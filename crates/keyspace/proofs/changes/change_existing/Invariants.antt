@@ -1,7 +1,7 @@
 use Rattle.std.proofs.Common.{◌≡◌}
 use Rattle.std.specs.BTreeMap.{btree_map_len}
 use Rattle.keyspace.specs.Commit.{AddNoKeys}
-use Rattle.keyspace.specs.Plan.{changes_of, applied}
+use Rattle.keyspace.specs.Changes.{changes_of, applied}
 use Rattle.keyspace.proofs.changes.change_existing.Given as goal
 
 -- the changes that are left lead to the same keyspace, and add no key

@@ -1,6 +1,6 @@
 use Rattle.std.proofs.Common.{◌≡◌, ◌++◌, drop}
 use Rattle.keyspace.specs.Commands.{replies_of, keyspace_after}
-use Rattle.keyspace.specs.Plan.{applied}
+use Rattle.keyspace.specs.Plan.{committed}
 use Rattle.keyspace.proofs.commands.plan.Given as goal
 
 -- the replies so far and those to what is left are those to all
@@ -8,6 +8,6 @@ abbrev pub invariant-loop-command : goal.invariant-loop-command
 invariant-loop-command g l =
     let contents = g.S.Store.contents in
     record {
-      told : l.replies.items ++ replies_of (applied (contents l.store) l.plan) (drop l.command-index l.commands) ≡ replies_of (contents l.store) l.commands;
-      left : keyspace_after (applied (contents l.store) l.plan) (drop l.command-index l.commands) ≡ keyspace_after (contents l.store) l.commands;
+      told : l.replies.items ++ replies_of (committed (contents l.store) l.plan) (drop l.command-index l.commands) ≡ replies_of (contents l.store) l.commands;
+      left : keyspace_after (committed (contents l.store) l.plan) (drop l.command-index l.commands) ≡ keyspace_after (contents l.store) l.commands;
     }

@@ -1,0 +1,66 @@
+-- What commands leave at their only key.
+use Rattle.std.proofs.Common.{◌≡◌, ◌+◌, ◌≤◌, ℕ, ℤ, List, [], ◌∷◌, length, true, false, cond, nat_eq, Option, Some, None, Ok, Err, sym, ap, ◌∙◌, arith}
+use Rattle.std.specs.FinMap as map
+use Rattle.std.specs.Cmp.Lexicographic.{pointwise}
+use Rattle.std.specs.Fmt.{signed_decimal}
+use Rattle.std.specs.Map.{remove_entry}
+use Rattle.command.specs.declared.error_line.ErrorLine.{ErrorLine}
+use Rattle.command.specs.declared.error_line.ErrorLine.TheVariants.{HashNotAnInteger}
+use Rattle.hash.specs.Pairs.{Pairs, Changes, fields_changed, field_changed, value_of}
+use Rattle.indexmap.specs.IndexMap.{insert_entry}
+use Rattle.resp2.specs.declared.reply.Reply.{Reply}
+use Rattle.resp2.specs.declared.reply.Reply.TheVariants.{Integer}
+use Rattle.keyspace.specs.Effect.{Effect, error_reply, left}
+use Rattle.keyspace.specs.Commands.{taken_at}
+use Rattle.keyspace.specs.Hashes.{field_left, fields_of, hash_left, increased}
+use Rattle.keyspace.specs.Strings.{stored_number, sum_of}
+use Rattle.keyspace.specs.Keyspace.{Keyspace, changed, fields_left, hash_of, with_fields}
+use Rattle.keyspace.specs.declared.value.Value.{Value}
+use Rattle.keyspace.specs.declared.value.Value.TheVariants.{Str, Hash}
+
+some_same : {A : Type 0} (a b : A) → Some a ≡ Some b → a ≡ b
+some_same a b e = cc
+
+-- changes of the fields at a key leave the hash of the changed fields
+pub fields_left_of : (value : Option Value) (fields : Pairs) (changes : Changes) → fields_of value ≡ Some fields → fields_left value changes ≡ hash_of (fields_changed fields changes)
+fields_left_of None fields changes is = ap (λ f. hash_of (fields_changed f changes)) (some_same [] fields is)
+fields_left_of (Some (Hash pairs)) fields changes is = ap (λ f. hash_of (fields_changed f changes)) (some_same pairs fields is)
+fields_left_of (Some (Str bytes)) fields changes is = absurd (cc)
+
+-- an effect at one key is taken
+pub taken_left : (before after : Keyspace) (key : List ℕ) (reply : Reply) (value : Option Value) (effect : Effect) → effect ≡ left reply value → after ≡ changed before key value → record { reply = reply; after = after } ≡ taken_at before (key ∷ []) effect
+taken_left before after key reply value effect is made = (λ i. record { reply = reply; after = made i }) ∙ ap (taken_at before (key ∷ [])) (sym is)
+
+-- a change adds one field at most
+changed_one : (pairs : Pairs) (field : List ℕ) (value : Option (List ℕ)) → length (field_changed pairs field value) ≤ length pairs + 1
+changed_one [] field None = omega arith
+changed_one [] field (Some value) = omega arith
+changed_one (pair ∷ pairs) field None =
+    elim (pointwise nat_eq field pair.0) as (λ b. length (cond b pairs (pair ∷ remove_entry (pointwise nat_eq field) pairs)) ≤ length (pair ∷ pairs) + 1) [
+      | true ↦ omega arith
+      | false ↦ omega (arith, changed_one pairs field None)
+    ]
+changed_one (pair ∷ pairs) field (Some value) =
+    elim (pointwise nat_eq field pair.0) as (λ b. length (cond b ((pair.0, value) ∷ pairs) (pair ∷ insert_entry (pointwise nat_eq) pairs field value)) ≤ length (pair ∷ pairs) + 1) [
+      | true ↦ omega arith
+      | false ↦ omega (arith, changed_one pairs field (Some value))
+    ]
+
+pub len_changed : (pairs : Pairs) (changes : Changes) → length (fields_changed pairs changes) ≤ length pairs + length changes
+len_changed pairs [] = omega arith
+len_changed pairs (change ∷ changes) = omega (arith, len_changed (field_changed pairs change.0 change.1) changes, changed_one pairs change.0 change.1)
+
+-- the fields of a hash are increased
+module _ (before : Keyspace) (key field : List ℕ) (increment : ℤ) (fields : Pairs) (has : fields_of (map.get before key) ≡ Some fields) where
+  increase : increased key field (Some increment) (fields_of (map.get before key)) ≡ field_left key field fields (sum_of (Some increment) (stored_number HashNotAnInteger (value_of fields field)))
+  increase = ap (increased key field (Some increment)) has
+
+  -- there is a fault
+  pub sum_refused : (fault : ErrorLine) → sum_of (Some increment) (stored_number HashNotAnInteger (value_of fields field)) ≡ Err fault
+      → taken_at before (key ∷ []) (increased key field (Some increment) (fields_of (map.get before key))) ≡ record { reply = error_reply fault; after = before }
+  sum_refused fault is = ap (taken_at before (key ∷ [])) (increase ∙ ap (field_left key field fields) is)
+
+  -- or a sum
+  pub sum_left : (sum : ℤ) → sum_of (Some increment) (stored_number HashNotAnInteger (value_of fields field)) ≡ Ok sum
+      → taken_at before (key ∷ []) (increased key field (Some increment) (fields_of (map.get before key))) ≡ taken_at before (key ∷ []) (hash_left (Integer sum) key (field_changed fields field (Some (signed_decimal sum))))
+  sum_left sum is = ap (taken_at before (key ∷ [])) (increase ∙ ap (field_left key field fields) is)

@@ -1,8 +1,0 @@
-use Rattle.std.proofs.Common.{ap, ◌∙◌}
-use Rattle.std.proofs.lemmas.Cmp.{nat_list_cmp_total}
-use Rattle.std.specs.FinMap as map
-use Rattle.keyspace.proofs.Maps.{seen_remove}
-use Rattle.keyspace.proofs.store.TreeStoreStore.remove.Goals as goal
-
-pub returns : goal.returns
-returns c = seen_remove nat_list_cmp_total (map.slice_cmp-IsAntisymmetric map.nat_cmp-IsAntisymmetric) _ _ _ c.remove-old.ensures.updates.0 ∙ ap (λ m. map.remove m c.args.key.now) c.self.view_is

@@ -1,0 +1,408 @@
+//! The commands on strings, and those on keys with values of any type.
+ghost use Rattle.std.specs.Prelude.{◌≡◌, ◌<◌, ◌∷◌, [], codes, ◌++◌, ◌^◌, length, OnOk, IfOk, IsTrue, Some, count_by, is_some, pos, if◌then◌else◌};
+ghost use Rattle.std.specs.Prelude.{map as each};
+ghost use Rattle.std.specs.Option.{option_copied};
+ghost use Rattle.std.specs.FinMap as map;
+ghost use Rattle.std.specs.Fmt.{signed_decimal};
+ghost use Rattle.command.specs.Keys.{pair_keys};
+ghost use Rattle.command.specs.declared.command.DataCommand.{DataCommand};
+ghost use Rattle.keyspace.specs.Changes.{applied};
+ghost use Rattle.keyspace.specs.Commands.{exec, taken_at, values_at, with_values};
+ghost use Rattle.keyspace.specs.Keyspace.{Keyspace};
+ghost use Rattle.keyspace.specs.Strings.{all_removed, bulk_or_null, deleted, fitting, holds, length_reply, number_at, number_left, string_of, string_reply, strings_left, sum_of, type_of};
+ghost use Rattle.resp2.specs.Line.{is_one_line};
+ghost use Rattle.resp2.specs.Reply.{array_of};
+
+use crate::changes::NewValues;
+use crate::number::{number_in, sum, text_of};
+use crate::replies::{integer, simple};
+use crate::store::Store;
+use crate::value::Value;
+use byte_string::ByteString;
+use bytes::Bytes;
+use command::{Condition, ErrorLine};
+use resp2::{Array, MOST_WORD_BYTES, Reply};
+use std::alloc::{AllocError, Global};
+
+#[inline(never)]
+pub(crate) fn echo(message: &ByteString) -> Result<Reply, AllocError>
+    ensures { IfOk result (λ reply. reply ≡ Reply.Bulk message.now) }
+{
+    Ok(Reply::Bulk(message.clone()?))
+}
+
+#[inline(never)]
+pub(crate) fn get<S: Store>(
+    store: &S,
+    values: &NewValues,
+    key: &ByteString,
+) -> Result<Reply, AllocError>
+    ensures { IfOk result (λ reply.
+        reply ≡ string_reply (map.get (applied (S.contents store.now) values.now) key.now)) }
+{
+    string_reply(values.look(store, key))
+}
+
+// The string at each of the keys, once all changes are made.
+#[inline(never)]
+#[tactic(auto, using(crate::proofs::Applied::applied_empty))]
+pub(crate) fn strings_at<S: Store>(
+    alloc: Global,
+    store: &S,
+    values: &NewValues,
+    keys: &[ByteString],
+) -> Result<Reply, AllocError>
+    ensures { IfOk result (λ reply.
+        let found = values_at (applied (S.contents store.now) values.now) keys.now in
+        reply ≡ Reply.Array (array_of (each bulk_or_null found))) }
+{
+    let mut strings = Vec::with_capacity(alloc, keys.len())?;
+    for key in keys {
+        strings.push(bulk_or_null(values.look(store, key))?)?;
+    }
+    Ok(Reply::Array(Array::of(alloc, strings)?))
+}
+
+// SET where the condition holds.
+#[inline(never)]
+#[tactic(auto, using(crate::proofs::Applied::applied_insert))]
+pub(crate) fn set<S: Store>(
+    store: &S,
+    values: &mut NewValues,
+    key: &ByteString,
+    value: &ByteString,
+    condition: Condition,
+) -> Result<Reply, AllocError>
+    ensures { IfOk result (λ reply.
+        record { reply = reply; after = applied (S.contents store.now) values.new }
+        ≡ exec (applied (S.contents store.now) values.old) (DataCommand.Set key.now value.now condition)) }
+{
+    if condition != Condition::Always && !holds(condition, values.look(store, key)) {
+        return Ok(Reply::Null);
+    }
+    put(values, key, value.clone()?)?;
+    Ok(simple(b"OK"))
+}
+
+// Whether the condition of SET holds at the value that is there.
+fn holds(condition: Condition, value: Option<&Value>) -> bool
+    ensures { result ≡ holds condition (option_copied value.entry) }
+{
+    match condition {
+        Condition::Always => true,
+        Condition::IfMissing => value.is_none(),
+        Condition::IfThere => value.is_some(),
+    }
+}
+
+// Puts the string of each pair at its key, from left to right.
+#[inline(never)]
+pub(crate) fn set_each(
+    values: &mut NewValues,
+    pairs: &[(ByteString, ByteString)],
+) -> Result<Reply, AllocError>
+    ensures reply { IfOk result (λ reply. reply ≡ Reply.Simple (codes "OK")) }
+    ensures after { OnOk result ((keyspace : Keyspace) → applied keyspace values.new
+        ≡ with_values (applied keyspace values.old) (pair_keys pairs.now) (strings_left pairs.now)) }
+{
+    for (key, value) in pairs {
+        put(values, key, value.clone()?)?;
+    }
+    Ok(simple(b"OK"))
+}
+
+#[inline(never)]
+#[tactic(auto, using(crate::proofs::Applied::applied_insert))]
+pub(crate) fn setnx<S: Store>(
+    store: &S,
+    values: &mut NewValues,
+    key: &ByteString,
+    value: &ByteString,
+) -> Result<Reply, AllocError>
+    ensures { IfOk result (λ reply.
+        record { reply = reply; after = applied (S.contents store.now) values.new }
+        ≡ exec (applied (S.contents store.now) values.old) (DataCommand.Setnx key.now value.now)) }
+{
+    if values.look(store, key).is_some() {
+        return Ok(integer(0));
+    }
+    put(values, key, value.clone()?)?;
+    Ok(integer(1))
+}
+
+#[inline(never)]
+#[tactic(auto, using(crate::proofs::Applied::applied_insert))]
+pub(crate) fn getset<S: Store>(
+    store: &S,
+    values: &mut NewValues,
+    key: &ByteString,
+    value: &ByteString,
+) -> Result<Reply, AllocError>
+    ensures { IfOk result (λ reply.
+        record { reply = reply; after = applied (S.contents store.now) values.new }
+        ≡ exec (applied (S.contents store.now) values.old) (DataCommand.Getset key.now value.now)) }
+{
+    let old = match values.look(store, key) {
+        None => Reply::Null,
+        Some(Value::Str(bytes)) => Reply::Bulk(bytes.clone()?),
+        Some(Value::Hash(_)) => return Ok(ErrorLine::WrongType.reply()),
+    };
+    put(values, key, value.clone()?)?;
+    Ok(old)
+}
+
+#[inline(never)]
+#[tactic(auto, using(crate::proofs::Applied::applied_insert))]
+pub(crate) fn getdel<S: Store>(
+    store: &S,
+    values: &mut NewValues,
+    key: &ByteString,
+) -> Result<Reply, AllocError>
+    ensures { IfOk result (λ reply.
+        record { reply = reply; after = applied (S.contents store.now) values.new }
+        ≡ exec (applied (S.contents store.now) values.old) (DataCommand.Getdel key.now)) }
+{
+    let reply = match values.look(store, key) {
+        None => return Ok(Reply::Null),
+        Some(Value::Str(bytes)) => Reply::Bulk(bytes.clone()?),
+        Some(Value::Hash(_)) => return Ok(ErrorLine::WrongType.reply()),
+    };
+    values.insert(key.clone()?, None)?;
+    Ok(reply)
+}
+
+#[inline(never)]
+#[tactic(auto, using(crate::proofs::Applied::applied_insert))]
+pub(crate) fn append<S: Store>(
+    alloc: Global,
+    store: &S,
+    values: &mut NewValues,
+    key: &ByteString,
+    value: &ByteString,
+) -> Result<Reply, AllocError>
+    ensures { IfOk result (λ reply.
+        record { reply = reply; after = applied (S.contents store.now) values.new }
+        ≡ exec (applied (S.contents store.now) values.old) (DataCommand.Append key.now value.now)) }
+{
+    let Some(old) = string_of(values.look(store, key)) else {
+        return Ok(ErrorLine::WrongType.reply());
+    };
+    let Some(joined) = joined(alloc, old, value)? else {
+        return Ok(ErrorLine::TooLong.reply());
+    };
+    let len = integer(joined.len());
+    put(values, key, joined)?;
+    Ok(len)
+}
+
+// The bytes behind the old ones, or None where they are too long together.
+fn joined(alloc: Global, old: &[u8], value: &ByteString) -> Result<Option<ByteString>, AllocError>
+    ensures { IfOk result (λ joined. joined ≡ fitting (old.now ++ value.now)) }
+{
+    let len = old.len().saturating_add(value.len());
+    if len > MOST_WORD_BYTES {
+        return Ok(None);
+    }
+    if old.is_empty() {
+        return Ok(Some(value.clone()?));
+    }
+    let mut bytes = Vec::with_capacity(alloc, len)?;
+    bytes.extend_from_slice(old)?;
+    bytes.extend_from_slice(value.as_slice())?;
+    Ok(Some(ByteString::from(Bytes::from_vec(bytes)?)))
+}
+
+#[inline(never)]
+pub(crate) fn incrby<S: Store>(
+    alloc: Global,
+    store: &S,
+    values: &mut NewValues,
+    key: &ByteString,
+    increment: &ByteString,
+) -> Result<Reply, AllocError>
+    ensures { IfOk result (λ reply.
+        record { reply = reply; after = applied (S.contents store.now) values.new }
+        ≡ exec (applied (S.contents store.now) values.old) (DataCommand.Incrby key.now increment.now)) }
+{
+    let Some(increment) = number_in(increment.as_slice()) else {
+        return Ok(ErrorLine::NotAnInteger.reply());
+    };
+    add(alloc, store, values, key, increment)
+}
+
+// Adds the increment to the number at the key.
+#[inline(never)]
+pub(crate) fn add<S: Store>(
+    alloc: Global,
+    store: &S,
+    values: &mut NewValues,
+    key: &ByteString,
+    increment: i64,
+) -> Result<Reply, AllocError>
+    ensures { IfOk result (λ reply.
+        let before = applied (S.contents store.now) values.old in
+        record { reply = reply; after = applied (S.contents store.now) values.new }
+        ≡ taken_at before (key.now ∷ []) (number_left (sum_of (Some increment) (number_at (map.get before key.now))))) }
+{
+    match sum_at(values.look(store, key), increment) {
+        Ok(sum) => put_number(alloc, values, key, sum),
+        Err(fault) => Ok(fault.reply()),
+    }
+}
+
+// The sum of the increment and the number of the string, or the fault that they have.
+fn sum_at(value: Option<&Value>, increment: i64) -> Result<i64, ErrorLine>
+    ensures { result ≡ sum_of (Some increment) (number_at (option_copied value.entry)) }
+{
+    let stored = number_at(value)?;
+    sum(stored, increment).ok_or(ErrorLine::Overflow)
+}
+
+// Puts the string at the key.
+fn put(values: &mut NewValues, key: &ByteString, value: ByteString) -> Result<(), AllocError>
+    ensures { OnOk result (values.new ≡ map.insert values.old key.now (Some (Value.Str value))) }
+{
+    values.insert(key.clone()?, Some(Value::Str(value)))
+}
+
+// Puts the text of the number at the key, and replies with the number.
+fn put_number(
+    alloc: Global,
+    values: &mut NewValues,
+    key: &ByteString,
+    number: i64,
+) -> Result<Reply, AllocError>
+    ensures reply { IfOk result (λ reply. reply ≡ Reply.Integer number) }
+    ensures after { OnOk result (
+        values.new ≡ map.insert values.old key.now (Some (Value.Str (signed_decimal number)))) }
+{
+    put(values, key, text_of(alloc, number)?)?;
+    Ok(Reply::Integer(number))
+}
+
+// Removes the keys, and tells how many were there.
+#[inline(never)]
+pub(crate) fn delete<S: Store>(
+    store: &S,
+    values: &mut NewValues,
+    keys: &[ByteString],
+) -> Result<Reply, AllocError>
+    ensures reply { IfOk result (λ reply.
+        reply ≡ Reply.Integer (pos (deleted keys.now (values_at (applied (S.contents store.now) values.old) keys.now)))) }
+    ensures after { OnOk result (applied (S.contents store.now) values.new
+        ≡ with_values (applied (S.contents store.now) values.old) keys.now (all_removed keys.now)) }
+{
+    let mut count = 0;
+    for key in keys {
+        count += delete_key(store, values, key)?;
+    }
+    Ok(integer(count))
+}
+
+// Removes the key, and gives 1 where it was there, else 0.
+#[tactic(auto, using(crate::proofs::Applied::applied_insert, crate::proofs::Placeholders::remove_absent))]
+fn delete_key<S: Store>(
+    store: &S,
+    values: &mut NewValues,
+    key: &ByteString,
+) -> Result<usize, AllocError>
+    ensures there { IfOk result (λ count.
+        count ≡ (if is_some (map.get (applied (S.contents store.now) values.old) key.now) then 1 else 0)) }
+    ensures after { OnOk result (applied (S.contents store.now) values.new
+        ≡ map.remove (applied (S.contents store.now) values.old) key.now) }
+{
+    if values.look(store, key).is_none() {
+        return Ok(0);
+    }
+    values.insert(key.clone()?, None)?;
+    Ok(1)
+}
+
+// How many of the keys are there once all changes are made. A repeated one counts again.
+#[inline(never)]
+pub(crate) fn count_there<S: Store>(store: &S, values: &NewValues, keys: &[ByteString]) -> usize
+    ensures count { result ≡ count_by is_some (values_at (applied (S.contents store.now) values.now) keys.now) }
+    ensures small { result < 2 ^ 63 }
+{
+    let mut count = 0;
+    for key in keys {
+        if values.look(store, key).is_some() {
+            count += 1;
+        }
+    }
+    count
+}
+
+// The number of bytes of the string at the key.
+#[inline(never)]
+pub(crate) fn len_at<S: Store>(store: &S, values: &NewValues, key: &ByteString) -> Reply
+    ensures { result ≡ length_reply (string_of (map.get (applied (S.contents store.now) values.now) key.now)) }
+{
+    match string_of(values.look(store, key)) {
+        Some(bytes) => integer(bytes.len()),
+        None => ErrorLine::WrongType.reply(),
+    }
+}
+
+// The name of the type of the value at the key.
+#[inline(never)]
+pub(crate) fn type_at<S: Store>(store: &S, values: &NewValues, key: &ByteString) -> &'static [u8]
+    ensures name { result.now ≡ type_of (map.get (applied (S.contents store.now) values.now) key.now) }
+    ensures line { IsTrue (is_one_line result.now) }
+{
+    type_of(values.look(store, key))
+}
+
+// The string, of which a missing key counts as an empty one; None where the value is none.
+fn string_of(value: Option<&Value>) -> Option<&[u8]>
+    ensures { option_copied result ≡ string_of (option_copied value.entry) }
+{
+    match value {
+        None => Some(b""),
+        Some(Value::Str(bytes)) => Some(bytes.as_slice()),
+        Some(Value::Hash(_)) => None,
+    }
+}
+
+// The number of the string; a missing key counts as 0.
+fn number_at(value: Option<&Value>) -> Result<i64, ErrorLine>
+    ensures { result ≡ number_at (option_copied value.entry) }
+{
+    match value {
+        None => Ok(0),
+        Some(Value::Str(bytes)) => number_in(bytes.as_slice()).ok_or(ErrorLine::NotAnInteger),
+        Some(Value::Hash(_)) => Err(ErrorLine::WrongType),
+    }
+}
+
+fn type_of(value: Option<&Value>) -> &'static [u8]
+    ensures name { result.now ≡ type_of (option_copied value.entry) }
+    ensures line { IsTrue (is_one_line result.now) }
+{
+    match value {
+        None => b"none",
+        Some(Value::Str(_)) => b"string",
+        Some(Value::Hash(_)) => b"hash",
+    }
+}
+
+// The reply shares the bytes of the string.
+fn string_reply(value: Option<&Value>) -> Result<Reply, AllocError>
+    ensures { IfOk result (λ reply. reply ≡ string_reply (option_copied value.entry)) }
+{
+    match value {
+        None => Ok(Reply::Null),
+        Some(Value::Str(bytes)) => Ok(Reply::Bulk(bytes.clone()?)),
+        Some(Value::Hash(_)) => Ok(ErrorLine::WrongType.reply()),
+    }
+}
+
+// The same, but for null in the place of a value of another type.
+fn bulk_or_null(value: Option<&Value>) -> Result<Reply, AllocError>
+    ensures { IfOk result (λ reply. reply ≡ bulk_or_null (option_copied value.entry)) }
+{
+    match value {
+        Some(Value::Str(bytes)) => Ok(Reply::Bulk(bytes.clone()?)),
+        None | Some(Value::Hash(_)) => Ok(Reply::Null),
+    }
+}
