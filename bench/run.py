@@ -30,6 +30,8 @@ REQUESTS = {
     "MSET of 10 keys": ["MSET", *(word for key in TEN_KEYS for word in (key, VALUE))],
     "MGET of 10 keys": ["MGET", *TEN_KEYS],
 }
+# Hashes by what they are called in the report: each key, and how many fields it has.
+HASHES = {"10 fields": ("short", 10), "30,000 fields": ("long", 30000)}
 
 
 class Report:
@@ -121,6 +123,36 @@ def commands(report, scale):
         for name, words in REQUESTS.items():
             for pipeline in (1, 16):
                 report.row(name, pipeline, *rates_of(ours, theirs, words, 16, 1000, pipeline, scale))
+        for size, (key, fields) in HASHES.items():
+            for it in (ours, theirs):
+                fill_hash(it.port, key, fields)
+            for name, words in (
+                ("HSET", ["HSET", key, "field:__rand_int__", VALUE]),
+                ("HGET", ["HGET", key, "field:__rand_int__"]),
+            ):
+                for pipeline in (1, 16):
+                    rates = rates_of(ours, theirs, words, 16, fields, pipeline, scale)
+                    report.row(f"{name}, a hash of {size}", pipeline, *rates)
+        key, fields = HASHES["30,000 fields"]
+        count = int(1000 * scale)
+        mine, other = (rate_at_front(it.port, key, count) for it in (ours, theirs))
+        report.row(f"HDEL of the first of {fields:,} fields", count, f"{mine:,.0f}", f"{other:,.0f}", f"{mine / other:.2f}")
+
+
+# The fields that redis-benchmark picks from.
+def fill_hash(port, key, fields):
+    load.send_all(port, (hash_request(b"HSET", key, at, VALUE.encode()) for at in range(fields)), b":1\r\n")
+
+
+# How many fields are deleted in a second, each the first one then.
+def rate_at_front(port, key, count):
+    begun = time.monotonic()
+    load.send_all(port, (hash_request(b"HDEL", key, at) for at in range(count)), b":1\r\n")
+    return count / (time.monotonic() - begun)
+
+
+def hash_request(name, key, at, *value):
+    return load.encode(name, key.encode(), b"field:%012d" % at, *value)
 
 
 # The keys that redis-benchmark picks from.
