@@ -1,11 +1,14 @@
 -- Bytes of which a beginning was written.
-use Rattle.std.proofs.Common.{◌≡◌, ℕ, suc, ◌-◌, ◌<◌, List, ◌∷◌, ◌++◌, Option, length, take, drop, get_or, sym, ap, ◌∙◌, append_assoc, take-append-drop}
+use Rattle.std.proofs.Common.{◌≡◌, ℕ, suc, ◌-◌, ◌<◌, List, ◌∷◌, ◌++◌, Option, length, take, drop, get_or, sym, ap, subst, ◌∙◌, append_assoc, take-append-drop}
 use Rattle.std.proofs.lemmas.List.{take_rest}
 use Rattle.std.proofs.lemmas.Grind.{flat_map-append}
 use Rattle.std.proofs.Math.Seq.{split_at}
 use Rattle.std.specs.List.{flat_map}
 use Rattle.std.specs.Io.KnownBytes.{Appends}
 use Rattle.std.proofs.KnownBytes.{Appends-trans}
+use Rattle.std.specs.Prelude.{decimal}
+use Rattle.resp2.specs.Reply.{line_spelling}
+use Rattle.resp2.specs.Request.{bulks_spelling, request_spelling}
 use Rattle.resp2.specs.Writing.{AppendsBeginning, Continues}
 
 -- what is written and what is left are still all, once the first bytes of what was left are written
@@ -44,3 +47,19 @@ begun_at a b c f xs i d bytes lt at wrote begun =
 -- what continues a continuation continues its beginning
 pub continues_from : (old middle new xs : List ℕ) → middle ≡ old ++ xs → Continues middle new → Continues old new
 continues_from old middle new xs e c = (xs ++ c.0, c.1 ∙ ap (λ ys. ys ++ c.0) e ∙ append_assoc old xs c.0)
+
+-- a request is the line of its count, in these digits, and its words
+count_first : (digits : List ℕ) (shown words : List (List ℕ)) → digits ≡ decimal (length shown) → shown ≡ words → line_spelling 42 digits ++ bulks_spelling shown ≡ request_spelling words
+count_first digits shown words text same = ap (λ t. line_spelling 42 t ++ bulks_spelling shown) text ∙ ap request_spelling same
+
+-- a beginning of that line is one of the request
+pub request_begun : (a b : Option (List ℕ)) (digits : List ℕ) (shown words : List (List ℕ)) → digits ≡ decimal (length shown) → shown ≡ words
+    → AppendsBeginning a b (line_spelling 42 digits) → AppendsBeginning a b (request_spelling words)
+request_begun a b digits shown words text same begun =
+    subst (AppendsBeginning a b) (count_first digits shown words text same) (begun_before a b _ (bulks_spelling shown) begun)
+
+-- and so is the line with a beginning of the words
+pub words_begun : (a b c : Option (List ℕ)) (digits : List ℕ) (shown words : List (List ℕ)) → digits ≡ decimal (length shown) → shown ≡ words
+    → Appends a b (line_spelling 42 digits) → AppendsBeginning b c (bulks_spelling shown) → AppendsBeginning a c (request_spelling words)
+words_begun a b c digits shown words text same wrote begun =
+    subst (AppendsBeginning a c) (count_first digits shown words text same) (begun_behind a b c _ _ wrote begun)

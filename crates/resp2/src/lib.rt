@@ -10,6 +10,7 @@ mod line;
 mod parts;
 mod reader;
 mod reply;
+mod sending;
 mod whole;
 mod words;
 mod writing;
@@ -25,5 +26,6 @@ pub use law::{
 pub use line::Line;
 pub use reader::Reader;
 pub use reply::Reply;
+pub use sending::write_words;
 pub use words::{MOST_REQUEST_BYTES, MOST_WORD_BYTES, MOST_WORDS, Words};
 pub use writing::{append_reply, send_reply, write_reply};

@@ -57,7 +57,8 @@ pub(crate) fn parts_of<'a>(element: &'a Element, digits: &'a mut Buffer) -> Part
     }
 }
 
-fn bulk<'a>(bytes: &'a ByteString, digits: &'a mut Buffer) -> Parts<'a>
+// `digits` holds the part that is a number.
+pub(crate) fn bulk<'a>(bytes: &'a ByteString, digits: &'a mut Buffer) -> Parts<'a>
     ensures { parts_spelling result ≡ bulk_spelling bytes.now }
 {
     Parts::Bulk(digits.format(bytes.len()).as_bytes(), bytes.as_slice())

@@ -129,7 +129,7 @@ fn write_elements<W: Write>(elements: &[Element], out: &mut W) -> io::Result<()>
     Ok(())
 }
 
-fn write_parts<W: Write>(parts: &Parts, out: &mut W) -> io::Result<()>
+pub(crate) fn write_parts<W: Write>(parts: &Parts, out: &mut W) -> io::Result<()>
     ensures written { OnOk result
         (Appends (W.contents out.old) (W.contents out.new) (parts_spelling parts.now)) }
     ensures begun { OnErr result

@@ -1,0 +1,46 @@
+//! Requests as bytes on a connection, as a client sends them.
+ghost use Rattle.std.specs.Prelude.{OnOk, OnErr};
+ghost use Rattle.std.specs.List.{flat_map};
+ghost use Rattle.std.specs.Io.KnownBytes.{Appends};
+ghost use Rattle.resp2.specs.Request.{bulk_spelling, request_spelling};
+ghost use Rattle.resp2.specs.Writing.{AppendsBeginning};
+
+use crate::parts::{Parts, bulk};
+use crate::words::Words;
+use crate::writing::write_parts;
+use byte_string::ByteString;
+use itoa::Buffer;
+use std::io;
+use std::io::Write;
+
+/// Writes the request as the protocol spells it, at the end of what `out` holds: an array of bulk
+/// strings, a word each.
+///
+/// It allocates nothing and copies the words' bytes into `out` alone. An error is the one that
+/// `out` gave; a beginning of the request is then written.
+pub fn write_words<W: Write>(words: &Words, out: &mut W) -> io::Result<()>
+    ensures written { OnOk result
+        (Appends (W.contents out.old) (W.contents out.new) (request_spelling words.now)) }
+    ensures begun { OnErr result
+        (AppendsBeginning (W.contents out.old) (W.contents out.new) (request_spelling words.now)) }
+{
+    let words = words.as_slice();
+    let mut digits = Buffer::new();
+    write_parts(
+        &Parts::Line(b'*', digits.format(words.len()).as_bytes()),
+        out,
+    )?;
+    write_bulks(words, out)
+}
+
+fn write_bulks<W: Write>(words: &[ByteString], out: &mut W) -> io::Result<()>
+    ensures written { OnOk result
+        (Appends (W.contents out.old) (W.contents out.new) (flat_map bulk_spelling words.now)) }
+    ensures begun { OnErr result
+        (AppendsBeginning (W.contents out.old) (W.contents out.new) (flat_map bulk_spelling words.now)) }
+{
+    for word in words {
+        write_parts(&bulk(word, &mut Buffer::new()), out)?;
+    }
+    Ok(())
+}
