@@ -4,11 +4,10 @@ use byte_string::ByteString;
 use case_files::{bytes_of, push_bytes, push_word, shared_bytes_of, verb_of, words_of};
 use command::{
     ClusterCommand, Command, CommandFault, Condition, DataCommand, ErrorLine, Name, PairList,
-    WordList, keys, moved_reply, parse,
+    WordList, keys, moved_reply, parse, split_pair,
 };
 use resp2::{Line, Reply, Words, append_reply};
 use std::alloc::{AllocError, Global};
-use std::mem;
 
 /// `parse WORDS` gives the command with its keys, or the error that answers the words; `name WORD` and `long-name COUNT`,
 /// which is COUNT times `g`, the name that is spelled. `fault` and `error` give the texts of a fault and of an error, and
@@ -38,13 +37,8 @@ fn push_parsed(given: &mut String, words: &str) -> Result<()> {
     let Some(words) = Words::new(words_of(alloc, words)?) else {
         return Ok(given.push_str("no request")?);
     };
-    match parse(alloc, &words) {
-        Ok(command) => {
-            let pushed = push_command(given, &command);
-            // It is let go here alone, and not on each way out.
-            mem::drop(command);
-            Ok(pushed?)
-        }
+    match parse(&words) {
+        Ok(command) => Ok(push_command(given, &command)?),
         Err(fault) => Ok(push_bytes(given, fault.line().text())?),
     }
 }
@@ -143,8 +137,10 @@ fn option_of(condition: Condition) -> &'static str {
 
 fn push_pairs(given: &mut String, name: &str, pairs: &PairList) -> Result<(), AllocError> {
     given.push_str(name)?;
-    for (key, value) in pairs.as_slice() {
+    let mut rest = pairs.words();
+    while let Some((key, value, others)) = split_pair(rest) {
         push_words(given, "", &[key.as_slice(), value.as_slice()])?;
+        rest = others;
     }
     Ok(())
 }
@@ -227,7 +223,6 @@ fn fault_of(text: &str) -> Result<CommandFault> {
             CommandFault::Arity(Name::of(name.as_bytes()).context("no such command")?)
         }
         ("Syntax", "") => CommandFault::Syntax,
-        ("Memory", "") => CommandFault::from(AllocError),
         _ => bail!("no such fault"),
     })
 }

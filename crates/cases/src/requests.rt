@@ -1,7 +1,7 @@
-//! Requests from bytes that come in any pieces.
+//! Requests from bytes that come in any pieces, and requests as bytes.
 use anyhow::{Context, Result, bail};
-use case_files::{bytes_of, push_word, verb_of};
-use resp2::{Fault, Reader, Words};
+use case_files::{bytes_of, push_bytes, push_word, request_of, string_of, verb_of};
+use resp2::{Fault, Reader, Words, write_words};
 use std::alloc::{AllocError, Global};
 
 // What is fed behind a fault.
@@ -20,7 +20,8 @@ const PIECE: usize = 1024;
 /// `feed-words COUNT`, which feeds COUNT times the word `x` and asks after each; `feed-long-words COUNT`, which does so with
 /// words of a mebibyte; `next`, which asks.
 ///
-/// `bytewise BYTES` feeds a new one byte by byte and asks after each, and `cuts BYTES` cuts the bytes at each place.
+/// `bytewise BYTES` feeds a new one byte by byte and asks after each, `bytewise-words COUNT WORD` does so with a request of
+/// COUNT times the word, and `cuts BYTES` cuts the bytes at each place. `write WORD..` gives the bytes of a request.
 pub fn play(alloc: Global, script: &str) -> Result<String> {
     let mut given = String::new(alloc);
     let mut reader = Reader::new(alloc);
@@ -47,7 +48,9 @@ pub fn play(alloc: Global, script: &str) -> Result<String> {
                     bytes_of(alloc, bytes)?.as_slice(),
                 )?
             }
+            ("bytewise-words", words) => push_bytewise_words(&mut given, words)?,
             ("cuts", bytes) => push_cuts(&mut given, bytes_of(alloc, bytes)?.as_slice())?,
+            ("write", words) => push_written(&mut given, words)?,
             _ => bail!("no such command"),
         }
     }
@@ -152,6 +155,33 @@ fn push_bytewise(given: &mut String, mut reader: Reader, bytes: &[u8]) -> Result
         }
     }
     Ok(given.push_str("nothing more\n")?)
+}
+
+// A request of so many times the word, as it is written.
+fn push_bytewise_words(given: &mut String, words: &str) -> Result<()> {
+    let alloc = *given.allocator();
+    let (count, word) = verb_of(words);
+    let word = string_of(alloc, word)?;
+    let mut items = Vec::new(alloc);
+    for _ in 0..count.parse::<usize>()? {
+        items.push(word.clone()?)?;
+    }
+    let request = Words::new(items).context("the words are no request")?;
+    let bytes = written(alloc, &request)?;
+    push_bytewise(given, Reader::new(alloc), bytes.as_slice())
+}
+
+fn push_written(given: &mut String, words: &str) -> Result<()> {
+    let alloc = *given.allocator();
+    let bytes = written(alloc, &request_of(alloc, words)?)?;
+    push_bytes(given, bytes.as_slice())?;
+    Ok(given.push('\n')?)
+}
+
+fn written(alloc: Global, request: &Words) -> Result<Vec<u8>> {
+    let mut bytes = Vec::new(alloc);
+    write_words(request, &mut bytes)?;
+    Ok(bytes)
 }
 
 // Whether the fault is reported again, by a request and by more bytes.

@@ -69,9 +69,9 @@ fn play_on<S: Store + Drop>(alloc: Global, store: S, script: &str) -> Result<Str
     Ok(bench.given)
 }
 
-// The command of these words.
-fn command_of(alloc: Global, text: &str) -> Result<DataCommand> {
-    match parse(alloc, &request_of(alloc, text)?)? {
+// The command that the words ask for.
+fn command_of<'w>(words: &'w Words) -> Result<DataCommand<'w>> {
+    match parse(words)? {
         Command::Data(command) => Ok(command),
         Command::Cluster(_) => bail!("this command has no keys"),
     }
@@ -149,11 +149,9 @@ impl<S: Store> Bench<S> {
     }
 
     fn exec(&mut self, words: &str) -> Result<()> {
-        let command = command_of(self.alloc, words)?;
-        let answer = exec(self.alloc, &mut self.store, &command);
-        // It is let go here alone, and not on each way out.
-        mem::drop(command);
-        match answer {
+        let words = request_of(self.alloc, words)?;
+        let command = command_of(&words)?;
+        match exec(self.alloc, &mut self.store, &command) {
             Ok(reply) => push_reply(self.alloc, &mut self.given, &reply),
             Err(_) => self.say("refused"),
         }
@@ -170,7 +168,8 @@ impl<S: Store> Bench<S> {
     }
 
     fn plan_command(&mut self, words: &str) -> Result<()> {
-        let command = command_of(self.alloc, words)?;
+        let words = request_of(self.alloc, words)?;
+        let command = command_of(&words)?;
         let mut planned = Plan::new(self.alloc);
         let reply = plan_command(self.alloc, &self.store, &mut planned, &command)?;
         self.planned = planned;
@@ -178,11 +177,15 @@ impl<S: Store> Bench<S> {
     }
 
     fn plan(&mut self, texts: &str) -> Result<()> {
-        let mut commands = Vec::new(self.alloc);
+        let mut requests = Vec::new(self.alloc);
         for text in texts.split(" | ") {
             if !text.is_empty() {
-                commands.push(command_of(self.alloc, text)?)?;
+                requests.push(request_of(self.alloc, text)?)?;
             }
+        }
+        let mut commands = Vec::with_capacity(self.alloc, requests.len())?;
+        for words in &requests {
+            commands.push(command_of(words)?)?;
         }
         let (replies, planned) = plan(self.alloc, &self.store, commands.as_slice())?;
         self.planned = planned;

@@ -2,7 +2,7 @@
 use Rattle.std.specs.Prelude.{List, ℕ, ◌++◌, codes, decimal}
 use Rattle.command.specs.Names.{name_text}
 use Rattle.command.specs.declared.fault.CommandFault.{CommandFault}
-use Rattle.command.specs.declared.fault.CommandFault.TheVariants.{Unknown, UnknownSubcommand, Arity, Syntax, Memory}
+use Rattle.command.specs.declared.fault.CommandFault.TheVariants.{Unknown, UnknownSubcommand, Arity, Syntax}
 use Rattle.command.specs.declared.error_line.ErrorLine.{ErrorLine}
 use Rattle.command.specs.declared.error_line.ErrorLine.TheVariants.{Protocol, OutOfMemory, Exhausted, UnknownCommand, UnknownSubcommand as UnknownWord, WrongArity, Syntax as WrongSyntax, CrossSlot, SlotDown, TooLong, NotAnInteger, HashNotAnInteger, Overflow, WrongType}
 
@@ -29,7 +29,6 @@ line_of Unknown = UnknownCommand
 line_of UnknownSubcommand = UnknownWord
 line_of (Arity name) = WrongArity name
 line_of Syntax = WrongSyntax
-line_of Memory = OutOfMemory
 
 -- the slot of the keys, and the address of the node that owns it (Redis Cluster specification, "MOVED Redirection")
 abbrev pub moved_text : ℕ → List ℕ → ℕ → List ℕ

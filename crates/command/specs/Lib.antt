@@ -1,4 +1,5 @@
 pub mod ErrorLine
 pub mod Keys
 pub mod Names
+pub mod Pairs
 pub mod Table

@@ -40,7 +40,7 @@ name_text Hincrby = codes "hincrby"
 name_text Cluster = codes "cluster"
 
 abbrev pub names : List Name
-names = Get ∷ Set ∷ Ping ∷ Echo ∷ Hget ∷ Hset ∷ Mget ∷ Mset ∷ Setnx ∷ Getset ∷ Getdel ∷ Append ∷ Incr ∷ Decr ∷ Incrby ∷ Strlen ∷ Del ∷ Exists ∷ TypeOf ∷ Hsetnx ∷ Hmget ∷ Hdel ∷ Hexists ∷ Hlen ∷ Hstrlen ∷ Hkeys ∷ Hvals ∷ Hgetall ∷ Hincrby ∷ Cluster ∷ []
+names = Get ∷ Set ∷ Ping ∷ Incr ∷ Hget ∷ Hset ∷ Mget ∷ Mset ∷ Append ∷ Echo ∷ Setnx ∷ Getset ∷ Getdel ∷ Decr ∷ Incrby ∷ Strlen ∷ Del ∷ Exists ∷ TypeOf ∷ Hsetnx ∷ Hmget ∷ Hdel ∷ Hexists ∷ Hlen ∷ Hstrlen ∷ Hkeys ∷ Hvals ∷ Hgetall ∷ Hincrby ∷ Cluster ∷ []
 
 -- the name that a word spells, in letters of any case
 abbrev pub name_of : List ℕ → Option Name

@@ -1,8 +1,8 @@
 -- Which words are a command (Redis command reference: the name, then the arguments of its syntax).
-use Rattle.std.specs.Prelude.{◌≡◌, List, [], ◌∷◌, ℕ, Option, Some, None, Result, Ok, Err, codes, if◌then◌else◌}
-use Rattle.std.specs.Option.{option_map}
+use Rattle.std.specs.Prelude.{List, [], ◌∷◌, ℕ, Option, Some, None, Result, Ok, Err, codes, if◌then◌else◌}
 use Rattle.std.specs.Str.{str_eq_ignore_ascii_case}
 use Rattle.command.specs.Names.{name_of, subcommand_of}
+use Rattle.command.specs.Pairs.{pairs_of}
 use Rattle.command.specs.declared.names.Name.{Name}
 use Rattle.command.specs.declared.names.Name.TheVariants as name
 use Rattle.command.specs.declared.names.Subcommand.{Subcommand}
@@ -15,7 +15,7 @@ use Rattle.command.specs.declared.command.Condition.{Condition}
 use Rattle.command.specs.declared.command.Condition.TheVariants.{Always, IfMissing, IfThere}
 use Rattle.command.specs.declared.command.ClusterCommand.TheVariants.{KeySlot, MyId, Slots}
 use Rattle.command.specs.declared.fault.CommandFault.{CommandFault}
-use Rattle.command.specs.declared.fault.CommandFault.TheVariants.{Unknown, UnknownSubcommand, Arity, Syntax, Memory}
+use Rattle.command.specs.declared.fault.CommandFault.TheVariants.{Unknown, UnknownSubcommand, Arity, Syntax}
 
 -- a row a subcommand: the arguments that it takes
 abbrev pub with_subcommand : Option Subcommand → List (List ℕ) → Result Command CommandFault
@@ -51,12 +51,6 @@ with_keys n make [] = Err (Arity n)
 abbrev pub with_fields : Name → (List ℕ → List (List ℕ) → DataCommand) → List (List ℕ) → Result Command CommandFault
 with_fields n make (key ∷ field ∷ fields) = Ok (Data (make key (field ∷ fields)))
 with_fields n make _ = Err (Arity n)
-
--- the words two by two, or None where one is left over
-abbrev pub pairs_of : List (List ℕ) → Option (List (List ℕ × List ℕ))
-pairs_of [] = Some []
-pairs_of (word ∷ []) = None
-pairs_of (first ∷ second ∷ words) = option_map (λ pairs. (first, second) ∷ pairs) (pairs_of words)
 
 -- a command with one or more pairs
 abbrev pub with_pairs : Name → (List (List ℕ × List ℕ) → DataCommand) → Option (List (List ℕ × List ℕ)) → Result Command CommandFault
@@ -139,11 +133,3 @@ named_command (Some n) arguments = with_arguments n arguments
 abbrev pub command_of : List (List ℕ) → Result Command CommandFault
 command_of [] = Err Unknown
 command_of (word ∷ arguments) = named_command (name_of word) arguments
-
--- a fault that may be reported: the one that the words have, or out of memory, whatever the words
-abbrev pub IsFaultOf : CommandFault → Result Command CommandFault → Type 0
-IsFaultOf Unknown parsed = parsed ≡ Err Unknown
-IsFaultOf UnknownSubcommand parsed = parsed ≡ Err UnknownSubcommand
-IsFaultOf (Arity n) parsed = parsed ≡ Err (Arity n)
-IsFaultOf Syntax parsed = parsed ≡ Err Syntax
-IsFaultOf Memory parsed = Unit {0}

@@ -1,23 +1,23 @@
-//! Commands with their arguments, and the keys that they name.
-ghost use Rattle.std.specs.Prelude.{◌≡◌, ◌≢◌, ◌∷◌, [], ◌↔◌, IfOk, IfSome, IsSome, map};
+//! Commands with their arguments, and the keys that they name. A command borrows its words from the request.
+ghost use Rattle.std.specs.Prelude.{◌≡◌, ◌∷◌, [], IfOk, IfSome, map};
 ghost use Rattle.std.specs.Option.{option_copied};
 ghost use Rattle.command.specs.Keys.{data_keys, is_data_write, is_write, keys_of, only_data_key, only_key, pair_keys};
 ghost use Rattle.command.specs.Table.{condition_of};
 
+use crate::words::{PairList, Word, WordList, split_pair};
 use byte_string::ByteString;
 use std::alloc::{AllocError, Global};
-use std::marker::Model;
 
 /// A command with its arguments.
 #[derive(Debug, Drop)]
-pub enum Command {
+pub enum Command<'w> {
     /// It reads or writes keys.
-    Data(DataCommand),
+    Data(DataCommand<'w>),
     /// It asks the node about the cluster.
-    Cluster(ClusterCommand),
+    Cluster(ClusterCommand<'w>),
 }
 
-impl Command {
+impl<'w> Command<'w> {
     /// Whether the command may change the keyspace (command flag `write`).
     pub fn is_write(&self) -> bool
         ensures { result ≡ is_write self.now }
@@ -29,7 +29,7 @@ impl Command {
     }
 
     /// The key of a command whose syntax has exactly one. It needs no list of keys.
-    pub fn only_key(&self) -> Option<&ByteString>
+    pub fn only_key(&self) -> Option<&'w ByteString>
         ensures key { option_copied result ≡ only_key self.now }
         ensures alone { IfSome result (λ key. keys_of self.now ≡ key.now ∷ []) }
     {
@@ -42,184 +42,184 @@ impl Command {
 
 /// A command that a node executes on its keys.
 #[derive(Debug, Drop)]
-pub enum DataCommand {
+pub enum DataCommand<'w> {
     /// Replies `PONG`.
     Ping,
     /// Replies with the message, as PING does to one.
     Echo {
         /// The message.
-        message: ByteString,
+        message: Word<'w>,
     },
     /// Reads the string at a key.
     Get {
         /// The key.
-        key: ByteString,
+        key: Word<'w>,
     },
     /// Puts a string at a key where the condition holds, and replaces whatever is there.
     Set {
         /// The key.
-        key: ByteString,
+        key: Word<'w>,
         /// The string.
-        value: ByteString,
+        value: Word<'w>,
         /// When the string is put.
         condition: Condition,
     },
     /// Reads the strings at several keys.
     Mget {
         /// The keys; one may be repeated.
-        keys: WordList,
+        keys: WordList<'w>,
     },
     /// Puts strings at several keys, from left to right, and replaces whatever is there.
     Mset {
         /// Each key with its string; of a repeated key the last string stays.
-        pairs: PairList,
+        pairs: PairList<'w>,
     },
     /// Puts a string at a key that is missing.
     Setnx {
         /// The key.
-        key: ByteString,
+        key: Word<'w>,
         /// The string.
-        value: ByteString,
+        value: Word<'w>,
     },
     /// Puts a string at a key, and reads the one before.
     Getset {
         /// The key.
-        key: ByteString,
+        key: Word<'w>,
         /// The string.
-        value: ByteString,
+        value: Word<'w>,
     },
     /// Reads the string at a key, and removes the key.
     Getdel {
         /// The key.
-        key: ByteString,
+        key: Word<'w>,
     },
     /// Puts bytes behind the string at a key.
     Append {
         /// The key.
-        key: ByteString,
+        key: Word<'w>,
         /// The bytes.
-        value: ByteString,
+        value: Word<'w>,
     },
     /// Adds 1 to the number at a key.
     Incr {
         /// The key.
-        key: ByteString,
+        key: Word<'w>,
     },
     /// Subtracts 1 from the number at a key.
     Decr {
         /// The key.
-        key: ByteString,
+        key: Word<'w>,
     },
     /// Adds to the number at a key.
     Incrby {
         /// The key.
-        key: ByteString,
+        key: Word<'w>,
         /// The text of what is added. It is read when the command is executed, and may be no number.
-        increment: ByteString,
+        increment: Word<'w>,
     },
     /// Reads the length of the string at a key.
     Strlen {
         /// The key.
-        key: ByteString,
+        key: Word<'w>,
     },
     /// Removes keys.
     Del {
         /// The keys; one may be repeated.
-        keys: WordList,
+        keys: WordList<'w>,
     },
     /// Counts the keys that are there.
     Exists {
         /// The keys; a repeated one is counted again.
-        keys: WordList,
+        keys: WordList<'w>,
     },
     /// Reads the type of the value at a key.
     TypeOf {
         /// The key.
-        key: ByteString,
+        key: Word<'w>,
     },
     /// Puts values at fields of the hash at a key, from left to right, and makes the hash where the key is missing.
     Hset {
         /// The key.
-        key: ByteString,
+        key: Word<'w>,
         /// Each field with its value; of a repeated field the last value stays.
-        pairs: PairList,
+        pairs: PairList<'w>,
     },
     /// Puts a value at a field that is missing.
     Hsetnx {
         /// The key.
-        key: ByteString,
+        key: Word<'w>,
         /// The field.
-        field: ByteString,
+        field: Word<'w>,
         /// The value.
-        value: ByteString,
+        value: Word<'w>,
     },
     /// Reads the value at a field.
     Hget {
         /// The key.
-        key: ByteString,
+        key: Word<'w>,
         /// The field.
-        field: ByteString,
+        field: Word<'w>,
     },
     /// Reads the values at several fields.
     Hmget {
         /// The key.
-        key: ByteString,
+        key: Word<'w>,
         /// The fields; one may be repeated.
-        fields: WordList,
+        fields: WordList<'w>,
     },
     /// Removes fields, and the key once no field is left.
     Hdel {
         /// The key.
-        key: ByteString,
+        key: Word<'w>,
         /// The fields; one may be repeated.
-        fields: WordList,
+        fields: WordList<'w>,
     },
     /// Asks whether a field is there.
     Hexists {
         /// The key.
-        key: ByteString,
+        key: Word<'w>,
         /// The field.
-        field: ByteString,
+        field: Word<'w>,
     },
     /// Counts the fields of the hash at a key.
     Hlen {
         /// The key.
-        key: ByteString,
+        key: Word<'w>,
     },
     /// Reads the length of the value at a field.
     Hstrlen {
         /// The key.
-        key: ByteString,
+        key: Word<'w>,
         /// The field.
-        field: ByteString,
+        field: Word<'w>,
     },
     /// Reads all fields of the hash at a key, without their values.
     Hkeys {
         /// The key.
-        key: ByteString,
+        key: Word<'w>,
     },
     /// Reads all values of the hash at a key, without their fields.
     Hvals {
         /// The key.
-        key: ByteString,
+        key: Word<'w>,
     },
     /// Reads all fields of the hash at a key, each with its value.
     Hgetall {
         /// The key.
-        key: ByteString,
+        key: Word<'w>,
     },
     /// Adds to the number at a field.
     Hincrby {
         /// The key.
-        key: ByteString,
+        key: Word<'w>,
         /// The field.
-        field: ByteString,
+        field: Word<'w>,
         /// The text of what is added. It is read when the command is executed, and may be no number.
-        increment: ByteString,
+        increment: Word<'w>,
     },
 }
 
-impl DataCommand {
+impl<'w> DataCommand<'w> {
     /// Whether the command may change the keyspace (command flag `write`).
     pub fn is_write(&self) -> bool
         ensures { result ≡ is_data_write self.now }
@@ -258,7 +258,7 @@ impl DataCommand {
     }
 
     /// The key of a command whose syntax has one and no more, without a list of them.
-    pub fn only_key(&self) -> Option<&ByteString>
+    pub fn only_key(&self) -> Option<&'w ByteString>
         ensures key { option_copied result ≡ only_data_key self.now }
         ensures alone { IfSome result (λ key. data_keys self.now ≡ key.now ∷ []) }
     {
@@ -285,7 +285,7 @@ impl DataCommand {
             | DataCommand::Hkeys { key }
             | DataCommand::Hvals { key }
             | DataCommand::Hgetall { key }
-            | DataCommand::Hincrby { key, .. } => Some(key),
+            | DataCommand::Hincrby { key, .. } => Some(key.bytes()),
             DataCommand::Ping
             | DataCommand::Echo { .. }
             | DataCommand::Mget { .. }
@@ -296,7 +296,7 @@ impl DataCommand {
     }
 
     /// The keys that the command names, in its order.
-    pub fn keys(&self, alloc: Global) -> Result<Vec<&[u8]>, AllocError>
+    pub fn keys(&self, alloc: Global) -> Result<Vec<&'w [u8]>, AllocError>
         ensures { IfOk result (λ keys. map (λ key. key.now) keys.items ≡ data_keys self.now) }
     {
         if let Some(key) = self.only_key() {
@@ -305,7 +305,7 @@ impl DataCommand {
         match self {
             DataCommand::Mget { keys } | DataCommand::Del { keys } | DataCommand::Exists { keys } =>
                 all_keys(alloc, keys.as_slice()),
-            DataCommand::Mset { pairs } => first_words(alloc, pairs.as_slice()),
+            DataCommand::Mset { pairs } => first_words(alloc, pairs),
             _ => Ok(Vec::new(alloc)),
         }
     }
@@ -340,11 +340,11 @@ impl Condition {
 
 /// A subcommand of CLUSTER. The node that receives it replies itself, whichever node owns a slot.
 #[derive(Debug, Drop)]
-pub enum ClusterCommand {
+pub enum ClusterCommand<'w> {
     /// Asks for the slot of a key.
     KeySlot {
         /// The key.
-        key: ByteString,
+        key: Word<'w>,
     },
     /// Asks for the id of the node.
     MyId,
@@ -352,82 +352,8 @@ pub enum ClusterCommand {
     Slots,
 }
 
-/// One or more words, in the order of the request: keys, or fields of a hash.
-#[derive(Debug, Drop)]
-pub struct WordList {
-    words: Vec<ByteString>,
-}
-
-impl Model for WordList {
-    ghost use Rattle.std.specs.Prelude.{◌≢◌, List, ℕ, []};
-
-    ghost Value = { List (List ℕ) };
-
-    ghost view = { λ list. list.words.items };
-
-    ghost invariant = { λ list. list.words.items ≢ [] };
-}
-
-impl WordList {
-    /// A list of these words, or None where there are none.
-    pub fn new(words: Vec<ByteString>) -> Option<WordList>
-        ensures words { IfSome result (λ list. list ≡ words.items) }
-        ensures some { IsSome result ↔ words.items ≢ [] }
-    {
-        if words.is_empty() {
-            return None;
-        }
-        Some(WordList { words })
-    }
-
-    /// The words in order.
-    pub fn as_slice(&self) -> &[ByteString]
-        ensures words { result.now ≡ self.now }
-        ensures some { self.now ≢ [] }
-    {
-        self.words.as_slice()
-    }
-}
-
-/// One or more pairs of words, in the order of the request: a key and its string, or a field and its value.
-#[derive(Debug, Drop)]
-pub struct PairList {
-    pairs: Vec<(ByteString, ByteString)>,
-}
-
-impl Model for PairList {
-    ghost use Rattle.std.specs.Prelude.{◌≢◌, List, ℕ, []};
-
-    ghost Value = { List (List ℕ × List ℕ) };
-
-    ghost view = { λ list. list.pairs.items };
-
-    ghost invariant = { λ list. list.pairs.items ≢ [] };
-}
-
-impl PairList {
-    /// A list of these pairs, or None where there are none.
-    pub fn new(pairs: Vec<(ByteString, ByteString)>) -> Option<PairList>
-        ensures pairs { IfSome result (λ list. list ≡ pairs.items) }
-        ensures some { IsSome result ↔ pairs.items ≢ [] }
-    {
-        if pairs.is_empty() {
-            return None;
-        }
-        Some(PairList { pairs })
-    }
-
-    /// The pairs in order.
-    pub fn as_slice(&self) -> &[(ByteString, ByteString)]
-        ensures pairs { result.now ≡ self.now }
-        ensures some { self.now ≢ [] }
-    {
-        self.pairs.as_slice()
-    }
-}
-
 /// The keys that the command names, in its order.
-pub fn keys(alloc: Global, command: &Command) -> Result<Vec<&[u8]>, AllocError>
+pub fn keys<'w>(alloc: Global, command: &Command<'w>) -> Result<Vec<&'w [u8]>, AllocError>
     ensures { IfOk result (λ keys. map (λ key. key.now) keys.items ≡ keys_of command.now) }
 {
     match command {
@@ -454,12 +380,14 @@ fn all_keys(alloc: Global, keys: &[ByteString]) -> Result<Vec<&[u8]>, AllocError
     Ok(slices)
 }
 
-fn first_words(alloc: Global, pairs: &[(ByteString, ByteString)]) -> Result<Vec<&[u8]>, AllocError>
+fn first_words<'w>(alloc: Global, pairs: &PairList<'w>) -> Result<Vec<&'w [u8]>, AllocError>
     ensures { IfOk result (λ keys. map (λ key. key.now) keys.items ≡ pair_keys pairs.now) }
 {
-    let mut keys = Vec::with_capacity(alloc, pairs.len())?;
-    for (key, _) in pairs {
+    let mut rest = pairs.words();
+    let mut keys = Vec::with_capacity(alloc, rest.len() / 2)?;
+    while let Some((key, _, others)) = split_pair(rest) {
         keys.push(key.as_slice())?;
+        rest = others;
     }
     Ok(keys)
 }

@@ -1,14 +1,12 @@
 //! Why words are not a command.
 ghost use Rattle.std.specs.Prelude.{◌≡◌};
-ghost use Rattle.command.specs.declared.fault.CommandFault.TheVariants.{Memory};
 ghost use Rattle.command.specs.ErrorLine.{line_of};
 
 use crate::error_line::ErrorLine;
 use crate::names::Name;
-use std::alloc::AllocError;
 use thiserror::Error;
 
-/// Why words are not a command, or why they could not be parsed.
+/// Why words are not a command.
 #[derive(Clone, Copy, PartialEq, Eq, Debug, Error)]
 pub enum CommandFault {
     /// No command has the name.
@@ -23,9 +21,6 @@ pub enum CommandFault {
     /// An argument is not an option of the command, or there are too many options.
     #[error("syntax error")]
     Syntax,
-    /// An allocation failed.
-    #[error("out of memory")]
-    Memory,
 }
 
 impl CommandFault {
@@ -38,15 +33,6 @@ impl CommandFault {
             CommandFault::UnknownSubcommand => ErrorLine::UnknownSubcommand,
             CommandFault::Arity(name) => ErrorLine::WrongArity(name),
             CommandFault::Syntax => ErrorLine::Syntax,
-            CommandFault::Memory => ErrorLine::OutOfMemory,
         }
-    }
-}
-
-impl From<AllocError> for CommandFault {
-    ghost from_gives = { λ _ fault. fault ≡ Memory };
-
-    fn from(_error: AllocError) -> CommandFault {
-        CommandFault::Memory
     }
 }

@@ -6,9 +6,11 @@ mod error_line;
 mod fault;
 mod names;
 mod parsing;
+mod words;
 
-pub use command::{ClusterCommand, Command, Condition, DataCommand, PairList, WordList, keys};
+pub use command::{ClusterCommand, Command, Condition, DataCommand, keys};
 pub use error_line::{ErrorLine, moved_reply};
 pub use fault::CommandFault;
 pub use names::{Name, Subcommand};
 pub use parsing::parse;
+pub use words::{PairList, Word, WordList, split_pair};

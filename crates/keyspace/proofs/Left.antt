@@ -1,5 +1,5 @@
 -- What commands leave at their only key.
-use Rattle.std.proofs.Common.{◌≡◌, ◌+◌, ◌≤◌, ℕ, ℤ, List, [], ◌∷◌, length, true, false, cond, nat_eq, Option, Some, None, Ok, Err, sym, ap, ◌∙◌, arith}
+use Rattle.std.proofs.Common.{◌≡◌, ◌+◌, ◌≤◌, ℕ, ℤ, List, [], ◌∷◌, length, true, false, cond, nat_eq, Option, Some, None, Ok, Err, ap, ◌∙◌, arith}
 use Rattle.std.specs.FinMap as map
 use Rattle.std.specs.Cmp.Lexicographic.{pointwise}
 use Rattle.std.specs.Fmt.{signed_decimal}
@@ -8,13 +8,12 @@ use Rattle.command.specs.declared.error_line.ErrorLine.{ErrorLine}
 use Rattle.command.specs.declared.error_line.ErrorLine.TheVariants.{HashNotAnInteger}
 use Rattle.hash.specs.Pairs.{Pairs, Changes, fields_changed, field_changed, value_of}
 use Rattle.indexmap.specs.IndexMap.{insert_entry}
-use Rattle.resp2.specs.declared.reply.Reply.{Reply}
 use Rattle.resp2.specs.declared.reply.Reply.TheVariants.{Integer}
-use Rattle.keyspace.specs.Effect.{Effect, error_reply, left}
+use Rattle.keyspace.specs.Effect.{error_reply}
 use Rattle.keyspace.specs.Commands.{taken_at}
 use Rattle.keyspace.specs.Hashes.{field_left, fields_of, hash_left, increased}
 use Rattle.keyspace.specs.Strings.{stored_number, sum_of}
-use Rattle.keyspace.specs.Keyspace.{Keyspace, changed, fields_left, hash_of, with_fields}
+use Rattle.keyspace.specs.Keyspace.{Keyspace, fields_left, hash_of}
 use Rattle.keyspace.specs.declared.value.Value.{Value}
 use Rattle.keyspace.specs.declared.value.Value.TheVariants.{Str, Hash}
 
@@ -26,10 +25,6 @@ pub fields_left_of : (value : Option Value) (fields : Pairs) (changes : Changes)
 fields_left_of None fields changes is = ap (λ f. hash_of (fields_changed f changes)) (some_same [] fields is)
 fields_left_of (Some (Hash pairs)) fields changes is = ap (λ f. hash_of (fields_changed f changes)) (some_same pairs fields is)
 fields_left_of (Some (Str bytes)) fields changes is = absurd (cc)
-
--- an effect at one key is taken
-pub taken_left : (before after : Keyspace) (key : List ℕ) (reply : Reply) (value : Option Value) (effect : Effect) → effect ≡ left reply value → after ≡ changed before key value → record { reply = reply; after = after } ≡ taken_at before (key ∷ []) effect
-taken_left before after key reply value effect is made = (λ i. record { reply = reply; after = made i }) ∙ ap (taken_at before (key ∷ [])) (sym is)
 
 -- a change adds one field at most
 changed_one : (pairs : Pairs) (field : List ℕ) (value : Option (List ℕ)) → length (field_changed pairs field value) ≤ length pairs + 1

@@ -1,11 +1,13 @@
 pub mod Applied
 pub mod Locality
+pub mod Parts
 pub mod Maps
 pub mod NumberTexts
 pub mod FirstChange
 pub mod CommitLoop
 pub mod Placeholders
 pub mod Setting
+pub mod StringLemmas
 pub mod Deleting
 pub mod Counting
 mod WorkedValues
@@ -14,3 +16,4 @@ pub mod Left
 pub mod Rebuilt
 pub mod InPlace
 pub mod Fitting
+pub mod Replayed

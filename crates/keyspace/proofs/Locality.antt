@@ -4,6 +4,7 @@ use Rattle.std.proofs.lemmas.List.Elements.{All-head, All-tail, All-weaker, Cont
 use Rattle.std.specs.FinMap as map
 use Rattle.std.specs.Prelude.{Option, Contains}
 use Rattle.command.specs.Keys.{data_keys}
+use Rattle.command.specs.declared.command.DataCommand.{DataCommand}
 use Rattle.keyspace.proofs.Applied.{is_key, is_key-same, get_changed}
 use Rattle.keyspace.specs.Commands.{exec, effect, effect_in, values_at, with_values}
 use Rattle.keyspace.specs.Keyspace.{Keyspace, changed}
@@ -37,13 +38,18 @@ left_outside m (key ∷ keys) (value ∷ values) q other =
       | false ↦ λ apart. refl
     ] refl
 
+-- where keyspaces agree at the command's keys, and at another key, they agree there after it
+pub after_alike : (m n : Keyspace) (command : DataCommand) (q : List ℕ) → Agree m n (data_keys command) → map.get m q ≡ map.get n q → map.get (exec m command).after q ≡ map.get (exec n command).after q
+after_alike m n command q agree same =
+    left_alike m n (data_keys command) (effect_in m command).leaves q same
+    ∙ ap (λ values. map.get (with_values n (data_keys command) (effect command values).leaves) q) (values_agree m n (data_keys command) agree)
+
 pub commands_are_local : CommandsAreLocal
 commands_are_local command = record {
   reply = λ m n agree. ap (λ values. (effect command values).reply) (values_agree m n (data_keys command) agree);
   inside = λ m n agree.
       All-weaker (λ q. map.get m q ≡ map.get n q) (λ q. map.get (exec m command).after q ≡ map.get (exec n command).after q) (λ q same.
-      left_alike m n (data_keys command) (effect_in m command).leaves q same
-      ∙ ap (λ values. map.get (with_values n (data_keys command) (effect command values).leaves) q) (values_agree m n (data_keys command) agree))
+      after_alike m n command q agree same)
       (data_keys command) agree;
   outside = λ m q other. left_outside m (data_keys command) (effect_in m command).leaves q other;
 }

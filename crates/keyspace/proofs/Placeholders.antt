@@ -67,7 +67,7 @@ without_new m (e ∷ es) =
     ] refl
 
 -- a placeholder changes nothing at a key that has no change
-get_placeholders_other : (m n : Keyspace) (es : List (List ℕ × Option Value)) (q : List ℕ) → find (slice_cmp nat_cmp) q es ≡ None → map.get (with_placeholders n (new_keys m es)) q ≡ map.get n q
+pub get_placeholders_other : (m n : Keyspace) (es : List (List ℕ × Option Value)) (q : List ℕ) → find (slice_cmp nat_cmp) q es ≡ None → map.get (with_placeholders n (new_keys m es)) q ≡ map.get n q
 get_placeholders_other m n [] q none = refl
 get_placeholders_other m n (e ∷ es) q none =
     elim (is_key q e.0) as (λ b. is_key q e.0 ≡ b → cond b (Some e.1) (find (slice_cmp nat_cmp) q es) ≡ None → map.get (with_placeholders n (cond (is_new m e) (e.0 ∷ new_keys m es) (new_keys m es))) q ≡ map.get n q) [

@@ -1,5 +1,5 @@
 -- What the request that rebuilds a hash makes.
-use Rattle.std.proofs.Common.{◌≡◌, ◌-◌, ◌<◌, ℕ, List, [], ◌∷◌, ◌++◌, length, Bool, true, false, cond, nat_eq, append_assoc, append-nil, refl, sym, ap, subst, ◌∙◌, arith, codes, pos, le-leb}
+use Rattle.std.proofs.Common.{◌≡◌, ◌-◌, ◌<◌, ℕ, List, [], ◌∷◌, ◌++◌, length, true, false, cond, nat_eq, append_assoc, append-nil, refl, sym, ap, subst, ◌∙◌, arith, codes, pos, le-leb}
 use Rattle.std.proofs.lemmas.Bool.{and_from}
 use Rattle.std.proofs.lemmas.Cmp.{nat_list_cmp_total, eq_by_cmp_equiv}
 use Rattle.std.specs.Cmp.Lexicographic.{pointwise, slice_cmp, texts_ties}
@@ -9,20 +9,23 @@ use Rattle.std.specs.Map.{keys_of}
 use Rattle.std.specs.Option.{option_map}
 use Rattle.std.specs.Ordering.{nat_cmp}
 use Rattle.std.specs.Prelude.{Some, None, if◌then◌else◌}
-use Rattle.command.specs.Table.{pairs_of, with_pairs}
+use Rattle.command.specs.Pairs.{pairs_of}
+use Rattle.command.specs.Table.{with_pairs}
 use Rattle.command.specs.declared.command.DataCommand.TheVariants.{Hset}
 use Rattle.command.specs.declared.error_line.ErrorLine.TheVariants.{TooLong}
 use Rattle.command.specs.declared.names.Name.TheVariants as name
 use Rattle.hash.specs.Pairs.{Pairs, HasDistinctFields, fields_changed}
 use Rattle.hash.specs.Size.{words_of}
 use Rattle.indexmap.specs.IndexMap.{insert_entry}
+use Rattle.resp2.specs.Request.{IsRequest}
 use Rattle.resp2.specs.declared.reply.Reply.TheVariants.{Integer}
 use Rattle.keyspace.specs.Commands.{exec_words, execution_of, with_values}
 use Rattle.keyspace.specs.Effect.{left, refused}
 use Rattle.keyspace.specs.Hashes.{fields_of, hash_left, hset_of, on_fields, sets}
 use Rattle.keyspace.specs.Keyspace.{Keyspace}
-use Rattle.keyspace.specs.Rebuild.{Rebuilds}
-use Rattle.keyspace.specs.Rebuilding.{fits_hash}
+use Rattle.keyspace.specs.Rebuild.{IsStored, Rebuilds}
+use Rattle.keyspace.specs.Rebuilding.{fits_hash, rebuilding}
+use Rattle.keyspace.specs.declared.value.Value.{Value}
 use Rattle.keyspace.specs.declared.value.Value.TheVariants.{Str, Hash}
 
 -- the words of pairs are these pairs
@@ -62,19 +65,21 @@ set_in_order done ((field, value) ∷ rest) distinct =
 pub all_set : (pairs : Pairs) → HasDistinctFields pairs → fields_changed [] (sets pairs) ≡ pairs
 all_set pairs distinct = set_in_order [] pairs distinct
 
--- the commands on no key
-rebuilt_hash : (key : List ℕ) (pairs : Pairs) → 0 < length pairs → HasDistinctFields pairs → fits_hash key pairs ≡ true
-    → (exec_words map.empty (codes "HSET" ∷ key ∷ words_of pairs)).after ≡ map.insert map.empty key (Hash pairs)
-rebuilt_hash key [] some distinct fits = absurd (omega arith)
-rebuilt_hash key (pair ∷ pairs) some distinct fits =
-    let empty : Keyspace = map.empty in
-    let none : map.get empty key ≡ None = map.get-empty (slice_cmp nat_cmp) key in
-    ap (λ found. (execution_of map.empty (with_pairs name.Hset (Hset key) found)).after) (pairs_of_words (pair ∷ pairs))
-    ∙ ap (λ old. with_values map.empty (key ∷ []) (on_fields (fields_of old) (hset_of key (pair ∷ pairs))).leaves) none
-    ∙ ap (λ new. with_values map.empty (key ∷ []) (hash_left (Integer (pos (length new - 0))) key new).leaves) (all_set (pair ∷ pairs) distinct)
-    ∙ ap (λ b. with_values map.empty (key ∷ []) (if b then left (Integer (pos (length (pair ∷ pairs) - 0))) (Some (Hash (pair ∷ pairs))) else refused TooLong).leaves) fits
+-- HSET where the key is not there
+rebuilt_hash : (m : Keyspace) (key : List ℕ) (pairs : Pairs) → map.get m key ≡ None → 0 < length pairs → HasDistinctFields pairs → fits_hash key pairs ≡ true
+    → (exec_words m (codes "HSET" ∷ key ∷ words_of pairs)).after ≡ map.insert m key (Hash pairs)
+rebuilt_hash m key [] none some distinct fits = absurd (omega arith)
+rebuilt_hash m key (pair ∷ pairs) none some distinct fits =
+    ap (λ found. (execution_of m (with_pairs name.Hset (Hset key) found)).after) (pairs_of_words (pair ∷ pairs))
+    ∙ ap (λ old. with_values m (key ∷ []) (on_fields (fields_of old) (hset_of key (pair ∷ pairs))).leaves) none
+    ∙ ap (λ new. with_values m (key ∷ []) (hash_left (Integer (pos (length new - 0))) key new).leaves) (all_set (pair ∷ pairs) distinct)
+    ∙ ap (λ b. with_values m (key ∷ []) (if b then left (Integer (pos (length (pair ∷ pairs) - 0))) (Some (Hash (pair ∷ pairs))) else refused TooLong).leaves) fits
+
+-- the request of a key that is not there puts its value
+pub rebuilt : (m : Keyspace) (key : List ℕ) (value : Value) → map.get m key ≡ None → IsStored value → IsRequest (rebuilding key value) → (exec_words m (rebuilding key value)).after ≡ map.insert m key value
+rebuilt m key (Str bytes) none stored request = refl
+rebuilt m key (Hash pairs) none stored request =
+    rebuilt_hash m key pairs none stored.0 stored.1 (and_from _ _ (le-leb _ 65536 request.limits.each.few) (le-leb _ 16777216 request.limits.all))
 
 pub rebuilds : Rebuilds
-rebuilds key (Str bytes) stored request = refl
-rebuilds key (Hash pairs) stored request =
-    rebuilt_hash key pairs stored.0 stored.1 (and_from _ _ (le-leb _ 65536 request.limits.each.few) (le-leb _ 16777216 request.limits.all))
+rebuilds key value stored request = rebuilt map.empty key value (map.get-empty (slice_cmp nat_cmp) key) stored request

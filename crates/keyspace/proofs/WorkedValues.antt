@@ -8,6 +8,7 @@ use Rattle.resp2.specs.declared.reply.Reply.TheVariants.{Simple, Error, Integer,
 use Rattle.keyspace.specs.Commands.{effect, replay}
 use Rattle.keyspace.specs.Effect.{left, told}
 use Rattle.keyspace.specs.Numbers.{fitting_number, number_of}
+use Rattle.keyspace.specs.Replay.{writes_of}
 use Rattle.keyspace.specs.declared.value.Value.TheVariants.{Str}
 use Rattle.command.specs.declared.command.DataCommand.TheVariants.{Incr, Decr, Incrby}
 
@@ -52,6 +53,11 @@ no_command = refl
 no_option : (replay ((codes "SET" ∷ codes "a" ∷ codes "1" ∷ codes "EX" ∷ []) ∷ (codes "MSET" ∷ codes "a" ∷ codes "1" ∷ codes "b" ∷ []) ∷ (codes "EXISTS" ∷ codes "a" ∷ []) ∷ [])).replies
     ≡ Error (codes "ERR syntax error") ∷ Error (codes "ERR wrong number of arguments for 'mset' command") ∷ Integer (pos 0) ∷ []
 no_option = grind (gets, rules)
+
+-- of requests only commands that write are writes, also those that change nothing here
+only_writes : writes_of ((codes "GET" ∷ codes "a" ∷ []) ∷ (codes "set" ∷ codes "a" ∷ codes "1" ∷ []) ∷ (codes "SET" ∷ codes "a" ∷ []) ∷ (codes "CLUSTER" ∷ codes "MYID" ∷ []) ∷ (codes "DEL" ∷ codes "b" ∷ []) ∷ [])
+    ≡ (codes "set" ∷ codes "a" ∷ codes "1" ∷ []) ∷ (codes "DEL" ∷ codes "b" ∷ []) ∷ []
+only_writes = refl
 
 -- PING and ECHO with a message
 messages : (replay ((codes "PING" ∷ codes "a" ∷ []) ∷ (codes "ECHO" ∷ codes "b" ∷ []) ∷ [])).replies ≡ Bulk (codes "a") ∷ Bulk (codes "b") ∷ []

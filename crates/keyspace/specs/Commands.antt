@@ -1,5 +1,5 @@
 -- What each command replies, and what it leaves (Redis command reference).
-use Rattle.std.specs.Prelude.{ℕ, ℤ, pos, neg_ℤ, List, [], ◌∷◌, map, length, count_by, Option, Some, is_some, Result, Ok, Err, codes}
+use Rattle.std.specs.Prelude.{ℕ, pos, neg_ℤ, List, [], ◌∷◌, map, length, count_by, Option, Some, is_some, Result, Ok, Err, codes}
 use Rattle.std.specs.FinMap as fin_map
 use Rattle.resp2.specs.declared.reply.Reply.{Reply}
 use Rattle.resp2.specs.declared.reply.Reply.TheVariants.{Simple, Error, Integer, Bulk, Array}
@@ -15,7 +15,7 @@ use Rattle.command.specs.declared.fault.CommandFault.{CommandFault}
 use Rattle.command.specs.declared.fault.CommandFault.TheVariants.{Unknown}
 use Rattle.hash.specs.Pairs.{value_of}
 use Rattle.hash.specs.Size.{words_of}
-use Rattle.keyspace.specs.Effect.{Effect, first_of, told, left}
+use Rattle.keyspace.specs.Effect.{Effect, first_of, told}
 use Rattle.keyspace.specs.Hashes.{fields_of, from_fields, value_reply, values_reply, exists_reply, value_length, bulks_reply, on_fields, hset_of, hsetnx_of, hdel_of, increased}
 use Rattle.keyspace.specs.Keyspace.{Keyspace, changed}
 use Rattle.keyspace.specs.Numbers.{number_of}

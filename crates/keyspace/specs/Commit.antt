@@ -2,6 +2,7 @@
 --
 -- It puts a placeholder at each new key, for which memory may run out, and then makes the changes, which add no key.
 use Rattle.std.specs.Prelude.{◌≡◌, ℕ, List, [], ◌∷◌, Bool, true, false, not, ◌&&◌, Option, Some, None, is_some, if◌then◌else◌}
+use Rattle.std.specs.Prelude.{map as each}
 use Rattle.std.specs.FinMap as map
 use Rattle.keyspace.specs.Keyspace.{Keyspace}
 use Rattle.keyspace.specs.Changes.{Changes}
@@ -39,3 +40,7 @@ pub record AddNoKeys (keyspace : Keyspace) (changes : Changes) : Type 0 where
 -- the change removes its key, or the key is there
 abbrev pub AddsNoKey : Keyspace → List ℕ → Option Value → Type 0
 AddsNoKey keyspace key change = is_some change ≡ true → is_some (map.get keyspace key) ≡ true
+
+-- strings put at keys, as changes
+abbrev pub put_each : List (List ℕ × List ℕ) → List (List ℕ × Option Value)
+put_each pairs = each (λ pair. (pair.0, Some (Str pair.1))) pairs

@@ -4,7 +4,6 @@ use Rattle.resp2.specs.declared.reply.Reply.{Reply}
 use Rattle.resp2.specs.declared.reply.Reply.TheVariants.{Error}
 use Rattle.command.specs.ErrorLine.{error_text}
 use Rattle.command.specs.declared.error_line.ErrorLine.{ErrorLine}
-use Rattle.command.specs.declared.error_line.ErrorLine.TheVariants.{WrongType}
 use Rattle.keyspace.specs.declared.value.Value.{Value}
 
 -- the reply to a command, and the values that it leaves at its keys, in their order; where the list is shorter, the other keys keep theirs

@@ -1,5 +1,5 @@
 -- What the commands on hashes reply, and what they leave (Redis command reference, group "hash").
-use Rattle.std.specs.Prelude.{ℕ, ◌-◌, ℤ, pos, Bool, true, false, if◌then◌else◌, List, [], ◌∷◌, map, length, Option, Some, None, is_some, Result, Ok, Err}
+use Rattle.std.specs.Prelude.{ℕ, ◌-◌, ℤ, pos, if◌then◌else◌, List, [], map, length, Option, Some, None, is_some, Result, Ok, Err}
 use Rattle.std.specs.Fmt.{signed_decimal}
 use Rattle.resp2.specs.declared.reply.Reply.{Reply}
 use Rattle.resp2.specs.declared.reply.Reply.TheVariants.{Integer, Bulk, Null, Array}
@@ -7,7 +7,6 @@ use Rattle.resp2.specs.Reply.{array_of}
 use Rattle.command.specs.declared.error_line.ErrorLine.{ErrorLine}
 use Rattle.command.specs.declared.error_line.ErrorLine.TheVariants.{TooLong, WrongType, HashNotAnInteger}
 use Rattle.hash.specs.Pairs.{Pairs, Changes, value_of, field_changed, fields_changed}
-use Rattle.hash.specs.Size.{words_of}
 use Rattle.keyspace.specs.Effect.{Effect, told, left, error_reply, refused}
 use Rattle.keyspace.specs.Keyspace.{hash_of}
 use Rattle.keyspace.specs.Rebuilding.{fits_hash}

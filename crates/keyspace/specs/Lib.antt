@@ -6,7 +6,9 @@ pub mod Hashes
 pub mod Keyspace
 pub mod Locality
 pub mod Numbers
+pub mod Parts
 pub mod Plan
 pub mod Rebuild
 pub mod Rebuilding
+pub mod Replay
 pub mod Strings

@@ -1,15 +1,28 @@
 -- A plan: changes that are decided and not made yet.
-use Rattle.std.specs.Prelude.{Option, Some, None}
+use Rattle.std.specs.Prelude.{ℕ, List, Option, Some, None}
+use Rattle.command.specs.Keys.{pair_keys}
+use Rattle.keyspace.specs.Commands.{with_values}
 use Rattle.keyspace.specs.Keyspace.{Keyspace, with_fields}
 use Rattle.keyspace.specs.Changes.{applied}
+use Rattle.keyspace.specs.Strings.{strings_left}
+use Rattle.keyspace.specs.declared.plans.LastStep.{LastStep}
+use Rattle.keyspace.specs.declared.plans.LastStep.TheVariants.{Fields, Strings}
 use Rattle.keyspace.specs.declared.plans.Plan.{Plan}
-use Rattle.keyspace.specs.declared.plans.PlannedFields.{PlannedFields}
 
--- the changes of fields that are planned, made
-abbrev pub with_planned_fields : Keyspace → Option PlannedFields → Keyspace
-with_planned_fields keyspace None = keyspace
-with_planned_fields keyspace (Some planned) = with_fields keyspace planned.key planned.changes.items
+-- strings put at keys, from left to right
+abbrev pub with_strings : Keyspace → List (List ℕ × List ℕ) → Keyspace
+with_strings keyspace pairs = with_values keyspace (pair_keys pairs) (strings_left pairs)
 
--- the keyspace once the plan is committed: first the values, then the fields
+-- a step made
+abbrev pub with_step : Keyspace → LastStep → Keyspace
+with_step keyspace (Fields key changes) = with_fields keyspace key changes.items
+with_step keyspace (Strings pairs) = with_strings keyspace pairs.items
+
+-- the last step made, if there is one
+abbrev pub with_last : Keyspace → Option LastStep → Keyspace
+with_last keyspace None = keyspace
+with_last keyspace (Some step) = with_step keyspace step
+
+-- the keyspace once the plan is committed: first the values, then the last step
 unfoldable pub committed : Keyspace → Plan → Keyspace
-committed keyspace plan = with_planned_fields (applied keyspace plan.values) plan.fields
+committed keyspace plan = with_last (applied keyspace plan.values) plan.last

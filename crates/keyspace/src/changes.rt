@@ -128,7 +128,7 @@ fn put(
     Ok(())
 }
 
-fn change_key<S: Store>(
+pub(crate) fn change_key<S: Store>(
     store: &mut S,
     key: ByteString,
     change: Option<Value>,
@@ -182,7 +182,10 @@ fn new_keys<S: Store>(
 }
 
 // Puts a placeholder, the empty string, at each key. None of the keys is in the store.
-fn put_placeholders<S: Store>(store: &mut S, keys: &[ByteString]) -> Result<(), AllocError>
+pub(crate) fn put_placeholders<S: Store>(
+    store: &mut S,
+    keys: &[ByteString],
+) -> Result<(), AllocError>
     requires { without (S.contents store.old) keys.now ≡ S.contents store.old }
     ensures ok { OnOk result (S.contents store.new ≡ with_placeholders (S.contents store.old) keys.now) }
     ensures err { OnErr result (S.contents store.new ≡ S.contents store.old) }

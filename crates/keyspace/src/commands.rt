@@ -80,7 +80,7 @@ pub fn plan_command<S: Store>(
             &plan.values,
             keys.as_slice(),
         ),
-        DataCommand::Mset { pairs } => strings::set_each(&mut plan.values, pairs.as_slice()),
+        DataCommand::Mset { pairs } => strings::set_each(alloc, plan, pairs),
         DataCommand::Setnx { key, value } => strings::setnx(store, &mut plan.values, key, value),
         DataCommand::Getset { key, value } => strings::getset(store, &mut plan.values, key, value),
         DataCommand::Getdel { key } => strings::getdel(store, &mut plan.values, key),
@@ -108,7 +108,7 @@ pub fn plan_command<S: Store>(
             keys.as_slice(),
         ))),
         DataCommand::TypeOf { key } => Ok(simple(strings::type_at(store, &plan.values, key))),
-        DataCommand::Hset { key, pairs } => hashes::set(alloc, store, plan, key, pairs.as_slice()),
+        DataCommand::Hset { key, pairs } => hashes::set(alloc, store, plan, key, pairs),
         DataCommand::Hsetnx { key, field, value } => hashes::set_new(
             alloc, store, plan, key, field, value,
         ),

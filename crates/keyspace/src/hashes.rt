@@ -21,7 +21,7 @@ use crate::replies::integer;
 use crate::store::Store;
 use crate::value::Value;
 use byte_string::ByteString;
-use command::ErrorLine;
+use command::{ErrorLine, PairList, split_pair};
 use hash::{Extent, Hash};
 use resp2::{Array, Reply};
 use std::alloc::{AllocError, Global};
@@ -172,9 +172,9 @@ pub(crate) fn set<S: Store>(
     store: &S,
     plan: &mut Plan,
     key: &ByteString,
-    pairs: &[(ByteString, ByteString)],
+    pairs: &PairList,
 ) -> Result<Reply, AllocError>
-    requires { plan.old.fields ≡ None }
+    requires { plan.old.last ≡ None }
     ensures { IfOk result (λ reply.
         record { reply = reply; after = committed (S.contents store.now) plan.new }
         ≡ exec (applied (S.contents store.now) plan.old.values) (DataCommand.Hset key.now pairs.now)) }
@@ -211,7 +211,7 @@ pub(crate) fn set_new<S: Store>(
     field: &ByteString,
     value: &ByteString,
 ) -> Result<Reply, AllocError>
-    requires { plan.old.fields ≡ None }
+    requires { plan.old.last ≡ None }
     ensures { IfOk result (λ reply.
         record { reply = reply; after = committed (S.contents store.now) plan.new }
         ≡ exec (applied (S.contents store.now) plan.old.values) (DataCommand.Hsetnx key.now field.now value.now)) }
@@ -238,7 +238,7 @@ pub(crate) fn delete<S: Store>(
     key: &ByteString,
     fields: &[ByteString],
 ) -> Result<Reply, AllocError>
-    requires { plan.old.fields ≡ None }
+    requires { plan.old.last ≡ None }
     ensures { IfOk result (λ reply.
         record { reply = reply; after = committed (S.contents store.now) plan.new }
         ≡ exec (applied (S.contents store.now) plan.old.values) (DataCommand.Hdel key.now fields.now)) }
@@ -265,7 +265,7 @@ pub(crate) fn add<S: Store>(
     field: &ByteString,
     increment: &ByteString,
 ) -> Result<Reply, AllocError>
-    requires { plan.old.fields ≡ None }
+    requires { plan.old.last ≡ None }
     ensures { IfOk result (λ reply.
         record { reply = reply; after = committed (S.contents store.now) plan.new }
         ≡ exec (applied (S.contents store.now) plan.old.values) (DataCommand.Hincrby key.now field.now increment.now)) }
@@ -285,7 +285,7 @@ fn add_number<S: Store>(
     field: &ByteString,
     increment: i64,
 ) -> Result<Reply, AllocError>
-    requires { plan.old.fields ≡ None }
+    requires { plan.old.last ≡ None }
     ensures { IfOk result (λ reply.
         let before = applied (S.contents store.now) plan.old.values in
         record { reply = reply; after = committed (S.contents store.now) plan.new }
@@ -324,7 +324,7 @@ fn leave(
     extent: Extent,
     reply: Reply,
 ) -> Result<Reply, AllocError>
-    requires { plan.old.fields ≡ None }
+    requires { plan.old.last ≡ None }
     ensures { (keyspace : Keyspace) (fields : Pairs) →
         let before = applied keyspace plan.old.values in
         let after = fields_changed fields changes.items in
@@ -361,12 +361,14 @@ fn value_reply(value: Option<&ByteString>) -> Result<Reply, AllocError>
 }
 
 // Each field with its value.
-fn sets(alloc: Global, pairs: &[(ByteString, ByteString)]) -> Result<FieldChanges, AllocError>
+fn sets(alloc: Global, pairs: &PairList) -> Result<FieldChanges, AllocError>
     ensures { IfOk result (λ changes. changes.items ≡ sets pairs.now) }
 {
-    let mut changes = Vec::with_capacity(alloc, pairs.len())?;
-    for (field, value) in pairs {
+    let mut rest = pairs.words();
+    let mut changes = Vec::with_capacity(alloc, rest.len() / 2)?;
+    while let Some((field, value, others)) = split_pair(rest) {
         changes.push((field.clone()?, Some(value.clone()?)))?;
+        rest = others;
     }
     Ok(changes)
 }

@@ -5,16 +5,23 @@ mod changes;
 mod commands;
 mod fields;
 mod hashes;
+mod law;
 mod limits;
 mod number;
 mod plans;
+mod replay;
 mod replies;
 mod store;
+mod string_pairs;
 mod strings;
 mod value;
 
 pub use commands::{commands_are_local, exec, plan, plan_command};
 pub use fields::{FieldChanges, change_fields_in};
+pub use law::{commands_execute_in_a_part, parts_make_the_keyspace};
 pub use plans::{Plan, commit};
+pub use replay::{
+    rebuilding_makes_the_keyspace, requests_execute_their_commands, writes_leave_the_keyspace,
+};
 pub use store::{Store, TreeStore};
 pub use value::{Value, rebuild, rebuilding_makes_the_key};

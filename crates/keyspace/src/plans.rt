@@ -1,21 +1,23 @@
 //! A plan: what commands change, decided and not made yet, and its commit.
 ghost use Rattle.std.specs.Prelude.{◌≡◌, None, OnOk, OnErr};
-ghost use Rattle.std.specs.FinMap as map;
 ghost use Rattle.keyspace.specs.Changes.{applied};
 ghost use Rattle.keyspace.specs.Keyspace.{Keyspace, with_fields};
-ghost use Rattle.keyspace.specs.Plan.{committed};
+ghost use Rattle.keyspace.specs.Plan.{committed, with_step, with_strings};
 
 use crate::changes::{NewValues, put_values};
 use crate::fields::{FieldChanges, with_changed_fields};
 use crate::store::Store;
+use crate::string_pairs::{StringPairs, change_to_strings, put_strings};
 use byte_string::ByteString;
 use std::alloc::{AllocError, Global};
 
-// Changes in the fields of the hash at a key.
+// What is made after the new values are put.
 #[derive(Drop)]
-pub(crate) struct PlannedFields {
-    key: ByteString,
-    changes: FieldChanges,
+pub(crate) enum LastStep {
+    // Fields of the hash at a key are changed.
+    Fields(ByteString, FieldChanges),
+    // Strings are put at keys, from left to right.
+    Strings(StringPairs),
 }
 
 /// Changes that are decided and not made yet. A plan with one change allocates nothing for itself.
@@ -23,8 +25,8 @@ pub(crate) struct PlannedFields {
 pub struct Plan {
     // New values, which are put first.
     pub(crate) values: NewValues,
-    // Changes of fields, which are made after that.
-    pub(crate) fields: Option<PlannedFields>,
+    // What the latest command changes in a way of its own.
+    pub(crate) last: Option<LastStep>,
 }
 
 impl Plan {
@@ -35,42 +37,67 @@ impl Plan {
     {
         Plan {
             values: NewValues::new(alloc),
-            fields: None,
+            last: None,
         }
     }
 
-    /// Changes fields of the hash at the key. No other changes of fields are planned.
-    #[tactic(auto, using(crate::proofs::Committed::committed_fields))]
+    /// Changes fields of the hash at the key. No other step is planned.
+    #[tactic(auto, using(crate::proofs::Committed::committed_step))]
     pub(crate) fn change_fields(&mut self, key: ByteString, changes: FieldChanges)
-        requires { self.old.fields ≡ None }
+        requires { self.old.last ≡ None }
         ensures { (keyspace : Keyspace) →
             committed keyspace self.new ≡ with_fields (applied keyspace self.old.values) key changes.items }
     {
-        self.fields = Some(PlannedFields { key, changes });
+        self.last = Some(LastStep::Fields(key, changes));
     }
 
-    /// Makes a new value of the fields that are planned to be changed, so that a later command can read it.
-    #[tactic(auto, using(crate::proofs::Committed::committed_values, crate::proofs::Committed::committed_fields))]
+    /// Puts strings at keys, from left to right. No other step is planned.
+    #[tactic(auto, using(crate::proofs::Committed::committed_step))]
+    pub(crate) fn put_strings(&mut self, pairs: StringPairs)
+        requires { self.old.last ≡ None }
+        ensures { (keyspace : Keyspace) →
+            committed keyspace self.new ≡ with_strings (applied keyspace self.old.values) pairs.items }
+    {
+        self.last = Some(LastStep::Strings(pairs));
+    }
+
+    /// Makes new values of what the last step changes, so that a later command can read them.
+    #[tactic(auto, using(crate::proofs::Committed::committed_values, crate::proofs::Committed::committed_step))]
     pub(crate) fn settle<S: Store>(&mut self, store: &S) -> Result<(), AllocError>
-        ensures fields { OnOk result (self.new.fields ≡ None) }
+        ensures last { OnOk result (self.new.last ≡ None) }
         ensures values { OnOk result (
             applied (S.contents store.now) self.new.values ≡ committed (S.contents store.now) self.old) }
     {
-        match self.fields.take() {
+        match self.last.take() {
             None => Ok(()),
-            Some(planned) => self.put_changed(store, planned),
+            Some(step) => self.settle_step(store, step),
+        }
+    }
+
+    #[inline(never)]
+    fn settle_step<S: Store>(&mut self, store: &S, step: LastStep) -> Result<(), AllocError>
+        ensures last { OnOk result (self.new.last ≡ self.old.last) }
+        ensures values { OnOk result (
+            applied (S.contents store.now) self.new.values ≡ with_step (applied (S.contents store.now) self.old.values) step) }
+    {
+        match step {
+            LastStep::Fields(key, changes) => self.put_changed(store, key, changes),
+            LastStep::Strings(pairs) => change_to_strings(&mut self.values, pairs),
         }
     }
 
     // The changed value goes to the other new values.
-    #[inline(never)]
     #[tactic(auto, using(crate::proofs::Applied::applied_insert))]
-    fn put_changed<S: Store>(&mut self, store: &S, planned: PlannedFields) -> Result<(), AllocError>
-        ensures fields { OnOk result (self.new.fields ≡ self.old.fields) }
+    fn put_changed<S: Store>(
+        &mut self,
+        store: &S,
+        key: ByteString,
+        changes: FieldChanges,
+    ) -> Result<(), AllocError>
+        ensures last { OnOk result (self.new.last ≡ self.old.last) }
         ensures values { OnOk result (applied (S.contents store.now) self.new.values
-            ≡ with_fields (applied (S.contents store.now) self.old.values) planned.key planned.changes.items) }
+            ≡ with_fields (applied (S.contents store.now) self.old.values) key changes.items) }
     {
-        let PlannedFields { key, changes } = planned;
         let value = with_changed_fields(self.values.look(store, &key), changes)?;
         self.values.insert(key, value)
     }
@@ -79,7 +106,7 @@ impl Plan {
 /// Makes all changes of the plan, or none where an allocation fails.
 ///
 /// A plan with one change walks down the store once, and one that changes fields of a hash changes them in place.
-#[tactic(auto, using(crate::proofs::Committed::committed_nothing, crate::proofs::Committed::committed_only_fields))]
+#[tactic(auto, using(crate::proofs::Committed::committed_nothing, crate::proofs::Committed::committed_alone))]
 pub fn commit<S: Store>(alloc: Global, store: &mut S, plan: Plan) -> Result<(), AllocError>
     ensures ok { OnOk result (S.contents store.new ≡ committed (S.contents store.old) plan) }
     ensures err { OnErr result (S.contents store.new ≡ S.contents store.old) }
@@ -87,10 +114,20 @@ pub fn commit<S: Store>(alloc: Global, store: &mut S, plan: Plan) -> Result<(), 
     if !plan.values.is_empty() {
         return commit_values(alloc, store, plan);
     }
-    let Plan { fields, .. } = plan;
-    match fields {
+    let Plan { last, .. } = plan;
+    match last {
         None => Ok(()),
-        Some(PlannedFields { key, changes }) => store.change_fields(key, changes),
+        Some(step) => make_step(alloc, store, step),
+    }
+}
+
+fn make_step<S: Store>(alloc: Global, store: &mut S, step: LastStep) -> Result<(), AllocError>
+    ensures ok { OnOk result (S.contents store.new ≡ with_step (S.contents store.old) step) }
+    ensures err { OnErr result (S.contents store.new ≡ S.contents store.old) }
+{
+    match step {
+        LastStep::Fields(key, changes) => store.change_fields(key, changes),
+        LastStep::Strings(pairs) => put_strings(alloc, store, pairs),
     }
 }
 

@@ -2,14 +2,13 @@
 ghost use Rattle.std.specs.Prelude.{◌≡◌, OnOk, OnErr, IsSome, IsOk};
 ghost use Rattle.std.specs.Option.{option_copied};
 ghost use Rattle.std.specs.FinMap as map;
-ghost use Rattle.keyspace.specs.Keyspace.{with_fields};
+ghost use Rattle.keyspace.specs.Keyspace.{keyspace_of, with_fields};
 
 use crate::fields::{FieldChanges, change_fields_in, remove_from};
 use crate::value::Value;
 use byte_string::ByteString;
 use std::alloc::{AllocError, Global};
 use std::collections::BTreeMap;
-use std::marker::Model;
 
 /// A map from keys to values. A call that fails changes nothing.
 pub trait Store {
@@ -40,54 +39,25 @@ pub trait Store {
 }
 
 /// A store in a balanced tree, in the byte order of its keys.
-#[derive(Drop)]
-pub struct TreeStore {
-    entries: BTreeMap<ByteString, Value>,
-}
+pub type TreeStore = BTreeMap<ByteString, Value>;
 
-impl Model for TreeStore {
-    ghost use Rattle.std.specs.Prelude.{ℕ};
-    ghost use Rattle.std.specs.Coded.{codes, coded_list, coded_ℕ};
-    ghost use Rattle.std.specs.Ordering.{nat_cmp};
-    ghost use Rattle.std.specs.Cmp.Lexicographic.{slice_cmp};
-    ghost use Rattle.std.specs.FinMap as map;
-    ghost use Rattle.keyspace.specs.Keyspace.{Keyspace};
-
-    ghost Value = { Keyspace };
-
-    ghost coded = { map.code {R = slice_cmp nat_cmp} (coded_list coded_ℕ) (Prim.hlevel codes) };
-
-    ghost view = { λ store. map.from_entries store.entries.entries };
-}
-
-impl TreeStore {
-    /// A store with no keys. It allocates nothing.
-    pub fn new(alloc: Global) -> TreeStore
-        ensures { result ≡ map.empty }
-    {
-        TreeStore {
-            entries: BTreeMap::new(alloc),
-        }
-    }
-}
-
-impl Store for TreeStore {
-    ghost contents = { λ store. store };
+impl Store for BTreeMap<ByteString, Value> {
+    ghost contents = { λ tree. keyspace_of tree.entries };
 
     fn get(&self, key: &ByteString) -> Option<&Value> {
-        self.entries.get(key)
+        BTreeMap::get(self, key)
     }
 
     fn insert(&mut self, key: ByteString, value: Value) -> Result<(), AllocError> {
-        let _old = self.entries.insert(key, value)?;
+        let _old = BTreeMap::insert(self, key, value)?;
         Ok(())
     }
 
     fn remove(&mut self, key: &ByteString) {
-        remove_from(&mut self.entries, key);
+        remove_from(self, key);
     }
 
     fn change_fields(&mut self, key: ByteString, changes: FieldChanges) -> Result<(), AllocError> {
-        change_fields_in(&mut self.entries, key, changes)
+        change_fields_in(self, key, changes)
     }
 }

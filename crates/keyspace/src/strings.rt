@@ -1,26 +1,28 @@
 //! The commands on strings, and those on keys with values of any type.
-ghost use Rattle.std.specs.Prelude.{◌≡◌, ◌<◌, ◌∷◌, [], codes, ◌++◌, ◌^◌, length, OnOk, IfOk, IsTrue, Some, count_by, is_some, pos, if◌then◌else◌};
+ghost use Rattle.std.specs.Prelude.{◌≡◌, ◌<◌, ◌∷◌, [], ◌++◌, ◌^◌, length, OnOk, IfOk, IsTrue, Some, count_by, is_some, pos, if◌then◌else◌};
 ghost use Rattle.std.specs.Prelude.{map as each};
 ghost use Rattle.std.specs.Option.{option_copied};
 ghost use Rattle.std.specs.FinMap as map;
 ghost use Rattle.std.specs.Fmt.{signed_decimal};
-ghost use Rattle.command.specs.Keys.{pair_keys};
 ghost use Rattle.command.specs.declared.command.DataCommand.{DataCommand};
 ghost use Rattle.keyspace.specs.Changes.{applied};
 ghost use Rattle.keyspace.specs.Commands.{exec, taken_at, values_at, with_values};
 ghost use Rattle.keyspace.specs.Keyspace.{Keyspace};
-ghost use Rattle.keyspace.specs.Strings.{all_removed, bulk_or_null, deleted, fitting, holds, length_reply, number_at, number_left, string_of, string_reply, strings_left, sum_of, type_of};
+ghost use Rattle.keyspace.specs.Plan.{committed};
+ghost use Rattle.keyspace.specs.Strings.{all_removed, bulk_or_null, deleted, fitting, holds, length_reply, number_at, number_left, string_of, string_reply, sum_of, type_of};
 ghost use Rattle.resp2.specs.Line.{is_one_line};
 ghost use Rattle.resp2.specs.Reply.{array_of};
 
 use crate::changes::NewValues;
 use crate::number::{number_in, sum, text_of};
+use crate::plans::Plan;
 use crate::replies::{integer, simple};
 use crate::store::Store;
+use crate::string_pairs::kept;
 use crate::value::Value;
 use byte_string::ByteString;
 use bytes::Bytes;
-use command::{Condition, ErrorLine};
+use command::{Condition, ErrorLine, PairList};
 use resp2::{Array, MOST_WORD_BYTES, Reply};
 use std::alloc::{AllocError, Global};
 
@@ -97,17 +99,18 @@ fn holds(condition: Condition, value: Option<&Value>) -> bool
 
 // Puts the string of each pair at its key, from left to right.
 #[inline(never)]
+#[tactic(auto, using(crate::proofs::Committed::committed_values))]
 pub(crate) fn set_each(
-    values: &mut NewValues,
-    pairs: &[(ByteString, ByteString)],
+    alloc: Global,
+    plan: &mut Plan,
+    pairs: &PairList,
 ) -> Result<Reply, AllocError>
-    ensures reply { IfOk result (λ reply. reply ≡ Reply.Simple (codes "OK")) }
-    ensures after { OnOk result ((keyspace : Keyspace) → applied keyspace values.new
-        ≡ with_values (applied keyspace values.old) (pair_keys pairs.now) (strings_left pairs.now)) }
+    requires { plan.old.last ≡ None }
+    ensures { IfOk result (λ reply. (keyspace : Keyspace) →
+        record { reply = reply; after = committed keyspace plan.new }
+        ≡ exec (applied keyspace plan.old.values) (DataCommand.Mset pairs.now)) }
 {
-    for (key, value) in pairs {
-        put(values, key, value.clone()?)?;
-    }
+    plan.put_strings(kept(alloc, pairs)?);
     Ok(simple(b"OK"))
 }
 

@@ -64,7 +64,7 @@ fn put_both(alloc: Global, store: &mut TreeStore, words: &str) -> Result<()> {
     let first = (string_of(alloc, key)?, string_of(alloc, value)?);
     let (key, value) = verb_of(rest);
     let second = (string_of(alloc, key)?, string_of(alloc, value)?);
-    set_both(alloc, store, first, second)?;
+    set_both(alloc, store, &first, &second)?;
     Ok(())
 }
 

@@ -21,9 +21,10 @@ pub struct Client {
 }
 
 impl Client {
-    /// The client that these lines describe: `request WORD..`, `bytes BYTES` and `times COUNT request WORD..` are sent, and `cut` ends a
-    /// piece. `cut anywhere` says that it may be cut at each place, `reader fails` and `writer takes COUNT` when a call fails,
-    /// and `count writes` that the writes are told.
+    /// The client that these lines describe: `request WORD..`, `bytes BYTES`, `times COUNT request WORD..` and
+    /// `request-fields KEY COUNT`, which is HSET of so many numbered fields, are sent, and `cut` ends a piece. `cut anywhere`
+    /// says that it may be cut at each place, `reader fails` and `writer takes COUNT` when a call fails, and `count writes`
+    /// that the writes are told.
     pub fn of(alloc: Global, lines: &str) -> Result<Client> {
         let mut client = Client {
             pieces: Vec::new(alloc),
@@ -73,6 +74,7 @@ fn push_sent(alloc: Global, piece: &mut Vec<u8>, line: &str) -> Result<()> {
         ("request", words) => push_request(alloc, piece, words),
         ("bytes", bytes) => push_bytes(alloc, piece, bytes),
         ("times", words) => push_times(alloc, piece, words),
+        ("request-fields", words) => push_fields(alloc, piece, words),
         _ => bail!("no such line"),
     }
 }
@@ -92,6 +94,16 @@ fn push_times(alloc: Global, piece: &mut Vec<u8>, words: &str) -> Result<()> {
         push_request(alloc, piece, words)?;
     }
     Ok(())
+}
+
+// HSET of COUNT fields, `0` and the numbers behind it, each with the value `1`.
+fn push_fields(alloc: Global, piece: &mut Vec<u8>, words: &str) -> Result<()> {
+    let (key, count) = verb_of(words);
+    let mut words = format!(in alloc; "HSET {key}")?;
+    for field in 0..count.parse::<u32>()? {
+        write!(words, " {field} 1")?;
+    }
+    push_request(alloc, piece, words.as_str())
 }
 
 // A request, as the protocol spells it.

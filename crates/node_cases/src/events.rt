@@ -90,6 +90,5 @@ fn name_of(why: Why) -> &'static str {
         Why::NotACommand(CommandFault::UnknownSubcommand) => "unknown-subcommand",
         Why::NotACommand(CommandFault::Arity(_)) => "wrong-arity",
         Why::NotACommand(CommandFault::Syntax) => "wrong-syntax",
-        Why::NotACommand(CommandFault::Memory) => "out-of-memory",
     }
 }

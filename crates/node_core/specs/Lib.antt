@@ -1,5 +1,6 @@
 pub mod Connections
 pub mod Outputs
+pub mod Planned
 pub mod Reports
 pub mod State
 pub mod Step

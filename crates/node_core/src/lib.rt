@@ -9,6 +9,7 @@ mod node;
 mod outputs;
 mod reports;
 mod response;
+mod slot_plan;
 
 pub use connections::{Asking, Conn, Connection, Connections};
 pub use event::Event;

@@ -1,15 +1,20 @@
 //! A node, and its steps.
-ghost use Rattle.std.specs.Prelude.{◌≡◌, IfOk, IfErr, OnErr, Ok, Err, slice_get};
-ghost use Rattle.std.specs.FinMap as map;
+ghost use Rattle.std.specs.Prelude.{◌≡◌, ◌∷◌, All, IfOk, IfErr, OnOk, OnErr, Ok, Err, map, slice_get};
+ghost use Rattle.std.specs.FinMap as fin_map;
 ghost use Rattle.command.specs.Keys.{data_keys};
 ghost use Rattle.command.specs.Table.{command_of};
+ghost use Rattle.key_slot.specs.Slot.{hash_slot};
+ghost use Rattle.keyspace.specs.Commands.{exec};
+ghost use Rattle.keyspace.specs.Keyspace.{Keyspace};
 ghost use Rattle.keyspace.specs.Plan.{committed};
 ghost use Rattle.redirect.specs.Decision.{decision};
+ghost use Rattle.slot_store.specs.InSlot.{IsCommittedInSlot};
 ghost use Rattle.node_core.specs.Connections.{IsUsedUp};
 ghost use Rattle.node_core.specs.Outputs.{IsPlain};
 ghost use Rattle.node_core.specs.Reports.{IsReported};
 ghost use Rattle.node_core.specs.State.{first_state};
-ghost use Rattle.node_core.specs.Step.{IsAnswered, NodeStep, execution_by, moved_error};
+ghost use Rattle.node_core.specs.Planned.{IsPlanned};
+ghost use Rattle.node_core.specs.Step.{NodeStep, execution_by, moved_error};
 ghost use Rattle.node_core.specs.declared.fault.StepFault.TheVariants.{Exhausted, Memory};
 
 use crate::connections::{Conn, Connections};
@@ -18,22 +23,22 @@ use crate::fault::StepFault;
 use crate::outputs::{Keep, Outputs};
 use crate::reports::{id_reply, slots_reply};
 use crate::response::{Answer, Response, Why};
+use crate::slot_plan::{SlotPlan, any_slot};
 use cluster_config::Config;
-use command::{ClusterCommand, Command, CommandFault, DataCommand, ErrorLine, parse};
+use command::{ClusterCommand, Command, DataCommand, ErrorLine, parse};
 use key_slot::{Slot, slot};
-use keyspace::{Plan, Store, commit, plan_command};
-use redirect::{Decision, decide};
+use keyspace::plan_command;
+use redirect::{Decision, decide_in_slot};
 use resp2::{Reply, Words};
 use slot_state::SlotStates;
-use slot_store::SlotStore;
+use slot_store::{SlotParts, SlotStore};
 use slot_table::{NodeNo, SlotTable};
 use std::alloc::{AllocError, Global};
 use std::marker::Model;
-use std::mem;
 
 /// A node of the cluster: what it holds, and the steps that it takes.
 #[derive(Drop)]
-pub struct NodeCore<S: Store> {
+pub struct NodeCore<S: SlotParts> {
     alloc: Global,
     config: Config,
     number: NodeNo,
@@ -46,7 +51,7 @@ pub struct NodeCore<S: Store> {
 /// A node over the store in use.
 pub type Core = NodeCore<SlotStore>;
 
-impl<S: Store> Model for NodeCore<S> {
+impl<S: SlotParts> Model for NodeCore<S> {
     ghost use Rattle.std.specs.Prelude.{ℕ};
     ghost use Rattle.std.specs.Coded.{Coded, codes, coded_list, coded_ℕ};
     ghost use Rattle.std.specs.Ordering.{nat_cmp};
@@ -67,7 +72,7 @@ impl<S: Store> Model for NodeCore<S> {
     } };
 }
 
-impl<S: Store> NodeCore<S> {
+impl<S: SlotParts> NodeCore<S> {
     /// The node of that number over an empty store, as it begins.
     pub fn new(
         alloc: Global,
@@ -77,7 +82,7 @@ impl<S: Store> NodeCore<S> {
     ) -> Result<NodeCore<S>, AllocError>
     where
         S: Drop,
-        requires { S.contents store ≡ map.empty }
+        requires { S.contents store ≡ fin_map.empty }
         ensures { IfOk result (λ core. core ≡ first_state config number) }
     {
         let owners = config.first_owners(alloc)?;
@@ -138,6 +143,7 @@ impl<S: Store> NodeCore<S> {
     }
 
     #[inline(never)]
+    #[tactic(auto, using(crate::proofs::SlotLemmas::committed_lies, crate::proofs::SlotLemmas::answered_after))]
     fn request<K: Keep>(
         &mut self,
         ticket: u64,
@@ -151,29 +157,23 @@ impl<S: Store> NodeCore<S> {
         if !self.connections.may_ask(conn) {
             return Ok(plain::<K>(ticket, Response::Nothing));
         }
-        let mut plan = Plan::new(self.alloc);
-        let answer = self.answer(words, &mut plan)?;
+        let mut changes = SlotPlan::new(self.alloc);
+        let answer = self.answer(words, &mut changes)?;
         let response = Response::Replied(answer);
         let outputs = Outputs { ticket, response };
         let kept = K::keep(&outputs)?;
-        commit(self.alloc, &mut self.store, plan)?;
+        let SlotPlan { slot, plan } = changes;
+        self.store.commit_in_slot(self.alloc, slot, plan)?;
         Ok((outputs, kept))
     }
 
     // The answer to the words. What is going to change goes into the plan.
-    fn answer(&self, words: &Words, plan: &mut Plan) -> Result<Answer, StepFault>
-        requires { committed self.now.keyspace plan.old ≡ self.now.keyspace }
-        ensures answer { IfOk result (λ answer. IsAnswered self.now (command_of words.now) answer (committed self.now.keyspace plan.new)) }
-        ensures err { IfErr result (λ fault. fault ≡ Memory) }
+    fn answer(&self, words: &Words, changes: &mut SlotPlan) -> Result<Answer, AllocError>
+        requires { (keyspace : Keyspace) → committed keyspace changes.old.plan ≡ keyspace }
+        ensures { IfOk result (λ answer. IsPlanned self.now (command_of words.now) answer changes.new.slot changes.new.plan) }
     {
-        match parse(self.alloc, words) {
-            Ok(command) => {
-                let answer = self.answer_command(&command, plan);
-                // It is let go here alone, and not on each way out.
-                mem::drop(command);
-                Ok(answer?)
-            }
-            Err(CommandFault::Memory) => Err(StepFault::Memory),
+        match parse(words) {
+            Ok(command) => self.answer_command(&command, changes),
             Err(fault) => Ok(Answer {
                 why: Why::NotACommand(fault),
                 reply: fault.line().reply(),
@@ -181,14 +181,20 @@ impl<S: Store> NodeCore<S> {
         }
     }
 
-    fn answer_command(&self, command: &Command, plan: &mut Plan) -> Result<Answer, AllocError>
-        requires { committed self.now.keyspace plan.old ≡ self.now.keyspace }
-        ensures { IfOk result (λ answer. IsAnswered self.now (Ok command.now) answer (committed self.now.keyspace plan.new)) }
+    #[tactic(auto, using(crate::proofs::SlotLemmas::planned_report))]
+    fn answer_command(
+        &self,
+        command: &Command,
+        changes: &mut SlotPlan,
+    ) -> Result<Answer, AllocError>
+        requires { (keyspace : Keyspace) → committed keyspace changes.old.plan ≡ keyspace }
+        ensures { IfOk result (λ answer. IsPlanned self.now (Ok command.now) answer changes.new.slot changes.new.plan) }
     {
         match command {
             Command::Data(data_command) => {
-                let decision = self.decision(data_command)?;
-                let reply = self.reply_as(&decision, data_command, plan)?;
+                let (decision, slot) = self.decision(data_command)?;
+                changes.slot = slot;
+                let reply = self.reply_as(&decision, data_command, changes)?;
                 let why = Why::Decided(decision);
                 Ok(Answer { why, reply })
             }
@@ -200,15 +206,30 @@ impl<S: Store> NodeCore<S> {
         }
     }
 
-    // A command with one key needs no list of keys.
-    fn decision(&self, command: &DataCommand) -> Result<Decision, AllocError>
-        ensures { IfOk result (λ found. found ≡ decision self.now.table self.now.states (data_keys command.now)) }
+    // The decision on a command, and the slot of its keys where it is served. The slot of each key is computed once.
+    fn decision(&self, command: &DataCommand) -> Result<(Decision, Slot), AllocError>
+        ensures decision { IfOk result (λ found. found.0 ≡ decision self.now.table self.now.states (data_keys command.now)) }
+        ensures slot { IfOk result (λ found. found.0 ≡ Decision.Serve → All (λ key. hash_slot key ≡ found.1) (data_keys command.now)) }
     {
+        // A command with one key needs no list of keys.
         if let Some(key) = command.only_key() {
-            return Ok(decide(&self.table, &self.states, &[key.as_slice()]));
+            return Ok(self.decision_on(key.as_slice(), &[]));
         }
         let keys = command.keys(self.alloc)?;
-        Ok(decide(&self.table, &self.states, keys.as_slice()))
+        let Some((first, others)) = keys.as_slice().split_first() else {
+            return Ok((Decision::Serve, any_slot()));
+        };
+        Ok(self.decision_on(first, others))
+    }
+
+    // The same of a command with these keys.
+    fn decision_on(&self, first: &[u8], others: &[&[u8]]) -> (Decision, Slot)
+        ensures decision { result.0 ≡ decision self.now.table self.now.states (first.now ∷ map (λ key. key.now) others.now) }
+        ensures slot { result.0 ≡ Decision.Serve → All (λ key. hash_slot key ≡ result.1) (first.now ∷ map (λ key. key.now) others.now) }
+    {
+        let slot = slot(first);
+        let decision = decide_in_slot(&self.table, &self.states, slot, others);
+        (decision, slot)
     }
 
     // Executes a command on keys, or rejects it, as was decided.
@@ -216,17 +237,34 @@ impl<S: Store> NodeCore<S> {
         &self,
         decision: &Decision,
         command: &DataCommand,
-        plan: &mut Plan,
+        changes: &mut SlotPlan,
     ) -> Result<Reply, AllocError>
-        requires { committed self.now.keyspace plan.old ≡ self.now.keyspace }
-        ensures { IfOk result (λ reply. record { reply = reply; after = committed self.now.keyspace plan.new } ≡ execution_by decision.now self.now command.now) }
+        requires nothing { (keyspace : Keyspace) → committed keyspace changes.old.plan ≡ keyspace }
+        requires slot { decision.now ≡ Decision.Serve → All (λ key. hash_slot key ≡ changes.old.slot) (data_keys command.now) }
+        ensures reply { IfOk result (λ reply. reply ≡ (execution_by decision.now self.now command.now).reply) }
+        ensures after { OnOk result (IsCommittedInSlot changes.new.slot changes.new.plan self.now.keyspace (execution_by decision.now self.now command.now).after) }
     {
         match decision {
-            Decision::Serve => plan_command(self.alloc, &self.store, plan, command),
+            Decision::Serve => self.plan_in_slot(command, changes),
             Decision::CrossSlot => Ok(ErrorLine::CrossSlot.reply()),
             Decision::Down => Ok(ErrorLine::SlotDown.reply()),
             Decision::Moved { slot, to } => self.moved(*slot, *to),
         }
+    }
+
+    // Executes a command whose keys are in the slot on what the node has there. What it changes goes into the plan.
+    fn plan_in_slot(
+        &self,
+        command: &DataCommand,
+        changes: &mut SlotPlan,
+    ) -> Result<Reply, AllocError>
+        requires nothing { (keyspace : Keyspace) → committed keyspace changes.old.plan ≡ keyspace }
+        requires slot { All (λ key. hash_slot key ≡ changes.old.slot) (data_keys command.now) }
+        ensures reply { IfOk result (λ reply. reply ≡ (exec self.now.keyspace command.now).reply) }
+        ensures after { OnOk result (IsCommittedInSlot changes.new.slot changes.new.plan self.now.keyspace (exec self.now.keyspace command.now).after) }
+    {
+        let part = self.store.part(changes.slot);
+        plan_command(self.alloc, part, &mut changes.plan, command)
     }
 
     // A question about the cluster changes nothing.

@@ -39,15 +39,19 @@ two_slots-from_other key keys passes =
       differ = other-differs (hash_slot key) found.1 found.4;
     }
 
+-- where no key is in another slot, all are in this one
+all_in_slot : (slot : ℕ) (keys : List (List ℕ)) → has_other_slot slot keys ≡ false → All (λ k. hash_slot k ≡ slot) keys
+all_in_slot slot keys none k d lt =
+    let other : Bool = not (hash_slot (get_or keys k d) == slot) in
+    elim (cases_Bool other) [
+      | inl passes ↦ absurd (both_ways (has_other_slot slot keys) none (list_any_at (λ x. not (hash_slot x == slot)) keys k d lt passes))
+      | inr fails ↦ same-slot slot (get_or keys k d) fails
+    ]
+
 -- where no later key is in another slot, all keys are in that of the first
 one_slot : (key : List ℕ) (keys : List (List ℕ)) → has_other_slot (hash_slot key) keys ≡ false → All (λ k. hash_slot k ≡ hash_slot key) (key ∷ keys)
 one_slot key keys none zero d lt = refl
-one_slot key keys none (suc k) d lt =
-    let other : Bool = not (hash_slot (get_or keys k d) == hash_slot key) in
-    elim (cases_Bool other) [
-      | inl passes ↦ absurd (both_ways (has_other_slot (hash_slot key) keys) none (list_any_at (λ x. not (hash_slot x == hash_slot key)) keys k d (omega arith) passes))
-      | inr fails ↦ same-slot (hash_slot key) (get_or keys k d) fails
-    ]
+one_slot key keys none (suc k) d lt = all_in_slot (hash_slot key) keys none k d (omega arith)
 
 slot-of_contained : (slot : ℕ) (keys : List (List ℕ)) (key : List ℕ) → All (λ k. hash_slot k ≡ slot) keys → Contains keys key → hash_slot key ≡ slot
 slot-of_contained slot keys key all has = ap hash_slot (sym has.2) ∙ all has.0 key has.1
@@ -140,4 +144,25 @@ decision-says table states keys made is = record {
   crossed = decision-crossed table states keys made is;
   served = λ same. decision-served table states keys (sym same ∙ is);
   moved = λ slot to same. decision-moved table states keys slot to (sym same ∙ is);
+}
+
+-- what is said of a decision by the slot of the first key
+pub record SaysInSlot (table : List (Option SlotEntry)) (states : States) (slot : ℕ) (others : List (List ℕ)) (made : Decision) : Type 0 where
+  pub value : (first : List ℕ) → hash_slot first ≡ slot → made ≡ decision table states (first ∷ others)
+  pub served : made ≡ Serve → All (λ key. hash_slot key ≡ slot) others
+
+-- a command with keys in two slots is refused
+pub crossed-says : (table : List (Option SlotEntry)) (states : States) (slot : ℕ) (others : List (List ℕ)) (made : Decision) → made ≡ CrossSlot → has_other_slot slot others ≡ true → SaysInSlot table states slot others made
+crossed-says table states slot others made is some = record {
+  value = λ first same. is ∙ sym (ap (λ b. cond b CrossSlot (decision_in (hash_slot first) (owner_at table (hash_slot first)) (state_at states (hash_slot first)))) (ap (λ s. has_other_slot s others) same ∙ some));
+  served = λ serves. absurd (cc);
+}
+
+-- else the slot decides
+pub in_slot-says : (table : List (Option SlotEntry)) (states : States) (slot : ℕ) (others : List (List ℕ)) (made : Decision) → made ≡ decision_in slot (owner_at table slot) (state_at states slot) → has_other_slot slot others ≡ false → SaysInSlot table states slot others made
+in_slot-says table states slot others made is none = record {
+  value = λ first same.
+      is ∙ ap (λ s. decision_in s (owner_at table s) (state_at states s)) (sym same)
+      ∙ sym (ap (λ b. cond b CrossSlot (decision_in (hash_slot first) (owner_at table (hash_slot first)) (state_at states (hash_slot first)))) (ap (λ s. has_other_slot s others) same ∙ none));
+  served = λ serves. all_in_slot slot others none;
 }

@@ -1,5 +1,5 @@
 //! The decision on a command, by its keys.
-ghost use Rattle.std.specs.Prelude.{◌≡◌, ◌↔◌, ◌==◌, ℕ, All, Some, map, not};
+ghost use Rattle.std.specs.Prelude.{◌≡◌, ◌↔◌, ◌==◌, ℕ, List, ◌∷◌, All, Some, map, not};
 ghost use Rattle.std.specs.List.{list_any};
 ghost use Rattle.key_slot.specs.Slot.{hash_slot};
 ghost use Rattle.slot_table.specs.Table.{owner_at};
@@ -37,7 +37,19 @@ pub fn decide(table: &SlotTable, states: &SlotStates, keys: &[&[u8]]) -> Decisio
     let Some((first, others)) = keys.split_first() else {
         return Decision::Serve;
     };
-    let slot = slot(first);
+    decide_in_slot(table, states, slot(first), others)
+}
+
+/// The decision on a command whose first key is in the slot, and which has these other keys. It does not hash the first key.
+pub fn decide_in_slot(
+    table: &SlotTable,
+    states: &SlotStates,
+    slot: Slot,
+    others: &[&[u8]],
+) -> Decision
+    ensures value { (first : List ℕ) → hash_slot first ≡ slot → result ≡ decision table.now states.now (first ∷ map (λ key. key.now) others.now) }
+    ensures served { result ≡ Decision.Serve → All (λ key. hash_slot key ≡ slot) (map (λ key. key.now) others.now) }
+{
     if has_other_slot(slot, others) {
         return Decision::CrossSlot;
     }

@@ -3,4 +3,4 @@
 
 mod decision;
 
-pub use decision::{Decision, decide};
+pub use decision::{Decision, decide, decide_in_slot};

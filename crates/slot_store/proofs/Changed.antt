@@ -16,12 +16,12 @@ use Rattle.slot_store.specs.Maps.{entries_at, found_at, ArePlaced}
 use Rattle.slot_store.proofs.Placed.{contents_of, get_placed, entries-index}
 
 module _ {X : Type 0} where
-  entries-set : (maps : List (BTreeMap (List ℕ) X)) (i : ℕ) (n : BTreeMap (List ℕ) X) → i < length maps → entries_at (slice_set maps i n) i ≡ n.entries
+  pub entries-set : (maps : List (BTreeMap (List ℕ) X)) (i : ℕ) (n : BTreeMap (List ℕ) X) → i < length maps → entries_at (slice_set maps i n) i ≡ n.entries
   entries-set [] i n below = absurd (omega arith)
   entries-set (m ∷ maps) zero n below = refl
   entries-set (m ∷ maps) (suc i) n below = entries-set maps i n (omega arith)
 
-  entries-set_other : (maps : List (BTreeMap (List ℕ) X)) (i j : ℕ) (n : BTreeMap (List ℕ) X) → j ≢ i → entries_at (slice_set maps i n) j ≡ entries_at maps j
+  pub entries-set_other : (maps : List (BTreeMap (List ℕ) X)) (i j : ℕ) (n : BTreeMap (List ℕ) X) → j ≢ i → entries_at (slice_set maps i n) j ≡ entries_at maps j
   entries-set_other [] i j n other = refl
   entries-set_other (m ∷ maps) zero zero n other = absurd (other refl)
   entries-set_other (m ∷ maps) zero (suc j) n other = refl

@@ -2,4 +2,5 @@ pub mod Placed
 pub mod Changed
 pub mod Empty
 pub mod SlotEntries
+pub mod SlotCommit
 pub mod Touched

@@ -38,7 +38,7 @@ rises (e ∷ es) ordered = both _ _ (rises_from e.0 es ordered.0) (rises es orde
 
 module _ (maps : List (BTreeMap (List ℕ) Value)) (i : ℕ) (m : BTreeMap (List ℕ) Value) (size : length maps ≡ 16384) (placed : ArePlaced maps) (small : i < 16384) (at : m ≡ slice_index_or maps i m) where
   -- a key has the same value there
-  get_in_slot : (q : List ℕ) → map.get (in_slot i (contents_of maps)) q ≡ lookup (is_key q) m.entries
+  pub get_in_slot : (q : List ℕ) → map.get (in_slot i (contents_of maps)) q ≡ lookup (is_key q) m.entries
   get_in_slot q =
       map.get-retain_keys (contents_of maps) (λ key. nat_eq (hash_slot key) i) q (λ x e. ap (λ key. nat_eq (hash_slot key) i) (sym (exact_bytes q x e)))
       ∙ elim (eqb_tells (hash_slot q) i) as (λ _. cond (nat_eq (hash_slot q) i) (map.get (contents_of maps) q) None ≡ found_at maps i q) [

@@ -11,7 +11,7 @@ use Rattle.key_slot.specs.Slot.{hash_slot}
 use Rattle.keyspace.proofs.Applied.{is_key, get_changed}
 use Rattle.keyspace.proofs.InPlace.{changed_same, get_changed_itself}
 use Rattle.keyspace.proofs.Maps.{get_seen}
-use Rattle.keyspace.specs.Keyspace.{Keyspace, changed, fields_left, keyspace_of, with_fields}
+use Rattle.keyspace.specs.Keyspace.{changed, fields_left, keyspace_of, with_fields}
 use Rattle.keyspace.specs.declared.value.Value.{Value}
 use Rattle.slot_store.specs.Maps.{ArePlaced}
 use Rattle.slot_store.proofs.Changed.{contents_changed}

@@ -2,7 +2,9 @@
 #![tactic(auto)]
 
 mod slot_keys;
+mod slot_parts;
 mod store;
 
 pub use slot_keys::SlotKeys;
+pub use slot_parts::SlotParts;
 pub use store::SlotStore;

@@ -6,18 +6,18 @@ ghost use Rattle.std.specs.FinMap as map;
 ghost use Rattle.std.specs.Ordering.{nat_cmp};
 
 use crate::slot_keys::SlotKeys;
+use crate::slot_parts::SlotParts;
 use byte_string::ByteString;
 use key_slot::{Slot, slot};
-use keyspace::{FieldChanges, Store, Value, change_fields_in};
+use keyspace::{FieldChanges, Plan, Store, TreeStore, Value, change_fields_in, commit};
 use std::alloc::{AllocError, Global};
-use std::collections::BTreeMap;
 use std::marker::Model;
 
 /// Keys and values, those of each slot in a balanced tree of their own, in the byte order of the keys.
 #[derive(Drop)]
 pub struct SlotStore {
     // One map for each slot, at the slot's number. A key lies in the map of its slot.
-    maps: Vec<BTreeMap<ByteString, Value>>,
+    maps: Vec<TreeStore>,
 }
 
 impl Model for SlotStore {
@@ -45,7 +45,7 @@ impl SlotStore {
     {
         let mut maps = Vec::with_capacity(alloc, Slot::COUNT)?;
         for _ in 0..Slot::COUNT {
-            maps.push(BTreeMap::new(alloc))?;
+            maps.push(TreeStore::new(alloc))?;
         }
         Ok(SlotStore { maps })
     }
@@ -89,12 +89,18 @@ impl SlotKeys for SlotStore {
     }
 }
 
+impl SlotParts for SlotStore {
+    fn part(&self, slot: Slot) -> &TreeStore {
+        &self.maps[slot.index()]
+    }
+
+    fn commit_in_slot(&mut self, alloc: Global, slot: Slot, plan: Plan) -> Result<(), AllocError> {
+        commit(alloc, &mut self.maps[slot.index()], plan)
+    }
+}
+
 // The first keys of the map, at most `count`, which are in order.
-fn first_keys(
-    alloc: Global,
-    map: &BTreeMap<ByteString, Value>,
-    count: usize,
-) -> Result<Vec<ByteString>, AllocError>
+fn first_keys(alloc: Global, map: &TreeStore, count: usize) -> Result<Vec<ByteString>, AllocError>
     ensures found { IfOk result (λ found. found.items ≡ take count (keys map.now)) }
     ensures ordered { IsOrdered (slice_cmp nat_cmp) map.now }
 {

@@ -9,6 +9,7 @@ use Rattle.std.specs.Ordering.{nat_cmp, eq_by_cmp}
 use Rattle.std.specs.Prelude.{Some}
 use Rattle.keyspace.specs.Keyspace.{Keyspace}
 use Rattle.keyspace.specs.declared.value.Value.{Value}
+use Rattle.keyspace.specs.declared.value.Value.TheVariants.{Str}
 
 -- the key that was set
 pub get_set : (m : Keyspace) (k : List ℕ) (v : Value) → map.get (map.insert m k v) k ≡ Some v
@@ -31,3 +32,7 @@ get_first m k v l w apart = get_other (map.insert m k v) l w k apart ∙ get_set
 -- a third key
 pub get_third : (m : Keyspace) (k : List ℕ) (v : Value) (l : List ℕ) (w : Value) (q : List ℕ) → q ≢ k → q ≢ l → map.get (map.insert (map.insert m k v) l w) q ≡ map.get m q
 get_third m k v l w q one two = get_other (map.insert m k v) l w q two ∙ get_other m k v q one
+
+-- two keys are put by words that are theirs
+pub put_words : (m : Keyspace) (a b c d k v l w : List ℕ) → a ≡ k → b ≡ v → c ≡ l → d ≡ w → map.insert (map.insert m a (Str b)) c (Str d) ≡ map.insert (map.insert m k (Str v)) l (Str w)
+put_words m a b c d k v l w ak bv cl dw = λ i. map.insert (map.insert m (ak i) (Str (bv i))) (cl i) (Str (dw i))

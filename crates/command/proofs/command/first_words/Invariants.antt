@@ -1,8 +1,12 @@
-use Rattle.std.proofs.Common.{◌≡◌, ℕ, List, take, map}
+use Rattle.std.proofs.Common.{◌≡◌, ℕ, List, ◌++◌, length, map}
 use Rattle.std.specs.Borrow.{Bor}
 use Rattle.command.specs.Keys.{pair_keys}
+use Rattle.command.specs.Pairs.{pairs_in}
 use Rattle.command.proofs.command.first_words.Given as goal
 
--- the keys of the pairs so far are lent
+-- the keys so far and those of the rest are the keys of all pairs
 abbrev pub invariant-loop-key : goal.invariant-loop-key
-invariant-loop-key l = map (λ (key : Bor (List ℕ)). key.now) l.keys.items ≡ pair_keys (take l.key-index l.pairs)
+invariant-loop-key l = map (λ (key : Bor (List ℕ)). key.now) l.keys.items ++ pair_keys (pairs_in l.rest) ≡ pair_keys l.pairs
+
+abbrev pub decreases-loop-key : goal.decreases-loop-key
+decreases-loop-key l = length l.rest

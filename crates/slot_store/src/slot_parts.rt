@@ -1,0 +1,22 @@
+//! What a store has in a slot, read and changed as a store of its own.
+ghost use Rattle.std.specs.Prelude.{◌≡◌, OnOk, OnErr};
+ghost use Rattle.keyspace.specs.Keyspace.{keyspace_of};
+ghost use Rattle.keyspace.specs.Plan.{committed};
+ghost use Rattle.slot_store.specs.InSlot.{in_slot, IsCommittedInSlot, LiesInSlot};
+
+use key_slot::Slot;
+use keyspace::{Plan, Store, TreeStore};
+use std::alloc::{AllocError, Global};
+
+/// A store that has the keys of each slot apart, so that who knows the slot of a key needs not compute it again.
+pub trait SlotParts: Store {
+    /// What the store has in the slot.
+    fn part(&self, slot: Slot) -> &TreeStore
+        ensures { keyspace_of result.now.entries ≡ in_slot slot (Self.contents self.now) };
+
+    /// Makes all changes of the plan in the slot, or none where an allocation fails.
+    fn commit_in_slot(&mut self, alloc: Global, slot: Slot, plan: Plan) -> Result<(), AllocError>
+        requires { LiesInSlot slot (committed (in_slot slot (Self.contents self.old)) plan) }
+        ensures ok { OnOk result (IsCommittedInSlot slot plan (Self.contents self.old) (Self.contents self.new)) }
+        ensures err { OnErr result (Self.contents self.new ≡ Self.contents self.old) };
+}
