@@ -1,5 +1,5 @@
 //! A byte string.
-ghost use Rattle.std.specs.Prelude.{◌≡◌, [], length, nat_eq, refl, Some, IfOk};
+ghost use Rattle.std.specs.Prelude.{◌≡◌, ◌++◌, [], length, nat_eq, refl, Some, IfOk, OnOk, OnErr};
 ghost use Rattle.std.specs.Ordering.{nat_cmp};
 ghost use Rattle.std.specs.Cmp.Lexicographic.{pointwise, slice_cmp, bytes_decides, nat_list_eq_equiv, nat_list_cmp_total, texts_ties, texts_po};
 ghost use Rattle.std.specs.Cmp.{partial_equiv_from_equiv};
@@ -18,9 +18,14 @@ use std::marker::Model;
 enum Form {
     Short(Short),
     Long(Bytes),
+    // A long string with a buffer of its own, and room behind its bytes.
+    Grown(Vec<u8>),
 }
 
-/// Any bytes. A copy of a short string takes no memory, and one of a long string shares its bytes.
+/// Any bytes.
+///
+/// A copy of a short string takes no memory, and one of a long string shares its bytes. One of a long string that has
+/// grown by `append` copies them.
 #[derive(Drop)]
 pub struct ByteString {
     form: Form,
@@ -75,6 +80,7 @@ impl ByteString {
         match &self.form {
             Form::Short(short) => short.as_slice(),
             Form::Long(bytes) => bytes.as_slice(),
+            Form::Grown(buffer) => buffer.as_slice(),
         }
     }
 
@@ -84,6 +90,40 @@ impl ByteString {
     {
         self.as_slice().len()
     }
+
+    /// Puts the bytes behind the string, which stays as it is where memory is refused.
+    ///
+    /// A string that stays short takes no memory. Any other one then has a buffer of its own with room behind it, which
+    /// doubles when it is used up: so the string itself is copied only now and then.
+    pub fn append(&mut self, alloc: Global, bytes: &[u8]) -> Result<(), AllocError>
+        ensures ok { OnOk result (self.new ≡ self.old ++ bytes.now) }
+        ensures err { OnErr result (self.new ≡ self.old) }
+    {
+        if bytes.is_empty() {
+            return Ok(());
+        }
+        let form = match &mut self.form {
+            Form::Short(short) => match short.with(bytes) {
+                Some(short) => Form::Short(short),
+                None => Form::Grown(buffer_of(alloc, short.as_slice(), bytes)?),
+            },
+            Form::Long(long) => Form::Grown(buffer_of(alloc, long.as_slice(), bytes)?),
+            Form::Grown(buffer) => return buffer.extend_from_slice(bytes),
+        };
+        self.form = form;
+        Ok(())
+    }
+}
+
+// All bytes in a buffer that has room for as many again.
+fn buffer_of(alloc: Global, first: &[u8], more: &[u8]) -> Result<Vec<u8>, AllocError>
+    ensures { IfOk result (λ buffer. buffer.items ≡ first.now ++ more.now) }
+{
+    let len = first.len().saturating_add(more.len());
+    let mut buffer = Vec::with_capacity(alloc, len.saturating_mul(2))?;
+    buffer.extend_from_slice(first)?;
+    buffer.extend_from_slice(more)?;
+    Ok(buffer)
 }
 
 impl From<Bytes> for ByteString {
@@ -105,6 +145,9 @@ impl Clone for ByteString {
         let form = match &self.form {
             Form::Short(short) => Form::Short(*short),
             Form::Long(bytes) => Form::Long(bytes.clone()?),
+            Form::Grown(buffer) => {
+                return ByteString::copy_from_slice(*buffer.allocator(), buffer.as_slice());
+            }
         };
         Ok(ByteString { form })
     }

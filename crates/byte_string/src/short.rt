@@ -1,5 +1,5 @@
 //! A few bytes in place.
-ghost use Rattle.std.specs.Prelude.{◌≡◌, ◌≤◌, length, take, IfSome, IsSome, ◌↔◌};
+ghost use Rattle.std.specs.Prelude.{◌≡◌, ◌≤◌, ◌+◌, ◌++◌, length, take, IfSome, IsSome, ◌↔◌};
 ghost use Rattle.byte_string.specs.declared.short.TheConstants.{MOST_SHORT};
 
 /// The largest number of bytes that lie in place: as many as the handle of a shared block takes.
@@ -26,6 +26,26 @@ impl Short {
         bytes[..source.len()].copy_from_slice(source);
         Some(Short {
             len: source.len() as u8,
+            bytes,
+        })
+    }
+
+    /// These bytes with more behind them, or None where they are too many together.
+    pub fn with(self, more: &[u8]) -> Option<Short>
+        requires { self.len ≤ MOST_SHORT }
+        ensures bytes { IfSome result (λ short. take short.len short.bytes ≡ take self.len self.bytes ++ more.now) }
+        ensures len { IfSome result (λ short. short.len ≤ MOST_SHORT) }
+        ensures some { IsSome result ↔ (self.len + length more.now ≤ MOST_SHORT) }
+    {
+        let len = self.len as usize;
+        if more.len() > MOST_SHORT - len {
+            return None;
+        }
+        let end = len + more.len();
+        let mut bytes = self.bytes;
+        bytes[len..end].copy_from_slice(more);
+        Some(Short {
+            len: end as u8,
             bytes,
         })
     }

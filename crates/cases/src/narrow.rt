@@ -3,7 +3,7 @@ ghost use Rattle.std.specs.Prelude.{◌≡◌};
 
 use byte_string::ByteString;
 use keyspace::{FieldChanges, Store, Value};
-use std::alloc::AllocError;
+use std::alloc::{AllocError, Global};
 
 /// A store that has room for a number of new keys.
 #[derive(Drop)]
@@ -42,5 +42,20 @@ impl<S: Store> Store for Narrow<S> {
             self.room -= 1;
         }
         self.inner.change_fields(key, changes)
+    }
+
+    fn append(
+        &mut self,
+        alloc: Global,
+        key: ByteString,
+        bytes: ByteString,
+    ) -> Result<(), AllocError> {
+        if self.inner.get(&key).is_none() {
+            if self.room == 0 {
+                return Err(AllocError);
+            }
+            self.room -= 1;
+        }
+        self.inner.append(alloc, key, bytes)
     }
 }

@@ -1,12 +1,13 @@
--- The fields of one key are changed in a tree.
-use Rattle.std.proofs.Common.{◌≡◌, ℕ, List, [], Bool, true, false, cond, if◌then◌else◌, Option, Some, None, Result, Ok, Err, OnErr, refl, sym, ap, ◌∙◌}
+-- The value of one key is changed in place, in a tree.
+use Rattle.std.proofs.Common.{◌≡◌, ℕ, List, [], Bool, true, false, cond, if◌then◌else◌, Option, Some, None, Result, Ok, Err, OnOk, OnErr, refl, sym, ap, ◌∙◌}
 use Rattle.std.proofs.lemmas.Cmp.{nat_list_cmp_total, eq_by_cmp_equiv}
 use Rattle.std.specs.FinMap as map
 use Rattle.hash.specs.Pairs.{Changes, fields_changed}
 use Rattle.keyspace.proofs.Applied.{is_key, is_key-same, get_changed, same}
 use Rattle.keyspace.proofs.Placeholders.{remove_absent}
-use Rattle.keyspace.specs.Keyspace.{Keyspace, changed, fields_left, hash_of, with_fields}
+use Rattle.keyspace.specs.Keyspace.{Keyspace, appended, changed, fields_left, hash_of, with_appended, with_fields}
 use Rattle.keyspace.specs.declared.value.Value.{Value}
+use Rattle.keyspace.specs.declared.value.Value.TheVariants.{Str}
 
 -- a key that gets the value that it has changes nothing
 pub changed_same : (m : Keyspace) (k : List ℕ) → changed m k (map.get m k) ≡ m
@@ -30,6 +31,19 @@ changed_again m k v w =
     ∙ elim (is_key q k) as (λ b. cond b w (cond b v (map.get m q)) ≡ cond b w (map.get m q)) [ true ↦ refl | false ↦ refl ]
     ∙ sym (get_changed m k w q))
 
+-- the value was refused its changes
+pub put_back : (m n : Keyspace) (k : List ℕ) (old new : Value) → map.get m k ≡ Some old → n ≡ map.insert m k new → new ≡ old → n ≡ m
+put_back m n k old new has put same = put ∙ ap (map.insert m k) same ∙ ap (changed m k) (sym has) ∙ changed_same m k
+
+module _ (m n : Keyspace) (k bytes : List ℕ) where
+  -- a missing string begins with the bytes
+  pub first_bytes : map.get m k ≡ None → n ≡ map.insert m k (Str bytes) → n ≡ with_appended m k bytes
+  first_bytes none put = put ∙ ap (λ v. map.insert m k (appended v bytes)) (sym none)
+
+  -- the bytes were put behind the value
+  pub more_bytes : (old new : Value) → map.get m k ≡ Some old → n ≡ map.insert m k new → new ≡ appended (Some old) bytes → n ≡ with_appended m k bytes
+  more_bytes old new has put is = put ∙ ap (map.insert m k) is ∙ ap (λ v. map.insert m k (appended v bytes)) (sym has)
+
 module _ (m : Keyspace) (k : List ℕ) (changes : Changes) where
   -- a missing hash gets its first fields
   pub first_fields : (n : Keyspace) (value : Value) → map.get m k ≡ None → hash_of (fields_changed [] changes) ≡ Some value → n ≡ map.insert m k value → n ≡ with_fields m k changes
@@ -40,10 +54,6 @@ module _ (m : Keyspace) (k : List ℕ) (changes : Changes) where
   no_fields none made = sym (remove_absent m k none) ∙ ap (changed m k) (sym made) ∙ ap (λ v. changed m k (fields_left v changes)) (sym none)
 
   module _ (n : Keyspace) (old new : Value) (has : map.get m k ≡ Some old) (put : n ≡ map.insert m k new) where
-    -- the value was refused its changes
-    pub put_back : new ≡ old → n ≡ m
-    put_back same = put ∙ ap (map.insert m k) same ∙ ap (changed m k) (sym has) ∙ changed_same m k
-
     -- the value is left
     pub put_changed : fields_left (Some old) changes ≡ Some new → n ≡ with_fields m k changes
     put_changed left = put ∙ ap (changed m k) (sym left) ∙ ap (λ v. changed m k (fields_left v changes)) (sym has)
@@ -52,6 +62,16 @@ module _ (m : Keyspace) (k : List ℕ) (changes : Changes) where
     pub removed_again : (p : Keyspace) → fields_left (Some old) changes ≡ None → p ≡ map.remove n k → p ≡ with_fields m k changes
     removed_again p left gone =
         gone ∙ ap (λ x. map.remove x k) put ∙ changed_again m k (Some new) None ∙ ap (changed m k) (sym left) ∙ ap (λ v. changed m k (fields_left v changes)) (sym has)
+
+-- where there is none, what follows holds too
+pub ok_leads : {T E P Q : Type 0} (r : Result T E) → (P → Q) → OnOk r P → OnOk r Q
+ok_leads (Ok x) leads p = leads p
+ok_leads (Err e) leads p = tt
+
+-- and so where there is one
+pub err_leads : {T E P Q : Type 0} (r : Result T E) → (P → Q) → OnErr r P → OnErr r Q
+err_leads (Ok x) leads p = tt
+err_leads (Err e) leads p = leads p
 
 -- what holds where there is an error
 pub on_err : {T E P : Type 0} (r : Result T E) → P → OnErr r P

@@ -1,24 +1,34 @@
 -- What commands leave at their only key.
-use Rattle.std.proofs.Common.{◌≡◌, ◌+◌, ◌≤◌, ℕ, ℤ, List, [], ◌∷◌, length, true, false, cond, nat_eq, Option, Some, None, Ok, Err, ap, ◌∙◌, arith}
+use Rattle.std.proofs.Common.{◌≡◌, ◌+◌, ◌++◌, ◌≤◌, ℕ, ℤ, List, [], ◌∷◌, length, true, false, cond, nat_eq, Option, Some, None, Ok, Err, ap, sym, ◌∙◌, arith}
 use Rattle.std.specs.FinMap as map
 use Rattle.std.specs.Cmp.Lexicographic.{pointwise}
 use Rattle.std.specs.Fmt.{signed_decimal}
 use Rattle.std.specs.Map.{remove_entry}
 use Rattle.command.specs.declared.error_line.ErrorLine.{ErrorLine}
-use Rattle.command.specs.declared.error_line.ErrorLine.TheVariants.{HashNotAnInteger}
+use Rattle.command.specs.declared.error_line.ErrorLine.TheVariants.{HashNotAnInteger, TooLong}
 use Rattle.hash.specs.Pairs.{Pairs, Changes, fields_changed, field_changed, value_of}
 use Rattle.indexmap.specs.IndexMap.{insert_entry}
 use Rattle.resp2.specs.declared.reply.Reply.TheVariants.{Integer}
 use Rattle.keyspace.specs.Effect.{error_reply}
 use Rattle.keyspace.specs.Commands.{taken_at}
 use Rattle.keyspace.specs.Hashes.{field_left, fields_of, hash_left, increased}
-use Rattle.keyspace.specs.Strings.{stored_number, sum_of}
-use Rattle.keyspace.specs.Keyspace.{Keyspace, fields_left, hash_of}
+use Rattle.keyspace.specs.Strings.{append_of, fitting, stored_number, string_left, string_of, sum_of}
+use Rattle.keyspace.specs.Keyspace.{Keyspace, appended, fields_left, hash_of}
 use Rattle.keyspace.specs.declared.value.Value.{Value}
 use Rattle.keyspace.specs.declared.value.Value.TheVariants.{Str, Hash}
 
 some_same : {A : Type 0} (a b : A) → Some a ≡ Some b → a ≡ b
 some_same a b e = cc
+
+-- bytes put behind a value leave the longer string
+pub appended_to : (value : Option Value) (string bytes : List ℕ) → string_of value ≡ Some string → appended value bytes ≡ Str (string ++ bytes)
+appended_to None string bytes is = ap (λ s. Str (s ++ bytes)) (some_same [] string is)
+appended_to (Some (Str old)) string bytes is = ap (λ s. Str (s ++ bytes)) (some_same old string is)
+appended_to (Some (Hash pairs)) string bytes is = absurd (cc)
+
+-- too many bytes behind a string are refused
+pub too_many_behind : (before : Keyspace) (key string bytes : List ℕ) → string_of (map.get before key) ≡ Some string → fitting (string ++ bytes) ≡ None → record { reply = error_reply TooLong; after = before } ≡ taken_at before (key ∷ []) (append_of bytes (string_of (map.get before key)))
+too_many_behind before key string bytes is long = sym (ap (λ s. taken_at before (key ∷ []) (append_of bytes s)) is ∙ ap (λ s. taken_at before (key ∷ []) (string_left s)) long)
 
 -- changes of the fields at a key leave the hash of the changed fields
 pub fields_left_of : (value : Option Value) (fields : Pairs) (changes : Changes) → fields_of value ≡ Some fields → fields_left value changes ≡ hash_of (fields_changed fields changes)

@@ -1,5 +1,5 @@
 -- The keyspace (Redis documentation, "Redis keyspace": keys are any bytes, each with one value).
-use Rattle.std.specs.Prelude.{ℕ, List, [], ◌∷◌, Option, Some, None}
+use Rattle.std.specs.Prelude.{ℕ, List, [], ◌∷◌, ◌++◌, Option, Some, None}
 use Rattle.std.specs.FinMap as map
 use Rattle.std.specs.Ordering.{nat_cmp}
 use Rattle.std.specs.Cmp.Lexicographic.{slice_cmp}
@@ -34,3 +34,13 @@ fields_left (Some (Str bytes)) changes = Some (Str bytes)
 -- the fields of one key changed
 abbrev pub with_fields : Keyspace → List ℕ → Changes → Keyspace
 with_fields keyspace key changes = changed keyspace key (fields_left (map.get keyspace key) changes)
+
+-- APPEND: the value once bytes were put behind it: a missing string begins empty, and a hash stays
+abbrev pub appended : Option Value → List ℕ → Value
+appended None bytes = Str bytes
+appended (Some (Str string)) bytes = Str (string ++ bytes)
+appended (Some (Hash pairs)) bytes = Hash pairs
+
+-- bytes put behind the string at one key
+abbrev pub with_appended : Keyspace → List ℕ → List ℕ → Keyspace
+with_appended keyspace key bytes = map.insert keyspace key (appended (map.get keyspace key) bytes)

@@ -2,11 +2,11 @@
 use Rattle.std.specs.Prelude.{ℕ, List, Option, Some, None}
 use Rattle.command.specs.Keys.{pair_keys}
 use Rattle.keyspace.specs.Commands.{with_values}
-use Rattle.keyspace.specs.Keyspace.{Keyspace, with_fields}
+use Rattle.keyspace.specs.Keyspace.{Keyspace, with_appended, with_fields}
 use Rattle.keyspace.specs.Changes.{applied}
 use Rattle.keyspace.specs.Strings.{strings_left}
 use Rattle.keyspace.specs.declared.plans.LastStep.{LastStep}
-use Rattle.keyspace.specs.declared.plans.LastStep.TheVariants.{Fields, Strings}
+use Rattle.keyspace.specs.declared.plans.LastStep.TheVariants.{Append, Fields, Strings}
 use Rattle.keyspace.specs.declared.plans.Plan.{Plan}
 
 -- strings put at keys, from left to right
@@ -15,6 +15,7 @@ with_strings keyspace pairs = with_values keyspace (pair_keys pairs) (strings_le
 
 -- a step made
 abbrev pub with_step : Keyspace → LastStep → Keyspace
+with_step keyspace (Append key bytes) = with_appended keyspace key bytes
 with_step keyspace (Fields key changes) = with_fields keyspace key changes.items
 with_step keyspace (Strings pairs) = with_strings keyspace pairs.items
 

@@ -63,83 +63,53 @@ pub fn plan_command<S: Store>(
         record { reply = reply; after = committed (S.contents store.now) plan.new }
         ≡ exec (committed (S.contents store.now) plan.old) command.now) }
 {
-    plan.settle(store)?;
+    plan.settle(alloc, store)?;
     // No command's function is inlined: so the frame of each request stays small.
+    use DataCommand::*;
     match command {
-        DataCommand::Ping => Ok(simple(b"PONG")),
-        DataCommand::Echo { message } => strings::echo(message),
-        DataCommand::Get { key } => strings::get(store, &plan.values, key),
-        DataCommand::Set {
+        Ping => Ok(simple(b"PONG")),
+        Echo { message } => strings::echo(message),
+        Get { key } => strings::get(store, &plan.values, key),
+        Set {
             key,
             value,
             condition,
         } => strings::set(store, &mut plan.values, key, value, *condition),
-        DataCommand::Mget { keys } => strings::strings_at(
-            alloc,
-            store,
-            &plan.values,
-            keys.as_slice(),
-        ),
-        DataCommand::Mset { pairs } => strings::set_each(alloc, plan, pairs),
-        DataCommand::Setnx { key, value } => strings::setnx(store, &mut plan.values, key, value),
-        DataCommand::Getset { key, value } => strings::getset(store, &mut plan.values, key, value),
-        DataCommand::Getdel { key } => strings::getdel(store, &mut plan.values, key),
-        DataCommand::Append { key, value } => strings::append(
-            alloc,
-            store,
-            &mut plan.values,
-            key,
-            value,
-        ),
-        DataCommand::Incr { key } => strings::add(alloc, store, &mut plan.values, key, 1),
-        DataCommand::Decr { key } => strings::add(alloc, store, &mut plan.values, key, -1),
-        DataCommand::Incrby { key, increment } => strings::incrby(
+        Mget { keys } => strings::strings_at(alloc, store, &plan.values, keys.as_slice()),
+        Mset { pairs } => strings::set_each(alloc, plan, pairs),
+        Setnx { key, value } => strings::setnx(store, &mut plan.values, key, value),
+        Getset { key, value } => strings::getset(store, &mut plan.values, key, value),
+        Getdel { key } => strings::getdel(store, &mut plan.values, key),
+        Append { key, value } => strings::append(store, plan, key, value),
+        Incr { key } => strings::add(alloc, store, &mut plan.values, key, 1),
+        Decr { key } => strings::add(alloc, store, &mut plan.values, key, -1),
+        Incrby { key, increment } => strings::incrby(
             alloc,
             store,
             &mut plan.values,
             key,
             increment,
         ),
-        DataCommand::Strlen { key } => Ok(strings::len_at(store, &plan.values, key)),
-        DataCommand::Del { keys } => strings::delete(store, &mut plan.values, keys.as_slice()),
-        DataCommand::Exists { keys } => Ok(integer(strings::count_there(
-            store,
-            &plan.values,
-            keys.as_slice(),
-        ))),
-        DataCommand::TypeOf { key } => Ok(simple(strings::type_at(store, &plan.values, key))),
-        DataCommand::Hset { key, pairs } => hashes::set(alloc, store, plan, key, pairs),
-        DataCommand::Hsetnx { key, field, value } => hashes::set_new(
-            alloc, store, plan, key, field, value,
-        ),
-        DataCommand::Hget { key, field } => hashes::get(alloc, plan.values.look(store, key), field),
-        DataCommand::Hmget { key, fields } => hashes::get_each(
+        Strlen { key } => Ok(strings::len_at(store, &plan.values, key)),
+        Del { keys } => strings::delete(store, &mut plan.values, keys.as_slice()),
+        Exists { keys } => Ok(integer(strings::count_there(store, &plan.values, keys.as_slice()))),
+        TypeOf { key } => Ok(simple(strings::type_at(store, &plan.values, key))),
+        Hset { key, pairs } => hashes::set(alloc, store, plan, key, pairs),
+        Hsetnx { key, field, value } => hashes::set_new(alloc, store, plan, key, field, value),
+        Hget { key, field } => hashes::get(alloc, plan.values.look(store, key), field),
+        Hmget { key, fields } => hashes::get_each(
             alloc,
             plan.values.look(store, key),
             fields.as_slice(),
         ),
-        DataCommand::Hdel { key, fields } => hashes::delete(
-            alloc,
-            store,
-            plan,
-            key,
-            fields.as_slice(),
-        ),
-        DataCommand::Hexists { key, field } => Ok(hashes::exists(
-            alloc,
-            plan.values.look(store, key),
-            field,
-        )),
-        DataCommand::Hlen { key } => Ok(hashes::len(alloc, plan.values.look(store, key))),
-        DataCommand::Hstrlen { key, field } => Ok(hashes::value_len(
-            alloc,
-            plan.values.look(store, key),
-            field,
-        )),
-        DataCommand::Hkeys { key } => hashes::fields(alloc, plan.values.look(store, key)),
-        DataCommand::Hvals { key } => hashes::values(alloc, plan.values.look(store, key)),
-        DataCommand::Hgetall { key } => hashes::pairs(alloc, plan.values.look(store, key)),
-        DataCommand::Hincrby {
+        Hdel { key, fields } => hashes::delete(alloc, store, plan, key, fields.as_slice()),
+        Hexists { key, field } => Ok(hashes::exists(alloc, plan.values.look(store, key), field)),
+        Hlen { key } => Ok(hashes::len(alloc, plan.values.look(store, key))),
+        Hstrlen { key, field } => Ok(hashes::value_len(alloc, plan.values.look(store, key), field)),
+        Hkeys { key } => hashes::fields(alloc, plan.values.look(store, key)),
+        Hvals { key } => hashes::values(alloc, plan.values.look(store, key)),
+        Hgetall { key } => hashes::pairs(alloc, plan.values.look(store, key)),
+        Hincrby {
             key,
             field,
             increment,

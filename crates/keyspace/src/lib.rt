@@ -1,6 +1,7 @@
 //! The keyspace of a node: a finite map from keys to values, and what commands reply and change there.
 #![tactic(auto)]
 
+mod appending;
 mod changes;
 mod commands;
 mod fields;
@@ -16,6 +17,7 @@ mod string_pairs;
 mod strings;
 mod value;
 
+pub use appending::append_in;
 pub use commands::{commands_are_local, exec, plan, plan_command};
 pub use fields::{FieldChanges, change_fields_in};
 pub use law::{commands_execute_in_a_part, parts_make_the_keyspace};

@@ -2,8 +2,9 @@
 ghost use Rattle.std.specs.Prelude.{◌≡◌, OnOk, OnErr, IsSome, IsOk};
 ghost use Rattle.std.specs.Option.{option_copied};
 ghost use Rattle.std.specs.FinMap as map;
-ghost use Rattle.keyspace.specs.Keyspace.{keyspace_of, with_fields};
+ghost use Rattle.keyspace.specs.Keyspace.{keyspace_of, with_appended, with_fields};
 
+use crate::appending::append_in;
 use crate::fields::{FieldChanges, change_fields_in, remove_from};
 use crate::value::Value;
 use byte_string::ByteString;
@@ -36,6 +37,18 @@ pub trait Store {
     fn change_fields(&mut self, key: ByteString, changes: FieldChanges) -> Result<(), AllocError>
         ensures ok { OnOk result (contents self.new ≡ with_fields (contents self.old) key changes.items) }
         ensures err { OnErr result (contents self.new ≡ contents self.old) };
+
+    /// Puts the bytes behind the string at the key, in place.
+    ///
+    /// A missing string begins empty, and a hash stays.
+    fn append(
+        &mut self,
+        alloc: Global,
+        key: ByteString,
+        bytes: ByteString,
+    ) -> Result<(), AllocError>
+        ensures ok { OnOk result (contents self.new ≡ with_appended (contents self.old) key bytes) }
+        ensures err { OnErr result (contents self.new ≡ contents self.old) };
 }
 
 /// A store in a balanced tree, in the byte order of its keys.
@@ -59,5 +72,14 @@ impl Store for BTreeMap<ByteString, Value> {
 
     fn change_fields(&mut self, key: ByteString, changes: FieldChanges) -> Result<(), AllocError> {
         change_fields_in(self, key, changes)
+    }
+
+    fn append(
+        &mut self,
+        alloc: Global,
+        key: ByteString,
+        bytes: ByteString,
+    ) -> Result<(), AllocError> {
+        append_in(alloc, self, key, bytes)
     }
 }

@@ -1,5 +1,5 @@
 //! The commands on strings, and those on keys with values of any type.
-ghost use Rattle.std.specs.Prelude.{◌≡◌, ◌<◌, ◌∷◌, [], ◌++◌, ◌^◌, length, OnOk, IfOk, IsTrue, Some, count_by, is_some, pos, if◌then◌else◌};
+ghost use Rattle.std.specs.Prelude.{◌≡◌, ◌<◌, ◌∷◌, [], ◌^◌, OnOk, IfOk, IsTrue, Some, count_by, is_some, pos, if◌then◌else◌};
 ghost use Rattle.std.specs.Prelude.{map as each};
 ghost use Rattle.std.specs.Option.{option_copied};
 ghost use Rattle.std.specs.FinMap as map;
@@ -9,7 +9,7 @@ ghost use Rattle.keyspace.specs.Changes.{applied};
 ghost use Rattle.keyspace.specs.Commands.{exec, taken_at, values_at, with_values};
 ghost use Rattle.keyspace.specs.Keyspace.{Keyspace};
 ghost use Rattle.keyspace.specs.Plan.{committed};
-ghost use Rattle.keyspace.specs.Strings.{all_removed, bulk_or_null, deleted, fitting, holds, length_reply, number_at, number_left, string_of, string_reply, sum_of, type_of};
+ghost use Rattle.keyspace.specs.Strings.{all_removed, bulk_or_null, deleted, holds, length_reply, number_at, number_left, string_of, string_reply, sum_of, type_of};
 ghost use Rattle.resp2.specs.Line.{is_one_line};
 ghost use Rattle.resp2.specs.Reply.{array_of};
 
@@ -21,7 +21,6 @@ use crate::store::Store;
 use crate::string_pairs::kept;
 use crate::value::Value;
 use byte_string::ByteString;
-use bytes::Bytes;
 use command::{Condition, ErrorLine, PairList};
 use resp2::{Array, MOST_WORD_BYTES, Reply};
 use std::alloc::{AllocError, Global};
@@ -174,45 +173,29 @@ pub(crate) fn getdel<S: Store>(
     Ok(reply)
 }
 
+// Puts the bytes behind the string at the key.
 #[inline(never)]
-#[tactic(auto, using(crate::proofs::Applied::applied_insert))]
+#[tactic(auto, using(crate::proofs::Committed::committed_values, crate::proofs::Left::appended_to))]
 pub(crate) fn append<S: Store>(
-    alloc: Global,
     store: &S,
-    values: &mut NewValues,
+    plan: &mut Plan,
     key: &ByteString,
     value: &ByteString,
 ) -> Result<Reply, AllocError>
+    requires { plan.old.last ≡ None }
     ensures { IfOk result (λ reply.
-        record { reply = reply; after = applied (S.contents store.now) values.new }
-        ≡ exec (applied (S.contents store.now) values.old) (DataCommand.Append key.now value.now)) }
+        record { reply = reply; after = committed (S.contents store.now) plan.new }
+        ≡ exec (applied (S.contents store.now) plan.old.values) (DataCommand.Append key.now value.now)) }
 {
-    let Some(old) = string_of(values.look(store, key)) else {
+    let Some(old) = string_of(plan.values.look(store, key)) else {
         return Ok(ErrorLine::WrongType.reply());
     };
-    let Some(joined) = joined(alloc, old, value)? else {
-        return Ok(ErrorLine::TooLong.reply());
-    };
-    let len = integer(joined.len());
-    put(values, key, joined)?;
-    Ok(len)
-}
-
-// The bytes behind the old ones, or None where they are too long together.
-fn joined(alloc: Global, old: &[u8], value: &ByteString) -> Result<Option<ByteString>, AllocError>
-    ensures { IfOk result (λ joined. joined ≡ fitting (old.now ++ value.now)) }
-{
     let len = old.len().saturating_add(value.len());
     if len > MOST_WORD_BYTES {
-        return Ok(None);
+        return Ok(ErrorLine::TooLong.reply());
     }
-    if old.is_empty() {
-        return Ok(Some(value.clone()?));
-    }
-    let mut bytes = Vec::with_capacity(alloc, len)?;
-    bytes.extend_from_slice(old)?;
-    bytes.extend_from_slice(value.as_slice())?;
-    Ok(Some(ByteString::from(Bytes::from_vec(bytes)?)))
+    plan.append(key.clone()?, value.clone()?);
+    Ok(integer(len))
 }
 
 #[inline(never)]

@@ -9,7 +9,7 @@ use crate::slot_keys::SlotKeys;
 use crate::slot_parts::SlotParts;
 use byte_string::ByteString;
 use key_slot::{Slot, slot};
-use keyspace::{FieldChanges, Plan, Store, TreeStore, Value, change_fields_in, commit};
+use keyspace::{FieldChanges, Plan, Store, TreeStore, Value, append_in, change_fields_in, commit};
 use std::alloc::{AllocError, Global};
 use std::marker::Model;
 
@@ -71,6 +71,16 @@ impl Store for SlotStore {
     fn change_fields(&mut self, key: ByteString, changes: FieldChanges) -> Result<(), AllocError> {
         let slot = slot(key.as_slice());
         change_fields_in(&mut self.maps[slot.index()], key, changes)
+    }
+
+    fn append(
+        &mut self,
+        alloc: Global,
+        key: ByteString,
+        bytes: ByteString,
+    ) -> Result<(), AllocError> {
+        let slot = slot(key.as_slice());
+        append_in(alloc, &mut self.maps[slot.index()], key, bytes)
     }
 }
 

@@ -20,7 +20,7 @@ returns-in_err-change_value-clause-err c =
     let found = sym c.in-Some.ensures.value in
     let has = get_seen nat_list_cmp_total c.args.entries.now.entries c.args.key ∙ found in
     let put = seen_insert nat_list_cmp_total (map.slice_cmp-IsAntisymmetric map.nat_cmp-IsAntisymmetric) _ _ _ _ ((c.get_mut.follows.holds w).3 (ap is_some found)).0 in
-    on_err c.from_residual.result (put_back _ c.args.key c.args.changes.items _ _ _ has put c.in_err-change_value.ensures.err)
+    on_err c.from_residual.result (put_back _ _ c.args.key _ _ has put c.in_err-change_value.ensures.err)
 
 pub returns-then-branch-clause-ok : goal.returns-then-branch-clause-ok
 returns-then-branch-clause-ok c =
