@@ -3,21 +3,25 @@ use anyhow::{Context, Result, bail};
 use bytes::Bytes;
 use case_files::{bytes_of, push_bytes, push_space, shared_bytes_of, verb_of};
 use cluster_config::{Config, Host, NodeConfig, NodeId, Role, read_config};
+use config_report::report;
 use slot_table::NodeNo;
 use std::alloc::{AllocError, Global};
 
 // What `#` stands for in a text: the first 39 digits of an id.
 const ID_START: &[u8] = b"000000000000000000000000000000000000000";
 
+// A tick and a timeout that are sound.
+const SOUND_TIMES: (&str, &str) = ("100", "20");
+
 // What `@` stands for: a host, and a port up to its last digit.
 const ADDRESS_START: &[u8] = b"\"host\":\"127.0.0.1\",\"port\":700";
 
 /// In a text `#` stands for the first 39 digits of an id, and `@` for a host, and a port up to its last digit.
 ///
-/// `read TEXT` gives the cluster that the text is, or the fault with the line that tells it, and `read-whole` the same of
-/// what `text TEXT`, `text-masters COUNT` and `bytes BYTES` gave before. Other commands give the faults alone:
+/// `read TEXT` gives the cluster that the text is, or the fault with the line that tells it and the report of where it is,
+/// and `read-whole` the same of what `text TEXT`, `text-masters COUNT` and `bytes BYTES` gave before. `nodes NODES | VOTERS`
+/// gives the fault and the report of these nodes and voters with sound times. Other commands give the faults alone:
 ///
-/// - `nodes NODES | VOTERS` of these nodes and voters with sound times;
 /// - `masters COUNT MORE | VOTERS` of COUNT masters, more nodes and these voters;
 /// - `ports PORTS` of a node with each of these ports, and `two-ports PORT PORT` of two nodes at one host with these;
 /// - `last-slots SLOTS` of a range that begins at 0 and ends at each of these;
@@ -60,9 +64,13 @@ fn spelled(alloc: Global, text: &str) -> Result<Vec<u8>, AllocError> {
 }
 
 fn push_read(given: &mut String, text: &[u8]) -> Result<(), AllocError> {
-    match read_config(*given.allocator(), text) {
+    let alloc = *given.allocator();
+    match read_config(alloc, text) {
         Ok(config) => push_config(given, &config.clone()?),
-        Err(fault) => writeln!(given, "{fault:?}: {fault}"),
+        Err(fault) => {
+            let report = report(alloc, text, fault)?;
+            writeln!(given, "{fault:?}, {fault}: {report}")
+        }
     }
 }
 
@@ -131,8 +139,17 @@ fn push_faults(given: &mut String, table: &str, row: &str) -> Result<()> {
 }
 
 fn push_faults_of_nodes(given: &mut String, row: &str) -> Result<()> {
+    let alloc = *given.allocator();
     let (nodes, voters) = parts_of(row)?;
-    Ok(push_fault_of(given, nodes, voters)?)
+    let text = text_of(alloc, SOUND_TIMES, nodes, voters)?;
+    match read_config(alloc, text.as_slice()) {
+        Ok(_) => given.push_str("sound")?,
+        Err(fault) => {
+            let report = report(alloc, text.as_slice(), fault)?;
+            write!(given, "{fault:?}: {report}")?;
+        }
+    }
+    Ok(())
 }
 
 fn push_faults_of_masters(given: &mut String, row: &str) -> Result<()> {
@@ -203,7 +220,7 @@ fn masters(alloc: Global, count: u16) -> Result<String, AllocError> {
 
 // The fault of a text with these nodes and voters, whose times are sound.
 fn push_fault_of(given: &mut String, nodes: &str, voters: &str) -> Result<(), AllocError> {
-    push_fault(given, ("100", "20"), nodes, voters)
+    push_fault(given, SOUND_TIMES, nodes, voters)
 }
 
 // The fault of the text with these times, a tick and a timeout, these nodes and these voters.
@@ -214,16 +231,26 @@ fn push_fault(
     voters: &str,
 ) -> Result<(), AllocError> {
     let alloc = *given.allocator();
-    let (tick, timeout) = times;
-    let text = format!(in alloc;
-        "{{\"tick_ms\":{tick},\"node_timeout\":{timeout},\"nodes\":[{nodes}],\"voters\":[{voters}]}}"
-    )?;
-    let text = spelled(alloc, text.as_str())?;
+    let text = text_of(alloc, times, nodes, voters)?;
     push_space(given)?;
     match read_config(alloc, text.as_slice()) {
         Ok(_) => given.push_str("sound"),
         Err(fault) => write!(given, "{fault:?}"),
     }
+}
+
+// The text with these times, a tick and a timeout, these nodes and these voters.
+fn text_of(
+    alloc: Global,
+    times: (&str, &str),
+    nodes: &str,
+    voters: &str,
+) -> Result<Vec<u8>, AllocError> {
+    let (tick, timeout) = times;
+    let text = format!(in alloc;
+        "{{\"tick_ms\":{tick},\"node_timeout\":{timeout},\"nodes\":[{nodes}],\"voters\":[{voters}]}}"
+    )?;
+    spelled(alloc, text.as_str())
 }
 
 fn push_id(given: &mut String, id: Option<NodeId>) -> Result<(), AllocError> {
