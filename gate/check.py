@@ -16,7 +16,7 @@ ROOT = os.path.dirname(os.path.dirname(os.path.abspath(__file__)))
 # The test scripts: the program that each runs, and what else it depends on.
 SCRIPTS = {
     "tests/refused_memory": ("refused_memory", ("tests/refused_memory", "tests/refuse.c")),
-    "tests/on_a_socket": ("rcluster", ("tests/on_a_socket", "examples")),
+    "tests/on_a_socket/run": ("rcluster", ("tests/on_a_socket", "examples")),
 }
 
 

@@ -1,1 +1,3 @@
 pub mod GateLemmas
+pub mod JournalLemmas
+pub mod PlaceLemmas

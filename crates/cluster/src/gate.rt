@@ -2,20 +2,19 @@
 
 use node_cell::{Asks, Deployment, Entered, Log, NodeCell, NodeGate};
 use node_core::{Event, StepFault};
-use std::alloc::Global;
-use std::sync::{Arc, Mutex, Wait};
+use std::sync::{Mutex, Wait};
 
 /// One conversation's way to a node of the cluster `K`, whose journal is an `L`. The handle `rt` is the leave to wait for the node's lock.
 #[derive(Drop)]
-pub struct Gate<K: Deployment, L: Log, R: Wait> {
+pub struct Gate<'n, K: Deployment, L: Log, R: Wait> {
     rt: R,
-    node: Arc<Mutex<NodeCell<K, L>>, Global>,
+    node: &'n Mutex<NodeCell<K, L>>,
     asks: Asks,
 }
 
-impl<K: Deployment, L: Log, R: Wait> Gate<K, L, R> {
+impl<'n, K: Deployment, L: Log, R: Wait> Gate<'n, K, L, R> {
     /// A way through which nothing was asked yet.
-    pub fn new(rt: R, node: Arc<Mutex<NodeCell<K, L>>, Global>) -> Gate<K, L, R> {
+    pub fn new(rt: R, node: &'n Mutex<NodeCell<K, L>>) -> Gate<'n, K, L, R> {
         Gate {
             rt,
             node,
@@ -24,14 +23,7 @@ impl<K: Deployment, L: Log, R: Wait> Gate<K, L, R> {
     }
 }
 
-impl<K: Deployment, L: Log, R: Wait + Drop> Gate<K, L, R> {
-    /// The node, once the conversation is over.
-    pub fn into_node(self) -> Arc<Mutex<NodeCell<K, L>>, Global> {
-        self.node
-    }
-}
-
-impl<K: Deployment, L: Log, R: Wait> NodeGate for Gate<K, L, R> {
+impl<'n, K: Deployment, L: Log, R: Wait> NodeGate for Gate<'n, K, L, R> {
     type Answer = Entered<K>;
 
     ghost use Rattle.cluster.specs.Answers.{MayAnswer, MayRefuse};

@@ -1,8 +1,13 @@
 //! The nodes of a cluster behind locks, and their clients on sockets.
 #![tactic(auto)]
 
+mod clients;
+mod finish;
 mod gate;
+mod node;
 mod server;
+mod stop;
 
+pub use finish::{Journals, finish_nodes};
 pub use gate::Gate;
-pub use server::run_node;
+pub use server::{Place, ServeFault, serve_nodes};

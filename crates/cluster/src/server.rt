@@ -1,56 +1,240 @@
-//! The clients of a node, on sockets.
-ghost use Rattle.std.specs.Prelude.{◌≡◌};
+//! All nodes of a cluster, served at once.
+ghost use Rattle.std.specs.Prelude.{◌≡◌, All, IfOk, length, vec_len};
 ghost use Rattle.tickets.specs.Tickets.{IsFresh};
 
-use crate::gate::Gate;
+use crate::clients::Clients;
+use crate::node::{Node, accept_clients, pass_time};
+use crate::stop::Stop;
 use cluster_config::Config;
-use listener::serve_conn;
 use node_cell::{Deployment, Log, NodeCell};
-use resp2::Counting;
 use slot_table::NodeNo;
 use std::alloc::{AllocError, Global};
-use std::net::{TcpListener, TcpStream};
-use std::sync::{Arc, Mutex, Wait};
+use std::net::{Net, TcpListener, TcpStream};
+use std::sync::{Arc, Wait};
+use std::thread;
+use std::thread::{JoinHandle, Threads};
+use std::time::Duration;
 use tickets::Seat;
 
-/// Runs the node with this number, with an `L` as its journal, and serves who connects to the listener, one client after another.
+/// Why the nodes of a cluster can't be served.
+#[derive(Clone, Copy, PartialEq, Eq, Debug)]
+pub enum ServeFault {
+    /// Memory was refused.
+    Memory,
+    /// A thread of a node can't be started, or hasn't ended.
+    Thread,
+}
+
+impl From<AllocError> for ServeFault {
+    fn from(_refused: AllocError) -> ServeFault {
+        ServeFault::Memory
+    }
+}
+
+/// Where a node of the cluster is served.
+#[derive(Drop)]
+pub struct Place {
+    /// The number of the node.
+    pub node: NodeNo,
+    /// Its seat at the tickets.
+    pub seat: Seat,
+    /// Where its clients connect.
+    pub listener: TcpListener,
+}
+
+/// Serves the nodes of the cluster at their places, each with an `L` as its journal, until the first of them has made
+/// `ticks` ticks, or for ever. It returns the cells, in the order of their places, once all threads are done with them.
 ///
-/// Running out of memory ends the server only at its start; later it ends one client's conversation.
-pub fn run_node<K: Deployment, L: Log + Drop, R: Wait + Copy + Drop>(
+/// Each node has a thread that accepts clients and one that lets its time pass, and each client has one.
+pub fn serve_nodes<
+    K: Deployment + Send + Sync + 'static,
+    L: Log + Drop + Send + 'static,
+    R: Threads
+        + Wait
+        + Net<Listener = TcpListener, Stream = TcpStream>
+        + Copy
+        + Drop
+        + Send
+        + Sync
+        + 'static,
+>(
     rt: R,
     alloc: Global,
     config: &Config,
-    node: NodeNo,
-    seat: Seat,
-    listener: &TcpListener,
-) -> Result<(), AllocError>
+    places: Vec<Place>,
+    ticks: Option<u64>,
+) -> Result<Vec<NodeCell<K, L>>, ServeFault>
+where
+    L::Kept: Send + 'static,
     requires cluster { config.now ≡ K.config }
-    requires seat { IsFresh K.table K.seats seat }
+    requires seats { All (λ place. IsFresh K.table K.seats place.seat) places.items }
+    ensures { IfOk result (λ cells. vec_len cells ≡ length places.items) }
 {
-    let cell = NodeCell::<K, L>::new(alloc, config, node, seat)?;
-    let node = Arc::new(alloc, Mutex::new(cell)).map_err(AllocError::from)?;
-    for stream in listener.incoming() {
-        if let Ok(stream) = stream {
-            serve_client(rt, alloc, &node, &stream);
-        }
+    let nodes = nodes_at::<K, L>(alloc, config, places)?;
+    let clients = Arc::new(alloc, Clients::new(alloc)).map_err(AllocError::from)?;
+    let stop = Arc::new(alloc, Stop::new()).map_err(AllocError::from)?;
+    let interval = Duration::from_millis(u64::from(config.tick_ms()));
+    let mut threads = Vec::with_capacity(alloc, 2 * nodes.len())?;
+    let started = start_all(
+        rt,
+        alloc,
+        nodes.as_slice(),
+        &clients,
+        &stop,
+        interval,
+        ticks,
+        &mut threads,
+    );
+    match started {
+        Ok(()) => stop.wait(&rt),
+        Err(_) => stop.end(),
+    }
+    end_all(&rt, nodes.as_slice(), &clients, threads);
+    started?;
+    cells_of(alloc, nodes)
+}
+
+// Ends all connections and all threads.
+fn end_all<
+    K: Deployment,
+    L: Log + Drop,
+    R: Threads + Wait + Net<Listener = TcpListener, Stream = TcpStream>,
+>(rt: &R, nodes: &[Arc<Node<K, L>, Global>], clients: &Clients, threads: Vec<JoinHandle<()>>) {
+    // Connections go first: where no more files can be opened, no thread that accepts can be woken before one is closed.
+    clients.shut_down(rt);
+    for node in nodes {
+        node.wake(rt);
+    }
+    for thread in threads {
+        thread.join(rt);
+    }
+}
+
+// The nodes as they begin.
+#[tactic(auto, using(crate::proofs::PlaceLemmas::others_too))]
+fn nodes_at<K: Deployment, L: Log + Drop>(
+    alloc: Global,
+    config: &Config,
+    places: Vec<Place>,
+) -> Result<Vec<Arc<Node<K, L>, Global>>, AllocError>
+    requires cluster { config.now ≡ K.config }
+    requires seats { All (λ place. IsFresh K.table K.seats place.seat) places.items }
+    ensures { IfOk result (λ nodes. vec_len nodes ≡ length places.items) }
+{
+    let mut nodes = Vec::with_capacity(alloc, places.len())?;
+    for place in places {
+        let Place {
+            node,
+            seat,
+            listener,
+        } = place;
+        let node = Node::<K, L>::new(alloc, config, node, seat, listener)?;
+        let node = Arc::new(alloc, node).map_err(AllocError::from)?;
+        nodes.push(node).map_err(AllocError::from)?;
+    }
+    Ok(nodes)
+}
+
+// Starts the threads of all nodes. The ticks of the first node alone are counted.
+fn start_all<
+    K: Deployment + Send + Sync + 'static,
+    L: Log + Drop + Send + 'static,
+    R: Threads + Wait + Copy + Drop + Send + Sync + 'static,
+>(
+    rt: R,
+    alloc: Global,
+    nodes: &[Arc<Node<K, L>, Global>],
+    clients: &Arc<Clients, Global>,
+    stop: &Arc<Stop, Global>,
+    interval: Duration,
+    ticks: Option<u64>,
+    threads: &mut Vec<JoinHandle<()>>,
+) -> Result<(), ServeFault>
+where
+    L::Kept: Send + 'static,
+{
+    let mut most = ticks.unwrap_or(u64::MAX);
+    for node in nodes {
+        let clock = start_clock(rt, node, stop, interval, most)?;
+        threads.push(clock).map_err(AllocError::from)?;
+        let door = start_accepting(rt, alloc, node, clients, stop)?;
+        threads.push(door).map_err(AllocError::from)?;
+        most = u64::MAX;
     }
     Ok(())
 }
 
-// Serves one client. What ends its conversation concerns that client alone.
-fn serve_client<K: Deployment, L: Log + Drop, R: Wait + Drop>(
+// Starts the thread that lets the time of the node pass. Once there were so many ticks, the cluster ends.
+fn start_clock<
+    K: Deployment + Send + Sync + 'static,
+    L: Log + Drop + Send + 'static,
+    R: Threads + Wait + Copy + Drop + Send + Sync + 'static,
+>(
+    rt: R,
+    node: &Arc<Node<K, L>, Global>,
+    stop: &Arc<Stop, Global>,
+    interval: Duration,
+    most: u64,
+) -> Result<JoinHandle<()>, ServeFault>
+where
+    L::Kept: Send + 'static,
+{
+    let Ok(node) = Arc::try_clone(node) else {
+        return Err(ServeFault::Memory);
+    };
+    let Ok(stop) = Arc::try_clone(stop) else {
+        return Err(ServeFault::Memory);
+    };
+    let started = thread::spawn(&rt, move || {
+        pass_time(rt, &*node, &*stop, interval, most);
+        stop.end();
+    });
+    started.map_err(|_| ServeFault::Thread)
+}
+
+// Starts the thread that accepts the clients of the node.
+fn start_accepting<
+    K: Deployment + Send + Sync + 'static,
+    L: Log + Drop + Send + 'static,
+    R: Threads + Wait + Copy + Drop + Send + Sync + 'static,
+>(
     rt: R,
     alloc: Global,
-    node: &Arc<Mutex<NodeCell<K, L>>, Global>,
-    stream: &TcpStream,
-) {
+    node: &Arc<Node<K, L>, Global>,
+    clients: &Arc<Clients, Global>,
+    stop: &Arc<Stop, Global>,
+) -> Result<JoinHandle<()>, ServeFault>
+where
+    L::Kept: Send + 'static,
+{
     let Ok(node) = Arc::try_clone(node) else {
-        return;
+        return Err(ServeFault::Memory);
     };
-    // A reply is one write, so nothing is gained by waiting for more.
-    let _nodelay = stream.set_nodelay(true);
-    let mut gate = Gate::new(rt, node);
-    let mut reader = Counting::new(stream);
-    let mut writer = Counting::new(stream);
-    let _ended = serve_conn(alloc, &mut gate, &mut reader, &mut writer);
+    let Ok(clients) = Arc::try_clone(clients) else {
+        return Err(ServeFault::Memory);
+    };
+    let Ok(stop) = Arc::try_clone(stop) else {
+        return Err(ServeFault::Memory);
+    };
+    let started = thread::spawn(&rt, move || {
+        accept_clients(rt, alloc, &node, &clients, &*stop);
+    });
+    started.map_err(|_| ServeFault::Thread)
+}
+
+// The cells of nodes that nobody serves any more.
+fn cells_of<K: Deployment, L: Log + Drop>(
+    alloc: Global,
+    nodes: Vec<Arc<Node<K, L>, Global>>,
+) -> Result<Vec<NodeCell<K, L>>, ServeFault>
+    ensures { IfOk result (λ cells. vec_len cells ≡ vec_len nodes) }
+{
+    let mut cells = Vec::with_capacity(alloc, nodes.len())?;
+    for node in nodes {
+        let Some(node) = Arc::into_inner(node) else {
+            return Err(ServeFault::Thread);
+        };
+        cells.push(node.into_cell()).map_err(AllocError::from)?;
+    }
+    Ok(cells)
 }

@@ -14,10 +14,10 @@ use node_cell::{Deployment, Entry, Journal, NodeCell};
 use node_core::Event;
 use resp2::Counting;
 use slot_table::NodeNo;
-use std::alloc::{AllocError, Global};
+use std::alloc::Global;
 use std::marker::Brand;
 use std::rt::Files;
-use std::sync::{Arc, Mutex, Wait};
+use std::sync::{Mutex, Wait};
 use tickets::{Seat, open};
 
 // Up to this number, lines that are the same are written one by one.
@@ -127,13 +127,11 @@ fn hold<K: Deployment, R: Wait + Drop>(
     requires seat { IsFresh K.table K.seats seat }
 {
     let cell = NodeCell::<K, Journal>::new(alloc, config, node, seat)?;
-    let node = Arc::new(alloc, Mutex::new(cell)).map_err(AllocError::from)?;
-    let mut gate = Gate::new(rt, node);
+    let node = Mutex::new(cell);
     let mut reader = Counting::new(reader);
     let mut writer = Counting::new(writer);
-    let ended = serve_conn(alloc, &mut gate, &mut reader, &mut writer);
-    let cell = Arc::into_inner(gate.into_node()).context("the node is still shared")?;
-    let (_config, _node, log, _seat) = cell.into_inner().finish();
+    let ended = converse(rt, alloc, &node, &mut reader, &mut writer);
+    let (_config, _node, log, _seat) = node.into_inner().finish();
     let journal = log.into_entries();
     Ok(Held {
         ended,
@@ -141,6 +139,17 @@ fn hold<K: Deployment, R: Wait + Drop>(
         written: writer.into_inner(),
         journal,
     })
+}
+
+fn converse<K: Deployment, R: Wait + Drop>(
+    rt: R,
+    alloc: Global,
+    node: &Mutex<NodeCell<K, Journal>>,
+    reader: &mut Counting<Pieces<'_>>,
+    writer: &mut Counting<Written>,
+) -> Result<(), ConnFault> {
+    let mut gate = Gate::new(rt, node);
+    serve_conn(alloc, &mut gate, reader, writer)
 }
 
 impl Held {

@@ -3,7 +3,7 @@ use Rattle.std.specs.Prelude.{ℕ, List, codes}
 use Rattle.cluster_config.specs.declared.fault.ConfigFault.{ConfigFault}
 use Rattle.cluster_config.specs.declared.fault.ConfigFault.TheVariants as config
 use Rattle.rcluster.specs.declared.fault.ProgramFault.{ProgramFault}
-use Rattle.rcluster.specs.declared.fault.ProgramFault.TheVariants.{UnreadableFile, AddressInUse, Memory, Output, Config}
+use Rattle.rcluster.specs.declared.fault.ProgramFault.TheVariants.{UnreadableFile, AddressInUse, Memory, Thread, Output, Config}
 
 -- of a configuration
 abbrev pub config_code : ConfigFault → List ℕ
@@ -21,5 +21,6 @@ abbrev pub code_of : ProgramFault → List ℕ
 code_of UnreadableFile = codes "F1"
 code_of AddressInUse = codes "F2"
 code_of Memory = codes "F3"
+code_of Thread = codes "F3"
 code_of Output = codes "F4"
 code_of (Config fault) = config_code fault

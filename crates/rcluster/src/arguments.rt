@@ -1,6 +1,13 @@
 //! The command line.
+use clap::builder::ValueParser;
 use clap::{Arg, ArgAction, Command, Error};
 use std::alloc::Global;
+
+// Of the program.
+const VERSION: &str = "0.1.0";
+
+// After how many ticks the program may be asked to end.
+const MOST_TICKS: u64 = 1_000_000;
 
 /// What the program is asked to do.
 #[derive(Debug, Drop)]
@@ -9,6 +16,8 @@ pub enum Call<'a> {
     Serve {
         /// The path of the file.
         config: &'a str,
+        /// After how many ticks of the first node the program ends, or None where it goes on.
+        ticks: Option<u64>,
         /// Whether each node keeps its journal in memory.
         keeps_journal: bool,
     },
@@ -16,33 +25,49 @@ pub enum Call<'a> {
 
 /// Reads the words of a command line, the program's name first.
 pub fn read_call<'a>(alloc: Global, words: &'a [String]) -> Result<Call<'a>, Error> {
+    let command = Command::new(alloc, "rcluster")
+        .about("A Redis Cluster in one process")
+        .version(VERSION)
+        .subcommand_required(true)
+        .arg_required_else_help(true)
+        .subcommand(serve_command(alloc)?)?;
+    let matches = command.try_get_matches_from(words)?;
+    let serve = matches.subcommand_matches("serve");
+    let config = serve
+        .and_then(|serve| serve.get_str("config"))
+        .unwrap_or("");
+    let ticks = serve.and_then(|serve| serve.get_one::<u64>("ticks"));
+    let keeps_journal = serve.is_some_and(|serve| serve.get_flag("journal"));
+    Ok(Call::Serve {
+        config,
+        ticks,
+        keeps_journal,
+    })
+}
+
+fn serve_command<'a>(alloc: Global) -> Result<Command<'a>, Error> {
     let config = Arg::new(alloc, "config")
         .long("config")
         .value_name("FILE")
         .help("The cluster's configuration, a JSON file")
         .required(true)
         .action(ArgAction::Set);
+    let ticks = Arg::new(alloc, "ticks")
+        .long("ticks")
+        .value_name("N")
+        .help(
+            "Ends after N ticks of node 0, 1 to 1000000; each node's journal is kept in memory until then",
+        )
+        .value_parser(ValueParser::unsigned(1, MOST_TICKS))
+        .action(ArgAction::Set);
     let journal = Arg::new(alloc, "journal")
         .long("journal")
         .help("Keeps each node's journal in memory, which grows with every request")
         .action(ArgAction::SetTrue);
     let serve = Command::new(alloc, "serve")
-        .about("Serves the cluster")
+        .about("Serves all nodes of a cluster, each at its own address")
         .arg(config)?
+        .arg(ticks)?
         .arg(journal)?;
-    let command = Command::new(alloc, "rcluster")
-        .about("A Redis Cluster in one process")
-        .subcommand_required(true)
-        .arg_required_else_help(true)
-        .subcommand(serve)?;
-    let matches = command.try_get_matches_from(words)?;
-    let serve = matches.subcommand_matches("serve");
-    let config = serve
-        .and_then(|serve| serve.get_str("config"))
-        .unwrap_or("");
-    let keeps_journal = serve.is_some_and(|serve| serve.get_flag("journal"));
-    Ok(Call::Serve {
-        config,
-        keeps_journal,
-    })
+    Ok(serve)
 }

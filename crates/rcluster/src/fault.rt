@@ -15,6 +15,8 @@ pub enum ProgramFault {
     AddressInUse,
     /// There is no memory left.
     Memory,
+    /// A node's thread can't be started.
+    Thread,
     /// The output can't be written.
     Output,
     /// The file describes no cluster.
@@ -29,9 +31,23 @@ impl ProgramFault {
         match self {
             ProgramFault::UnreadableFile => "F1",
             ProgramFault::AddressInUse => "F2",
-            ProgramFault::Memory => "F3",
+            ProgramFault::Memory | ProgramFault::Thread => "F3",
             ProgramFault::Output => "F4",
             ProgramFault::Config(fault) => config_code(fault),
+        }
+    }
+}
+
+impl ProgramFault {
+    /// What the fault is, in words.
+    pub fn meaning(self) -> &'static str {
+        match self {
+            ProgramFault::UnreadableFile => "a file can't be read",
+            ProgramFault::AddressInUse => "an address can't be listened on",
+            ProgramFault::Memory => "memory was refused",
+            ProgramFault::Thread => "a node's thread can't be started",
+            ProgramFault::Output => "the output can't be written",
+            ProgramFault::Config(_) => "the file describes no cluster",
         }
     }
 }

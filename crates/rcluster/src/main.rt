@@ -2,10 +2,12 @@
 #![tactic(auto)]
 
 mod arguments;
+mod failure;
 mod fault;
 mod serving;
 
 use arguments::{Call, read_call};
+use failure::Failure;
 use fault::ProgramFault;
 use node_cell::{GhostJournal, Journal};
 use serving::serve;
@@ -22,29 +24,32 @@ fn main(rt: HostRuntime) -> io::Result<ExitCode> {
             return Ok(ExitCode::from(error.exit_code() as u8));
         }
     };
-    let outcome = match call {
-        Call::Serve {
-            config,
-            keeps_journal: false,
-        } => serve::<GhostJournal, _>(rt, config),
-        Call::Serve {
-            config,
-            keeps_journal: true,
-        } => serve::<Journal, _>(rt, config),
+    let Call::Serve {
+        config,
+        ticks,
+        keeps_journal,
+    } = call;
+    // A journal is kept where it is asked for, or where somebody gathers it at the end.
+    let outcome = if keeps_journal || ticks.is_some() {
+        serve::<Journal, _>(rt, config, ticks)
+    } else {
+        serve::<GhostJournal, _>(rt, config, ticks)
     };
     match outcome {
         Ok(()) => Ok(ExitCode::SUCCESS),
-        Err(fault) => {
-            print_fault(&rt, fault)?;
+        Err(failure) => {
+            print_failure(&rt, &failure)?;
             Ok(ExitCode::FAILURE)
         }
     }
 }
 
-// Where the output can't be written, nothing is printed.
-fn print_fault(rt: &impl Print, fault: ProgramFault) -> io::Result<()> {
-    match fault {
+// The code goes to the output, and a sentence for people to standard error.
+fn print_failure(rt: &(impl Print + Eprint), failure: &Failure) -> io::Result<()> {
+    eprintln!(rt; "{failure}")?;
+    match failure.fault {
+        // Where the output can't be written, nothing is printed there.
         ProgramFault::Output => Ok(()),
-        _ => println!(rt; "{fault}"),
+        fault => println!(rt; "{fault}"),
     }
 }

@@ -18,7 +18,7 @@ use slot_table::NodeNo;
 use std::alloc::{AllocError, Global};
 use std::io;
 use std::marker::Brand;
-use std::sync::{Arc, Mutex, Wait};
+use std::sync::{Mutex, Wait};
 use tickets::{Seat, open};
 
 // Two masters, the first of which has the slots up to 8191.
@@ -111,8 +111,8 @@ fn converse<K: Deployment, R: Wait + Drop>(
     requires seat { IsFresh K.table K.seats seat }
 {
     let cell = NodeCell::<K, Journal>::new(alloc, config, node, seat)?;
-    let node = Arc::new(alloc, Mutex::new(cell)).map_err(AllocError::from)?;
-    let mut gate = Gate::new(rt, node);
+    let node = Mutex::new(cell);
+    let mut gate = Gate::new(rt, &node);
     // Reserved up front: what a socket takes is no allocation of the program.
     let written = Vec::with_capacity(alloc, 1024)?;
     let mut reader = Counting::new(REQUESTS);

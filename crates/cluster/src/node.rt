@@ -1,0 +1,178 @@
+//! A node that is served: the threads that accept its clients, serve them and let time pass.
+ghost use Rattle.std.specs.Prelude.{◌≡◌};
+ghost use Rattle.tickets.specs.Tickets.{IsFresh};
+
+use crate::clients::{Clients, Refused};
+use crate::gate::Gate;
+use crate::stop::Stop;
+use cluster_config::Config;
+use listener::serve_conn;
+use node_cell::{Deployment, Log, NodeCell, NodeGate};
+use node_core::Event;
+use resp2::Counting;
+use slot_table::NodeNo;
+use std::alloc::{AllocError, Global};
+use std::net::{Net, TcpListener, TcpStream};
+use std::sync::{Arc, Mutex, Wait};
+use std::thread;
+use std::thread::Threads;
+use std::time::Duration;
+use tickets::Seat;
+
+// How many milliseconds no client is accepted after one could not be, for example because no more files can be opened.
+const PAUSE: u64 = 10;
+
+// How many milliseconds a connection may take that wakes a thread which accepts. Where too many others wait to be accepted it is
+// not made at all, and that thread needs no waking.
+const WAKING: u64 = 100;
+
+/// A node of the cluster `K`, whose journal is an `L`, and where its clients connect.
+#[derive(Drop)]
+pub(crate) struct Node<K: Deployment, L: Log> {
+    cell: Mutex<NodeCell<K, L>>,
+    listener: TcpListener,
+}
+
+impl<K: Deployment, L: Log> Node<K, L> {
+    /// The node with this number, as it begins, with a seat that has drawn nothing.
+    pub(crate) fn new(
+        alloc: Global,
+        config: &Config,
+        number: NodeNo,
+        seat: Seat,
+        listener: TcpListener,
+    ) -> Result<Node<K, L>, AllocError>
+    where
+        L: Drop,
+        requires cluster { config.now ≡ K.config }
+        requires seat { IsFresh K.table K.seats seat }
+    {
+        let cell = NodeCell::<K, L>::new(alloc, config, number, seat)?;
+        let cell = Mutex::new(cell);
+        Ok(Node { cell, listener })
+    }
+
+    /// The cell, once nobody serves the node.
+    pub(crate) fn into_cell(self) -> NodeCell<K, L> {
+        self.cell.into_inner()
+    }
+
+    /// Wakes the thread that accepts clients.
+    pub(crate) fn wake<R: Net>(&self, rt: &R) {
+        if let Ok(address) = self.listener.local_addr() {
+            let _woken = TcpStream::connect_timeout(rt, &address, Duration::from_millis(WAKING));
+        }
+    }
+}
+
+/// Accepts the clients of the node until the end. Each is served by a thread of its own.
+pub(crate) fn accept_clients<
+    K: Deployment + Send + Sync + 'static,
+    L: Log + Drop + Send + 'static,
+    R: Threads + Wait + Copy + Drop + Send + Sync + 'static,
+>(rt: R, alloc: Global, node: &Arc<Node<K, L>, Global>, clients: &Arc<Clients, Global>, stop: &Stop)
+where
+    L::Kept: Send + 'static,
+{
+    for stream in node.listener.incoming() {
+        if stop.has_ended() {
+            return;
+        }
+        match stream {
+            // A client for which there is no memory, or no thread, is let go.
+            Ok(stream) => {
+                let _refused = accept(rt, alloc, node, clients, stream);
+            }
+            Err(_) => stop.sleep(&rt, Duration::from_millis(PAUSE)),
+        }
+    }
+}
+
+// Starts the thread of a client. Where that fails its connection is closed.
+fn accept<
+    K: Deployment + Send + Sync + 'static,
+    L: Log + Drop + Send + 'static,
+    R: Threads + Wait + Copy + Drop + Send + Sync + 'static,
+>(
+    rt: R,
+    alloc: Global,
+    node: &Arc<Node<K, L>, Global>,
+    clients: &Arc<Clients, Global>,
+    stream: TcpStream,
+) -> Result<(), Refused>
+where
+    L::Kept: Send + 'static,
+{
+    let stream = Arc::new(alloc, stream).map_err(AllocError::from)?;
+    let client = clients.add(&rt, &stream)?;
+    if let Err(refused) = start_client(rt, alloc, node, clients, stream, client) {
+        clients.remove(&rt, client);
+        return Err(refused);
+    }
+    Ok(())
+}
+
+fn start_client<
+    K: Deployment + Send + Sync + 'static,
+    L: Log + Drop + Send + 'static,
+    R: Threads + Wait + Copy + Drop + Send + Sync + 'static,
+>(
+    rt: R,
+    alloc: Global,
+    node: &Arc<Node<K, L>, Global>,
+    clients: &Arc<Clients, Global>,
+    stream: Arc<TcpStream, Global>,
+    client: usize,
+) -> Result<(), Refused>
+where
+    L::Kept: Send + 'static,
+{
+    let Ok(node) = Arc::try_clone(node) else {
+        return Err(Refused);
+    };
+    let Ok(clients) = Arc::try_clone(clients) else {
+        return Err(Refused);
+    };
+    let started = thread::spawn(&rt, move || {
+        serve_client(rt, alloc, node, &*stream);
+        clients.remove(&rt, client);
+    });
+    match started {
+        Ok(_thread) => Ok(()),
+        Err(_) => Err(Refused),
+    }
+}
+
+// Serves one client, and is then done with the node. What ends the conversation concerns this client alone.
+fn serve_client<K: Deployment, L: Log + Drop, R: Wait + Drop>(
+    rt: R,
+    alloc: Global,
+    node: Arc<Node<K, L>, Global>,
+    stream: &TcpStream,
+) {
+    // A reply is one write, so nothing is gained by waiting for more.
+    let _nodelay = stream.set_nodelay(true);
+    let mut gate = Gate::new(rt, &node.cell);
+    let mut reader = Counting::new(stream);
+    let mut writer = Counting::new(stream);
+    let _ended = serve_conn(alloc, &mut gate, &mut reader, &mut writer);
+}
+
+/// Lets the time of the node pass: a tick after each `interval`, until the end or until there were `most`.
+pub(crate) fn pass_time<K: Deployment, L: Log + Drop, R: Wait + Copy + Drop>(
+    rt: R,
+    node: &Node<K, L>,
+    stop: &Stop,
+    interval: Duration,
+    most: u64,
+) {
+    let mut gate = Gate::new(rt, &node.cell);
+    for _ in 0..most {
+        stop.sleep(&rt, interval);
+        if stop.has_ended() {
+            return;
+        }
+        // A tick for which there is no memory is no step.
+        let _refused = gate.step(Event::Tick);
+    }
+}

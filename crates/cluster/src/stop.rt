@@ -1,0 +1,53 @@
+//! The end of a cluster that is served.
+
+use std::sync::atomic::{AtomicBool, Ordering};
+use std::sync::{Condvar, Wait};
+use std::time::Duration;
+
+// How many seconds a thread that waits for the end sleeps before it looks again. It is woken at the end, so they may be many.
+const LONG: u64 = 3600;
+
+/// Whether the cluster ends. All of its threads look at it, and those that sleep are woken by it.
+#[derive(Drop)]
+pub(crate) struct Stop {
+    ended: AtomicBool,
+    bell: Condvar,
+}
+
+impl Stop {
+    pub(crate) fn new() -> Stop {
+        Stop {
+            ended: AtomicBool::new(false),
+            bell: Condvar::new(),
+        }
+    }
+
+    /// Ends the cluster.
+    pub(crate) fn end(&self) {
+        self.ended.store(true, Ordering::SeqCst);
+        self.bell.notify_all();
+    }
+
+    /// Whether the cluster ends.
+    pub(crate) fn has_ended(&self) -> bool {
+        self.ended.load(Ordering::SeqCst)
+    }
+
+    /// Sleeps for this time, or until the end if that comes first.
+    pub(crate) fn sleep<R: Wait>(&self, rt: &R, time: Duration) {
+        let seen = self.bell.notifications();
+        if !self.has_ended() {
+            self.bell.sleep(rt, seen, time);
+        }
+    }
+
+    /// Sleeps until the end.
+    pub(crate) fn wait<R: Wait>(&self, rt: &R) {
+        for _ in rt.forever() {
+            if self.has_ended() {
+                return;
+            }
+            self.sleep(rt, Duration::from_secs(LONG));
+        }
+    }
+}

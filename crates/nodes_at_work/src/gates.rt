@@ -1,0 +1,140 @@
+//! Gates that hold a request up, or that wait for one lock round all nodes.
+
+use node_cell::{Asks, NodeGate};
+use node_core::{Event, StepFault};
+use std::sync::atomic::{AtomicBool, Ordering};
+use std::sync::{Mutex, Wait};
+use std::thread::yield_now;
+
+// How often a request that is held up looks whether it may go on.
+const MOST_TURNS: u32 = 100_000;
+
+/// What two conversations tell each other.
+#[derive(Drop)]
+pub struct Signals {
+    /// The request at the first node is held up, under the node's lock.
+    pub is_held: AtomicBool,
+    /// The request at the second node was answered.
+    pub was_answered: AtomicBool,
+    /// The request at the first node was held up until the turns ran out.
+    pub ran_out: AtomicBool,
+}
+
+impl Signals {
+    /// Nothing happened yet.
+    pub fn new() -> Signals {
+        Signals {
+            is_held: AtomicBool::new(false),
+            was_answered: AtomicBool::new(false),
+            ran_out: AtomicBool::new(false),
+        }
+    }
+}
+
+// Waits until the flag is set, and tells whether it was before the turns ran out.
+fn is_set_in_time(flag: &AtomicBool) -> bool {
+    for _ in 0..MOST_TURNS {
+        if flag.load(Ordering::SeqCst) {
+            return true;
+        }
+        yield_now();
+    }
+    false
+}
+
+/// A gate that holds each request up, under a lock, until the other node answered one.
+#[derive(Drop)]
+pub struct HoldingGate<'n, G, T, R> {
+    /// The leave to wait for the lock.
+    pub rt: R,
+    /// The way to the node.
+    pub gate: G,
+    /// The lock that the request has while it is held up.
+    pub lock: &'n Mutex<T>,
+    /// What is told to the other conversation, and heard from it.
+    pub signals: &'n Signals,
+}
+
+impl<'n, G: NodeGate, T, R: Wait> HoldingGate<'n, G, T, R> {
+    fn hold(&self) {
+        let _held = self.lock.lock(&self.rt);
+        self.signals.is_held.store(true, Ordering::SeqCst);
+        if !is_set_in_time(&self.signals.was_answered) {
+            self.signals.ran_out.store(true, Ordering::SeqCst);
+        }
+    }
+}
+
+impl<'n, G: NodeGate, T, R: Wait> NodeGate for HoldingGate<'n, G, T, R> {
+    type Answer = G::Answer;
+
+    ghost asked = { λ holding. G.asked holding.gate };
+
+    ghost may = { G.may };
+
+    ghost may_refuse = { G.may_refuse };
+
+    fn step(&mut self, event: Event) -> Result<G::Answer, StepFault> {
+        if let Event::Request(_, _) = &event {
+            self.hold();
+        }
+        self.gate.step(event)
+    }
+}
+
+/// A gate that asks once the other node's request is held up, and tells when it was answered.
+#[derive(Drop)]
+pub struct TellingGate<'n, G> {
+    /// The way to the node.
+    pub gate: G,
+    /// What is told to the other conversation, and heard from it.
+    pub signals: &'n Signals,
+}
+
+impl<'n, G: NodeGate> NodeGate for TellingGate<'n, G> {
+    type Answer = G::Answer;
+
+    ghost asked = { λ telling. G.asked telling.gate };
+
+    ghost may = { G.may };
+
+    ghost may_refuse = { G.may_refuse };
+
+    fn step(&mut self, event: Event) -> Result<G::Answer, StepFault> {
+        let is_request = matches!(&event, Event::Request(_, _));
+        if is_request {
+            let _held = is_set_in_time(&self.signals.is_held);
+        }
+        let step = self.gate.step(event);
+        if is_request {
+            self.signals.was_answered.store(true, Ordering::SeqCst);
+        }
+        step
+    }
+}
+
+/// A gate of a cluster with one lock round all nodes.
+#[derive(Drop)]
+pub struct OneLockGate<'n, G, R> {
+    /// The leave to wait for the lock.
+    pub rt: R,
+    /// The way to the node.
+    pub gate: G,
+    /// The lock round all nodes.
+    pub lock: &'n Mutex<()>,
+}
+
+impl<'n, G: NodeGate, R: Wait> NodeGate for OneLockGate<'n, G, R> {
+    type Answer = G::Answer;
+
+    ghost asked = { λ one. G.asked one.gate };
+
+    ghost may = { G.may };
+
+    ghost may_refuse = { G.may_refuse };
+
+    fn step(&mut self, event: Event) -> Result<G::Answer, StepFault> {
+        let _all = self.lock.lock(&self.rt);
+        self.gate.step(event)
+    }
+}

@@ -1,0 +1,145 @@
+//! A request that is held up at one node, and one that is asked at another node meanwhile.
+ghost use Rattle.std.specs.Prelude.{◌≡◌, ◌<◌};
+ghost use Rattle.tickets.specs.Tickets.{IsFresh};
+
+use crate::gates::{HoldingGate, OneLockGate, Signals, TellingGate};
+use cluster::Gate;
+use cluster_config::Config;
+use listener::serve_conn;
+use node_cell::{Deployment, GhostJournal, NodeCell, NodeGate};
+use resp2::Counting;
+use slot_table::NodeNo;
+use std::alloc::{AllocError, Global};
+use std::sync::atomic::Ordering;
+use std::sync::{Arc, Mutex, Wait};
+use std::thread;
+use std::thread::Threads;
+use tickets::Seat;
+
+// For the second node of three, and for the third one.
+const SET_C: &[u8] = b"*3\r\n$3\r\nSET\r\n$1\r\nc\r\n$1\r\n1\r\n";
+
+const SET_X: &[u8] = b"*3\r\n$3\r\nSET\r\n$1\r\nx\r\n$1\r\n1\r\n";
+
+/// Which locks the nodes have.
+#[derive(Clone, Copy, PartialEq, Eq, Debug)]
+pub enum Locks {
+    /// Each has its own, as in the program.
+    Own,
+    /// One lock is round all of them.
+    One,
+}
+
+/// Whether a node answers a request while another node's lock is held.
+pub fn answers_meanwhile<
+    K: Deployment + Send + Sync + 'static,
+    R: Threads + Wait + Copy + Drop + Send + Sync + 'static,
+>(
+    rt: R,
+    alloc: Global,
+    config: &Config,
+    second_seat: Seat,
+    third_seat: Seat,
+    locks: Locks,
+) -> Result<bool, AllocError>
+    requires cluster { config.now ≡ K.config }
+    requires second { IsFresh K.table K.seats second_seat }
+    requires third { IsFresh K.table K.seats third_seat }
+{
+    let second = Mutex::new(node::<K>(alloc, config, 1, second_seat)?);
+    let third = Arc::new(alloc, Mutex::new(node::<K>(alloc, config, 2, third_seat)?))?;
+    let all = Arc::new(alloc, Mutex::new(()))?;
+    let signals = Arc::new(alloc, Signals::new())?;
+    let (their_all, their_signals) = (Arc::try_clone(&all)?, Arc::try_clone(&signals)?);
+    let other = thread::spawn(&rt, move || {
+        ask(rt, alloc, &*third, &*their_all, &*their_signals, locks);
+    })?;
+    hold_up(rt, alloc, &second, &*all, &*signals, locks);
+    other.join(&rt);
+    Ok(!signals.ran_out.load(Ordering::SeqCst))
+}
+
+fn node<K: Deployment>(
+    alloc: Global,
+    config: &Config,
+    number: u8,
+    seat: Seat,
+) -> Result<NodeCell<K, GhostJournal>, AllocError>
+    requires number { number < 16 }
+    requires cluster { config.now ≡ K.config }
+    requires seat { IsFresh K.table K.seats seat }
+{
+    let number = NodeNo::new(number).unwrap();
+    NodeCell::new(alloc, config, number, seat)
+}
+
+// A conversation whose request is held up at its node.
+fn hold_up<K: Deployment, R: Wait + Copy + Drop>(
+    rt: R,
+    alloc: Global,
+    node: &Mutex<NodeCell<K, GhostJournal>>,
+    all: &Mutex<()>,
+    signals: &Signals,
+    locks: Locks,
+) {
+    let gate = Gate::new(rt, node);
+    match locks {
+        Locks::Own => {
+            let lock = node;
+            converse(
+                alloc,
+                HoldingGate {
+                    rt,
+                    gate,
+                    lock,
+                    signals,
+                },
+                SET_C,
+            );
+        }
+        Locks::One => {
+            let lock = all;
+            let gate = OneLockGate { rt, gate, lock };
+            converse(
+                alloc,
+                HoldingGate {
+                    rt,
+                    gate,
+                    lock,
+                    signals,
+                },
+                SET_C,
+            );
+        }
+    }
+}
+
+// A conversation that asks its node meanwhile.
+fn ask<K: Deployment, R: Wait + Copy + Drop>(
+    rt: R,
+    alloc: Global,
+    node: &Mutex<NodeCell<K, GhostJournal>>,
+    all: &Mutex<()>,
+    signals: &Signals,
+    locks: Locks,
+) {
+    let gate = Gate::new(rt, node);
+    match locks {
+        Locks::Own => converse(alloc, TellingGate { gate, signals }, SET_X),
+        Locks::One => {
+            let gate = OneLockGate {
+                rt,
+                gate,
+                lock: all,
+            };
+            converse(alloc, TellingGate { gate, signals }, SET_X);
+        }
+    }
+}
+
+// Serves a client that sends this request.
+fn converse<G: NodeGate + Drop>(alloc: Global, mut gate: G, request: &[u8]) {
+    let mut reader = Counting::new(request);
+    let mut writer = Counting::new(Vec::new(alloc));
+    let _ended = serve_conn(alloc, &mut gate, &mut reader, &mut writer);
+}

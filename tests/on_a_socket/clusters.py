@@ -1,0 +1,67 @@
+"""The configurations that are served, all at free ports."""
+
+import json
+import os
+import random
+import socket
+
+EXAMPLES = os.path.join(os.path.dirname(os.path.abspath(__file__)), "..", "..", "examples")
+# The ports that were given out, which nobody gets again.
+_given = set(range(7000, 7006))
+
+
+def free_ports(count):
+    """Ports at which nobody listens, and which the system gives to no client by itself."""
+    with open("/proc/sys/net/ipv4/ip_local_port_range", encoding="ascii") as file:
+        first_of_clients = int(file.read().split()[0])
+    candidates = list(range(min(10000, first_of_clients // 2), first_of_clients))
+    random.shuffle(candidates)
+    found = []
+    for port in candidates:
+        if len(found) == count:
+            return found
+        if port not in _given and is_free(port):
+            _given.add(port)
+            found.append(port)
+    raise OSError("no free ports")
+
+
+def is_free(port):
+    with socket.socket() as probe:
+        try:
+            probe.bind(("127.0.0.1", port))
+        except OSError:
+            return False
+    return True
+
+
+def node_id(number):
+    return "%040x" % number
+
+
+def six_nodes(**changes):
+    """Three masters with a third of the slots each, and a replica of each."""
+    with open(os.path.join(EXAMPLES, "six_nodes.json"), encoding="utf-8") as file:
+        cluster = json.load(file)
+    for node, port in zip(cluster["nodes"], free_ports(6)):
+        node["port"] = port
+    return {**cluster, **changes}
+
+
+def masters(count, **changes):
+    """So many masters, which have all slots among them."""
+    bounds = [16384 * number // count for number in range(count + 1)]
+    nodes = [
+        {"id": node_id(number), "host": "127.0.0.1", "port": port, "slots": [[bounds[number], bounds[number + 1] - 1]]}
+        for number, port in enumerate(free_ports(count))
+    ]
+    return {"tick_ms": 100, "node_timeout": 20, "nodes": nodes, "voters": [node_id(0)], **changes}
+
+
+def ports_of(cluster):
+    return [node["port"] for node in cluster["nodes"]]
+
+
+def lines_of(cluster):
+    """What is printed once all nodes listen."""
+    return b"".join(b"node %d 127.0.0.1:%d\n" % row for row in enumerate(ports_of(cluster)))

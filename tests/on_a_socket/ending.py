@@ -1,0 +1,166 @@
+"""How a server ends: after its ticks, or by a signal.
+
+Each row plays what clients do until the end, and compares the status, what was printed behind the nodes' lines, on standard
+output and on standard error, that it didn't end before its ticks, and that each connection has ended.
+"""
+
+import contextlib
+import itertools
+import os
+import signal
+import subprocess
+import sys
+import threading
+import time
+from concurrent.futures import ThreadPoolExecutor
+
+import clusters
+from clusters import lines_of, ports_of
+from deaf import NEVER_FULL, DeafClient
+from program import Server
+from wire import OK, PING, PONG, ask, connect, playing, rest_of, spelled
+
+TICKS = 20
+TICK_MS = 75
+# How many clients come one after another, half of them by the end.
+MOST_COMING = 300
+# How many clients are there as many more come all at once.
+BEFORE_THE_STORM = 1200
+# How many seconds more than its ticks a server may take to end, and how many rows are played side by side.
+MORE, ROWS_AT_ONCE = 6, 4
+
+
+def no_clients(_judge, _what, _ports):
+    """Nobody connects."""
+    yield
+
+
+def silent_clients(judge, what, ports):
+    """A client at each node says nothing."""
+    with contextlib.ExitStack() as stack:
+        clients = [stack.enter_context(connect(port)) for port in ports]
+        yield
+        for node, client in enumerate(clients):
+            judge.equal(f"{what}: the connection at node {node} is ended", rest_of(client), b"")
+
+
+def half_requests(judge, what, ports):
+    """A client at each node has sent a request and half of another."""
+    with contextlib.ExitStack() as stack:
+        clients = [stack.enter_context(connect(port)) for port in ports]
+        for client in clients:
+            client.sendall(PING + PING[:7])
+        yield
+        for node, client in enumerate(clients):
+            judge.equal(f"{what}: the connection at node {node} is ended after its reply", rest_of(client), PONG)
+
+
+def writing_clients(judge, what, ports):
+    """Four clients write at the first node as fast as they can."""
+    request = spelled(b"SET", b"b", b"v" * 100) * 16
+    reply = OK * 16
+    counts = []
+
+    def write():
+        count = 0
+        with contextlib.suppress(OSError), connect(ports[0]) as client:
+            while ask(client, request, reply) == reply:
+                count += 1
+        counts.append(count)
+
+    with playing([write] * 4):
+        yield
+    judge.equal(f"{what}: each of the clients is ended", len(counts), 4)
+    judge.least(f"{what}: pipelines that each had answered", min(counts, default=0), 1)
+
+
+def deaf_client(judge, what, ports):
+    """A client sends and never reads, until no more can be sent."""
+    with contextlib.closing(DeafClient(ports, 0)) as client:
+        judge.most(f"{what}: bytes that are taken while it doesn't read", client.sent, NEVER_FULL - 1)
+        yield
+        rest = client.rest()
+        judge.equal(f"{what}: the connection is ended after a beginning of the replies", rest, client.replies()[:len(rest)])
+
+
+def coming_clients(judge, what, ports):
+    """Clients come to all nodes one after another, and stay."""
+    stack = contextlib.ExitStack()
+    clients = []
+
+    def come():
+        with contextlib.suppress(OSError):
+            for port in itertools.islice(itertools.cycle(ports), MOST_COMING):
+                clients.append(stack.enter_context(connect(port)))
+                time.sleep(2 * TICKS * TICK_MS / 1000 / MOST_COMING)
+
+    with stack:
+        with playing([come]):
+            yield
+        judge.least(f"{what}: clients that came", len(clients), 20)
+        judge.equal(f"{what}: clients that read something", [it for it in clients if rest_of(it)], [])
+
+
+def storming_clients(judge, what, ports):
+    """Many clients are there, and as the end comes many more connect to all nodes as fast as they can, and stay.
+
+    Of these the last are never accepted, and the system doesn't tell them of the end.
+    """
+    end = time.monotonic() + TICKS * TICK_MS / 1000
+    with contextlib.ExitStack() as stack:
+        storms = [stack.enter_context(storm(end - 0.05, ports[first:] + ports[:first])) for first in (0, 2, 4)]
+        clients = [stack.enter_context(connect(ports[number % len(ports)])) for number in range(BEFORE_THE_STORM)]
+        yield
+        for client in storms:
+            client.stdin.close()
+        judge.least(f"{what}: clients that came at the end", sum(int(it.stdout.readline() or 0) for it in storms), 1)
+        judge.equal(f"{what}: clients that were there and read something", [it for it in clients if rest_of(it)], [])
+
+
+@contextlib.contextmanager
+def storm(begin, ports):
+    """The process of storm.py, which connects to these ports from that time on."""
+    words = [sys.executable, os.path.join(os.path.dirname(os.path.abspath(__file__)), "storm.py"), str(begin), *map(str, ports)]
+    with subprocess.Popen(words, stdin=subprocess.PIPE, stdout=subprocess.PIPE) as process:
+        try:
+            yield process
+        finally:
+            process.kill()
+
+
+PLAYS = (no_clients, silent_clients, half_requests, writing_clients, deaf_client, coming_clients, storming_clients)
+
+
+def play(judge):
+    rows = [(it, options) for it in PLAYS for options in ([], ["--journal"])]
+    with ThreadPoolExecutor(ROWS_AT_ONCE) as pool:
+        for done in [pool.submit(play_ticks, judge, *row) for row in rows]:
+            done.result()
+    for sign in (signal.SIGTERM, signal.SIGINT):
+        play_signal(judge, sign)
+
+
+def play_ticks(judge, clients, options):
+    what = " ".join([clients.__name__.replace("_", " "), *options])
+    cluster = clusters.six_nodes(tick_ms=TICK_MS)
+    with judge.part(what), Server(cluster, "--ticks", str(TICKS), *options) as server:
+        judge.equal(f"{what}: the lines of the nodes", server.lines, lines_of(cluster))
+        with contextlib.contextmanager(clients)(judge, what, ports_of(cluster)):
+            outcome = server.outcome(TICKS * TICK_MS / 1000 + MORE)
+            took = time.monotonic() - server.begun
+            judge.equal(f"{what}: status, and nothing more printed", outcome, (0, b"", b""))
+            judge.least(f"{what}: seconds until the end", took, (TICKS - 1) * TICK_MS / 1000)
+            server.process.kill()
+
+
+def play_signal(judge, sign):
+    """A signal ends the process within a second, also while clients are connected, and it says nothing."""
+    cluster = clusters.six_nodes()
+    with Server(cluster) as server, contextlib.ExitStack() as stack:
+        for port in ports_of(cluster):
+            client = stack.enter_context(connect(port))
+            judge.equal(f"before {sign.name}: a client is served", ask(client, PING, PONG), PONG)
+        server.process.send_signal(sign)
+        judge.equal(f"{sign.name}: status, and nothing printed", server.outcome(1), (-sign, b"", b""))
+        server.process.kill()
+        judge.equal(f"{sign.name}: a connection is ended", rest_of(client), b"")

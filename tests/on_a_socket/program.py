@@ -1,0 +1,83 @@
+"""The program, run to its end or as a server."""
+
+import json
+import os
+import subprocess
+import tempfile
+import threading
+import time
+
+PATH = os.path.abspath(os.path.join(os.path.dirname(os.path.abspath(__file__)), "..", "..", "crates/rcluster/out/rcluster"))
+# How long the program may take to begin or to end, in seconds.
+PATIENCE = 20
+# The name of the configuration in the folder where the program runs.
+FILE = "cluster.json"
+
+
+def run(*words, text=None):
+    """The status, the output and the standard error of the program with these words, in a folder whose `cluster.json` has that text."""
+    with tempfile.TemporaryDirectory() as folder:
+        if text is not None:
+            write(folder, text)
+        done = subprocess.run([PATH, *words], cwd=folder, capture_output=True, timeout=PATIENCE, check=False)
+    return done.returncode, done.stdout, done.stderr
+
+
+def write(folder, text):
+    with open(os.path.join(folder, FILE), "w", encoding="utf-8") as file:
+        file.write(text)
+
+
+class Server:
+    """The program that serves a cluster. It is killed at the end of the block where it hasn't ended."""
+
+    def __init__(self, cluster, *options):
+        self.cluster, self.options = cluster, options
+
+    def __enter__(self):
+        self.folder = tempfile.TemporaryDirectory()
+        write(self.folder.name, json.dumps(self.cluster))
+        self.errors = tempfile.TemporaryFile()
+        self.begun = time.monotonic()
+        self.process = subprocess.Popen(
+            [PATH, "serve", "--config", FILE, *self.options],
+            cwd=self.folder.name, stdin=subprocess.DEVNULL, stdout=subprocess.PIPE, stderr=self.errors,
+        )
+        # A line for each node. Where one is missing, the row that compares them says so.
+        patience = threading.Timer(PATIENCE, self.process.kill)
+        patience.start()
+        self.lines = b"".join(self.process.stdout.readline() for _ in self.cluster["nodes"])
+        patience.cancel()
+        return self
+
+    def __exit__(self, *_error):
+        self.process.kill()
+        self.process.communicate()
+        self.errors.close()
+        self.folder.cleanup()
+
+    def outcome(self, seconds):
+        """The status, what was printed behind the nodes' lines, and the standard error. The status is None where it hasn't ended in time."""
+        try:
+            status = self.process.wait(seconds)
+        except subprocess.TimeoutExpired:
+            return None, b"", b""
+        self.errors.seek(0)
+        return status, self.process.stdout.read(), self.errors.read()
+
+    def processor_ticks(self):
+        """How many ticks of the system's clock the program has used a processor, for itself and in the system."""
+        with open(f"/proc/{self.process.pid}/stat", encoding="ascii") as file:
+            fields = file.read().rpartition(")")[2].split()
+        return int(fields[11]) + int(fields[12])
+
+    def holdings(self):
+        """How many threads and how many open files it has."""
+        return tuple(len(os.listdir(f"/proc/{self.process.pid}/{what}")) for what in ("task", "fd"))
+
+    def holdings_in_time(self, wanted, seconds):
+        """The same, once it is what is wanted, or else what it is after so many seconds."""
+        last = time.monotonic() + seconds
+        while (held := self.holdings()) != wanted and time.monotonic() < last:
+            time.sleep(0.05)
+        return held

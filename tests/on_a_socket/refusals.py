@@ -1,0 +1,103 @@
+"""What the program prints where it doesn't serve: the status, the code on standard output, the sentence on standard error.
+
+The sentence of each faulty configuration is shown by crates/cases; here two are compared whole, and of the others that they begin
+with the program's and the file's name and end with the code.
+"""
+
+import json
+import socket
+
+import clusters
+import program
+from clusters import node_id, ports_of
+from wire import PING, PONG, talk
+
+SERVE = ("serve", "--config", program.FILE)
+
+
+def faulty_clusters():
+    """A change of the six nodes for each code, with its sentence where that is compared."""
+    def changed(change):
+        cluster = clusters.six_nodes()
+        change(cluster)
+        return cluster
+    yield "a time that is a text", "K1", changed(lambda it: it.update(tick_ms="100")), "tick_ms: a whole number is wanted"
+    yield "a strange member", "K1", changed(lambda it: it.update(colour="red")), None
+    yield "ids that fall", "K2", changed(lambda it: it["nodes"].reverse()), None
+    yield "a slot of two masters", "K3", changed(lambda it: it["nodes"][0].update(slots=[[0, 5461]])), "nodes[1].slots: slot 5461 is listed twice"
+    yield "a replica of a replica", "K4", changed(lambda it: it["nodes"][5].update(replica_of=node_id(3))), None
+    yield "no voters", "K5", changed(lambda it: it.update(voters=[])), None
+    yield "17 nodes", "K6", clusters.masters(17), None
+    yield "an address twice", "K7", changed(lambda it: it["nodes"][5].update(port=it["nodes"][1]["port"])), None
+    yield "a port out of range", "K8", changed(lambda it: it["nodes"][5].update(port=65536)), None
+
+
+def play(judge):
+    play_faulty_files(judge)
+    play_taken_ports(judge)
+    play_words(judge)
+
+
+def play_faulty_files(judge):
+    status, output, error = program.run("serve", "--config", "no/such/file.json")
+    judge.equal("no file: status and code", (status, output), (1, b"fault F1\n"))
+    judge_sentence(judge, "no file", error, b"no/such/file.json", b"(F1)")
+    rows = [(what, code, json.dumps(cluster), sentence) for what, code, cluster, sentence in faulty_clusters()]
+    for what, code, text, sentence in [*rows, ("no JSON", "K1", "{", None), ("an empty file", "K1", "", None)]:
+        status, output, error = program.run(*SERVE, text=text)
+        judge.equal(f"{what}: status and code", (status, output), (1, b"fault %s\n" % code.encode()))
+        judge_sentence(judge, what, error, program.FILE.encode(), b"(%s)" % code.encode())
+        if sentence:
+            judge.equal(f"{what}: the sentence", error.decode(), f"rcluster: {program.FILE}: {sentence} ({code})\n")
+
+
+def play_taken_ports(judge):
+    for node in (0, 3):
+        cluster = clusters.six_nodes()
+        port = ports_of(cluster)[node]
+        with socket.socket() as other:
+            other.bind(("127.0.0.1", port))
+            other.listen()
+            status, output, error = program.run(*SERVE, text=json.dumps(cluster))
+        what = f"the port of node {node} is taken"
+        judge.equal(f"{what}: status and code, and no node's line", (status, output), (1, b"fault F2\n"))
+        judge_sentence(judge, what, error, b"127.0.0.1:%d" % port, b"(F2)")
+    cluster = clusters.masters(1)
+    with program.Server(cluster):
+        status, output, _ = program.run(*SERVE, text=json.dumps(cluster))
+        judge.equal("another server has the port: status and code", (status, output), (1, b"fault F2\n"))
+        judge.equal("and that server goes on", talk(*ports_of(cluster), PING), PONG)
+
+
+def judge_sentence(judge, what, error, place, code):
+    """One line on standard error, with the program's name first, the place within and the code last."""
+    judge.equal(f"{what}: one line on standard error", error.count(b"\n"), 1)
+    judge.equal(f"{what}: it begins with the program and ends with the code", (error[:10], error[-6:]), (b"rcluster: ", b" " + code + b"\n"))
+    judge.within(f"{what}: it names the place", place, error)
+
+
+def faulty_words():
+    """Words that are no command line, with what standard error has to say of them."""
+    for ticks in ("0", "1000001", "18446744073709551616", "x", "1.5"):
+        yield (*SERVE, "--ticks", ticks), f"invalid value '{ticks}' for '--ticks <N>'"
+    yield (*SERVE, "--ticks", "-1"), "unexpected argument '-1'"
+    yield (*SERVE, "--ticks"), "a value is required for '--ticks <N>'"
+    yield (), "Usage: "
+    yield ("serve",), "--config <FILE>"
+    yield ("serve", "--config"), "a value is required for '--config <FILE>'"
+    yield ("serve", "--colour", "red"), "unexpected argument '--colour'"
+    yield ("stop",), "unrecognized subcommand 'stop'"
+
+
+def play_words(judge):
+    text = json.dumps(clusters.masters(1))
+    for words, said in faulty_words():
+        what = f"the words {' '.join(words)!r}"
+        status, output, error = program.run(*words, text=text)
+        judge.equal(f"{what}: status, and nothing on standard output", (status, output), (2, b""))
+        judge.within(f"{what}: usage on standard error", said.encode(), error)
+    judge.equal("--version", program.run("--version"), (0, b"rcluster 0.1.0\n", b""))
+    status, output, error = program.run("serve", "--help")
+    judge.equal("serve --help: status, and nothing on standard error", (status, error), (0, b""))
+    for option in (b"--config <FILE>", b"--ticks <N>", b"--journal"):
+        judge.within(f"serve --help tells {option.decode()}", option, output)
