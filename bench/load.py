@@ -9,19 +9,46 @@ import subprocess
 WINDOW = 1000
 
 
-def benchmark(port, test, count, keys, pipeline=1, size=16):
+def benchmark(port, test, count, keys, pipeline=1, size=16, connections=1):
     """Lets redis-benchmark send so many requests, and returns how many were answered a second.
 
     The test is one of its own, by name, or the words of a request. Keys are picked at random from as many, as is what
     `__rand_int__` stands for in a word, and values have that many bytes.
     """
-    options = ["-p", port, "-c", 1, "-P", pipeline, "-n", count, "-r", keys, "-d", size, "--csv"]
+    return rate_of(start(port, test, count, keys, pipeline, size, connections))
+
+
+def benchmark_all(ports, tests, count, keys, pipeline, connections):
+    """Lets a redis-benchmark at each port send so many requests of its test, all at once, and returns the sum of their rates."""
+    begun = [start(port, test, count, keys, pipeline, 16, connections) for port, test in zip(ports, tests)]
+    return sum(rate_of(process) for process in begun)
+
+
+def start(port, test, count, keys, pipeline, size, connections):
+    options = ["-p", port, "-c", connections, "-P", pipeline, "-n", count, "-r", keys, "-d", size, "--csv"]
     options += ["-t", test] if isinstance(test, str) else test
-    said = subprocess.run(
-        ["redis-benchmark", *map(str, options)], capture_output=True, text=True, check=True
-    ).stdout
+    return subprocess.Popen(
+        ["redis-benchmark", *map(str, options)], stdout=subprocess.PIPE, stderr=subprocess.DEVNULL, text=True
+    )
+
+
+def rate_of(process):
+    said = process.communicate()[0]
+    if process.returncode:
+        raise SystemExit(f"redis-benchmark ended with {process.returncode}")
     rows = [row for row in csv.reader(io.StringIO(said)) if len(row) > 1 and row[0] != "test"]
     return float(rows[-1][1])
+
+
+def idle(port, count):
+    """Opens so many connections that ask once for PONG and then say nothing. The caller closes them."""
+    clients = []
+    for _ in range(count):
+        client = socket.create_connection(("127.0.0.1", port))
+        client.sendall(encode(b"PING"))
+        client.recv(16)
+        clients.append(client)
+    return clients
 
 
 def encode(*words):

@@ -1,9 +1,9 @@
 #!/usr/bin/env python3
 """What a request costs here and in Redis, under the same load in the same run.
 
-usage: bench/run.py [instructions] [throughput] [commands] [memory] [--quick] [--out FILE]
+usage: bench/run.py [instructions] [throughput] [commands] [connections] [memory] [--quick] [--out FILE]
 
-Without a word all four are measured. The report goes to the output, and to FILE. The program is the built one
+Without a word all of them are measured. The report goes to the output, and to FILE. The program is the built one
 (./serve builds it) or that of the variable RCLUSTER. It needs redis-server and redis-tools, and for `instructions`
 valgrind. --quick takes a tenth of the requests: good to see that all works, and too few to tell.
 """
@@ -104,10 +104,15 @@ def compare(report, ours, theirs, command, size, keys, pipeline, scale):
 
 # The middle rate of each server, and of the ratios of the rounds the middle one.
 def rates_of(ours, theirs, test, size, keys, pipeline, scale):
+    return rates_in_turn(
+        lambda it, count: load.benchmark(it.port, test, count, keys, pipeline, size), ours, theirs, pipeline, scale)
+
+
+def rates_in_turn(rate, ours, theirs, pipeline, scale):
     count = int((50000 if pipeline == 1 else 400000) * scale)
     rounds = []
     for _ in range(7):
-        rounds.append([load.benchmark(it.port, test, count, keys, pipeline, size) for it in (ours, theirs)])
+        rounds.append([rate(it, count) for it in (ours, theirs)])
     mine, other = (statistics.median(pair[at] for pair in rounds) for at in (0, 1))
     ratio = statistics.median(pair[0] / pair[1] for pair in rounds)
     return f"{mine:,.0f}", f"{other:,.0f}", f"{ratio:.2f}"
@@ -161,6 +166,50 @@ def fill(port, keys, size):
     load.send_all(port, (load.encode(b"SET", b"key:%012d" % key, value) for key in range(keys)), b"+OK\r\n")
 
 
+# ---- many connections, and several nodes
+
+def connections(report, scale):
+    report.say("\n## Many connections")
+    report.say("\nRequests a second over 100,000 keys with values of 16 bytes; three masters are loaded at once by a client each,")
+    report.say("and so is the one Redis beside them.")
+    report.table("Load", "Command", "Pipeline", "rcluster", "Redis", "of Redis")
+    with servers.rcluster() as ours, servers.redis() as theirs:
+        for pipeline in (1, 16):
+            for command in ("SET", "GET"):
+                rates = rates_in_turn(
+                    lambda it, count: load.benchmark(it.port, TESTS[command], count, 100000, pipeline, 16, 50),
+                    ours, theirs, pipeline, scale)
+                report.row("50 connections", command, pipeline, *rates)
+    with servers.three_masters() as ours, servers.redis() as theirs:
+        for pipeline in (1, 16):
+            for command in ("SET", "GET"):
+                rates = rates_in_turn(
+                    lambda it, count: load.benchmark_all(
+                        getattr(it, "ports", [it.port] * 3), at_each_master(command), count // 3, 100000, pipeline, 50),
+                    ours, theirs, pipeline, scale)
+                report.row("three masters, 50 connections each", command, pipeline, *rates)
+    count = int(1000 * scale)
+    report.table("What", "rcluster", "Redis")
+    report.row(f"bytes of resident memory for each of {count:,} idle connections",
+               *[f"{bytes_a_connection(server, count):,.0f}" for server in (servers.rcluster, servers.redis)])
+
+
+# A request for each of three masters: its keys have a tag of a slot that the master has.
+def at_each_master(command):
+    value = [VALUE] if command == "SET" else []
+    return [[command, "{%s}__rand_int__" % tag, *value] for tag in ("b", "c", "a")]
+
+
+def bytes_a_connection(server, count):
+    with server() as it:
+        before = it.resident_bytes()
+        clients = load.idle(it.port, count)
+        grown = it.resident_bytes() - before
+        for client in clients:
+            client.close()
+        return grown / count
+
+
 # ---- resident memory
 
 def memory(report, scale):
@@ -175,6 +224,8 @@ def memory(report, scale):
     for name, (plain, journal) in request.items():
         report.row(f"what a {name} over 1,000 keys leaves", f"{plain:.1f}", "")
         report.row(f"the same with `--journal`", f"{journal:.0f}", "")
+    for sets, size in zip((count, 10 * count), resident_after(count)):
+        report.row(f"resident in all after {sets:,} SETs over 1,000 keys", f"{size:,}", "")
 
 
 def bytes_a_key(server, count):
@@ -190,6 +241,15 @@ def bytes_a_key(server, count):
 
 def bytes_a_request(name, count):
     return [growth(name, count, options) for options in ((), ("--journal",))]
+
+
+# The resident bytes after so many SETs over 1,000 keys, and after ten times as many.
+def resident_after(count):
+    with servers.rcluster() as it:
+        load.benchmark(it.port, "set", count, 1000, 16)
+        first = it.resident_bytes()
+        load.benchmark(it.port, "set", 9 * count, 1000, 16)
+        return first, it.resident_bytes()
 
 
 def growth(name, count, options):
@@ -212,7 +272,13 @@ def machine():
     return f"{os.cpu_count()} cores of {model}, {platform.system()} {platform.release()}"
 
 
-PARTS = {"instructions": instructions, "throughput": throughput, "commands": commands, "memory": memory}
+PARTS = {
+    "instructions": instructions,
+    "throughput": throughput,
+    "commands": commands,
+    "connections": connections,
+    "memory": memory,
+}
 
 
 def main(words):

@@ -12,7 +12,6 @@ import time
 
 ROOT = os.path.dirname(os.path.dirname(os.path.abspath(__file__)))
 PROGRAM = os.environ.get("RCLUSTER") or os.path.join(ROOT, "crates", "rcluster", "out", "rcluster")
-NODE = "0" * 40
 # How long a server may take until it listens, in seconds: under valgrind that is long.
 PATIENCE = 60
 
@@ -63,12 +62,31 @@ class Server:
 
 def rcluster(*options, under=()):
     """Returns one node that owns all slots."""
-    port = free_port()
-    node = {"id": NODE, "host": "127.0.0.1", "port": port, "slots": [[0, 16383]]}
+    return cluster_of([[0, 16383]], options, under)
+
+
+# The slots of three masters that share them evenly.
+THIRDS = [[0, 5460], [5461, 10922], [10923, 16383]]
+
+
+def three_masters():
+    """Returns three nodes with a third of the slots each; their ports are `ports`."""
+    return cluster_of(THIRDS, (), ())
+
+
+def cluster_of(ranges, options, under):
+    ports = [free_port() for _ in ranges]
+    nodes = [
+        {"id": "%040x" % number, "host": "127.0.0.1", "port": port, "slots": [slots]}
+        for number, (port, slots) in enumerate(zip(ports, ranges))
+    ]
+    voters = [node["id"] for node in nodes]
     file = tempfile.NamedTemporaryFile("w", suffix=".json", prefix="bench-", delete=False)
     with file:
-        json.dump({"tick_ms": 100000, "node_timeout": 20, "nodes": [node], "voters": [NODE]}, file)
-    return Server("rcluster", [PROGRAM, "serve", "--config", file.name, *options], port, under)
+        json.dump({"tick_ms": 10000, "node_timeout": 20, "nodes": nodes, "voters": voters}, file)
+    server = Server("rcluster", [PROGRAM, "serve", "--config", file.name, *options], ports[0], under)
+    server.ports = ports
+    return server
 
 
 def redis(under=()):
