@@ -1,6 +1,6 @@
 //! Gates that hold a request up, or that wait for one lock round all nodes.
 
-use node_cell::{Asks, NodeGate};
+use node_cell::NodeGate;
 use node_core::{Event, StepFault};
 use std::sync::atomic::{AtomicBool, Ordering};
 use std::sync::{Mutex, Wait};

@@ -2,7 +2,6 @@
 
 use crate::fault::ProgramFault;
 use cluster::ServeFault;
-use cluster_config::ConfigFault;
 use std::alloc::AllocError;
 use std::fmt;
 

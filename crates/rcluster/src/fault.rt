@@ -3,7 +3,6 @@ ghost use Rattle.std.specs.Prelude.{◌≡◌};
 ghost use Rattle.rcluster.specs.Codes.{code_of, config_code};
 
 use cluster_config::ConfigFault;
-use std::alloc::AllocError;
 use std::fmt;
 
 /// Why the program stops. It prints the code of the fault, and ends with status 1.
@@ -36,9 +35,7 @@ impl ProgramFault {
             ProgramFault::Config(fault) => config_code(fault),
         }
     }
-}
 
-impl ProgramFault {
     /// What the fault is, in words.
     pub fn meaning(self) -> &'static str {
         match self {
@@ -72,17 +69,5 @@ impl fmt::Display for ProgramFault {
     fn fmt<W: fmt::Write>(&self, f: &mut fmt::Formatter<W>) -> fmt::Result {
         let code = self.code();
         write!(f, "fault {code}")
-    }
-}
-
-impl From<AllocError> for ProgramFault {
-    fn from(_error: AllocError) -> ProgramFault {
-        ProgramFault::Memory
-    }
-}
-
-impl From<ConfigFault> for ProgramFault {
-    fn from(fault: ConfigFault) -> ProgramFault {
-        ProgramFault::Config(fault)
     }
 }
