@@ -14,9 +14,9 @@ use resp2::{Counting, Reader};
 use std::alloc::{AllocError, Global};
 use std::io::{Read, Write};
 
-// A read costs a call of the system, however little it gives. A pipeline of a thousand short requests takes one or
-// two of this size, and a client costs so much memory as long as it is connected.
-const READ_SIZE: usize = 65_536;
+// A client costs so much memory as long as it is connected, and a read costs a call of the system, however little it
+// gives. This is the size that Redis reads, too.
+const READ_SIZE: usize = 16_384;
 
 /// Serves one client: reads its requests, has the node answer them, and writes the replies, until the client ends it.
 ///
