@@ -1,0 +1,5 @@
+pub mod View
+pub mod Slot
+pub mod Sent
+pub mod Events
+pub mod Claims

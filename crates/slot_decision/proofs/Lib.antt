@@ -1,0 +1,3 @@
+mod AskedLemmas
+mod DecisionLemmas
+mod WorkedValues

@@ -1,0 +1,3 @@
+pub mod Asked
+pub mod Decision
+pub mod Meaning

@@ -1,0 +1,3 @@
+mod Maps
+mod MovesLemmas
+mod WorkedValues

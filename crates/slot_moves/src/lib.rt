@@ -1,0 +1,21 @@
+//! What a node does with each of the 16384 slots: it serves them, leaves them to their owner, or takes part in their moves.
+#![tactic(auto)]
+
+mod ending;
+mod importing;
+mod migrating;
+mod move_no;
+mod numbering;
+mod order;
+mod running;
+mod slot_moves;
+mod state;
+
+pub use ending::NodeVerdict;
+pub use importing::ImportVerdict;
+pub use migrating::MigrateVerdict;
+pub use move_no::MoveNo;
+pub use order::{Order, Standing};
+pub use running::Move;
+pub use slot_moves::SlotMoves;
+pub use state::SlotState;
