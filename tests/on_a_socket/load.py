@@ -19,6 +19,9 @@ from program import Server
 from wire import OK, PING, PONG, array, ask, bulk, connect, number, playing, slot_of, spelled, talk
 
 CLIENTS = 200
+# How many clients die in the middle of a request at least, however slow the machine is.
+LEAST_DEATHS = 20
+
 # How many seconds the load lasts at least.
 SECONDS = 5
 # How many clients come and go.
@@ -113,13 +116,13 @@ def dying_clients(judge, ports, end):
     """They go in the middle of a request, some with a word of farewell and some without."""
     request = spelled(b"SET", b"b", b"v" * 100)
     died = 0
-    while not end.wait(0.02):
+    while not end.wait(0.02) or died < LEAST_DEATHS:
         with connect(ports[died % 6]) as client:
             client.sendall(PING + request[:1 + died % (len(request) - 1)])
             if died % 2:
                 cut(client)
         died += 1
-    judge.least("clients that died in the middle of a request", died, 20)
+    judge.least("clients that died in the middle of a request", died, LEAST_DEATHS)
 
 
 def cut(client):
