@@ -4,14 +4,15 @@ use byte_string::ByteString;
 use case_files::{bytes_of, push_bytes, push_word, shared_bytes_of, verb_of, words_of};
 use command::{
     ClusterCommand, Command, CommandFault, Condition, DataCommand, ErrorLine, Name, PairList,
-    WordList, keys, moved_reply, parse, split_pair,
+    Positive, SlotOrder, WordList, ask_reply, keys, moved_reply, parse, split_pair,
 };
 use resp2::{Line, Reply, Words, append_reply};
 use std::alloc::{AllocError, Global};
 
 /// `parse WORDS` gives the command with its keys, or the error that answers the words; `name WORD` and `long-name COUNT`,
-/// which is COUNT times `g`, the name that is spelled. `fault` and `error` give the texts of a fault and of an error, and
-/// `moved SLOT HOST PORT` that of a slot that another node has.
+/// which is COUNT times `g`, the name that is spelled. `fault` and `error` give the texts of a fault and of an error,
+/// `moved SLOT HOST PORT` that of a slot that another node has, and `ask SLOT HOST PORT` or `ask SLOT HOST PORT NUMBER` that
+/// of a slot that moves to another node.
 pub fn play(alloc: Global, script: &str) -> Result<String> {
     let mut given = String::new(alloc);
     for command in script.lines() {
@@ -25,6 +26,7 @@ pub fn play(alloc: Global, script: &str) -> Result<String> {
             ("fault", fault) => push_fault(&mut given, fault_of(fault)?)?,
             ("error", line) => push_reply(&mut given, &line_of(line)?.reply())?,
             ("moved", place) => push_moved(&mut given, place)?,
+            ("ask", place) => push_ask(&mut given, place)?,
             _ => bail!("no such command"),
         }
         given.push('\n')?;
@@ -38,13 +40,13 @@ fn push_parsed(given: &mut String, words: &str) -> Result<()> {
         return Ok(given.push_str("no request")?);
     };
     match parse(&words) {
-        Ok(command) => Ok(push_command(given, &command)?),
+        Ok(command) => push_command(given, &command),
         Err(fault) => Ok(push_bytes(given, fault.line().text())?),
     }
 }
 
 // The command, its keys, the only one of them, and whether it writes.
-fn push_command(given: &mut String, command: &Command) -> Result<(), AllocError> {
+fn push_command(given: &mut String, command: &Command) -> Result<()> {
     let alloc = *given.allocator();
     match command {
         Command::Data(command) => push_data(given, command)?,
@@ -180,12 +182,65 @@ fn push_list(given: &mut String, name: &str, words: &WordList) -> Result<(), All
     Ok(())
 }
 
-fn push_cluster(given: &mut String, command: &ClusterCommand) -> Result<(), AllocError> {
+fn push_cluster(given: &mut String, command: &ClusterCommand) -> Result<()> {
     match command {
-        ClusterCommand::KeySlot { key } => push_words(given, "CLUSTER KEYSLOT", &[key.as_slice()]),
-        ClusterCommand::MyId => push_words(given, "CLUSTER MYID", &[]),
-        ClusterCommand::Slots => push_words(given, "CLUSTER SLOTS", &[]),
+        ClusterCommand::KeySlot { key } => {
+            push_words(given, "CLUSTER KEYSLOT", &[key.as_slice()])?;
+        }
+        ClusterCommand::MyId => given.push_str("CLUSTER MYID")?,
+        ClusterCommand::Slots => given.push_str("CLUSTER SLOTS")?,
+        ClusterCommand::CountKeysInSlot { slot } => {
+            write!(given, "CLUSTER COUNTKEYSINSLOT {}", slot.get())?;
+        }
+        ClusterCommand::GetKeysInSlot { slot, count } => {
+            write!(given, "CLUSTER GETKEYSINSLOT {} {count}", slot.get())?;
+        }
+        ClusterCommand::SlotState { slot } => {
+            write!(given, "CLUSTER SLOTSTATE {}", slot.get())?;
+        }
+        ClusterCommand::SetSlot {
+            slot,
+            order,
+            node,
+            number,
+        } => {
+            write!(given, "CLUSTER SETSLOT {}", slot.get())?;
+            push_words(given, name_of(*order), &[node.as_slice()])?;
+            push_number(given, *number)?;
+        }
+        ClusterCommand::Numbered => given.push_str("CLUSTER NUMBERED")?,
+        ClusterCommand::Asking { number } => {
+            given.push_str("ASKING")?;
+            push_number(given, *number)?;
+        }
+        ClusterCommand::Migrate {
+            host,
+            port,
+            key,
+            timeout,
+        } => {
+            push_words(given, "MIGRATE", &[host.as_slice()])?;
+            write!(given, " {port}")?;
+            push_words(given, "", &[key.as_slice()])?;
+            write!(given, " 0 {timeout}")?;
+        }
     }
+    Ok(())
+}
+
+fn name_of(order: SlotOrder) -> &'static str {
+    match order {
+        SlotOrder::Importing => " IMPORTING",
+        SlotOrder::Migrating => " MIGRATING",
+        SlotOrder::Node => " NODE",
+    }
+}
+
+fn push_number(given: &mut String, number: Option<Positive>) -> Result<()> {
+    if let Some(number) = number {
+        write!(given, " {}", number.get())?;
+    }
+    Ok(())
 }
 
 fn push_words(given: &mut String, name: &str, arguments: &[&[u8]]) -> Result<(), AllocError> {
@@ -223,6 +278,8 @@ fn fault_of(text: &str) -> Result<CommandFault> {
             CommandFault::Arity(Name::of(name.as_bytes()).context("no such command")?)
         }
         ("Syntax", "") => CommandFault::Syntax,
+        ("InvalidSlot", "") => CommandFault::InvalidSlot,
+        ("NotAnInteger", "") => CommandFault::NotAnInteger,
         _ => bail!("no such fault"),
     })
 }
@@ -240,6 +297,19 @@ fn line_of(text: &str) -> Result<ErrorLine> {
         "HashNotAnInteger" => ErrorLine::HashNotAnInteger,
         "Overflow" => ErrorLine::Overflow,
         "WrongType" => ErrorLine::WrongType,
+        "InvalidSlot" => ErrorLine::InvalidSlot,
+        "SomeKeysMissing" => ErrorLine::SomeKeysMissing,
+        "KeyFrozen" => ErrorLine::KeyFrozen,
+        "TableNotUpdated" => ErrorLine::TableNotUpdated,
+        "OldMove" => ErrorLine::OldMove,
+        "SlotBusy" => ErrorLine::SlotBusy,
+        "NotOwner" => ErrorLine::NotOwner,
+        "AlreadyOwner" => ErrorLine::AlreadyOwner,
+        "NotDrained" => ErrorLine::NotDrained,
+        "UnknownNode" => ErrorLine::UnknownNode,
+        "CopyOutstanding" => ErrorLine::CopyOutstanding,
+        "WrongTarget" => ErrorLine::WrongTarget,
+        "NotAcknowledged" => ErrorLine::NotAcknowledged,
         _ => bail!("no such error"),
     })
 }
@@ -252,5 +322,21 @@ fn push_moved(given: &mut String, place: &str) -> Result<()> {
     let slot = slot.parse::<u16>()?;
     let port = port.parse::<u16>()?;
     let reply = moved_reply(alloc, slot, host.as_slice(), port)?;
+    push_reply(given, &reply)
+}
+
+fn push_ask(given: &mut String, place: &str) -> Result<()> {
+    let alloc = *given.allocator();
+    let (slot, address) = verb_of(place);
+    let (host, rest) = verb_of(address);
+    let (port, number) = verb_of(rest);
+    let host = Line::new(shared_bytes_of(alloc, host)?).context("more than a line")?;
+    let slot = slot.parse::<u16>()?;
+    let port = port.parse::<u16>()?;
+    let number = match number {
+        "" => None,
+        _ => Some(Positive::of(number.as_bytes()).context("no number of a move")?),
+    };
+    let reply = ask_reply(alloc, slot, host.as_slice(), port, number)?;
     push_reply(given, &reply)
 }

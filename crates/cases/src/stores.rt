@@ -15,7 +15,7 @@ use keyspace::{
     rebuilding_makes_the_key,
 };
 use resp2::Words;
-use slot_store::{SlotKeys, SlotStore};
+use slot_store::{SlotKeys, SlotParts, SlotStore};
 use std::alloc::Global;
 use std::mem;
 
@@ -27,8 +27,8 @@ use std::mem;
 /// `insert-long KEY COUNT`, a string of COUNT times `x`, and `remove KEY` change the store themselves, and `values KEY..`
 /// reads it. `rebuild KEY` gives the request that makes the key with its value.
 ///
-/// Behind a first line `slots` there are also `count SLOT`, the number of keys in a slot, and `keys SLOT COUNT`, the first
-/// of them.
+/// Behind a first line `slots` there are also `count SLOT`, the number of keys in a slot, `keys SLOT COUNT`, the first of
+/// them, and `clear SLOT`, which removes them all.
 pub fn play(alloc: Global, script: &str) -> Result<String> {
     let (first, rest) = script.split_once('\n').unwrap_or((script, ""));
     match verb_of(first) {
@@ -44,6 +44,7 @@ fn play_on_slots(alloc: Global, script: &str) -> Result<String> {
         match verb_of(command) {
             ("count", slot) => bench.count(slot)?,
             ("keys", words) => bench.keys(words)?,
+            ("clear", slot) => bench.clear(slot)?,
             _ => bench.play(command)?,
         }
     }
@@ -259,6 +260,13 @@ impl<S: SlotKeys> Bench<S> {
         }
         push_words(&mut self.given, keys.as_slice())?;
         self.say("")
+    }
+}
+
+impl<S: SlotParts> Bench<S> {
+    fn clear(&mut self, slot: &str) -> Result<()> {
+        self.store.clear_slot(slot_of(slot)?);
+        Ok(())
     }
 }
 

@@ -1,3 +1,4 @@
 pub mod LineLemmas
+pub mod NumberTexts
 pub mod PairLemmas
 mod WorkedValues

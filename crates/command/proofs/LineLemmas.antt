@@ -1,10 +1,10 @@
--- The text of MOVED is on one line.
+-- The texts of MOVED and ASK are on one line.
 use Rattle.std.proofs.Common.{◌≡◌, ℕ, ◌+◌, ◌<◌, ◌^◌, ◌%◌, List, [], ◌∷◌, ◌++◌, true, refl, arith}
-use Rattle.std.specs.Prelude.{decimal}
+use Rattle.std.specs.Prelude.{None, Some, decimal}
 use Rattle.std.proofs.lemmas.Fmt.{decimal_by_steps}
 use Rattle.std.proofs.lemmas.List.Folds.{list_all-append}
 use Rattle.resp2.specs.Line.{is_one_line, is_text_byte}
-use Rattle.command.specs.ErrorLine.{moved_text}
+use Rattle.command.specs.ErrorLine.{ask_text, moved_text}
 
 one_line-append : (front rest : List ℕ) → is_one_line front ≡ true → is_one_line rest ≡ true → is_one_line (front ++ rest) ≡ true
 one_line-append front rest one other = rw (list_all-append is_text_byte front rest, one, other) refl
@@ -21,3 +21,11 @@ number_is_one_line =
 pub moved_is_one_line : (slot port : ℕ) (host : List ℕ) → slot < 2 ^ 64 → port < 2 ^ 64 → is_one_line host ≡ true → is_one_line (moved_text slot host port) ≡ true
 moved_is_one_line slot port host slot_fits port_fits one =
     simp (list_all-append is_text_byte, number_is_one_line slot slot_fits, number_is_one_line port port_fits, one)
+
+pub plain_ask_is_one_line : (slot port : ℕ) (host : List ℕ) → slot < 2 ^ 64 → port < 2 ^ 64 → is_one_line host ≡ true → is_one_line (ask_text slot host port None) ≡ true
+plain_ask_is_one_line slot port host slot_fits port_fits one =
+    simp (list_all-append is_text_byte, number_is_one_line slot slot_fits, number_is_one_line port port_fits, one)
+
+pub numbered_ask_is_one_line : (slot port number : ℕ) (host : List ℕ) → slot < 2 ^ 64 → port < 2 ^ 64 → number < 2 ^ 64 → is_one_line host ≡ true → is_one_line (ask_text slot host port (Some number)) ≡ true
+numbered_ask_is_one_line slot port number host slot_fits port_fits number_fits one =
+    simp (list_all-append is_text_byte, number_is_one_line slot slot_fits, number_is_one_line port port_fits, number_is_one_line number number_fits, one)

@@ -1,17 +1,19 @@
 -- Worked values of the definitions (Redis command reference).
 use Rattle.std.proofs.Common.{◌≡◌, [], ◌∷◌, refl, true, false}
-use Rattle.std.specs.Prelude.{Some, None, Ok, Err, codes}
+use Rattle.std.specs.Prelude.{Some, None, Ok, Err, codes, pos, negsuc}
 use Rattle.std.specs.Fmt.{digits}
-use Rattle.command.specs.ErrorLine.{error_text, line_of, moved_text}
+use Rattle.command.specs.ErrorLine.{ask_text, error_text, line_of, moved_text}
 use Rattle.command.specs.Keys.{is_write, keys_of, only_key}
 use Rattle.command.specs.Names.{name_of}
+use Rattle.command.specs.Numbers.{number_of}
 use Rattle.command.specs.Table.{command_of}
 use Rattle.command.specs.declared.names.Name.TheVariants as name
 use Rattle.command.specs.declared.command.Command.TheVariants.{Data, Cluster}
 use Rattle.command.specs.declared.command.DataCommand.TheVariants.{Ping, Echo, Get, Set, Mget, Mset, Setnx, Getset, Getdel, Append, Incr, Decr, Incrby, Strlen, Del, Exists, TypeOf, Hset, Hsetnx, Hget, Hmget, Hdel, Hlen, Hgetall, Hincrby}
 use Rattle.command.specs.declared.command.Condition.TheVariants.{Always, IfMissing, IfThere}
-use Rattle.command.specs.declared.command.ClusterCommand.TheVariants.{KeySlot, MyId, Slots}
-use Rattle.command.specs.declared.fault.CommandFault.TheVariants.{Unknown, UnknownSubcommand, Arity, Syntax}
+use Rattle.command.specs.declared.command.ClusterCommand.TheVariants.{KeySlot, MyId, Slots, CountKeysInSlot, GetKeysInSlot, SlotState, SetSlot, Numbered, Asking, Migrate}
+use Rattle.command.specs.declared.command.SlotOrder.TheVariants.{Importing, Migrating, Node}
+use Rattle.command.specs.declared.fault.CommandFault.TheVariants.{Unknown, UnknownSubcommand, Arity, Syntax, InvalidSlot, NotAnInteger}
 use Rattle.command.specs.declared.error_line.ErrorLine.TheVariants.{HashNotAnInteger, WrongType}
 
 -- letters of any case
@@ -197,6 +199,168 @@ cluster_foo_a_b = refl
 cluster_keyslot : command_of (codes "CLUSTER" ∷ codes "KEYSLOT" ∷ []) ≡ Err (Arity name.Cluster)
 cluster_keyslot = refl
 
+-- the last numbers of 64 bits are numbers, and the next ones are none
+greatest : number_of (codes "9223372036854775807") ≡ Some (pos 9223372036854775807)
+unfolding number_of digits
+greatest = refl
+
+past_the_greatest : number_of (codes "9223372036854775808") ≡ None
+unfolding number_of digits
+past_the_greatest = refl
+
+least : number_of (codes "-9223372036854775808") ≡ Some (negsuc 9223372036854775807)
+unfolding number_of digits
+least = refl
+
+past_the_least : number_of (codes "-9223372036854775809") ≡ None
+unfolding number_of digits
+past_the_least = refl
+
+zero_is_a_number : number_of (codes "0") ≡ Some (pos 0)
+unfolding number_of digits
+zero_is_a_number = refl
+
+-- a number has one text
+leading_zero : number_of (codes "01") ≡ None
+unfolding number_of digits
+leading_zero = refl
+
+minus_zero : number_of (codes "-0") ≡ None
+unfolding number_of digits
+minus_zero = refl
+
+plus : number_of (codes "+1") ≡ None
+unfolding number_of digits
+plus = refl
+
+blank : number_of (codes " 1") ≡ None
+unfolding number_of digits
+blank = refl
+
+no_digits : number_of [] ≡ None
+unfolding number_of digits
+no_digits = refl
+
+letter : number_of (codes "1a") ≡ None
+unfolding number_of digits
+letter = refl
+
+-- the last slot is a slot, and the next number is none
+countkeysinslot_last : command_of (codes "CLUSTER" ∷ codes "CountKeysInSlot" ∷ codes "16383" ∷ []) ≡ Ok (Cluster (CountKeysInSlot 16383))
+unfolding number_of digits
+countkeysinslot_last = refl
+
+countkeysinslot_past_the_last : command_of (codes "CLUSTER" ∷ codes "COUNTKEYSINSLOT" ∷ codes "16384" ∷ []) ≡ Err InvalidSlot
+unfolding number_of digits
+countkeysinslot_past_the_last = refl
+
+slotstate_below_the_first : command_of (codes "CLUSTER" ∷ codes "SLOTSTATE" ∷ codes "-1" ∷ []) ≡ Err InvalidSlot
+unfolding number_of digits
+slotstate_below_the_first = refl
+
+slotstate_first : command_of (codes "CLUSTER" ∷ codes "SLOTSTATE" ∷ codes "0" ∷ []) ≡ Ok (Cluster (SlotState 0))
+unfolding number_of digits
+slotstate_first = refl
+
+-- no key may be asked for, but not fewer
+getkeysinslot_none : command_of (codes "CLUSTER" ∷ codes "GETKEYSINSLOT" ∷ codes "5" ∷ codes "0" ∷ []) ≡ Ok (Cluster (GetKeysInSlot 5 0))
+unfolding number_of digits
+getkeysinslot_none = refl
+
+getkeysinslot_fewer : command_of (codes "CLUSTER" ∷ codes "GETKEYSINSLOT" ∷ codes "5" ∷ codes "-1" ∷ []) ≡ Err NotAnInteger
+unfolding number_of digits
+getkeysinslot_fewer = refl
+
+-- the slot is read first
+getkeysinslot_no_slot : command_of (codes "CLUSTER" ∷ codes "GETKEYSINSLOT" ∷ codes "x" ∷ codes "-1" ∷ []) ≡ Err InvalidSlot
+unfolding number_of digits
+getkeysinslot_no_slot = refl
+
+-- a number may be left out
+setslot_importing : command_of (codes "CLUSTER" ∷ codes "SETSLOT" ∷ codes "12182" ∷ codes "importing" ∷ codes "07c37dfeb235213a872192d90877d0cd55635b91" ∷ []) ≡ Ok (Cluster (SetSlot 12182 Importing (codes "07c37dfeb235213a872192d90877d0cd55635b91") None))
+unfolding number_of digits
+setslot_importing = refl
+
+setslot_migrating_7 : command_of (codes "CLUSTER" ∷ codes "SETSLOT" ∷ codes "12182" ∷ codes "MIGRATING" ∷ codes "07c37dfeb235213a872192d90877d0cd55635b91" ∷ codes "7" ∷ []) ≡ Ok (Cluster (SetSlot 12182 Migrating (codes "07c37dfeb235213a872192d90877d0cd55635b91") (Some 7)))
+unfolding number_of digits
+setslot_migrating_7 = refl
+
+setslot_node : command_of (codes "CLUSTER" ∷ codes "SETSLOT" ∷ codes "12182" ∷ codes "NODE" ∷ codes "07c37dfeb235213a872192d90877d0cd55635b91" ∷ codes "7" ∷ []) ≡ Ok (Cluster (SetSlot 12182 Node (codes "07c37dfeb235213a872192d90877d0cd55635b91") (Some 7)))
+unfolding number_of digits
+setslot_node = refl
+
+-- of several faults the slot's is found first, then the order's, then the number's
+setslot_no_slot : command_of (codes "CLUSTER" ∷ codes "SETSLOT" ∷ codes "16384" ∷ codes "STABLE" ∷ codes "07c37dfeb235213a872192d90877d0cd55635b91" ∷ codes "0" ∷ []) ≡ Err InvalidSlot
+unfolding number_of digits
+setslot_no_slot = refl
+
+setslot_no_order : command_of (codes "CLUSTER" ∷ codes "SETSLOT" ∷ codes "12182" ∷ codes "STABLE" ∷ codes "07c37dfeb235213a872192d90877d0cd55635b91" ∷ codes "0" ∷ []) ≡ Err Syntax
+unfolding number_of digits
+setslot_no_order = refl
+
+setslot_no_number : command_of (codes "CLUSTER" ∷ codes "SETSLOT" ∷ codes "12182" ∷ codes "NODE" ∷ codes "07c37dfeb235213a872192d90877d0cd55635b91" ∷ codes "0" ∷ []) ≡ Err NotAnInteger
+unfolding number_of digits
+setslot_no_number = refl
+
+-- a wrong number of arguments is found before all of these
+setslot_stable : command_of (codes "CLUSTER" ∷ codes "SETSLOT" ∷ codes "12182" ∷ codes "STABLE" ∷ []) ≡ Err (Arity name.Cluster)
+setslot_stable = refl
+
+numbered : command_of (codes "cluster" ∷ codes "numbered" ∷ []) ≡ Ok (Cluster Numbered)
+numbered = refl
+
+asking_any : command_of (codes "asking" ∷ []) ≡ Ok (Cluster (Asking None))
+asking_any = refl
+
+-- a number of a move has 63 bits, and is at least 1
+asking_greatest : command_of (codes "ASKING" ∷ codes "9223372036854775807" ∷ []) ≡ Ok (Cluster (Asking (Some 9223372036854775807)))
+unfolding number_of digits
+asking_greatest = refl
+
+asking_past_the_greatest : command_of (codes "ASKING" ∷ codes "9223372036854775808" ∷ []) ≡ Err NotAnInteger
+unfolding number_of digits
+asking_past_the_greatest = refl
+
+asking_0 : command_of (codes "ASKING" ∷ codes "0" ∷ []) ≡ Err NotAnInteger
+unfolding number_of digits
+asking_0 = refl
+
+asking_1_2 : command_of (codes "ASKING" ∷ codes "1" ∷ codes "2" ∷ []) ≡ Err (Arity name.Asking)
+asking_1_2 = refl
+
+-- the port is any number
+migrate_foo : command_of (codes "MIGRATE" ∷ codes "127.0.0.1" ∷ codes "7001" ∷ codes "foo" ∷ codes "0" ∷ codes "1000000" ∷ []) ≡ Ok (Cluster (Migrate (codes "127.0.0.1") (pos 7001) (codes "foo") 1000000))
+unfolding number_of digits
+migrate_foo = refl
+
+migrate_to_no_port : command_of (codes "MIGRATE" ∷ codes "h" ∷ codes "-1" ∷ codes "" ∷ codes "0" ∷ codes "1" ∷ []) ≡ Ok (Cluster (Migrate (codes "h") (negsuc 0) (codes "") 1))
+unfolding number_of digits
+migrate_to_no_port = refl
+
+-- what is no number is found before a number that is not taken
+migrate_port_x : command_of (codes "MIGRATE" ∷ codes "h" ∷ codes "x" ∷ codes "foo" ∷ codes "1" ∷ codes "0" ∷ []) ≡ Err NotAnInteger
+unfolding number_of digits
+migrate_port_x = refl
+
+migrate_timeout_x : command_of (codes "MIGRATE" ∷ codes "h" ∷ codes "1" ∷ codes "foo" ∷ codes "1" ∷ codes "x" ∷ []) ≡ Err NotAnInteger
+unfolding number_of digits
+migrate_timeout_x = refl
+
+migrate_database_1 : command_of (codes "MIGRATE" ∷ codes "h" ∷ codes "1" ∷ codes "foo" ∷ codes "1" ∷ codes "5" ∷ []) ≡ Err Syntax
+unfolding number_of digits
+migrate_database_1 = refl
+
+migrate_timeout_0 : command_of (codes "MIGRATE" ∷ codes "h" ∷ codes "1" ∷ codes "foo" ∷ codes "0" ∷ codes "0" ∷ []) ≡ Err Syntax
+unfolding number_of digits
+migrate_timeout_0 = refl
+
+migrate_timeout_past_the_greatest : command_of (codes "MIGRATE" ∷ codes "h" ∷ codes "1" ∷ codes "foo" ∷ codes "0" ∷ codes "1000001" ∷ []) ≡ Err Syntax
+unfolding number_of digits
+migrate_timeout_past_the_greatest = refl
+
+migrate_copy : command_of (codes "MIGRATE" ∷ codes "h" ∷ codes "1" ∷ codes "foo" ∷ codes "0" ∷ codes "5" ∷ codes "COPY" ∷ []) ≡ Err (Arity name.Migrate)
+migrate_copy = refl
+
 -- a subcommand is no command
 keyslot_foo : command_of (codes "KEYSLOT" ∷ codes "foo" ∷ []) ≡ Err Unknown
 keyslot_foo = refl
@@ -253,3 +417,12 @@ writes_no_mget = refl
 moved : moved_text 12182 (codes "127.0.0.1") 7002 ≡ codes "MOVED 12182 127.0.0.1:7002"
 unfolding digits
 moved = refl
+
+ask : ask_text 12182 (codes "127.0.0.1") 7001 None ≡ codes "ASK 12182 127.0.0.1:7001"
+unfolding digits
+ask = refl
+
+-- with the number of the move
+ask_7 : ask_text 12182 (codes "127.0.0.1") 7001 (Some 7) ≡ codes "ASK 12182 127.0.0.1:7001 7"
+unfolding digits
+ask_7 = refl

@@ -1,10 +1,10 @@
 -- The texts of error replies (RESP protocol, "Simple errors": the first word is the kind of error).
-use Rattle.std.specs.Prelude.{List, ℕ, ◌++◌, codes, decimal}
+use Rattle.std.specs.Prelude.{List, ℕ, Option, Some, None, ◌++◌, codes, decimal}
 use Rattle.command.specs.Names.{name_text}
 use Rattle.command.specs.declared.fault.CommandFault.{CommandFault}
-use Rattle.command.specs.declared.fault.CommandFault.TheVariants.{Unknown, UnknownSubcommand, Arity, Syntax}
+use Rattle.command.specs.declared.fault.CommandFault.TheVariants.{Unknown, UnknownSubcommand, Arity, Syntax, InvalidSlot, NotAnInteger as NoInteger}
 use Rattle.command.specs.declared.error_line.ErrorLine.{ErrorLine}
-use Rattle.command.specs.declared.error_line.ErrorLine.TheVariants.{Protocol, OutOfMemory, Exhausted, UnknownCommand, UnknownSubcommand as UnknownWord, WrongArity, Syntax as WrongSyntax, CrossSlot, SlotDown, TooLong, NotAnInteger, HashNotAnInteger, Overflow, WrongType}
+use Rattle.command.specs.declared.error_line.ErrorLine.TheVariants.{Protocol, OutOfMemory, Exhausted, UnknownCommand, UnknownSubcommand as UnknownWord, WrongArity, Syntax as WrongSyntax, CrossSlot, SlotDown, TooLong, NotAnInteger, HashNotAnInteger, Overflow, WrongType, InvalidSlot as WrongSlot, SomeKeysMissing, KeyFrozen, TableNotUpdated, OldMove, SlotBusy, NotOwner, AlreadyOwner, NotDrained, UnknownNode, CopyOutstanding, WrongTarget, NotAcknowledged}
 
 -- what follows the `-`
 abbrev pub error_text : ErrorLine → List ℕ
@@ -21,6 +21,19 @@ error_text NotAnInteger = codes "ERR value is not an integer or out of range"
 error_text HashNotAnInteger = codes "ERR hash value is not an integer"
 error_text Overflow = codes "ERR increment or decrement would overflow"
 error_text WrongType = codes "WRONGTYPE Operation against a key holding the wrong kind of value"
+error_text WrongSlot = codes "ERR Invalid slot"
+error_text SomeKeysMissing = codes "TRYAGAIN Multiple keys request during rehashing of slot"
+error_text KeyFrozen = codes "TRYAGAIN Key is being moved"
+error_text TableNotUpdated = codes "TRYAGAIN Slot table not yet updated"
+error_text OldMove = codes "ERR move number is not above the last one"
+error_text SlotBusy = codes "ERR slot is already being moved"
+error_text NotOwner = codes "ERR slot is not owned by the source"
+error_text AlreadyOwner = codes "ERR slot is already owned by this node"
+error_text NotDrained = codes "ERR slot is not drained"
+error_text UnknownNode = codes "ERR unknown node"
+error_text CopyOutstanding = codes "TRYAGAIN Another copy is outstanding"
+error_text WrongTarget = codes "ERR slot is not migrating to that address"
+error_text NotAcknowledged = codes "IOERR copy not acknowledged"
 error_text (WrongArity name) = codes "ERR wrong number of arguments for '" ++ name_text name ++ codes "' command"
 
 -- the reply to words that are not a command
@@ -29,7 +42,19 @@ line_of Unknown = UnknownCommand
 line_of UnknownSubcommand = UnknownWord
 line_of (Arity name) = WrongArity name
 line_of Syntax = WrongSyntax
+line_of InvalidSlot = WrongSlot
+line_of NoInteger = NotAnInteger
 
--- the slot of the keys, and the address of the node that owns it (Redis Cluster specification, "MOVED Redirection")
+-- a slot, and the address of a node
+abbrev pub place_text : ℕ → List ℕ → ℕ → List ℕ
+place_text slot host port = decimal slot ++ codes " " ++ host ++ codes ":" ++ decimal port
+
+-- the slot of the keys, and the node that owns it (Redis Cluster specification, "MOVED Redirection")
 abbrev pub moved_text : ℕ → List ℕ → ℕ → List ℕ
-moved_text slot host port = codes "MOVED " ++ decimal slot ++ codes " " ++ host ++ codes ":" ++ decimal port
+moved_text slot host port = codes "MOVED " ++ place_text slot host port
+
+-- the slot of the keys, and the node that it moves to (Redis Cluster specification, "ASK redirection"); then, where the
+-- connection wants it, the number of the move, which is this project's own
+abbrev pub ask_text : ℕ → List ℕ → ℕ → Option ℕ → List ℕ
+ask_text slot host port None = codes "ASK " ++ place_text slot host port
+ask_text slot host port (Some number) = codes "ASK " ++ place_text slot host port ++ codes " " ++ decimal number

@@ -2,9 +2,9 @@
 use Rattle.std.specs.Prelude.{List, [], ◌∷◌, ℕ, Option, codes, find}
 use Rattle.std.specs.Str.{str_eq_ignore_ascii_case}
 use Rattle.command.specs.declared.names.Name.{Name}
-use Rattle.command.specs.declared.names.Name.TheVariants.{Get, Set, Ping, Echo, Hget, Hset, Mget, Mset, Setnx, Getset, Getdel, Append, Incr, Decr, Incrby, Strlen, Del, Exists, TypeOf, Hsetnx, Hmget, Hdel, Hexists, Hlen, Hstrlen, Hkeys, Hvals, Hgetall, Hincrby, Cluster}
+use Rattle.command.specs.declared.names.Name.TheVariants.{Get, Set, Ping, Echo, Hget, Hset, Mget, Mset, Setnx, Getset, Getdel, Append, Incr, Decr, Incrby, Strlen, Del, Exists, TypeOf, Hsetnx, Hmget, Hdel, Hexists, Hlen, Hstrlen, Hkeys, Hvals, Hgetall, Hincrby, Cluster, Asking, Migrate}
 use Rattle.command.specs.declared.names.Subcommand.{Subcommand}
-use Rattle.command.specs.declared.names.Subcommand.TheVariants.{KeySlot, MyId, Slots}
+use Rattle.command.specs.declared.names.Subcommand.TheVariants.{KeySlot, MyId, Slots, CountKeysInSlot, GetKeysInSlot, SlotState, SetSlot, Numbered}
 
 -- each name in lower case
 abbrev pub name_text : Name → List ℕ
@@ -38,9 +38,11 @@ name_text Hvals = codes "hvals"
 name_text Hgetall = codes "hgetall"
 name_text Hincrby = codes "hincrby"
 name_text Cluster = codes "cluster"
+name_text Asking = codes "asking"
+name_text Migrate = codes "migrate"
 
 abbrev pub names : List Name
-names = Get ∷ Set ∷ Ping ∷ Incr ∷ Hget ∷ Hset ∷ Mget ∷ Mset ∷ Append ∷ Echo ∷ Setnx ∷ Getset ∷ Getdel ∷ Decr ∷ Incrby ∷ Strlen ∷ Del ∷ Exists ∷ TypeOf ∷ Hsetnx ∷ Hmget ∷ Hdel ∷ Hexists ∷ Hlen ∷ Hstrlen ∷ Hkeys ∷ Hvals ∷ Hgetall ∷ Hincrby ∷ Cluster ∷ []
+names = Get ∷ Set ∷ Ping ∷ Incr ∷ Hget ∷ Hset ∷ Mget ∷ Mset ∷ Append ∷ Echo ∷ Setnx ∷ Getset ∷ Getdel ∷ Decr ∷ Incrby ∷ Strlen ∷ Del ∷ Exists ∷ TypeOf ∷ Hsetnx ∷ Hmget ∷ Hdel ∷ Hexists ∷ Hlen ∷ Hstrlen ∷ Hkeys ∷ Hvals ∷ Hgetall ∷ Hincrby ∷ Cluster ∷ Asking ∷ Migrate ∷ []
 
 -- the name that a word spells, in letters of any case
 abbrev pub name_of : List ℕ → Option Name
@@ -51,9 +53,14 @@ abbrev pub subcommand_text : Subcommand → List ℕ
 subcommand_text KeySlot = codes "keyslot"
 subcommand_text MyId = codes "myid"
 subcommand_text Slots = codes "slots"
+subcommand_text CountKeysInSlot = codes "countkeysinslot"
+subcommand_text GetKeysInSlot = codes "getkeysinslot"
+subcommand_text SlotState = codes "slotstate"
+subcommand_text SetSlot = codes "setslot"
+subcommand_text Numbered = codes "numbered"
 
 abbrev pub subcommands : List Subcommand
-subcommands = KeySlot ∷ MyId ∷ Slots ∷ []
+subcommands = KeySlot ∷ MyId ∷ Slots ∷ CountKeysInSlot ∷ GetKeysInSlot ∷ SlotState ∷ SetSlot ∷ Numbered ∷ []
 
 -- the subcommand that a word spells, in letters of any case
 abbrev pub subcommand_of : List ℕ → Option Subcommand

@@ -1,31 +1,19 @@
 -- Which words are a command (Redis command reference: the name, then the arguments of its syntax).
 use Rattle.std.specs.Prelude.{List, [], ◌∷◌, ℕ, Option, Some, None, Result, Ok, Err, codes, if◌then◌else◌}
 use Rattle.std.specs.Str.{str_eq_ignore_ascii_case}
-use Rattle.command.specs.Names.{name_of, subcommand_of}
+use Rattle.command.specs.ClusterTable.{with_import, with_migration, with_subcommands}
+use Rattle.command.specs.Names.{name_of}
 use Rattle.command.specs.Pairs.{pairs_of}
 use Rattle.command.specs.declared.names.Name.{Name}
 use Rattle.command.specs.declared.names.Name.TheVariants as name
-use Rattle.command.specs.declared.names.Subcommand.{Subcommand}
-use Rattle.command.specs.declared.names.Subcommand.TheVariants as subcommand
 use Rattle.command.specs.declared.command.Command.{Command}
-use Rattle.command.specs.declared.command.Command.TheVariants.{Data, Cluster}
+use Rattle.command.specs.declared.command.Command.TheVariants.{Data}
 use Rattle.command.specs.declared.command.DataCommand.{DataCommand}
 use Rattle.command.specs.declared.command.DataCommand.TheVariants.{Ping, Echo, Get, Set, Mget, Mset, Setnx, Getset, Getdel, Append, Incr, Decr, Incrby, Strlen, Del, Exists, TypeOf, Hset, Hsetnx, Hget, Hmget, Hdel, Hexists, Hlen, Hstrlen, Hkeys, Hvals, Hgetall, Hincrby}
 use Rattle.command.specs.declared.command.Condition.{Condition}
 use Rattle.command.specs.declared.command.Condition.TheVariants.{Always, IfMissing, IfThere}
-use Rattle.command.specs.declared.command.ClusterCommand.TheVariants.{KeySlot, MyId, Slots}
 use Rattle.command.specs.declared.fault.CommandFault.{CommandFault}
-use Rattle.command.specs.declared.fault.CommandFault.TheVariants.{Unknown, UnknownSubcommand, Arity, Syntax}
-
--- a row a subcommand: the arguments that it takes
-abbrev pub with_subcommand : Option Subcommand → List (List ℕ) → Result Command CommandFault
-with_subcommand None _ = Err UnknownSubcommand
-with_subcommand (Some subcommand.KeySlot) (key ∷ []) = Ok (Cluster (KeySlot key))
-with_subcommand (Some subcommand.KeySlot) _ = Err (Arity name.Cluster)
-with_subcommand (Some subcommand.MyId) [] = Ok (Cluster MyId)
-with_subcommand (Some subcommand.MyId) (_ ∷ _) = Err (Arity name.Cluster)
-with_subcommand (Some subcommand.Slots) [] = Ok (Cluster Slots)
-with_subcommand (Some subcommand.Slots) (_ ∷ _) = Err (Arity name.Cluster)
+use Rattle.command.specs.declared.fault.CommandFault.TheVariants.{Unknown, Arity, Syntax}
 
 -- a command with one argument
 abbrev pub with_one : Name → (List ℕ → DataCommand) → List (List ℕ) → Result Command CommandFault
@@ -87,11 +75,6 @@ with_message [] = Ok (Data Ping)
 with_message (message ∷ []) = Ok (Data (Echo message))
 with_message _ = Err (Arity name.Ping)
 
--- CLUSTER has subcommands
-abbrev pub with_subcommands : List (List ℕ) → Result Command CommandFault
-with_subcommands (word ∷ arguments) = with_subcommand (subcommand_of word) arguments
-with_subcommands [] = Err (Arity name.Cluster)
-
 -- a row a command: the arguments that it takes
 abbrev pub with_arguments : Name → List (List ℕ) → Result Command CommandFault
 with_arguments name.Get arguments = with_one name.Get Get arguments
@@ -124,6 +107,8 @@ with_arguments name.Hvals arguments = with_one name.Hvals Hvals arguments
 with_arguments name.Hgetall arguments = with_one name.Hgetall Hgetall arguments
 with_arguments name.Hincrby arguments = with_three name.Hincrby Hincrby arguments
 with_arguments name.Cluster arguments = with_subcommands arguments
+with_arguments name.Asking arguments = with_import arguments
+with_arguments name.Migrate arguments = with_migration arguments
 
 abbrev pub named_command : Option Name → List (List ℕ) → Result Command CommandFault
 named_command None arguments = Err Unknown

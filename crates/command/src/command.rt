@@ -2,10 +2,13 @@
 ghost use Rattle.std.specs.Prelude.{◌≡◌, ◌∷◌, [], IfOk, IfSome, map};
 ghost use Rattle.std.specs.Option.{option_copied};
 ghost use Rattle.command.specs.Keys.{data_keys, is_data_write, is_write, keys_of, only_data_key, only_key, pair_keys};
+ghost use Rattle.command.specs.ClusterTable.{order_of};
 ghost use Rattle.command.specs.Table.{condition_of};
 
+use crate::number::Positive;
 use crate::words::{PairList, Word, WordList, split_pair};
 use byte_string::ByteString;
+use key_slot::Slot;
 use std::alloc::{AllocError, Global};
 
 /// A command with its arguments.
@@ -13,7 +16,7 @@ use std::alloc::{AllocError, Global};
 pub enum Command<'w> {
     /// It reads or writes keys.
     Data(DataCommand<'w>),
-    /// It asks the node about the cluster.
+    /// It asks the node about the cluster, or moves slots and keys there.
     Cluster(ClusterCommand<'w>),
 }
 
@@ -338,7 +341,8 @@ impl Condition {
     }
 }
 
-/// A subcommand of CLUSTER. The node that receives it replies itself, whichever node owns a slot.
+/// A subcommand of CLUSTER, or a command that moves keys. The node that receives it replies itself, whichever node owns a
+/// slot.
 #[derive(Debug, Drop)]
 pub enum ClusterCommand<'w> {
     /// Asks for the slot of a key.
@@ -350,6 +354,81 @@ pub enum ClusterCommand<'w> {
     MyId,
     /// Asks which slots each master has.
     Slots,
+    /// Counts the keys of a slot at the node.
+    CountKeysInSlot {
+        /// The slot.
+        slot: Slot,
+    },
+    /// Reads the first keys of a slot at the node, in byte order.
+    GetKeysInSlot {
+        /// The slot.
+        slot: Slot,
+        /// The most keys that are read.
+        count: u64,
+    },
+    /// Asks what the node does with a slot.
+    SlotState {
+        /// The slot.
+        slot: Slot,
+    },
+    /// Begins or ends a move of a slot.
+    SetSlot {
+        /// The slot.
+        slot: Slot,
+        /// Which part of the move this is.
+        order: SlotOrder,
+        /// The id of the node that the slot comes from, goes to, or belongs to from now on.
+        node: Word<'w>,
+        /// The number of the move, where one is given.
+        number: Option<Positive>,
+    },
+    /// Has the number of the move in each ASK error of the connection from now on.
+    Numbered,
+    /// Allows the next request of the connection in a slot that comes to the node.
+    Asking {
+        /// The number of the only move that this is for, or None for any.
+        number: Option<Positive>,
+    },
+    /// Moves a key to another node.
+    Migrate {
+        /// The host of the node.
+        host: Word<'w>,
+        /// The port of the node. It may be no port.
+        port: i64,
+        /// The key.
+        key: Word<'w>,
+        /// The ticks, 1 to 1,000,000, after which the node replies even where the key has not arrived.
+        timeout: u32,
+    },
+}
+
+/// Which part of a move SETSLOT asks for.
+#[derive(Clone, Copy, PartialEq, Eq, Debug)]
+pub enum SlotOrder {
+    /// The slot comes to this node from another one.
+    Importing,
+    /// The slot goes from this node to another one.
+    Migrating,
+    /// The slot belongs to the node from now on.
+    Node,
+}
+
+impl SlotOrder {
+    /// The order that the word spells in letters of any ASCII case, or None.
+    pub fn of(word: &[u8]) -> Option<SlotOrder>
+        ensures { result ≡ order_of word.now }
+    {
+        if word.eq_ignore_ascii_case(b"importing") {
+            return Some(SlotOrder::Importing);
+        }
+        if word.eq_ignore_ascii_case(b"migrating") {
+            return Some(SlotOrder::Migrating);
+        }
+        if word.eq_ignore_ascii_case(b"node") {
+            return Some(SlotOrder::Node);
+        }
+        None
+    }
 }
 
 /// The keys that the command names, in its order.

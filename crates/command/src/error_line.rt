@@ -1,9 +1,10 @@
 //! The texts of the errors that a node sends.
-ghost use Rattle.std.specs.Prelude.{◌≡◌, IfOk, IsTrue};
-ghost use Rattle.command.specs.ErrorLine.{error_text, moved_text};
+ghost use Rattle.std.specs.Prelude.{◌≡◌, ◌++◌, IfOk, IsTrue, OnOk};
+ghost use Rattle.command.specs.ErrorLine.{ask_text, error_text, moved_text, place_text};
 ghost use Rattle.resp2.specs.Line.{is_one_line};
 
 use crate::names::Name;
+use crate::number::Positive;
 use bytes::Bytes;
 use itoa::Buffer;
 use resp2::{Line, Reply};
@@ -40,6 +41,32 @@ pub enum ErrorLine {
     Overflow,
     /// A key has a value of another type than the command is for, and nothing changed.
     WrongType,
+    /// The word is not the number of a slot.
+    InvalidSlot,
+    /// Of several keys in a slot that moves, some are at this node and some are not.
+    SomeKeysMissing,
+    /// The key is on its way to another node, and stays as it is until it has arrived.
+    KeyFrozen,
+    /// The table of this node names another owner of the slot so far.
+    TableNotUpdated,
+    /// The node took part in a move of the slot with this number or a greater one.
+    OldMove,
+    /// Another move of the slot is under way at this node.
+    SlotBusy,
+    /// The node that the slot is to leave does not own it.
+    NotOwner,
+    /// The node that the slot is to come to owns it.
+    AlreadyOwner,
+    /// Keys of the slot may be left at the node that it comes from.
+    NotDrained,
+    /// No other node of the cluster has the id.
+    UnknownNode,
+    /// Another key of the slot is on its way to the other node.
+    CopyOutstanding,
+    /// The slot does not move to the node at that address.
+    WrongTarget,
+    /// Whether the key has arrived is not known.
+    NotAcknowledged,
 }
 
 impl ErrorLine {
@@ -64,6 +91,21 @@ impl ErrorLine {
             ErrorLine::WrongType => {
                 b"WRONGTYPE Operation against a key holding the wrong kind of value"
             }
+            ErrorLine::InvalidSlot => b"ERR Invalid slot",
+            ErrorLine::SomeKeysMissing => {
+                b"TRYAGAIN Multiple keys request during rehashing of slot"
+            }
+            ErrorLine::KeyFrozen => b"TRYAGAIN Key is being moved",
+            ErrorLine::TableNotUpdated => b"TRYAGAIN Slot table not yet updated",
+            ErrorLine::OldMove => b"ERR move number is not above the last one",
+            ErrorLine::SlotBusy => b"ERR slot is already being moved",
+            ErrorLine::NotOwner => b"ERR slot is not owned by the source",
+            ErrorLine::AlreadyOwner => b"ERR slot is already owned by this node",
+            ErrorLine::NotDrained => b"ERR slot is not drained",
+            ErrorLine::UnknownNode => b"ERR unknown node",
+            ErrorLine::CopyOutstanding => b"TRYAGAIN Another copy is outstanding",
+            ErrorLine::WrongTarget => b"ERR slot is not migrating to that address",
+            ErrorLine::NotAcknowledged => b"IOERR copy not acknowledged",
         }
     }
 
@@ -117,6 +159,8 @@ fn wrong_arity(name: Name) -> &'static [u8]
         Name::Hgetall => wrong_arity!("hgetall"),
         Name::Hincrby => wrong_arity!("hincrby"),
         Name::Cluster => wrong_arity!("cluster"),
+        Name::Asking => wrong_arity!("asking"),
+        Name::Migrate => wrong_arity!("migrate"),
     }
 }
 
@@ -136,10 +180,59 @@ fn moved_text(alloc: Global, slot: u16, host: &[u8], port: u16) -> Result<Bytes,
     let room = host.len().saturating_add(b"MOVED 65535 :65535".len());
     let mut text = Vec::with_capacity(alloc, room)?;
     text.extend_from_slice(b"MOVED ")?;
+    append_place(&mut text, slot, host, port)?;
+    Ok(Bytes::from_vec(text)?)
+}
+
+/// The error that sends a client to the node at `host` and `port` for this one command. The host has no line break.
+///
+/// With the number of the move the client can ask for that move alone.
+pub fn ask_reply(
+    alloc: Global,
+    slot: u16,
+    host: &[u8],
+    port: u16,
+    number: Option<Positive>,
+) -> Result<Reply, AllocError>
+    requires { IsTrue (is_one_line host.now) }
+    ensures { IfOk result (λ reply. reply ≡ Reply.Error (ask_text slot host.now port number)) }
+{
+    let text = ask_text(alloc, slot, host, port, number)?;
+    Ok(Reply::Error(Line::new(text).unwrap()))
+}
+
+#[tactic(auto, using(crate::proofs::LineLemmas::plain_ask_is_one_line, crate::proofs::LineLemmas::numbered_ask_is_one_line))]
+fn ask_text(
+    alloc: Global,
+    slot: u16,
+    host: &[u8],
+    port: u16,
+    number: Option<Positive>,
+) -> Result<Bytes, AllocError>
+    requires { IsTrue (is_one_line host.now) }
+    ensures text { IfOk result (λ text. text ≡ ask_text slot host.now port number) }
+    ensures line { IfOk result (λ text. IsTrue (is_one_line text)) }
+{
+    let room = host
+        .len()
+        .saturating_add(b"ASK 65535 :65535 9223372036854775807".len());
+    let mut text = Vec::with_capacity(alloc, room)?;
+    text.extend_from_slice(b"ASK ")?;
+    append_place(&mut text, slot, host, port)?;
+    if let Some(number) = number {
+        text.extend_from_slice(b" ")?;
+        text.extend_from_slice(Buffer::new().format(number.get()).as_bytes())?;
+    }
+    Ok(Bytes::from_vec(text)?)
+}
+
+// Appends the slot, and the address of the node.
+fn append_place(text: &mut Vec<u8>, slot: u16, host: &[u8], port: u16) -> Result<(), AllocError>
+    ensures { OnOk result (text.new.items ≡ text.old.items ++ place_text slot host.now port) }
+{
     text.extend_from_slice(Buffer::new().format(slot).as_bytes())?;
     text.extend_from_slice(b" ")?;
     text.extend_from_slice(host)?;
     text.extend_from_slice(b":")?;
-    text.extend_from_slice(Buffer::new().format(port).as_bytes())?;
-    Ok(Bytes::from_vec(text)?)
+    text.extend_from_slice(Buffer::new().format(port).as_bytes())
 }

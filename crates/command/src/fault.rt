@@ -21,6 +21,12 @@ pub enum CommandFault {
     /// An argument is not an option of the command, or there are too many options.
     #[error("syntax error")]
     Syntax,
+    /// The word is not the number of a slot.
+    #[error("invalid slot")]
+    InvalidSlot,
+    /// The word is not a number that the command takes.
+    #[error("not an integer or out of range")]
+    NotAnInteger,
 }
 
 impl CommandFault {
@@ -33,6 +39,8 @@ impl CommandFault {
             CommandFault::UnknownSubcommand => ErrorLine::UnknownSubcommand,
             CommandFault::Arity(name) => ErrorLine::WrongArity(name),
             CommandFault::Syntax => ErrorLine::Syntax,
+            CommandFault::InvalidSlot => ErrorLine::InvalidSlot,
+            CommandFault::NotAnInteger => ErrorLine::NotAnInteger,
         }
     }
 }

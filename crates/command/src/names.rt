@@ -65,10 +65,14 @@ pub enum Name {
     Hincrby,
     /// CLUSTER subcommand [argument ...]
     Cluster,
+    /// ASKING [move-number]
+    Asking,
+    /// MIGRATE host port key destination-db timeout
+    Migrate,
 }
 
 // The names that are asked for most come first.
-const NAMES: [Name; 30] = [
+const NAMES: [Name; 32] = [
     Name::Get,
     Name::Set,
     Name::Ping,
@@ -99,6 +103,8 @@ const NAMES: [Name; 30] = [
     Name::Hgetall,
     Name::Hincrby,
     Name::Cluster,
+    Name::Asking,
+    Name::Migrate,
 ];
 
 impl Name {
@@ -147,6 +153,8 @@ impl Name {
             Name::Hgetall => b"hgetall",
             Name::Hincrby => b"hincrby",
             Name::Cluster => b"cluster",
+            Name::Asking => b"asking",
+            Name::Migrate => b"migrate",
         }
     }
 }
@@ -160,9 +168,28 @@ pub enum Subcommand {
     MyId,
     /// CLUSTER SLOTS
     Slots,
+    /// CLUSTER COUNTKEYSINSLOT slot
+    CountKeysInSlot,
+    /// CLUSTER GETKEYSINSLOT slot count
+    GetKeysInSlot,
+    /// CLUSTER SLOTSTATE slot
+    SlotState,
+    /// CLUSTER SETSLOT slot IMPORTING | MIGRATING | NODE node-id [move-number]
+    SetSlot,
+    /// CLUSTER NUMBERED
+    Numbered,
 }
 
-const SUBCOMMANDS: [Subcommand; 3] = [Subcommand::KeySlot, Subcommand::MyId, Subcommand::Slots];
+const SUBCOMMANDS: [Subcommand; 8] = [
+    Subcommand::KeySlot,
+    Subcommand::MyId,
+    Subcommand::Slots,
+    Subcommand::CountKeysInSlot,
+    Subcommand::GetKeysInSlot,
+    Subcommand::SlotState,
+    Subcommand::SetSlot,
+    Subcommand::Numbered,
+];
 
 impl Subcommand {
     /// The subcommand that the word spells in letters of any ASCII case, or None.
@@ -182,6 +209,11 @@ impl Subcommand {
             Subcommand::KeySlot => b"keyslot",
             Subcommand::MyId => b"myid",
             Subcommand::Slots => b"slots",
+            Subcommand::CountKeysInSlot => b"countkeysinslot",
+            Subcommand::GetKeysInSlot => b"getkeysinslot",
+            Subcommand::SlotState => b"slotstate",
+            Subcommand::SetSlot => b"setslot",
+            Subcommand::Numbered => b"numbered",
         }
     }
 }

@@ -3,16 +3,18 @@ ghost use Rattle.std.specs.Prelude.{◌≡◌, ◌∷◌, [], IfOk, IfErr, Ok, E
 ghost use Rattle.command.specs.Pairs.{pairs_of};
 ghost use Rattle.command.specs.Table.{command_of, with_arguments, with_field_pairs, with_fields, with_keys, with_message, with_one, with_option, with_pairs, with_three, with_two};
 
-use crate::command::{ClusterCommand, Command, Condition, DataCommand};
+use crate::cluster_parsing::{with_import, with_migration, with_subcommands};
+use crate::command::{Command, Condition, DataCommand};
 use crate::fault::CommandFault;
-use crate::names::{Name, Subcommand};
+use crate::names::Name;
 use crate::words::{PairList, Word, WordList};
 use byte_string::ByteString;
 use resp2::Words;
 
 /// The command that the words ask for. It borrows them, and takes no memory.
 ///
-/// Unknown, UnknownSubcommand, Arity and Syntax mean that the words are not a command.
+/// A fault means that the words are not a command. Of several the first is told: an unknown name or subcommand, a wrong number
+/// of arguments, and then the faults of the arguments.
 pub fn parse<'w>(words: &'w Words) -> Result<Command<'w>, CommandFault>
     ensures { result ≡ command_of words.now }
 {
@@ -67,6 +69,8 @@ fn with_arguments<'w>(name: Name, words: &'w [ByteString]) -> Result<Command<'w>
         Name::Hgetall => with_one(name, words, command!(Hgetall(key))),
         Name::Hincrby => with_three(name, words, command!(Hincrby(key, field, increment))),
         Name::Cluster => with_subcommands(words),
+        Name::Asking => with_import(words),
+        Name::Migrate => with_migration(words),
     }
 }
 
@@ -236,25 +240,5 @@ fn with_fields<'w, F: FnOnce(Word<'w>, WordList<'w>) -> DataCommand<'w>>(
     match WordList::new(fields) {
         Some(fields) => Ok(Command::Data(make(Word::new(key), fields))),
         None => Err(CommandFault::Arity(name)),
-    }
-}
-
-fn with_subcommands<'w>(words: &'w [ByteString]) -> Result<Command<'w>, CommandFault>
-    ensures { result ≡ with_arguments Name.Cluster words.now }
-{
-    let Some((word, arguments)) = words.split_first() else {
-        return Err(CommandFault::Arity(Name::Cluster));
-    };
-    let Some(subcommand) = Subcommand::of(word.as_slice()) else {
-        return Err(CommandFault::UnknownSubcommand);
-    };
-    match (subcommand, arguments) {
-        (Subcommand::KeySlot, [key]) => {
-            let key = Word::new(key);
-            Ok(Command::Cluster(ClusterCommand::KeySlot { key }))
-        }
-        (Subcommand::MyId, []) => Ok(Command::Cluster(ClusterCommand::MyId)),
-        (Subcommand::Slots, []) => Ok(Command::Cluster(ClusterCommand::Slots)),
-        _ => Err(CommandFault::Arity(Name::Cluster)),
     }
 }

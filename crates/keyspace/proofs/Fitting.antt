@@ -1,4 +1,4 @@
--- When the request that rebuilds a hash keeps its limits.
+-- When the request that makes a key with its value keeps its limits.
 use Rattle.std.proofs.Common.{◌≡◌, ◌+◌, ◌-◌, ◌*◌, ◌<◌, ◌≤◌, ℕ, suc, List, [], ◌∷◌, ◌++◌, length, length-append, false, ◌&&◌, inl, inr, refl, sym, ap, ◌∙◌, arith, codes, le-leb}
 use Rattle.std.proofs.lemmas.Bool.{lt-leb}
 use Rattle.std.proofs.lemmas.Bool.Decides.{leb_tells}
@@ -6,8 +6,26 @@ use Rattle.std.specs.Prelude.{nat_le}
 use Rattle.hash.specs.Pairs.{Pairs}
 use Rattle.hash.specs.Size.{size_of, words_of}
 use Rattle.resp2.specs.Request.{bulk_spelling, bulks_spelling, header_spelling, request_spelling}
-use Rattle.keyspace.specs.Rebuilding.{fits_hash, rebuilding}
-use Rattle.keyspace.specs.declared.value.Value.TheVariants.{Hash}
+use Rattle.keyspace.specs.Rebuilding.{fits_hash, fits_request, rebuilding}
+use Rattle.keyspace.specs.declared.value.Value.TheVariants.{Str, Hash}
+
+-- the bytes of SET with a key and a string
+string_size : (key bytes : List ℕ) → length (request_spelling (rebuilding key (Str bytes)))
+    ≡ length (header_spelling 42 3) + (length (bulk_spelling (codes "SET")) + (length (bulk_spelling key) + (length (bulk_spelling bytes) + 0)))
+string_size key bytes =
+    length-append (header_spelling 42 3) (bulk_spelling (codes "SET") ++ (bulk_spelling key ++ (bulk_spelling bytes ++ [])))
+    ∙ ap (λ n. length (header_spelling 42 3) + n) (
+    length-append (bulk_spelling (codes "SET")) (bulk_spelling key ++ (bulk_spelling bytes ++ []))
+    ∙ ap (λ n. length (bulk_spelling (codes "SET")) + n) (
+    length-append (bulk_spelling key) (bulk_spelling bytes ++ [])
+    ∙ ap (λ n. length (bulk_spelling key) + n) (length-append (bulk_spelling bytes) [])))
+
+-- three words are few enough, so the bytes decide
+pub string_fits : (key bytes : List ℕ) (size header name first second : ℕ) → size ≡ header + name + first + second → header ≡ length (header_spelling 42 3) → name ≡ length (bulk_spelling (codes "SET"))
+    → first ≡ length (bulk_spelling key) → second ≡ length (bulk_spelling bytes) → nat_le size 16777216 ≡ fits_request (rebuilding key (Str bytes))
+string_fits key bytes size header name first second all headed named keyed valued =
+    let whole : size ≡ length (request_spelling (rebuilding key (Str bytes))) = omega (arith, string_size key bytes, headed, named, keyed, valued, all) in
+    ap (λ n. nat_le n 16777216) whole
 
 -- two words a field
 pub words_count : (pairs : Pairs) → length (words_of pairs) ≡ 2 * length pairs

@@ -2,7 +2,7 @@ pub mod Applied
 pub mod Locality
 pub mod Parts
 pub mod Maps
-pub mod NumberTexts
+pub mod Sums
 pub mod FirstChange
 pub mod CommitLoop
 pub mod Placeholders

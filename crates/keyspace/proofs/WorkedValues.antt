@@ -5,9 +5,10 @@ use Rattle.std.specs.FinMap.{gets}
 use Rattle.std.specs.Fmt.{digits}
 use Rattle.resp2.specs.Reply.{array_of}
 use Rattle.resp2.specs.declared.reply.Reply.TheVariants.{Simple, Error, Integer, Bulk, Null, Array}
+use Rattle.command.specs.Numbers.{number_of}
 use Rattle.keyspace.specs.Commands.{effect, replay}
 use Rattle.keyspace.specs.Effect.{left, told}
-use Rattle.keyspace.specs.Numbers.{fitting_number, number_of}
+use Rattle.keyspace.specs.Numbers.{fitting_number}
 use Rattle.keyspace.specs.Replay.{writes_of}
 use Rattle.keyspace.specs.declared.value.Value.TheVariants.{Str}
 use Rattle.command.specs.declared.command.DataCommand.TheVariants.{Incr, Decr, Incrby}
@@ -98,52 +99,6 @@ deletes_once = grind (gets, rules)
 appends : (replay ((codes "APPEND" ∷ codes "a" ∷ codes "x" ∷ []) ∷ (codes "APPEND" ∷ codes "a" ∷ codes "yz" ∷ []) ∷ (codes "GET" ∷ codes "a" ∷ []) ∷ [])).replies
     ≡ Integer (pos 1) ∷ Integer (pos 3) ∷ Bulk (codes "xyz") ∷ []
 appends = grind (gets, rules)
-
--- the last numbers of 64 bits are numbers, and the next ones are none
-greatest : number_of (codes "9223372036854775807") ≡ Some (pos 9223372036854775807)
-unfolding number_of digits
-greatest = refl
-
-past_the_greatest : number_of (codes "9223372036854775808") ≡ None
-unfolding number_of digits
-past_the_greatest = refl
-
-least : number_of (codes "-9223372036854775808") ≡ Some (negsuc 9223372036854775807)
-unfolding number_of digits
-least = refl
-
-past_the_least : number_of (codes "-9223372036854775809") ≡ None
-unfolding number_of digits
-past_the_least = refl
-
-zero_is_a_number : number_of (codes "0") ≡ Some (pos 0)
-unfolding number_of digits
-zero_is_a_number = refl
-
--- a number has one text
-leading_zero : number_of (codes "01") ≡ None
-unfolding number_of digits
-leading_zero = refl
-
-minus_zero : number_of (codes "-0") ≡ None
-unfolding number_of digits
-minus_zero = refl
-
-plus : number_of (codes "+1") ≡ None
-unfolding number_of digits
-plus = refl
-
-blank : number_of (codes " 1") ≡ None
-unfolding number_of digits
-blank = refl
-
-no_digits : number_of [] ≡ None
-unfolding number_of digits
-no_digits = refl
-
-letter : number_of (codes "1a") ≡ None
-unfolding number_of digits
-letter = refl
 
 -- a missing key counts as 0
 incr_missing : effect (Incr (codes "a")) (None ∷ []) ≡ left (Integer (pos 1)) (Some (Str (codes "1")))

@@ -5,6 +5,7 @@ use Rattle.resp2.specs.declared.reply.Reply.{Reply}
 use Rattle.resp2.specs.declared.reply.Reply.TheVariants.{Simple, Error, Integer, Bulk, Array}
 use Rattle.resp2.specs.Reply.{array_of}
 use Rattle.command.specs.Keys.{data_keys}
+use Rattle.command.specs.Numbers.{number_of}
 use Rattle.command.specs.Table.{command_of}
 use Rattle.command.specs.ErrorLine.{error_text, line_of}
 use Rattle.command.specs.declared.command.Command.{Command}
@@ -18,7 +19,6 @@ use Rattle.hash.specs.Size.{words_of}
 use Rattle.keyspace.specs.Effect.{Effect, first_of, told}
 use Rattle.keyspace.specs.Hashes.{fields_of, from_fields, value_reply, values_reply, exists_reply, value_length, bulks_reply, on_fields, hset_of, hsetnx_of, hdel_of, increased}
 use Rattle.keyspace.specs.Keyspace.{Keyspace, changed}
-use Rattle.keyspace.specs.Numbers.{number_of}
 use Rattle.keyspace.specs.Strings.{string_reply, bulk_or_null, string_of, length_reply, type_of, holds, set_of, strings_left, setnx_of, getset_of, getdel_of, append_of, number_at, sum_of, number_left, deleted, all_removed}
 use Rattle.keyspace.specs.declared.value.Value.{Value}
 

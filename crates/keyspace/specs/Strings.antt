@@ -7,12 +7,13 @@ use Rattle.std.specs.Fmt.{signed_decimal}
 use Rattle.resp2.specs.declared.reply.Reply.{Reply}
 use Rattle.resp2.specs.declared.reply.Reply.TheVariants.{Simple, Integer, Bulk, Null}
 use Rattle.resp2.specs.declared.words.TheConstants.{MOST_WORD_BYTES}
+use Rattle.command.specs.Numbers.{number_of}
 use Rattle.command.specs.declared.error_line.ErrorLine.{ErrorLine}
 use Rattle.command.specs.declared.error_line.ErrorLine.TheVariants.{TooLong, NotAnInteger, Overflow, WrongType}
 use Rattle.command.specs.declared.command.Condition.{Condition}
 use Rattle.command.specs.declared.command.Condition.TheVariants.{Always, IfMissing, IfThere}
 use Rattle.keyspace.specs.Effect.{Effect, told, left, error_reply, refused}
-use Rattle.keyspace.specs.Numbers.{fitting_number, number_of}
+use Rattle.keyspace.specs.Numbers.{fitting_number}
 use Rattle.keyspace.specs.declared.value.Value.{Value}
 use Rattle.keyspace.specs.declared.value.Value.TheVariants.{Str, Hash}
 

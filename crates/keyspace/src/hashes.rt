@@ -15,13 +15,13 @@ ghost use Rattle.keyspace.specs.Strings.{stored_number, sum_of};
 
 use crate::fields::FieldChanges;
 use crate::limits::fits;
-use crate::number::{number_in, sum, text_of};
+use crate::number::{sum, text_of};
 use crate::plans::Plan;
 use crate::replies::integer;
 use crate::store::Store;
 use crate::value::Value;
 use byte_string::ByteString;
-use command::{ErrorLine, PairList, split_pair};
+use command::{ErrorLine, PairList, number_in, split_pair};
 use hash::{Extent, Hash};
 use resp2::{Array, Reply};
 use std::alloc::{AllocError, Global};

@@ -21,6 +21,7 @@ pub use appending::append_in;
 pub use commands::{commands_are_local, exec, plan, plan_command};
 pub use fields::{FieldChanges, change_fields_in};
 pub use law::{commands_execute_in_a_part, parts_make_the_keyspace};
+pub use limits::value_fits;
 pub use plans::{Plan, commit};
 pub use replay::{
     rebuilding_makes_the_keyspace, requests_execute_their_commands, writes_leave_the_keyspace,

@@ -1,17 +1,50 @@
-//! Which hashes may be left at a key: those whose request of rebuilding keeps its limits.
-ghost use Rattle.std.specs.Prelude.{◌≡◌, ◌<◌, ◌^◌, ℕ, length};
+//! Which values a request can make at a key, and which hashes may so be left there.
+ghost use Rattle.std.specs.Prelude.{◌≡◌, ◌∷◌, ◌<◌, ◌^◌, [], ℕ, codes, length};
 ghost use Rattle.hash.specs.Pairs.{Pairs};
 ghost use Rattle.hash.specs.Size.{size_of};
-ghost use Rattle.keyspace.specs.Rebuilding.{fits_hash};
+ghost use Rattle.keyspace.specs.Rebuilding.{fits_hash, fits_request, rebuilding};
 ghost use Rattle.resp2.specs.Request.{header_spelling};
 
+use crate::value::Value;
 use byte_string::ByteString;
-use hash::{Extent, bulk_size};
+use hash::{Extent, Hash, bulk_size};
 use itoa::Buffer;
 use resp2::{MOST_REQUEST_BYTES, MOST_WORDS};
 
 /// The most fields of a hash: its request has two words for each, beside HSET and the key.
 const MOST_FIELDS: usize = 32_767;
+
+/// Whether the request that makes the key with this value has neither too many words nor too many bytes.
+///
+/// The request isn't made, since a hash keeps its size. How long each single word is isn't asked.
+pub fn value_fits(key: &ByteString, value: &Value) -> bool
+    ensures { result ≡ fits_request (rebuilding key.now value.now) }
+{
+    match value {
+        Value::Str(bytes) => string_fits(key, bytes),
+        Value::Hash(hash) => fits(key, extent_of(hash.get())),
+    }
+}
+
+// Whether SET with the key and the string has no more bytes than a request may have.
+fn string_fits(key: &ByteString, bytes: &ByteString) -> bool
+    ensures { result ≡ fits_request (codes "SET" ∷ key.now ∷ bytes.now ∷ []) }
+{
+    let name = ByteString::from_static(b"SET");
+    let size = count_size(3) + bulk_size(&name) + bulk_size(key) + bulk_size(bytes);
+    size <= MOST_REQUEST_BYTES as u128
+}
+
+// What the hash takes now.
+fn extent_of(hash: &Hash) -> Extent
+    ensures len { result.len ≡ length hash.now }
+    ensures size { result.size ≡ size_of hash.now }
+{
+    Extent {
+        len: hash.len(),
+        size: hash.size(),
+    }
+}
 
 /// Whether a hash of this extent may be left at the key.
 pub(crate) fn fits(key: &ByteString, extent: Extent) -> bool

@@ -1,26 +1,14 @@
-//! Numbers in strings, of 64 bits with a sign.
+//! Sums of numbers of 64 bits with a sign, and their texts.
 ghost use Rattle.std.specs.Prelude.{◌≡◌, ◌+ℤ◌, IfOk};
 ghost use Rattle.std.specs.Fmt.{signed_decimal};
-ghost use Rattle.keyspace.specs.Numbers.{fitting_number, number_of};
+ghost use Rattle.keyspace.specs.Numbers.{fitting_number};
 
 use byte_string::ByteString;
 use itoa::Buffer;
 use std::alloc::{AllocError, Global};
 
-/// The number that the text is, or None.
-pub(crate) fn number_in(text: &[u8]) -> Option<i64>
-    ensures { result ≡ number_of text.now }
-{
-    let number = str::from_utf8(text).ok()?.parse::<i64>().ok()?;
-    // Rust also reads texts with a plus or a leading zero, and `-0`.
-    if Buffer::new().format(number).as_bytes() != text {
-        return None;
-    }
-    Some(number)
-}
-
-#[tactic(auto, using(crate::proofs::NumberTexts::fitting_from))]
 /// The sum, or None where it does not fit.
+#[tactic(auto, using(crate::proofs::Sums::fitting_from))]
 pub(crate) fn sum(stored: i64, increment: i64) -> Option<i64>
     ensures { result ≡ fitting_number (stored +ℤ increment) }
 {

@@ -14,14 +14,14 @@ ghost use Rattle.resp2.specs.Line.{is_one_line};
 ghost use Rattle.resp2.specs.Reply.{array_of};
 
 use crate::changes::NewValues;
-use crate::number::{number_in, sum, text_of};
+use crate::number::{sum, text_of};
 use crate::plans::Plan;
 use crate::replies::{integer, simple};
 use crate::store::Store;
 use crate::string_pairs::kept;
 use crate::value::Value;
 use byte_string::ByteString;
-use command::{Condition, ErrorLine, PairList};
+use command::{Condition, ErrorLine, PairList, number_in};
 use resp2::{Array, MOST_WORD_BYTES, Reply};
 use std::alloc::{AllocError, Global};
 

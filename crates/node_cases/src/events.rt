@@ -90,5 +90,7 @@ fn name_of(why: Why) -> &'static str {
         Why::NotACommand(CommandFault::UnknownSubcommand) => "unknown-subcommand",
         Why::NotACommand(CommandFault::Arity(_)) => "wrong-arity",
         Why::NotACommand(CommandFault::Syntax) => "wrong-syntax",
+        Why::NotACommand(CommandFault::InvalidSlot) => "wrong-slot",
+        Why::NotACommand(CommandFault::NotAnInteger) => "no-integer",
     }
 }

@@ -4,7 +4,7 @@ use Rattle.resp2.specs.Reply.{array_of}
 use Rattle.resp2.specs.declared.reply.Reply.{Reply}
 use Rattle.resp2.specs.declared.reply.Reply.TheVariants.{Integer, Bulk, Null, Array}
 use Rattle.command.specs.declared.command.ClusterCommand.{ClusterCommand}
-use Rattle.command.specs.declared.command.ClusterCommand.TheVariants.{KeySlot, MyId, Slots}
+use Rattle.command.specs.declared.command.ClusterCommand.TheVariants.{KeySlot, MyId, Slots, CountKeysInSlot, GetKeysInSlot, SlotState, SetSlot, Numbered, Asking, Migrate}
 use Rattle.key_slot.specs.Slot.{hash_slot}
 use Rattle.slot_table.specs.declared.runs.Run.{Run}
 use Rattle.slot_table.specs.Runs.{AreRunsOf}
@@ -38,8 +38,15 @@ pub record ReportsSlots (state : NodeState) (reply : Reply) : Type 0 where
   pub are_runs : AreRunsOf (owner_at state.table) runs
   pub reply_is : reply ≡ slots_reply state.config runs
 
--- a row a command
+-- a row a command; what the node doesn't serve isn't reported
 abbrev pub IsReported : NodeState → ClusterCommand → Reply → Type 0
 IsReported state (KeySlot key) reply = reply ≡ Integer (pos (hash_slot key))
 IsReported state MyId reply = reply ≡ id_reply (slice_get state.config.nodes state.number)
 IsReported state Slots reply = ReportsSlots state reply
+IsReported state (CountKeysInSlot slot) reply = ⊥
+IsReported state (GetKeysInSlot slot count) reply = ⊥
+IsReported state (SlotState slot) reply = ⊥
+IsReported state (SetSlot slot order node number) reply = ⊥
+IsReported state Numbered reply = ⊥
+IsReported state (Asking number) reply = ⊥
+IsReported state (Migrate host port key timeout) reply = ⊥

@@ -18,6 +18,7 @@ use Rattle.redirect.specs.declared.decision.Decision.{Decision}
 use Rattle.redirect.specs.declared.decision.Decision.TheVariants.{Serve, CrossSlot, Down, Moved}
 use Rattle.node_core.specs.Connections.{connection_at, may_ask, Opens, Closes}
 use Rattle.node_core.specs.Reports.{IsReported}
+use Rattle.node_core.specs.Served.{taken_for}
 use Rattle.node_core.specs.State.{NodeState}
 use Rattle.node_core.specs.declared.connections.Conn.{Conn}
 use Rattle.node_core.specs.declared.event.Event.{Event}
@@ -96,7 +97,7 @@ pub record IsClosing (old : NodeState) (conn : Conn) (response : Response) (new 
 pub record IsAnswering (old : NodeState) (words : List (List ℕ)) (response : Response) (new : NodeState) : Type 0 where
   pub answer : Answer
   pub responds : response ≡ Replied answer
-  pub answered : IsAnswered old (command_of words) answer new.keyspace
+  pub answered : IsAnswered old (taken_for (command_of words)) answer new.keyspace
   pub state : new ≡ record old { keyspace = new.keyspace }
 
 -- what a node may respond to an event, and its next state. A connection that isn't open, or waits for a reply, is not answered

@@ -1,8 +1,9 @@
 //! A node, and its steps.
-ghost use Rattle.std.specs.Prelude.{◌≡◌, ◌∷◌, All, IfOk, IfErr, OnOk, OnErr, Ok, Err, map, slice_get};
+ghost use Rattle.std.specs.Prelude.{◌≡◌, ◌∷◌, All, IfOk, IfErr, OnOk, OnErr, IfSome, IfNone, Ok, Err, map, slice_get};
 ghost use Rattle.std.specs.FinMap as fin_map;
 ghost use Rattle.command.specs.Keys.{data_keys};
 ghost use Rattle.command.specs.Table.{command_of};
+ghost use Rattle.command.specs.declared.command.Command.TheVariants.{Cluster};
 ghost use Rattle.key_slot.specs.Slot.{hash_slot};
 ghost use Rattle.keyspace.specs.Commands.{exec};
 ghost use Rattle.keyspace.specs.Keyspace.{Keyspace};
@@ -12,6 +13,7 @@ ghost use Rattle.slot_store.specs.InSlot.{IsCommittedInSlot};
 ghost use Rattle.node_core.specs.Connections.{IsUsedUp};
 ghost use Rattle.node_core.specs.Outputs.{IsPlain};
 ghost use Rattle.node_core.specs.Reports.{IsReported};
+ghost use Rattle.node_core.specs.Served.{if_served, taken_for};
 ghost use Rattle.node_core.specs.State.{first_state};
 ghost use Rattle.node_core.specs.Planned.{IsPlanned};
 ghost use Rattle.node_core.specs.Step.{NodeStep, execution_by, moved_error};
@@ -25,7 +27,7 @@ use crate::reports::{id_reply, slots_reply};
 use crate::response::{Answer, Response, Why};
 use crate::slot_plan::{SlotPlan, any_slot};
 use cluster_config::Config;
-use command::{ClusterCommand, Command, DataCommand, ErrorLine, parse};
+use command::{ClusterCommand, Command, CommandFault, DataCommand, ErrorLine, parse};
 use key_slot::{Slot, slot};
 use keyspace::plan_command;
 use redirect::{Decision, decide_in_slot};
@@ -170,9 +172,9 @@ impl<S: SlotParts> NodeCore<S> {
     // The answer to the words. What is going to change goes into the plan.
     fn answer(&self, words: &Words, changes: &mut SlotPlan) -> Result<Answer, AllocError>
         requires { (keyspace : Keyspace) → committed keyspace changes.old.plan ≡ keyspace }
-        ensures { IfOk result (λ answer. IsPlanned self.now (command_of words.now) answer changes.new.slot changes.new.plan) }
+        ensures { IfOk result (λ answer. IsPlanned self.now (taken_for (command_of words.now)) answer changes.new.slot changes.new.plan) }
     {
-        match parse(words) {
+        match read(words) {
             Ok(command) => self.answer_command(&command, changes),
             Err(fault) => Ok(Answer {
                 why: Why::NotACommand(fault),
@@ -187,7 +189,8 @@ impl<S: SlotParts> NodeCore<S> {
         command: &Command,
         changes: &mut SlotPlan,
     ) -> Result<Answer, AllocError>
-        requires { (keyspace : Keyspace) → committed keyspace changes.old.plan ≡ keyspace }
+        requires nothing { (keyspace : Keyspace) → committed keyspace changes.old.plan ≡ keyspace }
+        requires served { taken_for (Ok command.now) ≡ Ok command.now }
         ensures { IfOk result (λ answer. IsPlanned self.now (Ok command.now) answer changes.new.slot changes.new.plan) }
     {
         match command {
@@ -270,6 +273,7 @@ impl<S: SlotParts> NodeCore<S> {
     // A question about the cluster changes nothing.
     #[inline(never)]
     fn report(&self, command: &ClusterCommand) -> Result<Reply, AllocError>
+        requires { if_served command.now ≡ Ok (Cluster command.now) }
         ensures { IfOk result (λ reply. IsReported self.now command.now reply) }
     {
         match command {
@@ -282,6 +286,7 @@ impl<S: SlotParts> NodeCore<S> {
                 let runs = self.table.runs(self.alloc)?;
                 slots_reply(self.alloc, &self.config, runs.as_slice())
             }
+            _ => unreachable!(),
         }
     }
 
@@ -308,4 +313,39 @@ fn plain<K: Keep>(ticket: u64, response: Response) -> (Outputs, K::Kept)
         unreachable!();
     };
     (outputs, kept)
+}
+
+// Reads words as a command that a node serves. Any other is as unknown to it as a wrong word.
+fn read<'w>(words: &'w Words) -> Result<Command<'w>, CommandFault>
+    ensures value { result ≡ taken_for (command_of words.now) }
+    ensures served { IfOk result (λ command. taken_for (Ok command) ≡ Ok command) }
+{
+    let command = parse(words)?;
+    match unserved(&command) {
+        Some(fault) => Err(fault),
+        None => Ok(command),
+    }
+}
+
+// What the node answers to a command that it doesn't serve.
+fn unserved(command: &Command) -> Option<CommandFault>
+    ensures fault { IfSome result (λ fault. taken_for (Ok command.now) ≡ Err fault) }
+    ensures none { IfNone result (taken_for (Ok command.now) ≡ Ok command.now) }
+{
+    match command {
+        Command::Data(_)
+        | Command::Cluster(
+            ClusterCommand::KeySlot { .. } | ClusterCommand::MyId | ClusterCommand::Slots,
+        ) => None,
+        Command::Cluster(ClusterCommand::Asking { .. } | ClusterCommand::Migrate { .. }) => Some(
+            CommandFault::Unknown,
+        ),
+        Command::Cluster(
+            ClusterCommand::CountKeysInSlot { .. }
+            | ClusterCommand::GetKeysInSlot { .. }
+            | ClusterCommand::SlotState { .. }
+            | ClusterCommand::SetSlot { .. }
+            | ClusterCommand::Numbered,
+        ) => Some(CommandFault::UnknownSubcommand),
+    }
 }

@@ -2,4 +2,3 @@ pub mod View
 pub mod Slot
 pub mod Sent
 pub mod Events
-pub mod Claims

@@ -101,6 +101,31 @@ impl SlotMoves {
         }
     }
 
+    /// What becomes of CLUSTER SETSLOT slot IMPORTING node. It changes nothing and takes no memory.
+    pub fn import_verdict(&self, at: Standing, order: Order) -> ImportVerdict
+        ensures { result ≡ import_verdict at (move_of self.now order.slot)
+            (last_move_of self.now order.slot) order.node order.number }
+    {
+        let slot = order.slot;
+        import_verdict(at, self.get(slot), self.last_move(slot), order)
+    }
+
+    /// What becomes of CLUSTER SETSLOT slot MIGRATING node. It changes nothing and takes no memory.
+    pub fn migrate_verdict(&self, at: Standing, order: Order) -> MigrateVerdict
+        ensures { result ≡ migrate_verdict at (move_of self.now order.slot)
+            (last_move_of self.now order.slot) order.node order.number }
+    {
+        let slot = order.slot;
+        migrate_verdict(at, self.get(slot), self.last_move(slot), order)
+    }
+
+    /// What becomes of CLUSTER SETSLOT slot NODE node. It changes nothing and takes no memory.
+    pub fn node_verdict(&self, at: Standing, order: Order) -> NodeVerdict
+        ensures { result ≡ node_verdict at (move_of self.now order.slot) order.node order.number }
+    {
+        node_verdict(at, self.get(order.slot), order)
+    }
+
     /// Obeys CLUSTER SETSLOT slot IMPORTING node, if nothing stands against it.
     pub fn set_importing(&mut self, at: Standing, order: Order) -> Result<ImportVerdict, AllocError>
         ensures verdict { IfOk result (λ verdict. verdict ≡ import_verdict at (move_of self.old order.slot) (last_move_of self.old order.slot) order.node order.number) }
@@ -108,7 +133,7 @@ impl SlotMoves {
         ensures err { OnErr result (self.new ≡ self.old) }
     {
         let slot = order.slot;
-        let verdict = import_verdict(at, self.get(slot), self.last_move(slot), order);
+        let verdict = self.import_verdict(at, order);
         if let ImportVerdict::Begins { from, number } = verdict {
             let comes = Move::Comes {
                 from,
@@ -132,7 +157,7 @@ impl SlotMoves {
         ensures err { OnErr result (self.new ≡ self.old) }
     {
         let slot = order.slot;
-        let verdict = migrate_verdict(at, self.get(slot), self.last_move(slot), order);
+        let verdict = self.migrate_verdict(at, order);
         if let MigrateVerdict::Begins { to, number } = verdict {
             let leaves = Move::Leaves {
                 to,
@@ -153,7 +178,7 @@ impl SlotMoves {
         ensures moves { self.new ≡ after_node self.old order.slot result }
     {
         let slot = order.slot;
-        let verdict = node_verdict(at, self.get(slot), order);
+        let verdict = self.node_verdict(at, order);
         if let NodeVerdict::Ends { .. } = verdict {
             self.end(slot);
         }

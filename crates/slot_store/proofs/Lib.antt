@@ -4,3 +4,4 @@ pub mod Empty
 pub mod SlotEntries
 pub mod SlotCommit
 pub mod Touched
+pub mod Cleared

@@ -2,7 +2,7 @@
 ghost use Rattle.std.specs.Prelude.{◌≡◌, OnOk, OnErr};
 ghost use Rattle.keyspace.specs.Keyspace.{keyspace_of};
 ghost use Rattle.keyspace.specs.Plan.{committed};
-ghost use Rattle.slot_store.specs.InSlot.{in_slot, IsCommittedInSlot, LiesInSlot};
+ghost use Rattle.slot_store.specs.InSlot.{in_slot, outside_slot, IsCommittedInSlot, LiesInSlot};
 
 use key_slot::Slot;
 use keyspace::{Plan, Store, TreeStore};
@@ -19,4 +19,8 @@ pub trait SlotParts: Store {
         requires { LiesInSlot slot (committed (in_slot slot (Self.contents self.old)) plan) }
         ensures ok { OnOk result (IsCommittedInSlot slot plan (Self.contents self.old) (Self.contents self.new)) }
         ensures err { OnErr result (Self.contents self.new ≡ Self.contents self.old) };
+
+    /// Removes all keys of the slot, and none of another. It takes no memory.
+    fn clear_slot(&mut self, slot: Slot)
+        ensures { Self.contents self.new ≡ outside_slot slot (Self.contents self.old) };
 }

@@ -107,6 +107,10 @@ impl SlotParts for SlotStore {
     fn commit_in_slot(&mut self, alloc: Global, slot: Slot, plan: Plan) -> Result<(), AllocError> {
         commit(alloc, &mut self.maps[slot.index()], plan)
     }
+
+    fn clear_slot(&mut self, slot: Slot) {
+        self.maps[slot.index()].clear();
+    }
 }
 
 // The first keys of the map, at most `count`, which are in order.

@@ -1,2 +1,4 @@
 pub mod RunLemmas
 pub mod TableLemmas
+pub mod MergeLemmas
+pub mod JoinLemmas

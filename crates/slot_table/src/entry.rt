@@ -1,5 +1,6 @@
 //! What a node knows of the owner of a slot.
 ghost use Rattle.std.specs.Prelude.{◌≡◌};
+ghost use Rattle.slot_table.specs.Claims.{is_above};
 
 use crate::node_no::NodeNo;
 use std::marker::Model;
@@ -56,6 +57,18 @@ impl SlotEntry {
         SlotEntry {
             epoch: Epoch::FIRST,
             owner,
+        }
+    }
+
+    // Whether a claim to a slot counts above what is known of the slot.
+    pub(crate) fn is_above(&self, known: Option<SlotEntry>) -> bool
+        ensures { result ≡ is_above self.now known }
+    {
+        match known {
+            None => true,
+            Some(known) => {
+                known.epoch < self.epoch || known.epoch == self.epoch && known.owner < self.owner
+            }
         }
     }
 }

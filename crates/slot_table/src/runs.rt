@@ -144,7 +144,7 @@ fn slots_between(from: usize, end: usize) -> SlotRange
     }
 }
 
-fn slot_at(index: usize) -> Slot
+pub(crate) fn slot_at(index: usize) -> Slot
     requires { index < 16384 }
     ensures { result ≡ index }
 {

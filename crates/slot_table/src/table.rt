@@ -1,10 +1,13 @@
 //! The table of all slots with their owners.
-ghost use Rattle.std.specs.Prelude.{◌≡◌, ◌<◌, ℕ, length, IfOk, Some, None, if◌then◌else◌};
+ghost use Rattle.std.specs.Prelude.{◌≡◌, ◌<◌, ℕ, length, IfOk, OnOk, OnErr, Some, None, slice_set, if◌then◌else◌};
 ghost use Rattle.slot_table.specs.Table.{entry_at, owner_at, claim_at, first_table, HasFirstEntries};
 ghost use Rattle.key_slot.specs.SlotRange.{is_in};
 ghost use Rattle.slot_table.specs.Runs.{AreRunsOf};
+ghost use Rattle.slot_table.specs.Claims.{merged, changed};
 
-use crate::entry::{Epoch, SlotEntry};
+use crate::claim::Claim;
+use crate::entry::SlotEntry;
+use crate::merging::{take_all, taken_slots};
 use crate::node_no::NodeNo;
 use crate::runs::{ClaimOf, Owner, Run, runs_of};
 use key_slot::{Slot, SlotRange};
@@ -63,10 +66,58 @@ impl SlotTable {
     }
 
     /// All slots of the node with their epochs, as the longest runs of one epoch, in rising order.
-    pub fn claim_of(&self, alloc: Global, node: NodeNo) -> Result<Vec<Run<Epoch>>, AllocError>
-        ensures { IfOk result (λ runs. AreRunsOf (claim_at self.now node) runs.items) }
+    pub fn claim_of(&self, alloc: Global, node: NodeNo) -> Result<Claim, AllocError>
+        ensures { IfOk result (λ claim. AreRunsOf (claim_at self.now node) claim) }
     {
-        runs_of(alloc, self.entries.as_slice(), ClaimOf(node))
+        let runs = runs_of(alloc, self.entries.as_slice(), ClaimOf(node))?;
+        let claim = Claim::new(alloc, runs)?;
+        Ok(claim)
+    }
+
+    /// Takes over what the owner claims wherever that counts above the entry of the slot, and gives the slots whose
+    /// entry changed, in rising order.
+    ///
+    /// Of two claims to a slot that of the greater epoch counts, and of two in one epoch that of the greater owner.
+    /// A refusal of memory leaves the table as it was. It looks at the slots of the claim alone.
+    pub fn merge(
+        &mut self,
+        alloc: Global,
+        owner: NodeNo,
+        claim: &Claim,
+    ) -> Result<Vec<Slot>, AllocError>
+        ensures table { OnOk result (self.new ≡ merged self.old claim.now owner) }
+        ensures changed { IfOk result (λ slots. slots.items ≡ changed self.old self.new) }
+        ensures err { OnErr result (self.new ≡ self.old) }
+    {
+        let slots = self.changes(alloc, owner, claim)?;
+        self.take(owner, claim);
+        Ok(slots)
+    }
+
+    /// The slots whose entry [`merge`](SlotTable::merge) would change, in rising order.
+    pub fn changes(
+        &self,
+        alloc: Global,
+        owner: NodeNo,
+        claim: &Claim,
+    ) -> Result<Vec<Slot>, AllocError>
+        ensures { IfOk result (λ slots. slots.items ≡ changed self.now (merged self.now claim.now owner)) }
+    {
+        taken_slots(alloc, self.entries.as_slice(), claim.runs(), owner)
+    }
+
+    /// Takes over what the owner claims, as [`merge`](SlotTable::merge) does. It takes no memory.
+    pub fn take(&mut self, owner: NodeNo, claim: &Claim)
+        ensures { self.new ≡ merged self.old claim.now owner }
+    {
+        take_all(self.entries.as_mut_slice(), claim.runs(), owner);
+    }
+
+    /// Gives the slot this entry, or none. It takes no memory.
+    pub fn set(&mut self, slot: Slot, entry: Option<SlotEntry>)
+        ensures { self.new ≡ slice_set self.old slot entry }
+    {
+        self.entries[slot.index()] = entry;
     }
 }
 

@@ -1,4 +1,5 @@
-use Rattle.std.proofs.Common.{subst, ◌∙◌, IfOk}
+use Rattle.std.proofs.Common.{subst, sym, ◌∙◌, ℕ, List}
+use Rattle.slot_table.specs.declared.runs.Run.{Run}
 use Rattle.slot_table.specs.Table.{claim_at}
 use Rattle.slot_table.specs.Runs.{AreRunsOf}
 use Rattle.slot_table.proofs.table.SlotTable.claim_of.Goals as goal
@@ -6,4 +7,6 @@ use Rattle.slot_table.proofs.table.SlotTable.claim_of.Goals as goal
 pub returns : goal.returns
 returns c =
     let same = c.as_slice.ensures.value ∙ c.self.view_is in
-    subst (λ entries. IfOk c.runs_of.result (λ runs. AreRunsOf (claim_at entries c.args.node) runs.items)) same c.runs_of.ensures
+    let runs = c.in_ok-runs.runs.items in
+    subst (λ (claim : List (Run ℕ)). AreRunsOf (claim_at c.args.self.now c.args.node) claim) (sym c.in_ok-claim.ensures)
+    (subst (λ entries. AreRunsOf (claim_at entries c.args.node) runs) same c.in_ok-runs.ensures)

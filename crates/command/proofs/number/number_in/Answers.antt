@@ -1,6 +1,6 @@
 use Rattle.std.proofs.Common.{rules}
-use Rattle.keyspace.proofs.NumberTexts.{another_text, is_number, no_utf8, not_parsed}
-use Rattle.keyspace.proofs.number.number_in.Goals as goal
+use Rattle.command.proofs.NumberTexts.{another_text, is_number, no_utf8, not_parsed}
+use Rattle.command.proofs.number.number_in.Goals as goal
 
 pub returns-in_err-ok : goal.returns-in_err-ok
 returns-in_err-ok c = search (rules, no_utf8)

@@ -1,30 +1,20 @@
 -- Which text is the text of a number.
-use Rattle.std.proofs.Common.{◌≡◌, ◌≢◌, ℕ, List, Bool, true, false, cond, ℤ, pos, negsuc, FitsSigned, w64, Option, Some, None, Result, Ok, SomeIff, IsAscii, IsUtf8, bytes_eq, refl, sym, ap, ◌∙◌, subst, arith}
+use Rattle.std.proofs.Common.{◌≡◌, ◌≢◌, ℕ, List, Bool, true, false, cond, ℤ, pos, negsuc, FitsSigned, w64, Some, None, Result, Ok, IsAscii, IsUtf8, bytes_eq, refl, sym, ap, ◌∙◌, subst, arith}
 use Rattle.std.specs.Fmt.{signed_decimal}
 use Rattle.std.specs.Str.Parse.{ParsesSigned, signed_digits_value}
 use Rattle.std.proofs.lemmas.Bool.{and_from, and_parts, lt-ltb, ltb-true, leb-true, le-leb}
 use Rattle.std.proofs.lemmas.Fmt.{IsAscii-signed, parse-signed_decimal}
 use Rattle.std.proofs.lemmas.Slice.Eq.{bytes_eq-Decides}
 use Rattle.std.proofs.lemmas.Str.{IsUtf8-from_ascii}
-use Rattle.keyspace.specs.Numbers.{fits, fitting_number, is_text_of, number_of}
+use Rattle.command.specs.Numbers.{fits, is_text_of, number_of}
 
-fits_if : (n : ℤ) → FitsSigned w64 n → fits n ≡ true
+pub fits_if : (n : ℤ) → FitsSigned w64 n → fits n ≡ true
 fits_if (pos n) h = lt-ltb _ _ h.sfits
 fits_if (negsuc n) h = and_from _ true (le-leb _ _ (omega (arith, h.sfits))) refl
 
-fits_only_if : (n : ℤ) → fits n ≡ true → FitsSigned w64 n
+pub fits_only_if : (n : ℤ) → fits n ≡ true → FitsSigned w64 n
 fits_only_if (pos n) e = record { sfits = ltb-true _ _ e }
 fits_only_if (negsuc n) e = record { sfits = omega (arith, leb-true _ _ (and_parts _ true e).0) }
-
--- `checked_add` gives the number that fits
-pub fitting_from : (r : Option ℤ) (n : ℤ) → SomeIff r (FitsSigned w64 n) n → r ≡ fitting_number n
-unfolding fitting_number
-fitting_from None n other =
-    elim (fits n) as (λ b. fits n ≡ b → None ≡ cond b (Some n) None) [
-      | true ↦ λ e. absurd (other (fits_only_if n e))
-      | false ↦ λ e. refl
-    ] refl
-fitting_from (Some m) n is = ap Some is.1 ∙ ap (λ b. cond b (Some n) None) (sym (fits_if n is.0))
 
 number_by : (text : List ℕ) (b : Bool) → is_text_of text (signed_digits_value 10 text) ≡ b → number_of text ≡ cond b (Some (signed_digits_value 10 text)) None
 unfolding number_of

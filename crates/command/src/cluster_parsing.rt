@@ -1,0 +1,158 @@
+//! From the words of a request to a command about the cluster, or to one that moves keys.
+ghost use Rattle.std.specs.Prelude.{◌≡◌, Some};
+ghost use Rattle.std.specs.Option.{option_copied};
+ghost use Rattle.command.specs.ClusterTable.{keys_in_slot, move_number, set_slot, slot_of, timeout_of, with_import, with_migration, with_subcommand, with_subcommands};
+ghost use Rattle.command.specs.Numbers.{count_of};
+
+use crate::command::{ClusterCommand, Command, SlotOrder};
+use crate::fault::CommandFault;
+use crate::names::{Name, Subcommand};
+use crate::number::{Positive, count_in, number_in};
+use crate::words::Word;
+use byte_string::ByteString;
+use key_slot::Slot;
+
+/// CLUSTER takes a subcommand with its arguments.
+pub(crate) fn with_subcommands<'w>(words: &'w [ByteString]) -> Result<Command<'w>, CommandFault>
+    ensures { result ≡ with_subcommands words.now }
+{
+    let Some((word, arguments)) = words.split_first() else {
+        return Err(CommandFault::Arity(Name::Cluster));
+    };
+    let Some(subcommand) = Subcommand::of(word.as_slice()) else {
+        return Err(CommandFault::UnknownSubcommand);
+    };
+    with_subcommand(subcommand, arguments)
+}
+
+// A row for each subcommand, with the arguments that it takes.
+fn with_subcommand<'w>(
+    subcommand: Subcommand,
+    arguments: &'w [ByteString],
+) -> Result<Command<'w>, CommandFault>
+    ensures { result ≡ with_subcommand (Some subcommand) arguments.now }
+{
+    let command = match (subcommand, arguments) {
+        (Subcommand::KeySlot, [key]) => ClusterCommand::KeySlot {
+            key: Word::new(key),
+        },
+        (Subcommand::MyId, []) => ClusterCommand::MyId,
+        (Subcommand::Slots, []) => ClusterCommand::Slots,
+        (Subcommand::CountKeysInSlot, [slot]) => {
+            let slot = slot_of(slot.as_slice()).ok_or(CommandFault::InvalidSlot)?;
+            ClusterCommand::CountKeysInSlot { slot }
+        }
+        (Subcommand::GetKeysInSlot, [slot, count]) => {
+            return keys_in_slot(slot.as_slice(), count.as_slice());
+        }
+        (Subcommand::SlotState, [slot]) => {
+            let slot = slot_of(slot.as_slice()).ok_or(CommandFault::InvalidSlot)?;
+            ClusterCommand::SlotState { slot }
+        }
+        (Subcommand::SetSlot, [slot, order, node]) => {
+            return set_slot(slot.as_slice(), order.as_slice(), node, None);
+        }
+        (Subcommand::SetSlot, [slot, order, node, number]) => {
+            return set_slot(
+                slot.as_slice(),
+                order.as_slice(),
+                node,
+                Some(number.as_slice()),
+            );
+        }
+        (Subcommand::Numbered, []) => ClusterCommand::Numbered,
+        _ => return Err(CommandFault::Arity(Name::Cluster)),
+    };
+    Ok(Command::Cluster(command))
+}
+
+fn keys_in_slot<'w>(slot: &[u8], count: &[u8]) -> Result<Command<'w>, CommandFault>
+    ensures { result ≡ keys_in_slot (slot_of slot.now) (count_of count.now) }
+{
+    Ok(Command::Cluster(ClusterCommand::GetKeysInSlot {
+        slot: slot_of(slot).ok_or(CommandFault::InvalidSlot)?,
+        count: count_in(count).ok_or(CommandFault::NotAnInteger)?,
+    }))
+}
+
+fn set_slot<'w>(
+    slot: &[u8],
+    order: &[u8],
+    node: &'w ByteString,
+    number: Option<&[u8]>,
+) -> Result<Command<'w>, CommandFault>
+    ensures { result ≡ set_slot slot.now order.now node.now (option_copied number.entry) }
+{
+    let slot = slot_of(slot).ok_or(CommandFault::InvalidSlot)?;
+    let order = SlotOrder::of(order).ok_or(CommandFault::Syntax)?;
+    let number = move_number(number)?;
+    Ok(Command::Cluster(ClusterCommand::SetSlot {
+        slot,
+        order,
+        node: Word::new(node),
+        number,
+    }))
+}
+
+/// ASKING takes the number of a move, or nothing.
+pub(crate) fn with_import<'w>(arguments: &'w [ByteString]) -> Result<Command<'w>, CommandFault>
+    ensures { result ≡ with_import arguments.now }
+{
+    let number = match arguments {
+        [] => None,
+        [number] => move_number(Some(number.as_slice()))?,
+        _ => return Err(CommandFault::Arity(Name::Asking)),
+    };
+    Ok(Command::Cluster(ClusterCommand::Asking { number }))
+}
+
+/// MIGRATE takes a host, a port, a key, a database and a timeout.
+pub(crate) fn with_migration<'w>(arguments: &'w [ByteString]) -> Result<Command<'w>, CommandFault>
+    ensures { result ≡ with_migration arguments.now }
+{
+    let [host, port, key, database, timeout] = arguments else {
+        return Err(CommandFault::Arity(Name::Migrate));
+    };
+    let port = number_in(port.as_slice()).ok_or(CommandFault::NotAnInteger)?;
+    let database = number_in(database.as_slice()).ok_or(CommandFault::NotAnInteger)?;
+    let timeout = number_in(timeout.as_slice()).ok_or(CommandFault::NotAnInteger)?;
+    // There is one database.
+    if database != 0 {
+        return Err(CommandFault::Syntax);
+    }
+    let timeout = timeout_of(timeout).ok_or(CommandFault::Syntax)?;
+    Ok(Command::Cluster(ClusterCommand::Migrate {
+        host: Word::new(host),
+        port,
+        key: Word::new(key),
+        timeout,
+    }))
+}
+
+fn slot_of(word: &[u8]) -> Option<Slot>
+    ensures { result ≡ slot_of word.now }
+{
+    Slot::new(u16::try_from(count_in(word)?).ok()?)
+}
+
+// The number of a move, which may be left out.
+fn move_number(word: Option<&[u8]>) -> Result<Option<Positive>, CommandFault>
+    ensures { result ≡ move_number (option_copied word.entry) }
+{
+    let Some(word) = word else {
+        return Ok(None);
+    };
+    match Positive::of(word) {
+        Some(number) => Ok(Some(number)),
+        None => Err(CommandFault::NotAnInteger),
+    }
+}
+
+fn timeout_of(number: i64) -> Option<u32>
+    ensures { result ≡ timeout_of number }
+{
+    if number < 1 || number > 1_000_000 {
+        return None;
+    }
+    Some(number as u32)
+}

@@ -1,0 +1,59 @@
+//! What a node claims.
+ghost use Rattle.std.specs.Prelude.{◌≡◌, IfOk};
+ghost use Rattle.slot_table.specs.Claims.{IsRising};
+
+use crate::entry::Epoch;
+use crate::runs::Run;
+use std::alloc::{AllocError, Global};
+use std::marker::Model;
+use std::sync::Arc;
+
+/// The slots that a node claims for itself, each in the epoch of its claim. It doesn't say which node that is.
+///
+/// A copy shares the runs, and takes no memory for them.
+#[derive(Debug, Drop)]
+pub struct Claim {
+    runs: Arc<Vec<Run<Epoch>>>,
+}
+
+impl Model for Claim {
+    ghost use Rattle.std.specs.Prelude.{List, ℕ};
+    ghost use Rattle.slot_table.specs.declared.runs.Run.{Run};
+
+    ghost Value = { List (Run ℕ) };
+
+    ghost use Rattle.slot_table.specs.Claims.{IsRising};
+
+    ghost view = { λ claim. claim.runs.value.items };
+
+    ghost invariant = { λ claim. IsRising claim.runs.value.items };
+}
+
+impl Claim {
+    // The claim to the slots of these runs.
+    pub(crate) fn new(alloc: Global, runs: Vec<Run<Epoch>>) -> Result<Claim, AllocError>
+        requires { IsRising runs.items }
+        ensures { IfOk result (λ claim. claim ≡ runs.items) }
+    {
+        let runs = Arc::new(alloc, runs)?;
+        Ok(Claim { runs })
+    }
+
+    /// The slots with their epochs: each run ends before the later ones begin.
+    pub fn runs(&self) -> &[Run<Epoch>]
+        ensures same { result.now ≡ self.now }
+        ensures rising { IsRising self.now }
+    {
+        self.runs.as_slice()
+    }
+}
+
+impl Clone for Claim {
+    ghost is_clone = { λ claim copy. copy ≡ claim };
+
+    fn clone(&self) -> Result<Claim, AllocError> {
+        Ok(Claim {
+            runs: self.runs.clone()?,
+        })
+    }
+}
