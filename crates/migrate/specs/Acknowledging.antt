@@ -1,0 +1,20 @@
+-- Acknowledgements of copies (ours).
+use Rattle.std.specs.Prelude.{ℕ, ◌==◌, ◌&&◌, Bool, if◌then◌else◌, List, Option, Some, None}
+use Rattle.slot_moves.specs.Moves.{Moves, move_of}
+use Rattle.slot_moves.specs.declared.running.Move.{Move}
+use Rattle.slot_moves.specs.declared.running.Move.TheVariants.{Leaves, Comes}
+use Rattle.migrate.specs.Arriving.{changed_at}
+
+-- the key whose copy it is, if that copy is outstanding
+abbrev pub acknowledged_key : Option Move → ℕ → ℕ → ℕ → Option (List ℕ)
+acknowledged_key (Some (Leaves to number copies frozen)) from move copy = if to == from && number == move && copies == copy then frozen else None
+acknowledged_key (Some (Comes source number last drained)) from move copy = None
+acknowledged_key None from move copy = None
+
+-- no copy is outstanding any more
+abbrev pub unfrozen : Move → Move
+unfrozen (Leaves to number copies frozen) = Leaves to number copies None
+unfrozen (Comes from number last drained) = Comes from number last drained
+
+abbrev pub after_ack : Moves → ℕ → Moves
+after_ack moves slot = changed_at moves slot unfrozen (move_of moves slot)
