@@ -1,0 +1,14 @@
+pub mod State
+pub mod Outcome
+pub mod Plain
+pub mod Slots
+pub mod Commands
+pub mod Orders
+pub mod Copies
+pub mod Claiming
+pub mod Messages
+pub mod Ticks
+pub mod Reports
+pub mod Requests
+pub mod Numbers
+pub mod Step

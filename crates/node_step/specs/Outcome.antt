@@ -1,0 +1,57 @@
+-- What comes of an event at a node.
+use Rattle.std.specs.Prelude.{ℕ, List, [], map}
+use Rattle.resp2.specs.declared.reply.Reply.{Reply}
+use Rattle.resp2.specs.declared.reply.Reply.TheVariants.{Error}
+use Rattle.command.specs.ErrorLine.{error_text}
+use Rattle.command.specs.declared.error_line.ErrorLine.{ErrorLine}
+use Rattle.bus.specs.declared.message.Body.{Body}
+use Rattle.bus.specs.declared.message.Message.{Message}
+use Rattle.node_step.specs.State.{NodeState}
+use Rattle.connections.specs.declared.conn.Conn.{Conn}
+use Rattle.node_step.specs.declared.outputs.Outputs.{Outputs}
+use Rattle.node_step.specs.declared.outputs.Release.{Release}
+use Rattle.node_step.specs.declared.response.Response.{Response}
+use Rattle.node_step.specs.declared.response.Response.TheVariants.{Nothing, Replied}
+use Rattle.node_step.specs.declared.response.Why.{Why}
+
+-- what the sender of the event gets back, the replies to connections that waited, the messages to other nodes, each with
+-- the node that it is for, and the node's next state
+pub record Outcome : Type 0 where
+  pub response : Response
+  pub released : List Release
+  pub sent : List (ℕ × Body)
+  pub state : NodeState
+
+-- nothing comes out, and this is the next state
+abbrev pub silent : NodeState → Outcome
+silent node = record { response = Nothing; released = []; sent = []; state = node }
+
+-- a reply comes out, and nothing else
+abbrev pub replied : NodeState → Why → Reply → Outcome
+replied node why reply = record (silent node) { response = Replied (record { why = why; reply = reply }) }
+
+-- the same with messages
+abbrev pub replied_sending : NodeState → Why → Reply → List (ℕ × Body) → Outcome
+replied_sending node why reply sent = record (replied node why reply) { sent = sent }
+
+abbrev pub error : ErrorLine → Reply
+error line = Error (error_text line)
+
+-- connections that waited get this reply
+abbrev pub release : Reply → Conn → Release
+release reply conn = record { conn = conn; reply = reply }
+
+-- ---- the stamp of a step
+
+-- a message carries its sender, the ticket of the step that sends it, and the sender's epoch after that step
+abbrev pub stamped : ℕ → ℕ → ℕ → ℕ × Body → Message
+stamped from ticket epoch body = record { from = from; to = body.0; ticket = ticket; epoch = epoch; body = body.1 }
+
+-- the outputs of a step
+abbrev pub outputs_of : ℕ → Outcome → Outputs
+outputs_of ticket outcome = record {
+  ticket = ticket;
+  response = outcome.response;
+  released = outcome.released;
+  sent = map (stamped outcome.state.number ticket outcome.state.current_epoch) outcome.sent;
+}

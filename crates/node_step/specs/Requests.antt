@@ -1,0 +1,159 @@
+-- What comes of a request.
+use Rattle.std.specs.Prelude.{ℕ, ◌^◌, pos, nat_lt, Bool, false, true, List, Option, Some, None, Result, Ok, Err}
+use Rattle.std.specs.Str.{bytes_eq}
+use Rattle.std.specs.List.{position}
+use Rattle.resp2.specs.declared.reply.Reply.TheVariants.{Integer}
+use Rattle.command.specs.ErrorLine.{line_of}
+use Rattle.command.specs.declared.command.Command.{Command}
+use Rattle.command.specs.declared.command.Command.TheVariants.{Data, Cluster}
+use Rattle.command.specs.declared.command.ClusterCommand.{ClusterCommand}
+use Rattle.command.specs.declared.command.ClusterCommand.TheVariants as cluster
+use Rattle.command.specs.declared.command.SlotOrder.{SlotOrder}
+use Rattle.command.specs.declared.command.SlotOrder.TheVariants.{Importing, Migrating, Node}
+use Rattle.command.specs.declared.fault.CommandFault.{CommandFault}
+use Rattle.key_slot.specs.Slot.{hash_slot}
+use Rattle.slot_table.specs.Runs.{AreRunsOf}
+use Rattle.slot_table.specs.Table.{owner_at, claim_at}
+use Rattle.slot_table.specs.declared.runs.Run.{Run}
+use Rattle.slot_moves.specs.declared.ending.NodeVerdict.{NodeVerdict}
+use Rattle.slot_moves.specs.declared.ending.NodeVerdict.TheVariants as ending
+use Rattle.cluster_config.specs.declared.config.NodeConfig.{NodeConfig}
+use Rattle.slot_decision.specs.declared.asked.Asking.{Asking}
+use Rattle.slot_decision.specs.declared.asked.Asking.TheVariants.{No, Any, Of}
+use Rattle.node_step.specs.Commands.{command_outcome, decision_on}
+use Rattle.connections.specs.Connections.{connection_at, with_change}
+use Rattle.migrate.specs.declared.sending.CopyVerdict.{CopyVerdict}
+use Rattle.migrate.specs.declared.sending.CopyVerdict.TheVariants as copies
+use Rattle.node_step.specs.Copies.{copy_verdict_on, migration, node_at}
+use Rattle.node_step.specs.Orders.{done, ending_outcome, ending_verdict, importing, migrating, new_epoch, with_slot}
+use Rattle.node_step.specs.Outcome.{Outcome, error, replied}
+use Rattle.node_step.specs.Reports.{count_reply, id_of, keys_reply, slots_reply, state_reply}
+use Rattle.node_step.specs.State.{NodeState}
+use Rattle.connections.specs.declared.conn.Conn.{Conn}
+use Rattle.connections.specs.declared.conn.Connection.{Connection}
+use Rattle.node_step.specs.declared.response.Why.TheVariants.{NotACommand, Reported, Told}
+
+-- ---- the connection
+
+-- what the connection's last request allows this one, and whether its ASK lines name the move
+abbrev pub asking_of : Option Connection → Asking
+asking_of None = No
+asking_of (Some connection) = connection.asking
+
+abbrev pub is_numbered : Option Connection → Bool
+is_numbered None = false
+is_numbered (Some connection) = connection.numbered
+
+-- the connection is changed at the node
+abbrev pub at_connection : NodeState → Conn → (Connection → Connection) → NodeState
+at_connection node conn change = record node { connections = with_change node.connections conn change }
+
+-- an asking holds for one request, whatever that is
+abbrev pub using_up : NodeState → Conn → NodeState
+using_up node conn = at_connection node conn (λ connection. record connection { asking = No })
+
+-- ASKING, with the number of a move or without one
+abbrev pub asking_for : Option ℕ → Asking
+asking_for None = Any
+asking_for (Some number) = Of number
+
+abbrev pub with_asking : NodeState → Conn → Option ℕ → NodeState
+with_asking node conn number = at_connection node conn (λ connection. record connection { asking = asking_for number })
+
+-- CLUSTER NUMBERED
+abbrev pub with_numbers : NodeState → Conn → NodeState
+with_numbers node conn = at_connection node conn (λ connection. record connection { numbered = true })
+
+-- ---- commands about the cluster
+
+-- the node with that id
+abbrev pub node_with_id : NodeState → List ℕ → Option ℕ
+node_with_id node id = position (λ (other : NodeConfig). bytes_eq other.id id) node.config.nodes
+
+-- what a step may choose: the runs in which CLUSTER SLOTS lists the owners, and those of a claim
+pub record Listing : Type 0 where
+  pub owners : List (Run ℕ)
+  pub claim : List (Run ℕ)
+
+-- a row an order
+abbrev pub order_outcome : NodeState → ℕ → SlotOrder → Option ℕ → Option ℕ → Listing → Outcome
+order_outcome node slot Importing other number listing = importing node slot other number
+order_outcome node slot Migrating other number listing = migrating node slot other number
+order_outcome node slot Node other number listing = ending_outcome node slot listing.claim (ending_verdict node slot other number)
+
+-- a row a command
+abbrev pub cluster_outcome : NodeState → Conn → ClusterCommand → Listing → Outcome
+cluster_outcome node conn (cluster.KeySlot key) listing = replied node Reported (Integer (pos (hash_slot key)))
+cluster_outcome node conn cluster.MyId listing = replied node Reported (id_of node.config node.number)
+cluster_outcome node conn cluster.Slots listing = replied node Reported (slots_reply node.config listing.owners)
+cluster_outcome node conn (cluster.CountKeysInSlot slot) listing = replied node Reported (count_reply node slot)
+cluster_outcome node conn (cluster.GetKeysInSlot slot count) listing = replied node Reported (keys_reply node slot count)
+cluster_outcome node conn (cluster.SlotState slot) listing = replied node Reported (state_reply node slot)
+cluster_outcome node conn (cluster.SetSlot slot order id number) listing = order_outcome node slot order (node_with_id node id) number listing
+cluster_outcome node conn cluster.Numbered listing = replied (with_numbers node conn) Told done
+cluster_outcome node conn (cluster.Asking number) listing = replied (with_asking node conn number) Told done
+cluster_outcome node conn (cluster.Migrate host port key timeout) listing = migration node conn host port key timeout
+
+-- ---- the listing
+
+-- the claim that a node makes as its import ends
+abbrev pub IsClaimAfter : NodeState → ℕ → List (Run ℕ) → NodeVerdict → Type 0
+IsClaimAfter node slot claim (ending.Ends drained) = AreRunsOf (claim_at (with_slot node slot (new_epoch node slot drained)).table node.number) claim
+IsClaimAfter node slot claim ending.UnknownNode = Unit {0}
+IsClaimAfter node slot claim ending.OldMove = Unit {0}
+IsClaimAfter node slot claim ending.NotDrained = Unit {0}
+IsClaimAfter node slot claim ending.IsOwner = Unit {0}
+IsClaimAfter node slot claim ending.NotYetOwner = Unit {0}
+
+abbrev pub MayClaim : NodeState → ℕ → SlotOrder → Option ℕ → Option ℕ → List (Run ℕ) → Type 0
+MayClaim node slot Importing other number claim = Unit {0}
+MayClaim node slot Migrating other number claim = Unit {0}
+MayClaim node slot Node other number claim = IsClaimAfter node slot claim (ending_verdict node slot other number)
+
+-- where a listing is needed, it has the longest runs, in rising order
+abbrev pub MayList : NodeState → Result Command CommandFault → Listing → Type 0
+MayList node (Ok (Cluster cluster.Slots)) listing = AreRunsOf (owner_at node.table) listing.owners
+MayList node (Ok (Cluster (cluster.SetSlot slot order id number))) listing = MayClaim node slot order (node_with_id node id) number listing.claim
+MayList node command listing = Unit {0}
+
+-- ---- numbers that only grow
+
+-- there is a next number of a copy
+abbrev pub has_copy_number : CopyVerdict → Bool
+has_copy_number copies.Exhausted = false
+has_copy_number copies.WrongTarget = true
+has_copy_number copies.NoKey = true
+has_copy_number copies.CopyOutstanding = true
+has_copy_number (copies.SendAgain to number copy) = true
+has_copy_number (copies.Copies to number copy) = true
+
+-- and an epoch for a slot that came
+abbrev pub has_epoch : NodeState → ℕ → NodeVerdict → Bool
+has_epoch node slot (ending.Ends drained) = nat_lt (new_epoch node slot drained) (2 ^ 64)
+has_epoch node slot ending.UnknownNode = true
+has_epoch node slot ending.OldMove = true
+has_epoch node slot ending.NotDrained = true
+has_epoch node slot ending.IsOwner = true
+has_epoch node slot ending.NotYetOwner = true
+
+abbrev pub has_order_number : NodeState → ℕ → SlotOrder → Option ℕ → Option ℕ → Bool
+has_order_number node slot Importing other number = true
+has_order_number node slot Migrating other number = true
+has_order_number node slot Node other number = has_epoch node slot (ending_verdict node slot other number)
+
+-- the command finds the number that it needs, if it needs one
+abbrev pub has_number : NodeState → Result Command CommandFault → Bool
+has_number node (Ok (Cluster (cluster.Migrate host port key timeout))) = has_copy_number (copy_verdict_on node key (node_at node host port))
+has_number node (Ok (Cluster (cluster.SetSlot slot order id number))) = has_order_number node slot order (node_with_id node id) number
+has_number node command = true
+
+-- ---- by the words
+
+abbrev pub by_command : NodeState → Conn → Option Connection → Result Command CommandFault → Listing → Outcome
+by_command node conn connection (Err fault) listing = replied node (NotACommand fault) (error (line_of fault))
+by_command node conn connection (Ok (Cluster command)) listing = cluster_outcome node conn command listing
+by_command node conn connection (Ok (Data command)) listing =
+    command_outcome node (is_numbered connection) command (decision_on node command (asking_of connection))
+
+abbrev pub request_outcome : NodeState → Conn → Result Command CommandFault → Listing → Outcome
+request_outcome node conn command listing = by_command (using_up node conn) conn (connection_at node.connections conn) command listing

@@ -1,0 +1,48 @@
+-- What a step of a node may be.
+use Rattle.std.specs.Prelude.{◌≡◌, ℕ, true, List, is_some, MatchBool}
+use Rattle.command.specs.Table.{command_of}
+use Rattle.connections.specs.Connections.{connection_at, may_ask, Opens, Closes}
+use Rattle.node_step.specs.Messages.{delivered}
+use Rattle.node_step.specs.Outcome.{Outcome, outputs_of, silent}
+use Rattle.node_step.specs.Requests.{Listing, MayList, has_number, request_outcome, using_up}
+use Rattle.node_step.specs.State.{NodeState}
+use Rattle.node_step.specs.Ticks.{tick}
+use Rattle.connections.specs.declared.conn.Conn.{Conn}
+use Rattle.node_step.specs.declared.event.Event.{Event}
+use Rattle.node_step.specs.declared.event.Event.TheVariants.{Open, Close, Request, Deliver, Tick}
+use Rattle.node_step.specs.declared.outputs.Outputs.{Outputs}
+use Rattle.node_step.specs.declared.response.Response.TheVariants.{Opened}
+
+-- a connection was made at a free key
+pub record IsOpening (old : NodeState) (outcome : Outcome) : Type 0 where
+  pub conn : Conn
+  pub opens : Opens old.connections outcome.state.connections conn
+  pub comes_to : outcome ≡ record (silent (record old { connections = outcome.state.connections })) { response = Opened conn }
+
+-- the connection was closed
+pub record IsClosing (old : NodeState) (conn : Conn) (outcome : Outcome) : Type 0 where
+  pub closes : Closes old.connections outcome.state.connections conn
+  pub comes_to : outcome ≡ silent (record old { connections = outcome.state.connections })
+
+-- the words were read as a command and answered
+pub record IsAnswering (old : NodeState) (conn : Conn) (words : List (List ℕ)) (outcome : Outcome) : Type 0 where
+  pub listing : Listing
+  pub may_list : MayList (using_up old conn) (command_of words) listing
+  pub number : has_number (using_up old conn) (command_of words) ≡ true
+  pub comes_to : outcome ≡ request_outcome old conn (command_of words) listing
+
+-- what may come of an event. A connection that isn't open, or waits for a reply, is not answered
+abbrev pub MayCome : NodeState → Event → Outcome → Type 0
+MayCome old Open outcome = IsOpening old outcome
+MayCome old (Close conn) outcome = MatchBool (is_some (connection_at old.connections conn)) (IsClosing old conn outcome) (outcome ≡ silent old)
+MayCome old (Request conn words) outcome =
+    MatchBool (may_ask (connection_at old.connections conn)) (IsAnswering old conn words outcome) (outcome ≡ silent old)
+MayCome old (Deliver message) outcome = outcome ≡ delivered old message
+MayCome old Tick outcome = outcome ≡ tick old
+
+-- a step of a node: the ticket under which it is made, the node's state, what happens, what comes out, and the next state
+pub record NodeStep (ticket : ℕ) (old : NodeState) (event : Event) (outputs : Outputs) (new : NodeState) : Type 0 where
+  pub outcome : Outcome
+  pub may_come : MayCome old event outcome
+  pub outputs_are : outputs ≡ outputs_of ticket outcome
+  pub state : new ≡ outcome.state

@@ -1,0 +1,150 @@
+//! What a step gives to the world outside its node.
+ghost use Rattle.std.specs.Prelude.{◌≡◌, [], IfOk, IsOk};
+ghost use Rattle.node_step.specs.Plain.{IsPlain};
+
+use crate::response::Response;
+use bus::Message;
+use connections::Conn;
+use resp2::Reply;
+use std::alloc::{AllocError, Global};
+use std::marker::Model;
+
+/// A reply to a connection that waited for it.
+#[derive(Debug, Drop)]
+pub struct Release {
+    /// The connection.
+    pub conn: Conn,
+    /// What its client reads.
+    pub reply: Reply,
+}
+
+impl Clone for Release {
+    ghost is_clone = { λ release copy. copy ≡ release };
+
+    fn clone(&self) -> Result<Release, AllocError> {
+        Ok(Release {
+            conn: self.conn,
+            reply: self.reply.clone()?,
+        })
+    }
+}
+
+/// Replies to connections that waited, by rising key.
+#[derive(Debug, Drop)]
+pub struct Releases {
+    releases: Vec<Release>,
+}
+
+impl Model for Releases {
+    ghost use Rattle.std.specs.Prelude.{List};
+    ghost use Rattle.node_step.specs.declared.outputs.Release.{Release as Released};
+
+    ghost Value = { List Released };
+
+    ghost view = { λ releases. releases.releases.items };
+}
+
+impl Releases {
+    /// No reply. It takes no memory.
+    pub fn new(alloc: Global) -> Releases
+        ensures { result ≡ [] }
+    {
+        Releases {
+            releases: Vec::new(alloc),
+        }
+    }
+
+    /// The replies in order.
+    pub fn as_slice(&self) -> &[Release]
+        ensures { result.now ≡ self.now }
+    {
+        self.releases.as_slice()
+    }
+
+    // An equal copy, which takes no memory where there is no reply.
+    fn copy(&self) -> Result<Releases, AllocError>
+        ensures same { IfOk result (λ copy. copy ≡ self.now) }
+        ensures plain { self.now ≡ [] → IsOk result }
+    {
+        if self.releases.is_empty() {
+            return Ok(Releases::new(*self.releases.allocator()));
+        }
+        Ok(Releases {
+            releases: self.releases.clone()?,
+        })
+    }
+}
+
+/// Messages to other nodes, in the order in which they are numbered.
+#[derive(Debug, Drop)]
+pub struct Messages {
+    messages: Vec<Message>,
+}
+
+impl Model for Messages {
+    ghost use Rattle.std.specs.Prelude.{List};
+    ghost use Rattle.bus.specs.declared.message.Message.{Message as Sent};
+
+    ghost Value = { List Sent };
+
+    ghost view = { λ messages. messages.messages.items };
+}
+
+impl Messages {
+    /// No message. It takes no memory.
+    pub fn new(alloc: Global) -> Messages
+        ensures { result ≡ [] }
+    {
+        Messages {
+            messages: Vec::new(alloc),
+        }
+    }
+
+    /// The messages in order.
+    pub fn as_slice(&self) -> &[Message]
+        ensures { result.now ≡ self.now }
+    {
+        self.messages.as_slice()
+    }
+
+    // An equal copy, which takes no memory where there is no message.
+    fn copy(&self) -> Result<Messages, AllocError>
+        ensures same { IfOk result (λ copy. copy ≡ self.now) }
+        ensures plain { self.now ≡ [] → IsOk result }
+    {
+        if self.messages.is_empty() {
+            return Ok(Messages::new(*self.messages.allocator()));
+        }
+        Ok(Messages {
+            messages: self.messages.clone()?,
+        })
+    }
+}
+
+/// What a step gives to the world outside its node.
+#[derive(Debug, Drop)]
+pub struct Outputs {
+    /// The number of the step among the steps of all nodes.
+    pub ticket: u64,
+    /// What the sender of the event gets back.
+    pub response: Response,
+    /// What connections get that waited.
+    pub released: Releases,
+    /// What other nodes are sent.
+    pub sent: Messages,
+}
+
+impl Outputs {
+    /// An equal copy, which shares what is long. It fails only where there is a reply or a message.
+    pub fn copy(&self) -> Result<Outputs, AllocError>
+        ensures same { IfOk result (λ copy. copy ≡ self.now) }
+        ensures plain { IsPlain self.now → IsOk result }
+    {
+        Ok(Outputs {
+            ticket: self.ticket,
+            response: self.response.copy()?,
+            released: self.released.copy()?,
+            sent: self.sent.copy()?,
+        })
+    }
+}

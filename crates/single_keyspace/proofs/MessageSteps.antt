@@ -1,0 +1,236 @@
+-- Steps that take messages, and ticks.
+use Rattle.std.proofs.Common.{◌≡◌, ◌≢◌, ◌≤◌, ◌+◌, ◌==◌, ◌&&◌, ℕ, List, [], ◌∷◌, map, Bool, true, false, cond, Option, Some, None, Contains, refl, sym, ap, subst, ◌∙◌, inl, inr, arith}
+use Rattle.std.proofs.lemmas.Bool.{and_parts, cases_eq, eqb-true, eqb-false, ne_eqb}
+use Rattle.std.proofs.lemmas.Cmp.{nat_list_cmp_total}
+use Rattle.std.specs.FinMap as fin_map
+use Rattle.std.specs.List.{flat_map}
+use Rattle.key_slot.specs.Slot.{hash_slot}
+use Rattle.keyspace.specs.Keyspace.{Keyspace}
+use Rattle.keyspace.specs.declared.value.Value.{Value}
+use Rattle.slot_store.specs.InSlot.{is_in_slot}
+use Rattle.slot_table.specs.Claims.{merged}
+use Rattle.slot_table.specs.declared.runs.Run.{Run}
+use Rattle.slot_moves.specs.Moves.{Moves, move_of}
+use Rattle.slot_moves.specs.declared.running.Move.{Move}
+use Rattle.slot_moves.specs.declared.running.Move.TheVariants.{Leaves, Comes}
+use Rattle.migrate.specs.Acknowledging.{acknowledged_key, unfrozen}
+use Rattle.migrate.specs.Arriving.{arrival_verdict, changed_at, one_more}
+use Rattle.migrate.specs.Draining.{note_drained}
+use Rattle.migrate.specs.declared.arriving.ArrivalVerdict.{ArrivalVerdict}
+use Rattle.migrate.specs.declared.arriving.ArrivalVerdict.TheVariants.{Ignored, Installs, Repeats}
+use Rattle.bus.specs.declared.message.Body.{Body}
+use Rattle.bus.specs.declared.message.Body.TheVariants as body
+use Rattle.bus.specs.declared.message.Message.{Message}
+use Rattle.one_slot.specs.View.{View}
+use Rattle.one_slot.specs.Sent.{Sent, IsSent}
+use Rattle.one_slot.specs.Sent.Sent.{Drained, Copy, Ack, Claimed}
+use Rattle.node_step.specs.Claiming.{claim, claimed_by, with_table}
+use Rattle.connections.specs.Connections.{all_freed, waiting}
+use Rattle.connections.specs.Waiting.{is_for}
+use Rattle.node_step.specs.Copies.{acknowledged, arrived, keeps_limits, noted}
+use Rattle.node_step.specs.Messages.{delivered, knowing, taken}
+use Rattle.node_step.specs.Orders.{done}
+use Rattle.node_step.specs.Outcome.{release, silent}
+use Rattle.node_step.specs.Slots.{drained_since}
+use Rattle.node_step.specs.State.{NodeState}
+use Rattle.node_step.specs.Ticks.{older, sent_again, tick}
+use Rattle.world_run.specs.Run.{Entry, sent_by}
+use Rattle.single_keyspace.specs.Slots.{view_of}
+use Rattle.single_keyspace.specs.Stands.{NodeStands, Says}
+use Rattle.single_keyspace.proofs.Kept.{arriving_is_there, frozen_is_there, valued_in_slot, copy_installed_kept, copy_acknowledged_kept, drained_noted_kept}
+use Rattle.single_keyspace.proofs.Lists.{contains_nothing, contains_one, from_flat_map}
+use Rattle.single_keyspace.proofs.Lost.{claims_kept, length_merged}
+use Rattle.single_keyspace.proofs.Maps.{put_here}
+use Rattle.single_keyspace.proofs.Moved.{with_move, moved_here, moved_apart}
+use Rattle.single_keyspace.proofs.OrderSteps.{copy_justified}
+use Rattle.single_keyspace.proofs.Running.{got_from_entry}
+use Rattle.single_keyspace.proofs.Seen.{SlotWas, again, keeps_but, same_values, same_view}
+use Rattle.single_keyspace.proofs.Sendings.{AreJustified, IsJustified, IsInstalled, drained_if_empty_justified, drained_since_justified}
+use Rattle.single_keyspace.proofs.Steps.{StepStands, nothing_sent, quiet, quiet_still}
+use Rattle.single_keyspace.proofs.Values.{is_key, puts_here, puts_elsewhere}
+use Rattle.single_keyspace.proofs.Verdicts.{copy_arrives, copy_repeats, ack_counts}
+
+in_one_slot : (slot other : ℕ) (key : List ℕ) → is_in_slot slot key ≡ true → other ≢ slot → is_in_slot other key ≡ false
+in_one_slot slot other key inside apart = ne_eqb (hash_slot key) other (λ same. apart (sym same ∙ eqb-true (hash_slot key) slot inside))
+
+-- the move of a slot, put again
+put_again : (node : NodeState) (slot : ℕ) (move : Move) → move_of node.moves slot ≡ Some move → (other : ℕ) → view_of (record node { moves = with_move node.moves slot move }) other ≡ view_of node other
+put_again node slot move is other =
+    elim (cases_eq other slot) [
+      | inl same ↦
+          subst (λ (s : ℕ). view_of (record node { moves = with_move node.moves slot move }) s ≡ view_of node s) (sym same)
+          (moved_here node node.keyspace slot move ∙ same_view refl (sym is) refl refl)
+      | inr apart ↦ moved_apart node node.keyspace slot move other apart refl
+    ]
+
+module _ {past : List Entry} {n : ℕ} {before : NodeState} {one : Keyspace} (was : (slot : ℕ) → SlotWas past n before one slot) (stands : NodeStands n before)
+    (message : Message) (sent : Contains (sent_by past) message) (to_here : message.to ≡ n) where
+  said : (slot : ℕ) (body : Body) (s : Sent Value) → message.body ≡ body → Says slot message.from message.to body s → IsSent (was slot).top (was slot).seen s
+  said slot body s is says = (was slot).history.sent message s sent (subst (λ (b : Body). Says slot message.from message.to b s) (sym is) says)
+
+  -- ---- a copy
+
+  module _ (slot number copy : ℕ) (key : List ℕ) (value : Value) (is : message.body ≡ body.Copy slot number copy key value) where
+    copy_said : IsSent (was slot).top (was slot).seen (Copy message.from n number copy key value)
+    copy_said =
+        subst (λ (t : ℕ). IsSent (was slot).top (was slot).seen (Copy message.from t number copy key value)) to_here
+        (said slot (body.Copy slot number copy key value) (Copy message.from message.to number copy key value) is (refl, refl))
+
+    ack_justified : (node : NodeState) (copied : ℕ) (drained : Option ℕ) → move_of node.moves slot ≡ Some (Comes message.from number copied drained) → copy ≤ copied
+        → AreJustified past n node ((message.from, body.Ack slot number copy) ∷ [])
+    ack_justified node copied drained move reached to said among =
+        let installed : IsInstalled past n node message.from slot number copy = record {
+          copied = copied;
+          drained = drained;
+          move = move;
+          reached = reached;
+          key = key;
+          value = value;
+          message = message;
+          sent = sent;
+          from_there = refl;
+          to_here = to_here;
+          says = is;
+        } in
+        subst (λ (p : ℕ × Body). IsJustified past n node p.0 p.1) (contains_one (message.from, body.Ack slot number copy) (to, said) among) installed
+
+    pub arrival_stands : (verdict : ArrivalVerdict) → arrival_verdict (move_of before.moves slot) message.from number copy (keeps_limits key value) ≡ verdict
+        → StepStands was None (arrived before message.from slot number copy key value verdict)
+    arrival_stands Ignored counts =
+        quiet_still was None refl refl (arrived before message.from slot number copy key value Ignored) (record { number_is = stands.number_is; slots = stands.slots }) (λ other. refl)
+        (nothing_sent past n (arrived before message.from slot number copy key value Ignored).state)
+    arrival_stands Repeats counts =
+        let facts = copy_repeats (move_of before.moves slot) message.from number copy (keeps_limits key value) counts in
+        quiet_still was None refl refl (arrived before message.from slot number copy key value Repeats) (record { number_is = stands.number_is; slots = stands.slots }) (λ other. refl)
+        (ack_justified (arrived before message.from slot number copy key value Repeats).state facts.0 facts.1 facts.2 facts.3)
+    arrival_stands Installs counts =
+        let facts = copy_arrives (move_of before.moves slot) message.from number copy (keeps_limits key value) counts in
+        let copied : ℕ = facts.0 in
+        let drained : Option ℕ = facts.1 in
+        let move : Move = Comes message.from number (copied + 1) drained in
+        let keyspace : Keyspace = fin_map.insert before.keyspace key value in
+        let next_said : IsSent (was slot).top (was slot).seen (Copy message.from n number (copied + 1) key value) =
+        subst (λ (c : ℕ). IsSent (was slot).top (was slot).seen (Copy message.from n number c key value)) facts.3 copy_said in
+        let inside : is_in_slot slot key ≡ true =
+        valued_in_slot one slot key value
+        (arriving_is_there (was slot).holds n message.from number copied drained key value (ap (λ (v : View Value). v.move) (was slot).here ∙ facts.2) next_said) in
+        let put : (q : List ℕ) → fin_map.get keyspace q ≡ cond (is_key q key) (Some value) (fin_map.get before.keyspace q) = λ q. fin_map.get-insert nat_list_cmp_total before.keyspace key value q in
+        let after : NodeState = record before { keyspace = keyspace; moves = with_move before.moves slot move } in
+        let reached : copy ≤ copied + 1 = omega (arith, facts.3) in
+        subst (λ (m : Moves). StepStands was None (record (silent (record before { keyspace = keyspace; moves = m })) { sent = (message.from, body.Ack slot number copy) ∷ [] }))
+        (sym (ap (changed_at before.moves slot one_more) facts.2))
+        (quiet was None refl refl (record (silent after) { sent = (message.from, body.Ack slot number copy) ∷ [] }) (record { number_is = stands.number_is; slots = stands.slots })
+        (keeps_but was after one slot
+        (copy_installed_kept (was slot) message.from number copied drained key value keyspace facts.2 next_said (puts_here before.keyspace keyspace slot key (Some value) inside put))
+        (λ other apart. moved_apart before keyspace slot move other apart (same_values (puts_elsewhere before.keyspace keyspace other key (Some value) (in_one_slot slot other key inside apart) put)))
+        (λ other apart q. refl))
+        (ack_justified after (copied + 1) drained (put_here before.moves.running slot move) reached))
+
+  -- ---- an acknowledgement
+
+  pub acknowledgement_stands : (slot number copy : ℕ) → message.body ≡ body.Ack slot number copy → (key : Option (List ℕ)) → acknowledged_key (move_of before.moves slot) message.from number copy ≡ key
+      → StepStands was None (acknowledged before slot number copy key)
+  acknowledgement_stands slot number copy is None counts = quiet_still was None refl refl (silent before) stands (λ other. refl) (nothing_sent past n before)
+  acknowledgement_stands slot number copy is (Some key) counts =
+      let counted : move_of before.moves slot ≡ Some (Leaves message.from number copy (Some key)) = ack_counts (move_of before.moves slot) message.from number copy key counts in
+      let move : Move = Leaves message.from number copy None in
+      let keyspace : Keyspace = fin_map.remove before.keyspace key in
+      let there = frozen_is_there (was slot).holds n message.from number copy key (ap (λ (v : View Value). v.move) (was slot).here ∙ counted) in
+      let inside : is_in_slot slot key ≡ true = valued_in_slot one slot key there.0 there.1 in
+      let put : (q : List ℕ) → fin_map.get keyspace q ≡ cond (is_key q key) None (fin_map.get before.keyspace q) = λ q. fin_map.get-remove nat_list_cmp_total before.keyspace key q in
+      let acked : IsSent (was slot).top (was slot).seen (Ack message.from n number copy) =
+      subst (λ (t : ℕ). IsSent (was slot).top (was slot).seen (Ack message.from t number copy)) to_here
+      (said slot (body.Ack slot number copy) (Ack message.from message.to number copy) is (refl, refl)) in
+      let left : Moves → NodeState = λ m. record before { keyspace = keyspace; moves = m; connections = all_freed before.connections (is_for slot number copy) } in
+      let after : NodeState = left (with_move before.moves slot move) in
+      subst (λ (m : Moves). StepStands was None (record (silent (left m)) { released = map (release done) (waiting before.connections (is_for slot number copy)); sent = drained_since before.keyspace (left m) slot }))
+      (sym (ap (changed_at before.moves slot unfrozen) counted))
+      (quiet was None refl refl (record (silent after) { released = map (release done) (waiting before.connections (is_for slot number copy)); sent = drained_since before.keyspace after slot })
+      (record { number_is = stands.number_is; slots = stands.slots })
+      (keeps_but was after one slot
+      (copy_acknowledged_kept (was slot) message.from number copy key keyspace counted acked (puts_here before.keyspace keyspace slot key None inside put))
+      (λ other apart. moved_apart before keyspace slot move other apart (same_values (puts_elsewhere before.keyspace keyspace other key None (in_one_slot slot other key inside apart) put)))
+      (λ other apart q. refl))
+      (drained_since_justified past n after slot before.keyspace))
+
+  -- ---- the word that a slot is drained
+
+  pub drained_stands : (slot number epoch : ℕ) → message.body ≡ body.Drained slot number epoch → StepStands was None (noted before message.from slot number epoch)
+  drained_stands slot number epoch is = by_move (move_of before.moves slot) refl
+    where
+      same_again : (move : Move) → move_of before.moves slot ≡ Some move → StepStands was None (silent (record before { moves = with_move before.moves slot move }))
+      same_again move same =
+          quiet_still was None refl refl (silent (record before { moves = with_move before.moves slot move })) (record { number_is = stands.number_is; slots = stands.slots })
+          (put_again before slot move same) (nothing_sent past n (record before { moves = with_move before.moves slot move }))
+
+      by_test : (source other copied : ℕ) (known : Option ℕ) → move_of before.moves slot ≡ Some (Comes source other copied known) → (b : Bool) → (source == message.from && other == number) ≡ b
+          → StepStands was None (silent (record before { moves = with_move before.moves slot (cond b (Comes source other copied (Some epoch)) (Comes source other copied known)) }))
+      by_test source other copied known same false unlike = same_again (Comes source other copied known) same
+      by_test source other copied known same true alike =
+          let parts = and_parts (source == message.from) (other == number) alike in
+          let drained_said : IsSent (was slot).top (was slot).seen (Drained source n other epoch) =
+          subst (IsSent (was slot).top (was slot).seen)
+          (λ i. Drained (sym (eqb-true source message.from parts.0) i) (to_here i) (sym (eqb-true other number parts.1) i) epoch)
+          (said slot (body.Drained slot number epoch) (Drained message.from message.to number epoch) is (refl, refl)) in
+          let move : Move = Comes source other copied (Some epoch) in
+          let after : NodeState = record before { moves = with_move before.moves slot move } in
+          quiet was None refl refl (silent after) (record { number_is = stands.number_is; slots = stands.slots })
+          (keeps_but was after one slot (drained_noted_kept (was slot) source other copied known epoch same drained_said)
+          (λ s apart. moved_apart before before.keyspace slot move s apart refl) (λ s apart q. refl))
+          (nothing_sent past n after)
+
+      by_move : (move : Option Move) → move_of before.moves slot ≡ move → StepStands was None (silent (record before { moves = changed_at before.moves slot (note_drained message.from number epoch) move }))
+      by_move None none = quiet_still was None refl refl (silent before) stands (λ other. refl) (nothing_sent past n before)
+      by_move (Some (Leaves to other copies frozen)) same = same_again (Leaves to other copies frozen) same
+      by_move (Some (Comes source other copied known)) same = by_test source other copied known same (source == message.from && other == number) refl
+
+  -- ---- claims
+
+  pub claims_stand : (runs : List (Run ℕ)) → message.body ≡ body.Claim runs → StepStands was None (claim before message.from runs)
+  claims_stand runs is = by_sender (message.from == before.number) refl
+    where
+      by_sender : (b : Bool) → (message.from == before.number) ≡ b → StepStands was None (cond b (silent before) (claimed_by before (merged before.table runs message.from)))
+      by_sender true own = quiet_still was None refl refl (silent before) stands (λ other. refl) (nothing_sent past n before)
+      by_sender false other =
+          quiet was None refl refl (claimed_by before (merged before.table runs message.from)) (record { number_is = stands.number_is; slots = length_merged before.table runs message.from })
+          (λ slot.
+          claims_kept (was slot) runs message.from (λ same. eqb-false message.from before.number other (same ∙ sym stands.number_is)) stands.number_is stands.slots
+          (λ epoch claims. said slot (body.Claim runs) (Claimed message.from epoch) is (epoch, claims, refl)))
+          (nothing_sent past n (with_table before (merged before.table runs message.from)))
+
+  -- ---- any message
+
+  pub taken_stands : (said : Body) → message.body ≡ said → StepStands was None (taken before message.from said)
+  taken_stands (body.Copy slot number copy key value) is =
+      arrival_stands slot number copy key value is (arrival_verdict (move_of before.moves slot) message.from number copy (keeps_limits key value)) refl
+  taken_stands (body.Ack slot number copy) is = acknowledgement_stands slot number copy is (acknowledged_key (move_of before.moves slot) message.from number copy) refl
+  taken_stands (body.Drained slot number epoch) is = drained_stands slot number epoch is
+  taken_stands (body.Claim runs) is = claims_stand runs is
+
+module _ {past : List Entry} {n : ℕ} {before : NodeState} {one : Keyspace} (was : (slot : ℕ) → SlotWas past n before one slot) (stands : NodeStands n before) where
+  pub delivered_stands : (message : Message) → Contains (sent_by past) message → StepStands was None (delivered before message)
+  delivered_stands message sent = by_target (message.to == before.number) refl
+    where
+      by_target : (b : Bool) → (message.to == before.number) ≡ b → StepStands was None (cond b (taken (knowing before message.epoch) message.from message.body) (silent before))
+      by_target false other = quiet_still was None refl refl (silent before) stands (λ slot. refl) (nothing_sent past n before)
+      by_target true mine =
+          let inner = taken_stands (λ slot. again (was slot) (knowing before message.epoch) refl) (record { number_is = stands.number_is; slots = stands.slots }) message sent
+          (eqb-true message.to before.number mine ∙ stands.number_is) message.body refl in
+          record { node = inner.node; keeps = inner.keeps; sent = inner.sent; told = inner.told; replies = inner.replies }
+
+  -- ---- a tick
+
+  pub tick_stands : StepStands was None (tick before)
+  tick_stands = quiet_still was None refl refl (tick before) (record { number_is = stands.number_is; slots = stands.slots }) (λ slot. refl) sent
+    where
+      by_move : (slot : ℕ) (move : Move) → move_of before.moves slot ≡ Some move → AreJustified past n (older before) (sent_again before (slot, move))
+      by_move slot (Comes from number last drained) is = λ to said among. absurd (contains_nothing (to, said) among)
+      by_move slot (Leaves to number copies None) is = drained_if_empty_justified past n (older before) slot
+      by_move slot (Leaves to number copies (Some key)) is =
+          let there = frozen_is_there (was slot).holds n to number copies key (ap (λ (v : View Value). v.move) (was slot).here ∙ is) in
+          copy_justified past n (older before) slot to number copies key is (valued_in_slot one slot key there.0 there.1)
+
+      sent : AreJustified past n (older before) (flat_map (sent_again before) (fin_map.entries before.moves.running))
+      sent to said among =
+          let found = from_flat_map (sent_again before) (fin_map.entries before.moves.running) (to, said) among in
+          by_move found.0.0 found.0.1 (got_from_entry before.moves.running found.0.0 found.0.1 found.1) to said found.2

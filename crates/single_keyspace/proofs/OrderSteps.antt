@@ -1,0 +1,166 @@
+-- Steps that answer orders to move slots.
+use Rattle.std.proofs.Common.{◌≡◌, ◌<◌, ◌+◌, ℕ, List, [], true, Option, Some, None, Contains, refl, sym, ap, subst, ◌∙◌, arith}
+use Rattle.std.proofs.lemmas.Bool.{eq-eqb}
+use Rattle.std.proofs.lemmas.List.{length-set}
+use Rattle.std.specs.FinMap as fin_map
+use Rattle.std.specs.Prelude.{is_some, max}
+use Rattle.key_slot.specs.Slot.{hash_slot}
+use Rattle.keyspace.specs.Keyspace.{Keyspace}
+use Rattle.keyspace.specs.declared.value.Value.{Value}
+use Rattle.slot_store.specs.InSlot.{is_in_slot}
+use Rattle.slot_table.specs.Runs.{AreRunsOf}
+use Rattle.slot_table.specs.Table.{claim_at}
+use Rattle.slot_table.specs.declared.runs.Run.{Run}
+use Rattle.slot_moves.specs.Moves.{move_of, last_move_of, begun}
+use Rattle.slot_moves.specs.Importing.{import_verdict}
+use Rattle.slot_moves.specs.Migrating.{migrate_verdict}
+use Rattle.slot_moves.specs.declared.running.Move.TheVariants.{Leaves, Comes}
+use Rattle.slot_moves.specs.declared.importing.ImportVerdict.{ImportVerdict}
+use Rattle.slot_moves.specs.declared.importing.ImportVerdict.TheVariants as import
+use Rattle.slot_moves.specs.declared.migrating.MigrateVerdict.{MigrateVerdict}
+use Rattle.slot_moves.specs.declared.migrating.MigrateVerdict.TheVariants as migrate
+use Rattle.slot_moves.specs.declared.ending.NodeVerdict.{NodeVerdict}
+use Rattle.slot_moves.specs.declared.ending.NodeVerdict.TheVariants as ending
+use Rattle.migrate.specs.declared.sending.CopyVerdict.{CopyVerdict}
+use Rattle.migrate.specs.declared.sending.CopyVerdict.TheVariants as copies
+use Rattle.bus.specs.declared.message.Body.{Body}
+use Rattle.bus.specs.declared.message.Body.TheVariants as body
+use Rattle.node_step.specs.Copies.{copy_of, copy_outcome, copy_verdict_on, parked}
+use Rattle.node_step.specs.Orders.{ending_outcome, ending_verdict, import_outcome, migrate_outcome, new_epoch, others, with_slot}
+use Rattle.node_step.specs.Outcome.{Outcome}
+use Rattle.node_step.specs.Requests.{IsClaimAfter}
+use Rattle.node_step.specs.Slots.{slot_epoch}
+use Rattle.node_step.specs.State.{NodeState, standing}
+use Rattle.connections.specs.declared.conn.Conn.{Conn}
+use Rattle.world_run.specs.Executed.{answered_with, if_served, redirection_in}
+use Rattle.world_run.specs.Run.{Entry}
+use Rattle.single_keyspace.specs.Slots.{view_of}
+use Rattle.single_keyspace.specs.Stands.{NodeStands}
+use Rattle.single_keyspace.proofs.Kept.{import_begun_kept, migration_begun_kept, copy_ordered_kept, import_ended_kept, with_entry, ended_apart}
+use Rattle.single_keyspace.proofs.Lists.{contains_nothing, contains_one, from_map}
+use Rattle.single_keyspace.proofs.Maps.{put_here}
+use Rattle.single_keyspace.proofs.Moved.{with_move, begun_apart, moved_apart}
+use Rattle.single_keyspace.proofs.Seen.{SlotWas, KeepsSlot, keeps_but}
+use Rattle.single_keyspace.proofs.Sendings.{AreJustified, IsJustified, claim_justified, drained_if_empty_justified}
+use Rattle.single_keyspace.proofs.Steps.{StepStands, nothing_sent, quiet, quiet_still}
+use Rattle.single_keyspace.proofs.Values.{some_value, value_here}
+use Rattle.single_keyspace.proofs.Verdicts.{import_begins, migration_begins, import_ends, copy_is_next, copy_is_again}
+
+-- the copy of a frozen key
+pub copy_justified : (past : List Entry) (n : ℕ) (node : NodeState) (slot to number copy : ℕ) (key : List ℕ) → move_of node.moves slot ≡ Some (Leaves to number copy (Some key)) → is_in_slot slot key ≡ true
+    → AreJustified past n node (copy_of slot to number copy key (fin_map.get node.keyspace key))
+copy_justified past n node slot to number copy key move inside other said among = by_value (fin_map.get node.keyspace key) refl among
+  where
+    by_value : (o : Option Value) → fin_map.get node.keyspace key ≡ o → Contains (copy_of slot to number copy key o) (other, said) → IsJustified past n node other said
+    by_value None is among = absurd (contains_nothing (other, said) among)
+    by_value (Some value) is among =
+        subst (λ (p : ℕ × Body). IsJustified past n node p.0 p.1) (contains_one (to, body.Copy slot number copy key value) (other, said) among)
+        (move, value_here node.keyspace slot key inside ∙ is)
+
+module _ {past : List Entry} {n : ℕ} {before : NodeState} {one : Keyspace} (was : (slot : ℕ) → SlotWas past n before one slot) (stands : NodeStands n before) (words : List (List ℕ)) where
+  abbrev Answers : Outcome → Type 0
+  Answers outcome = StepStands was (answered_with words outcome.response) outcome
+
+  -- a refusal
+  refused : (outcome : Outcome) → if_served (answered_with words outcome.response) ≡ None → redirection_in (answered_with words outcome.response) ≡ None
+      → outcome.state ≡ before → outcome.sent ≡ [] → Answers outcome
+  refused outcome not_served not_sent_on same none =
+      quiet_still was (answered_with words outcome.response) not_served not_sent_on outcome
+      (subst (NodeStands n) (sym same) stands)
+      (λ slot. ap (λ node. view_of node slot) same)
+      (subst (AreJustified past n outcome.state) (sym none) (nothing_sent past n outcome.state))
+
+  -- ---- IMPORTING
+
+  pub import_stands : (slot : ℕ) (other asked : Option ℕ) (verdict : ImportVerdict)
+      → import_verdict (standing before slot) (move_of before.moves slot) (last_move_of before.moves slot) other asked ≡ verdict → Answers (import_outcome before slot verdict)
+  import_stands slot other asked import.UnknownNode is = refused (import_outcome before slot import.UnknownNode) refl refl refl refl
+  import_stands slot other asked import.Already is = refused (import_outcome before slot import.Already) refl refl refl refl
+  import_stands slot other asked import.Busy is = refused (import_outcome before slot import.Busy) refl refl refl refl
+  import_stands slot other asked import.AlreadyOwner is = refused (import_outcome before slot import.AlreadyOwner) refl refl refl refl
+  import_stands slot other asked import.NotOwner is = refused (import_outcome before slot import.NotOwner) refl refl refl refl
+  import_stands slot other asked import.OldMove is = refused (import_outcome before slot import.OldMove) refl refl refl refl
+  import_stands slot other asked (import.Begins from number) is =
+      let facts = import_begins (standing before slot) (move_of before.moves slot) (last_move_of before.moves slot) other asked from number is in
+      let after : NodeState = record before { moves = begun before.moves slot number (Comes from number 0 None) } in
+      quiet was _ refl refl (import_outcome before slot (import.Begins from number)) (record { number_is = stands.number_is; slots = stands.slots })
+      (keeps_but was after one slot (import_begun_kept (was slot) from number facts.0 facts.1 (λ same. facts.2 (same ∙ sym stands.number_is)) facts.3)
+      (begun_apart before slot number (Comes from number 0 None)) (λ other apart key. refl))
+      (nothing_sent past n after)
+
+  -- ---- MIGRATING
+
+  pub migration_stands : (slot : ℕ) (other asked : Option ℕ) (verdict : MigrateVerdict)
+      → migrate_verdict (standing before slot) (move_of before.moves slot) (last_move_of before.moves slot) other asked ≡ verdict → Answers (migrate_outcome before slot verdict)
+  migration_stands slot other asked migrate.UnknownNode is = refused (migrate_outcome before slot migrate.UnknownNode) refl refl refl refl
+  migration_stands slot other asked migrate.Already is = refused (migrate_outcome before slot migrate.Already) refl refl refl refl
+  migration_stands slot other asked migrate.Busy is = refused (migrate_outcome before slot migrate.Busy) refl refl refl refl
+  migration_stands slot other asked migrate.NotOwner is = refused (migrate_outcome before slot migrate.NotOwner) refl refl refl refl
+  migration_stands slot other asked migrate.OldMove is = refused (migrate_outcome before slot migrate.OldMove) refl refl refl refl
+  migration_stands slot other asked (migrate.Begins to number) is =
+      let facts = migration_begins (standing before slot) (move_of before.moves slot) (last_move_of before.moves slot) other asked to number is in
+      let after : NodeState = record before { moves = begun before.moves slot number (Leaves to number 0 None) } in
+      quiet was _ refl refl (migrate_outcome before slot (migrate.Begins to number)) (record { number_is = stands.number_is; slots = stands.slots })
+      (keeps_but was after one slot
+      (migration_begun_kept (was slot) to number facts.0 (facts.1 ∙ ap Some stands.number_is) (λ same. facts.2 (same ∙ sym stands.number_is)) facts.3)
+      (begun_apart before slot number (Leaves to number 0 None)) (λ other apart key. refl))
+      (drained_if_empty_justified past n after slot)
+
+  -- ---- NODE
+
+  epoch_above : (slot drained : ℕ) → drained < new_epoch before slot drained
+  epoch_above slot drained = over before.current_epoch drained (slot_epoch before slot)
+    where
+      over : (a d b : ℕ) → d < 1 + max (max a d) b
+      over a d b = omega arith
+
+  pub ending_stands : (slot : ℕ) (claim : List (Run ℕ)) (other asked : Option ℕ) (verdict : NodeVerdict)
+      → ending_verdict before slot other asked ≡ verdict → IsClaimAfter before slot claim verdict → Answers (ending_outcome before slot claim verdict)
+  ending_stands slot claim other asked ending.UnknownNode is runs = refused (ending_outcome before slot claim ending.UnknownNode) refl refl refl refl
+  ending_stands slot claim other asked ending.OldMove is runs = refused (ending_outcome before slot claim ending.OldMove) refl refl refl refl
+  ending_stands slot claim other asked ending.NotDrained is runs = refused (ending_outcome before slot claim ending.NotDrained) refl refl refl refl
+  ending_stands slot claim other asked ending.IsOwner is runs = refused (ending_outcome before slot claim ending.IsOwner) refl refl refl refl
+  ending_stands slot claim other asked ending.NotYetOwner is runs = refused (ending_outcome before slot claim ending.NotYetOwner) refl refl refl refl
+  ending_stands slot claim other asked (ending.Ends drained) is runs =
+      let facts = import_ends (standing before slot) (move_of before.moves slot) other asked drained is in
+      let newer : ℕ = new_epoch before slot drained in
+      let after : NodeState = with_slot before slot newer in
+      quiet was _ refl refl (ending_outcome before slot claim (ending.Ends drained))
+      (record { number_is = stands.number_is; slots = length-set before.table slot (Some (record { epoch = newer; owner = before.number })) ∙ stands.slots })
+      (keeps_but was after one slot
+      (subst (λ (o : ℕ). KeepsSlot (was slot) (with_entry before slot (record { epoch = newer; owner = o }) newer) one) (sym stands.number_is)
+      (import_ended_kept (was slot) facts.0 facts.1 facts.2 drained newer facts.3 (epoch_above slot drained) stands.slots))
+      (ended_apart before slot (record { epoch = newer; owner = before.number }) newer) (λ other apart key. refl))
+      (λ to said among.
+      let found = from_map (λ (number : ℕ). (number, body.Claim claim)) (others before) (to, said) among in
+      subst (λ (p : ℕ × Body). IsJustified past n after p.0 p.1) found.2
+      (claim_justified past n after found.0 claim (subst (λ (o : ℕ). AreRunsOf (claim_at after.table o) claim) stands.number_is runs)))
+
+  -- ---- MIGRATE
+
+  pub copy_stands : (conn : Conn) (key : List ℕ) (ticks : ℕ) (target : Option ℕ) (verdict : CopyVerdict) → copy_verdict_on before key target ≡ verdict → Answers (copy_outcome before conn key ticks verdict)
+  copy_stands conn key ticks target copies.WrongTarget is = refused (copy_outcome before conn key ticks copies.WrongTarget) refl refl refl refl
+  copy_stands conn key ticks target copies.NoKey is = refused (copy_outcome before conn key ticks copies.NoKey) refl refl refl refl
+  copy_stands conn key ticks target copies.CopyOutstanding is = refused (copy_outcome before conn key ticks copies.CopyOutstanding) refl refl refl refl
+  copy_stands conn key ticks target copies.Exhausted is = refused (copy_outcome before conn key ticks copies.Exhausted) refl refl refl refl
+  copy_stands conn key ticks target (copies.SendAgain to number copy) is =
+      let slot : ℕ = hash_slot key in
+      let facts = copy_is_again (move_of before.moves slot) target key (is_some (fin_map.get before.keyspace key)) to number copy is in
+      let after : NodeState = parked before conn slot number copy ticks in
+      quiet_still was _ refl refl (copy_outcome before conn key ticks (copies.SendAgain to number copy)) (record { number_is = stands.number_is; slots = stands.slots }) (λ other. refl)
+      (copy_justified past n after slot to number copy key
+      (subst (λ (k : List ℕ). move_of before.moves slot ≡ Some (Leaves to number copy (Some k))) facts.2 facts.1) (eq-eqb (hash_slot key) slot refl))
+  copy_stands conn key ticks target (copies.Copies to number copy) is =
+      let slot : ℕ = hash_slot key in
+      let facts = copy_is_next (move_of before.moves slot) target key (is_some (fin_map.get before.keyspace key)) to number copy is in
+      let there = some_value (fin_map.get before.keyspace key) facts.3 in
+      let inside : is_in_slot slot key ≡ true = eq-eqb (hash_slot key) slot refl in
+      let moved : NodeState = record before { moves = with_move before.moves slot (Leaves to number copy (Some key)) } in
+      let after : NodeState = parked moved conn slot number copy ticks in
+      quiet was _ refl refl (copy_outcome before conn key ticks (copies.Copies to number copy)) (record { number_is = stands.number_is; slots = stands.slots })
+      (keeps_but was after one slot
+      (subst (λ (c : ℕ). KeepsSlot (was slot) (record before { moves = with_move before.moves slot (Leaves to number c (Some key)) }) one) (sym facts.2)
+      (copy_ordered_kept (was slot) to number facts.0 key there.0 facts.1 (value_here before.keyspace slot key inside ∙ there.1)))
+      (λ other apart. moved_apart before before.keyspace slot (Leaves to number copy (Some key)) other apart refl) (λ other apart key. refl))
+      (copy_justified past n after slot to number copy key
+      (put_here before.moves.running slot (Leaves to number copy (Some key))) inside)

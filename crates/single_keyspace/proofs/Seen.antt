@@ -1,0 +1,108 @@
+-- How a slot is seen when one node changes.
+use Rattle.std.proofs.Common.{◌≡◌, ◌≢◌, ◌<◌, ℕ, zero, suc, List, [], ◌∷◌, Option, Some, None, refl, sym, ap, subst, ◌∙◌, inl, inr}
+use Rattle.std.proofs.lemmas.Bool.{cases_eq}
+use Rattle.std.specs.Prelude.{slice_get, slice_set}
+use Rattle.keyspace.specs.Keyspace.{Keyspace}
+use Rattle.keyspace.specs.declared.value.Value.{Value}
+use Rattle.slot_table.specs.declared.entry.SlotEntry.{SlotEntry}
+use Rattle.one_slot.specs.View.{View, Views}
+use Rattle.one_slot.specs.Slot.{Holds}
+use Rattle.one_slot.specs.Events.{Changes, Keeps}
+use Rattle.node_step.specs.State.{NodeState}
+use Rattle.world_run.specs.Run.{Entry}
+use Rattle.single_keyspace.specs.Slots.{values_in, view_of, view_at, views}
+use Rattle.single_keyspace.specs.Stands.{IsTrueOf}
+
+pub no_some : {A : Type 0} {o : Option A} {x : A} → o ≡ None → o ≡ Some x → ⊥
+no_some none some = cc
+
+pub same_some : {A : Type 0} {o : Option A} {x y : A} → o ≡ Some x → o ≡ Some y → x ≡ y
+same_some one two = cc
+
+-- ---- nodes
+
+pub set_here : {X : Type 0} (xs : List X) (i : ℕ) (x y : X) → slice_get xs i ≡ Some x → slice_get (slice_set xs i y) i ≡ Some y
+set_here [] i x y is = absurd (no_some refl is)
+set_here (z ∷ xs) zero x y is = refl
+set_here (z ∷ xs) (suc i) x y is = set_here xs i x y is
+
+pub set_apart : {X : Type 0} (xs : List X) (i : ℕ) (y : X) (j : ℕ) → j ≢ i → slice_get (slice_set xs i y) j ≡ slice_get xs j
+set_apart [] i y j apart = refl
+set_apart (z ∷ xs) zero y zero apart = absurd (apart refl)
+set_apart (z ∷ xs) zero y (suc j) apart = refl
+set_apart (z ∷ xs) (suc i) y zero apart = refl
+set_apart (z ∷ xs) (suc i) y (suc j) apart = set_apart xs i y j (λ same. apart (ap suc same))
+
+module _ (first : SlotEntry) (slot : ℕ) (nodes : List NodeState) (n : ℕ) (before : NodeState) (was : slice_get nodes n ≡ Some before) where
+  pub seen_here : views first nodes slot n ≡ view_of before slot
+  seen_here = ap (view_at first slot) was
+
+  pub seen_changes : (after : NodeState) → Changes (views first nodes slot) (views first (slice_set nodes n after) slot) n (view_of after slot)
+  seen_changes after = record {
+    here = ap (view_at first slot) (set_here nodes n before after was);
+    there = λ other apart. ap (view_at first slot) (set_apart nodes n after other apart);
+  }
+
+-- ---- views
+
+pub same_view : {v w : View Value} → v.entry ≡ w.entry → v.move ≡ w.move → v.last ≡ w.last → v.value ≡ w.value → v ≡ w
+same_view entry move last value = λ i. record { entry = entry i; move = move i; last = last i; value = value i }
+
+pub same_values : {f g : List ℕ → Option Value} → ((key : List ℕ) → f key ≡ g key) → f ≡ g
+same_values each = λ i key. each key i
+
+-- a node that changes to what it was
+unchanged : (old new : Views Value) (n : ℕ) (view : View Value) → old n ≡ view → Changes old new n view → new ≡ old
+unchanged old new n view here changes = λ i j. each j i
+  where
+    each : (j : ℕ) → new j ≡ old j
+    each j =
+        elim (cases_eq j n) [
+          | inl same ↦ ap new same ∙ changes.here ∙ sym here ∙ ap old (sym same)
+          | inr apart ↦ changes.there j apart
+        ]
+
+pub keeps_still : (top : SlotEntry) (old new : Views Value) (one : List ℕ → Option Value) (n : ℕ) (view : View Value) → Holds top old one → old n ≡ view → Changes old new n view → Keeps top top old new one
+keeps_still top old new one n view holds here changes =
+    let still : Keeps top top old old one = record { holds = holds; sent = λ sent is. is } in
+    subst (λ seen. Keeps top top old seen one) (sym (unchanged old new n view here changes)) still
+
+-- ---- a slot before a step
+
+pub record SlotWas (past : List Entry) (n : ℕ) (before : NodeState) (one : Keyspace) (slot : ℕ) : Type 0 where
+  pub top : SlotEntry
+  pub seen : Views Value
+  pub holds : Holds top seen (values_in one slot)
+  pub here : seen n ≡ view_of before slot
+  pub history : IsTrueOf past top seen slot
+  pub below : (j : ℕ) (entry : SlotEntry) → (seen j).move ≢ None → (seen j).entry ≡ Some entry → slot < 16384
+
+-- the same where the node is another with the same slot
+abbrev pub again : {past : List Entry} {n : ℕ} {before : NodeState} {one : Keyspace} {slot : ℕ} → SlotWas past n before one slot → (after : NodeState) → view_of after slot ≡ view_of before slot → SlotWas past n after one slot
+again was after same = record { top = was.top; seen = was.seen; holds = was.holds; here = was.here ∙ sym same; history = was.history; below = was.below }
+
+-- what a step leaves of the slot
+pub record SlotKept (old : Views Value) (top : SlotEntry) (new : Views Value) (next : List ℕ → Option Value) : Type 0 where
+  pub newest : SlotEntry
+  pub keeps : Keeps top newest old new next
+
+-- a step that leads the node to the next state, and the one keyspace to the next one, keeps the slot
+abbrev pub KeepsSlot : {past : List Entry} {n : ℕ} {before : NodeState} {one : Keyspace} {slot : ℕ} → SlotWas past n before one slot → NodeState → Keyspace → Type 0
+KeepsSlot {n = n} {slot = slot} was after next = (new : Views Value) → Changes was.seen new n (view_of after slot) → SlotKept was.seen was.top new (values_in next slot)
+
+module _ {past : List Entry} {n : ℕ} {before : NodeState} {one : Keyspace} where
+  -- the slot stays as it is, at the node and in the one keyspace
+  pub keeps_untouched : {slot : ℕ} (was : SlotWas past n before one slot) (after : NodeState) (next : Keyspace) → view_of after slot ≡ view_of before slot → ((key : List ℕ) → values_in next slot key ≡ values_in one slot key) → KeepsSlot was after next
+  keeps_untouched {slot = slot} was after next same alike new changes =
+      let kept : Keeps was.top was.top was.seen new (values_in one slot) = keeps_still was.top was.seen new (values_in one slot) n (view_of after slot) was.holds (was.here ∙ sym same) changes in
+      record { newest = was.top; keeps = subst (Keeps was.top was.top was.seen new) (sym (same_values alike)) kept }
+
+  -- one slot is touched, and the others stay
+  pub keeps_but : (was : (slot : ℕ) → SlotWas past n before one slot) (after : NodeState) (next : Keyspace) (touched : ℕ) → KeepsSlot (was touched) after next
+      → ((slot : ℕ) → slot ≢ touched → view_of after slot ≡ view_of before slot) → ((slot : ℕ) → slot ≢ touched → (key : List ℕ) → values_in next slot key ≡ values_in one slot key)
+      → (slot : ℕ) → KeepsSlot (was slot) after next
+  keeps_but was after next touched here same alike slot =
+      elim (cases_eq slot touched) [
+        | inl is ↦ subst (λ s. KeepsSlot (was s) after next) (sym is) here
+        | inr apart ↦ keeps_untouched (was slot) after next (same slot apart) (alike slot apart)
+      ]

@@ -1,0 +1,3 @@
+pub mod Run
+pub mod Executed
+pub mod Law
