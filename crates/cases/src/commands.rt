@@ -335,7 +335,7 @@ fn push_ask(given: &mut String, place: &str) -> Result<()> {
     let port = port.parse::<u16>()?;
     let number = match number {
         "" => None,
-        _ => Some(Positive::of(number.as_bytes()).context("no number of a move")?),
+        _ => Some(number.parse::<u64>()?),
     };
     let reply = ask_reply(alloc, slot, host.as_slice(), port, number)?;
     push_reply(given, &reply)

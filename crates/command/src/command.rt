@@ -308,6 +308,21 @@ impl<'w> DataCommand<'w> {
         match self {
             DataCommand::Mget { keys } | DataCommand::Del { keys } | DataCommand::Exists { keys } =>
                 all_keys(alloc, keys.as_slice()),
+            DataCommand::Mset { pairs } => first_slices(alloc, pairs),
+            _ => Ok(Vec::new(alloc)),
+        }
+    }
+
+    /// The words that are keys of the command, in its order.
+    pub fn key_words(&self, alloc: Global) -> Result<Vec<&'w ByteString>, AllocError>
+        ensures { IfOk result (λ keys. map (λ key. key.now) keys.items ≡ data_keys self.now) }
+    {
+        if let Some(key) = self.only_key() {
+            return one_word(alloc, key);
+        }
+        match self {
+            DataCommand::Mget { keys } | DataCommand::Del { keys } | DataCommand::Exists { keys } =>
+                all_words(alloc, keys.as_slice()),
             DataCommand::Mset { pairs } => first_words(alloc, pairs),
             _ => Ok(Vec::new(alloc)),
         }
@@ -459,13 +474,43 @@ fn all_keys(alloc: Global, keys: &[ByteString]) -> Result<Vec<&[u8]>, AllocError
     Ok(slices)
 }
 
-fn first_words<'w>(alloc: Global, pairs: &PairList<'w>) -> Result<Vec<&'w [u8]>, AllocError>
+fn first_slices<'w>(alloc: Global, pairs: &PairList<'w>) -> Result<Vec<&'w [u8]>, AllocError>
     ensures { IfOk result (λ keys. map (λ key. key.now) keys.items ≡ pair_keys pairs.now) }
 {
     let mut rest = pairs.words();
     let mut keys = Vec::with_capacity(alloc, rest.len() / 2)?;
     while let Some((key, _, others)) = split_pair(rest) {
         keys.push(key.as_slice())?;
+        rest = others;
+    }
+    Ok(keys)
+}
+
+fn one_word(alloc: Global, key: &ByteString) -> Result<Vec<&ByteString>, AllocError>
+    ensures { IfOk result (λ keys. map (λ key. key.now) keys.items ≡ key.now ∷ []) }
+{
+    let mut keys = Vec::new(alloc);
+    keys.push(key)?;
+    Ok(keys)
+}
+
+fn all_words(alloc: Global, keys: &[ByteString]) -> Result<Vec<&ByteString>, AllocError>
+    ensures { IfOk result (λ words. map (λ key. key.now) words.items ≡ keys.now) }
+{
+    let mut words = Vec::with_capacity(alloc, keys.len())?;
+    for key in keys {
+        words.push(key)?;
+    }
+    Ok(words)
+}
+
+fn first_words<'w>(alloc: Global, pairs: &PairList<'w>) -> Result<Vec<&'w ByteString>, AllocError>
+    ensures { IfOk result (λ keys. map (λ key. key.now) keys.items ≡ pair_keys pairs.now) }
+{
+    let mut rest = pairs.words();
+    let mut keys = Vec::with_capacity(alloc, rest.len() / 2)?;
+    while let Some((key, _, others)) = split_pair(rest) {
+        keys.push(key)?;
         rest = others;
     }
     Ok(keys)

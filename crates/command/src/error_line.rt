@@ -4,7 +4,6 @@ ghost use Rattle.command.specs.ErrorLine.{ask_text, error_text, moved_text, plac
 ghost use Rattle.resp2.specs.Line.{is_one_line};
 
 use crate::names::Name;
-use crate::number::Positive;
 use bytes::Bytes;
 use itoa::Buffer;
 use resp2::{Line, Reply};
@@ -192,7 +191,7 @@ pub fn ask_reply(
     slot: u16,
     host: &[u8],
     port: u16,
-    number: Option<Positive>,
+    number: Option<u64>,
 ) -> Result<Reply, AllocError>
     requires { IsTrue (is_one_line host.now) }
     ensures { IfOk result (λ reply. reply ≡ Reply.Error (ask_text slot host.now port number)) }
@@ -207,7 +206,7 @@ fn ask_text(
     slot: u16,
     host: &[u8],
     port: u16,
-    number: Option<Positive>,
+    number: Option<u64>,
 ) -> Result<Bytes, AllocError>
     requires { IsTrue (is_one_line host.now) }
     ensures text { IfOk result (λ text. text ≡ ask_text slot host.now port number) }
@@ -215,13 +214,13 @@ fn ask_text(
 {
     let room = host
         .len()
-        .saturating_add(b"ASK 65535 :65535 9223372036854775807".len());
+        .saturating_add(b"ASK 65535 :65535 18446744073709551615".len());
     let mut text = Vec::with_capacity(alloc, room)?;
     text.extend_from_slice(b"ASK ")?;
     append_place(&mut text, slot, host, port)?;
     if let Some(number) = number {
         text.extend_from_slice(b" ")?;
-        text.extend_from_slice(Buffer::new().format(number.get()).as_bytes())?;
+        text.extend_from_slice(Buffer::new().format(number).as_bytes())?;
     }
     Ok(Bytes::from_vec(text)?)
 }

@@ -1,11 +1,13 @@
 //! What a step gives to the world outside its node.
-ghost use Rattle.std.specs.Prelude.{◌≡◌, [], IfOk, IsOk};
+ghost use Rattle.std.specs.Prelude.{◌≡◌, [], map, IfOk, IsOk};
+ghost use Rattle.node_step.specs.Outcome.{release, stamped};
 ghost use Rattle.node_step.specs.Plain.{IsPlain};
 
 use crate::response::Response;
-use bus::Message;
+use bus::{Body, Message};
 use connections::Conn;
 use resp2::Reply;
+use slot_table::{Epoch, NodeNo};
 use std::alloc::{AllocError, Global};
 use std::marker::Model;
 
@@ -54,6 +56,21 @@ impl Releases {
         }
     }
 
+    /// The same reply to each of the connections.
+    pub fn to_all(alloc: Global, conns: &[Conn], reply: &Reply) -> Result<Releases, AllocError>
+        ensures { IfOk result (λ releases. releases ≡ map (release reply.now) conns.now) }
+    {
+        let mut releases = Vec::with_capacity(alloc, conns.len())?;
+        for conn in conns {
+            let release = Release {
+                conn: *conn,
+                reply: reply.clone()?,
+            };
+            releases.push(release)?;
+        }
+        Ok(Releases { releases })
+    }
+
     /// The replies in order.
     pub fn as_slice(&self) -> &[Release]
         ensures { result.now ≡ self.now }
@@ -98,6 +115,34 @@ impl Messages {
         Messages {
             messages: Vec::new(alloc),
         }
+    }
+
+    /// The messages that a node sends by the step of that ticket, each a body with the node that it is for.
+    pub fn stamped(
+        alloc: Global,
+        from: NodeNo,
+        ticket: u64,
+        epoch: Epoch,
+        bodies: Vec<(NodeNo, Body)>,
+    ) -> Result<Messages, AllocError>
+        ensures sent { IfOk result (λ messages. messages ≡ map (stamped from ticket epoch) bodies.items) }
+        ensures none { bodies.items ≡ [] → IsOk result }
+    {
+        if bodies.is_empty() {
+            return Ok(Messages::new(alloc));
+        }
+        let mut messages = Vec::with_capacity(alloc, bodies.len())?;
+        for (to, body) in bodies {
+            let message = Message {
+                from,
+                to,
+                ticket,
+                epoch,
+                body,
+            };
+            messages.push(message)?;
+        }
+        Ok(Messages { messages })
     }
 
     /// The messages in order.
