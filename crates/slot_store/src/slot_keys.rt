@@ -1,5 +1,5 @@
 //! What a store says of a slot: how many keys are in it, and which.
-ghost use Rattle.std.specs.Prelude.{◌≡◌, IfOk, take};
+ghost use Rattle.std.specs.Prelude.{◌<◌, ◌≡◌, ◌^◌, IfOk, take};
 ghost use Rattle.std.specs.FinMap as map;
 ghost use Rattle.slot_store.specs.InSlot.{in_slot};
 
@@ -12,7 +12,8 @@ use std::alloc::{AllocError, Global};
 pub trait SlotKeys: Store {
     /// The number of keys in the slot.
     fn count_in_slot(&self, slot: Slot) -> usize
-        ensures { result ≡ map.len (in_slot slot (Self.contents self.now)) };
+        ensures count { result ≡ map.len (in_slot slot (Self.contents self.now)) }
+        ensures below { result < 2 ^ 63 };
 
     /// The first keys in the slot, at most `count`, in their byte order.
     fn keys_in_slot(
