@@ -1,9 +1,12 @@
 //! Who has which slots, and what a node does with commands on their keys.
 use anyhow::{Context, Result, bail};
+use byte_string::ByteString;
 use case_files::{bytes_of, verb_of, words_of};
 use key_slot::{Slot, SlotRange, slot};
-use redirect::{Decision, decide};
-use slot_state::{MoveNo, SlotStates};
+use slot_decision::{Asking, Decision, Reason, decide};
+use slot_moves::{
+    ImportVerdict, MigrateVerdict, Move, MoveNo, Order, SlotMoves, SlotState, Standing,
+};
 use slot_table::{Claim, Epoch, NodeNo, Run, SlotEntry, SlotTable};
 use std::alloc::{AllocError, Global};
 
@@ -11,14 +14,19 @@ use std::alloc::{AllocError, Global};
 ///
 /// `owner KEY` gives the slot's owner and its epoch, `runs` the runs of slots with one owner, and `claim NODE` the runs of a
 /// node's slots with one epoch. `merge NODE RUNS`, as `merge 1 0-99:2 300-300:4`, merges a claim of that node to these runs
-/// with their epochs, and gives the slots that change. `state NODE KEY` gives what the node knows of the key's slot, and `decide NODE KEYS` what
-/// it does with a command that has these keys. `epoch N` and `move N` give the epoch and the move of that number.
+/// with their epochs, and gives the slots that change. `epoch N` and `move N` give the epoch and the move of that number.
+///
+/// A script has the moves of one node, which takes the orders `import NODE SLOT FROM [NUMBER]` and
+/// `migrate NODE SLOT TO [NUMBER]`. `state NODE KEY` gives what it does with the key's slot, `decide NODE KEYS` what it does with
+/// a command that has these keys, and `asking NODE NUMBER KEYS` the same after an ASKING for that move. It has the keys with
+/// a `+` in front.
 pub fn play(alloc: Global, script: &str) -> Result<String> {
     let (owners, commands) = script.split_once('\n').context("no owners")?;
     let ("owners", runs) = verb_of(owners) else {
         bail!("no owners");
     };
     let mut table = SlotTable::new(alloc, runs_of(alloc, runs)?.as_slice())?;
+    let mut moves = SlotMoves::new(alloc);
     let mut given = String::new(alloc);
     for command in commands.lines() {
         match verb_of(command) {
@@ -26,8 +34,11 @@ pub fn play(alloc: Global, script: &str) -> Result<String> {
             ("runs", _) => push_runs(&mut given, &table)?,
             ("claim", node) => push_claim(&mut given, &table, node_of(node)?)?,
             ("merge", claim) => push_merge(&mut given, &mut table, claim)?,
-            ("state", place) => push_state(&mut given, &table, place)?,
-            ("decide", place) => push_decision(&mut given, &table, place)?,
+            ("import", order) => push_import(&mut given, &table, &mut moves, order)?,
+            ("migrate", order) => push_migration(&mut given, &table, &mut moves, order)?,
+            ("state", place) => push_state(&mut given, &table, &moves, place)?,
+            ("decide", place) => push_decision(&mut given, &table, &moves, place, Asking::No)?,
+            ("asking", place) => push_asking(&mut given, &table, &moves, place)?,
             ("epoch", number) => push_epoch(&mut given, Epoch::new(number.parse::<u64>()?))?,
             ("move", number) => push_move(&mut given, MoveNo::new(number.parse::<u64>()?))?,
             _ => bail!("no such command"),
@@ -143,34 +154,178 @@ fn push_slots(given: &mut String, slots: SlotRange) -> Result<(), AllocError> {
     write!(given, "{first}-{last}: ")
 }
 
-fn push_state(given: &mut String, table: &SlotTable, place: &str) -> Result<()> {
-    let alloc = *given.allocator();
-    let (node, key) = verb_of(place);
-    let states = SlotStates::new(alloc, node_of(node)?, table)?;
-    let slot = slot(bytes_of(alloc, key)?.as_slice());
-    let state = states.state(slot);
-    let last_move = states.last_move(slot).get();
-    Ok(writeln!(given, "{state:?}, last move {last_move}")?)
+// An order, by `NODE SLOT OTHER [NUMBER]`.
+fn order_of(text: &str) -> Result<Order> {
+    let (_node, rest) = verb_of(text);
+    let (slot, rest) = verb_of(rest);
+    let (other, number) = verb_of(rest);
+    let slot = Slot::new(slot.parse::<u16>()?).context("no slot")?;
+    let number = match number {
+        "" => None,
+        number => MoveNo::new(number.parse::<u64>()?),
+    };
+    let node = Some(node_of(other)?);
+    Ok(Order { slot, node, number })
 }
 
-fn push_decision(given: &mut String, table: &SlotTable, place: &str) -> Result<()> {
-    let alloc = *given.allocator();
-    let (node, words) = verb_of(place);
+// What bears on an order to the node, a master, about a slot with this owner.
+fn standing(node: NodeNo, owner: Option<NodeNo>) -> Standing {
+    Standing {
+        node,
+        is_replica: false,
+        owner,
+    }
+}
+
+fn push_import(
+    given: &mut String,
+    table: &SlotTable,
+    moves: &mut SlotMoves,
+    order: &str,
+) -> Result<()> {
+    let (node, _rest) = verb_of(order);
     let node = node_of(node)?;
-    let words = words_of(alloc, words)?;
-    let keys: Vec<&[u8]> = words.iter().map(|key| key.as_slice()).collect(alloc)?;
-    let states = SlotStates::new(alloc, node, table)?;
-    match decide(table, &states, keys.as_slice()) {
-        Decision::Serve => given.push_str("serve\n")?,
-        Decision::CrossSlot => given.push_str("cross slot\n")?,
-        Decision::Down => given.push_str("down\n")?,
-        Decision::Moved { slot, to } => {
-            let slot = slot.get();
-            let index = to.index();
-            writeln!(given, "slot {slot} is at node {index}")?;
+    let order = order_of(order)?;
+    let owner = table.owner(order.slot);
+    let verdict = moves.set_importing(standing(node, owner), order)?;
+    Ok(push_import_verdict(given, &verdict)?)
+}
+
+fn push_import_verdict(given: &mut String, verdict: &ImportVerdict) -> Result<(), AllocError> {
+    match verdict {
+        ImportVerdict::Begins { number, .. } => push_begun(given, *number),
+        ImportVerdict::UnknownNode => given.push_str("no such node\n"),
+        ImportVerdict::Already => given.push_str("under way already\n"),
+        ImportVerdict::Busy => given.push_str("busy\n"),
+        ImportVerdict::AlreadyOwner => given.push_str("the owner already\n"),
+        ImportVerdict::NotOwner => given.push_str("not the owner\n"),
+        ImportVerdict::OldMove => given.push_str("old move\n"),
+    }
+}
+
+fn push_migration(
+    given: &mut String,
+    table: &SlotTable,
+    moves: &mut SlotMoves,
+    order: &str,
+) -> Result<()> {
+    let (node, _rest) = verb_of(order);
+    let node = node_of(node)?;
+    let order = order_of(order)?;
+    let owner = table.owner(order.slot);
+    let verdict = moves.set_migrating(standing(node, owner), order)?;
+    Ok(push_migrate_verdict(given, &verdict)?)
+}
+
+fn push_migrate_verdict(given: &mut String, verdict: &MigrateVerdict) -> Result<(), AllocError> {
+    match verdict {
+        MigrateVerdict::Begins { number, .. } => push_begun(given, *number),
+        MigrateVerdict::UnknownNode => given.push_str("no such node\n"),
+        MigrateVerdict::Already => given.push_str("under way already\n"),
+        MigrateVerdict::Busy => given.push_str("busy\n"),
+        MigrateVerdict::NotOwner => given.push_str("not the owner\n"),
+        MigrateVerdict::OldMove => given.push_str("old move\n"),
+    }
+}
+
+fn push_begun(given: &mut String, number: MoveNo) -> Result<(), AllocError> {
+    let number = number.get();
+    writeln!(given, "begins move {number}")
+}
+
+fn push_state(given: &mut String, table: &SlotTable, moves: &SlotMoves, place: &str) -> Result<()> {
+    let (node, key) = verb_of(place);
+    let slot = slot(bytes_of(*given.allocator(), key)?.as_slice());
+    match moves.state(slot, table.owner(slot), node_of(node)?) {
+        SlotState::Owned => given.push_str("owned")?,
+        SlotState::Foreign => given.push_str("foreign")?,
+        SlotState::Moving(Move::Leaves { to, .. }) => {
+            let to = to.get();
+            write!(given, "leaves to node {to}")?;
+        }
+        SlotState::Moving(Move::Comes { from, .. }) => {
+            let from = from.get();
+            write!(given, "comes from node {from}")?;
         }
     }
-    Ok(())
+    let last_move = moves.last_move(slot).get();
+    Ok(writeln!(given, ", last move {last_move}")?)
+}
+
+fn push_asking(
+    given: &mut String,
+    table: &SlotTable,
+    moves: &SlotMoves,
+    place: &str,
+) -> Result<()> {
+    let (node, rest) = verb_of(place);
+    let (number, keys) = verb_of(rest);
+    let number = MoveNo::new(number.parse::<u64>()?).context("no move")?;
+    let place = format!(in *given.allocator(); "{node} {keys}")?;
+    push_decision(given, table, moves, place.as_str(), Asking::Of(number))
+}
+
+fn push_decision(
+    given: &mut String,
+    table: &SlotTable,
+    moves: &SlotMoves,
+    place: &str,
+    asking: Asking,
+) -> Result<()> {
+    let alloc = *given.allocator();
+    let (node, words) = verb_of(place);
+    let words = words_of(alloc, words)?;
+    let keys: Vec<&[u8]> = words.iter().map(key_of).collect(alloc)?;
+    let there: Vec<bool> = words.iter().map(is_there).collect(alloc)?;
+    let decision = decide(
+        table,
+        moves,
+        node_of(node)?,
+        keys.as_slice(),
+        there.as_slice(),
+        asking,
+    );
+    Ok(push_decided(given, &decision)?)
+}
+
+fn push_decided(given: &mut String, decision: &Decision) -> Result<(), AllocError> {
+    match decision {
+        Decision::Serve => given.push_str("serve\n"),
+        Decision::ServeImport { number } => {
+            let number = number.get();
+            writeln!(given, "serve in move {number}")
+        }
+        Decision::CrossSlot => given.push_str("cross slot\n"),
+        Decision::Down => given.push_str("down\n"),
+        Decision::TryAgain(reason) => push_reason(given, *reason),
+        Decision::Ask { slot, to, number } => {
+            let (slot, node, number) = (slot.get(), to.get(), number.get());
+            writeln!(given, "ask node {node} for slot {slot} in move {number}")
+        }
+        Decision::Moved { slot, to } => {
+            let (slot, node) = (slot.get(), to.get());
+            writeln!(given, "slot {slot} is at node {node}")
+        }
+    }
+}
+
+fn push_reason(given: &mut String, reason: Reason) -> Result<(), AllocError> {
+    match reason {
+        Reason::Frozen => given.push_str("try again, a key is on its way\n"),
+        Reason::SomeAreMissing => given.push_str("try again, some keys are missing\n"),
+    }
+}
+
+// The key that a word names, without the mark that it is there.
+fn key_of(word: &ByteString) -> &[u8] {
+    match word.as_slice().split_first() {
+        Some((b'+', key)) => key,
+        _ => word.as_slice(),
+    }
+}
+
+fn is_there(word: &ByteString) -> bool {
+    matches!(word.as_slice().first(), Some(b'+'))
 }
 
 fn push_epoch(given: &mut String, epoch: Epoch) -> Result<(), AllocError> {

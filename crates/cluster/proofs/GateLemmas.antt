@@ -1,8 +1,8 @@
 -- What a gate answers.
 use Rattle.std.proofs.Common.{◌≡◌, subst}
 use Rattle.cluster_config.specs.Config.{ClusterConfig}
-use Rattle.node_core.specs.State.{first_state}
-use Rattle.node_core.specs.declared.event.Event.{Event}
+use Rattle.node_step.specs.State.{first_state}
+use Rattle.node_step.specs.declared.event.Event.{Event}
 use Rattle.node_cell.specs.Journal.{CellView, EnteredView, Enters, IsHistory}
 use Rattle.cluster.specs.Answers.{MayAnswer}
 

@@ -1,11 +1,11 @@
 -- What a node of a cluster may answer, and refuse.
 use Rattle.std.specs.Prelude.{ℕ, List}
 use Rattle.cluster_config.specs.Config.{ClusterConfig}
-use Rattle.node_core.specs.State.{NodeState, first_state}
-use Rattle.node_core.specs.Step.{NodeStep}
-use Rattle.node_core.specs.declared.event.Event.{Event}
+use Rattle.node_step.specs.State.{NodeState, first_state}
+use Rattle.node_step.specs.Step.{NodeStep}
+use Rattle.node_step.specs.declared.event.Event.{Event}
 use Rattle.node_core.specs.declared.fault.StepFault.{StepFault}
-use Rattle.node_core.specs.declared.outputs.Outputs.{Outputs}
+use Rattle.node_step.specs.declared.outputs.Outputs.{Outputs}
 use Rattle.node_cell.specs.Journal.{CellView, IsHistory, IsRefused}
 use Rattle.node_cell.specs.declared.entry.Entry.{Entry}
 

@@ -1,7 +1,7 @@
 -- A conversation from its beginning to its end.
 use Rattle.std.proofs.Common.{◌≡◌, ◌≢◌, ◌⊎◌, ℕ, List, [], ◌++◌, Result, Ok, Err, append-nil, inl, inr, refl, sym, ◌∙◌}
 use Rattle.node_cell.specs.Asks.{Asked}
-use Rattle.node_core.specs.declared.connections.Conn.{Conn}
+use Rattle.connections.specs.declared.conn.Conn.{Conn}
 use Rattle.node_core.specs.declared.fault.StepFault.{StepFault}
 use Rattle.node_core.specs.declared.fault.StepFault.TheVariants as refused
 use Rattle.listener.specs.declared.fault.ConnFault.{ConnFault}

@@ -10,14 +10,14 @@ use Rattle.resp2.specs.declared.reply.Reply.TheVariants.{Error}
 use Rattle.command.specs.ErrorLine.{error_text}
 use Rattle.command.specs.declared.error_line.ErrorLine.{ErrorLine}
 use Rattle.command.specs.declared.error_line.ErrorLine.TheVariants as line
-use Rattle.node_core.specs.declared.connections.Conn.{Conn}
-use Rattle.node_core.specs.declared.event.Event.TheVariants.{Open, Close, Request}
+use Rattle.connections.specs.declared.conn.Conn.{Conn}
+use Rattle.node_step.specs.declared.event.Event.TheVariants.{Open, Close, Request}
 use Rattle.node_core.specs.declared.fault.StepFault.{StepFault}
 use Rattle.node_core.specs.declared.fault.StepFault.TheVariants as refused
-use Rattle.node_core.specs.declared.outputs.Outputs.{Outputs}
-use Rattle.node_core.specs.declared.response.Answer.{Answer}
-use Rattle.node_core.specs.declared.response.Response.{Response}
-use Rattle.node_core.specs.declared.response.Response.TheVariants.{Opened, Replied}
+use Rattle.node_step.specs.declared.outputs.Outputs.{Outputs}
+use Rattle.node_step.specs.declared.response.Answer.{Answer}
+use Rattle.node_step.specs.declared.response.Response.{Response}
+use Rattle.node_step.specs.declared.response.Response.TheVariants.{Opened, Replied}
 use Rattle.node_cell.specs.Asks.{Asked}
 use Rattle.listener.specs.declared.fault.ConnFault.{ConnFault}
 use Rattle.listener.specs.declared.fault.ConnFault.TheVariants.{Reader, Writer, Memory, Exhausted, Unanswered, Endless}

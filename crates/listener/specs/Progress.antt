@@ -3,11 +3,11 @@ use Rattle.std.specs.Prelude.{◌≡◌, ◌≢◌, ℕ, List, [], ◌∷◌, �
 use Rattle.std.specs.Io.KnownBytes.{Appends, Consumes}
 use Rattle.resp2.specs.Counting.{HasRisen}
 use Rattle.resp2.specs.Request.{stream_spelling}
-use Rattle.node_core.specs.declared.connections.Conn.{Conn}
-use Rattle.node_core.specs.declared.event.Event.TheVariants.{Open, Close}
+use Rattle.connections.specs.declared.conn.Conn.{Conn}
+use Rattle.node_step.specs.declared.event.Event.TheVariants.{Open, Close}
 use Rattle.node_core.specs.declared.fault.StepFault.{StepFault}
-use Rattle.node_core.specs.declared.outputs.Outputs.{Outputs}
-use Rattle.node_core.specs.declared.response.Response.TheVariants.{Opened}
+use Rattle.node_step.specs.declared.outputs.Outputs.{Outputs}
+use Rattle.node_step.specs.declared.response.Response.TheVariants.{Opened}
 use Rattle.node_cell.specs.Asks.{Asked}
 use Rattle.listener.specs.declared.fault.ConnFault.{ConnFault}
 use Rattle.listener.specs.declared.fault.ConnFault.TheVariants.{Reader, Writer, Endless}

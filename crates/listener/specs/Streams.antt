@@ -5,9 +5,9 @@ use Rattle.resp2.specs.Counting.{inner_of, failures_of, HasRisen}
 use Rattle.resp2.specs.Writing.{AppendsBeginning}
 use Rattle.resp2.specs.declared.counting.Counting.{Counting}
 use Rattle.node_cell.specs.Asks.{Asked}
-use Rattle.node_core.specs.declared.event.Event.{Event}
+use Rattle.node_step.specs.declared.event.Event.{Event}
 use Rattle.node_core.specs.declared.fault.StepFault.{StepFault}
-use Rattle.node_core.specs.declared.outputs.Outputs.{Outputs}
+use Rattle.node_step.specs.declared.outputs.Outputs.{Outputs}
 
 -- something before a call, and after it
 pub record Change (A : Type 0) : Type 0 where

@@ -240,6 +240,7 @@ fn name_of(entry: &Entry) -> &'static str {
             Event::Open => "open",
             Event::Close(_) => "close",
             Event::Request(_, _) => "request",
+            Event::Deliver(_) => "deliver",
             Event::Tick => "tick",
         },
     }

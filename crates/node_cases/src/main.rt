@@ -5,8 +5,8 @@
 mod callers;
 mod cell;
 mod client;
+mod client_connections;
 mod clusters;
-mod connections;
 mod conversation;
 mod events;
 mod node;
@@ -36,7 +36,7 @@ impl Player for Topics {
         match topic {
             "callers" => callers::play(rt, script),
             "cell" => cell::play(rt, script),
-            "connections" => connections::play(alloc, script),
+            "connections" => client_connections::play(alloc, script),
             "conversation" => conversation::play(*rt, script),
             "node" => node::play(rt, script),
             "seats" => seats::play(alloc, script),

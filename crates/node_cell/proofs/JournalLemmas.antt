@@ -2,7 +2,7 @@
 use Rattle.std.proofs.Common.{◌≡◌, ℕ, List, [], ◌∷◌, ◌++◌, ◌<◌, refl, sym, ◌∙◌, ap, subst}
 use Rattle.std.specs.Prelude.{All}
 use Rattle.std.proofs.lemmas.List.Elements.{All-nil, All-head, All-tail, All-push}
-use Rattle.node_core.specs.State.{NodeState}
+use Rattle.node_step.specs.State.{NodeState}
 use Rattle.node_cell.specs.Journal.{IsHistory, IsJournal, Leads, Rises, ticket_of, tickets_of}
 use Rattle.node_cell.specs.declared.entry.Entry.{Entry}
 

@@ -1,8 +1,8 @@
 -- What was asked of a node through one gate.
 use Rattle.std.specs.Prelude.{Result, Ok, Err}
-use Rattle.node_core.specs.declared.event.Event.{Event}
+use Rattle.node_step.specs.declared.event.Event.{Event}
 use Rattle.node_core.specs.declared.fault.StepFault.{StepFault}
-use Rattle.node_core.specs.declared.outputs.Outputs.{Outputs}
+use Rattle.node_step.specs.declared.outputs.Outputs.{Outputs}
 use Rattle.node_cell.specs.declared.asks.Outcome.{Outcome}
 use Rattle.node_cell.specs.declared.asks.Outcome.TheVariants.{Stepped, Refused}
 

@@ -1,14 +1,13 @@
 -- The journal of a node: what it did, in order, each step under the ticket that was drawn for it.
 use Rattle.std.specs.Prelude.{◌≡◌, ◌<◌, ◌≤◌, ◌^◌, ◌⊎◌, ℕ, List, [], ◌∷◌, ◌++◌, map, length, All}
 use Rattle.cluster_config.specs.Config.{ClusterConfig}
-use Rattle.node_core.specs.Connections.{IsUsedUp}
-use Rattle.node_core.specs.State.{NodeState}
-use Rattle.node_core.specs.Step.{NodeStep}
-use Rattle.node_core.specs.declared.event.Event.{Event}
-use Rattle.node_core.specs.declared.event.Event.TheVariants.{Open}
+use Rattle.node_step.specs.Numbers.{NoNumberLeft}
+use Rattle.node_step.specs.State.{NodeState}
+use Rattle.node_step.specs.Step.{NodeStep}
+use Rattle.node_step.specs.declared.event.Event.{Event}
 use Rattle.node_core.specs.declared.fault.StepFault.{StepFault}
 use Rattle.node_core.specs.declared.fault.StepFault.TheVariants.{Memory, Exhausted}
-use Rattle.node_core.specs.declared.outputs.Outputs.{Outputs}
+use Rattle.node_step.specs.declared.outputs.Outputs.{Outputs}
 use Rattle.node_cell.specs.declared.entry.Entry.{Entry}
 use Rattle.node_cell.specs.declared.entry.Entry.TheVariants.{Step, Skipped}
 
@@ -78,7 +77,7 @@ pub record Makes (old : NodeState) (before : List Entry) (ticket : ℕ) (event :
 
 -- why a node refuses an event
 abbrev pub IsReason : NodeState → Event → StepFault → Type 0
-IsReason state event fault = (fault ≡ Memory) ⊎ ((fault ≡ Exhausted) × (event ≡ Open) × IsUsedUp state.connections)
+IsReason state event fault = (fault ≡ Memory) ⊎ ((fault ≡ Exhausted) × NoNumberLeft state event)
 
 -- the node refused the event, and the ticket was entered as skipped
 pub record Skips (old : NodeState) (before : List Entry) (ticket : ℕ) (event : Event) (fault : StepFault)

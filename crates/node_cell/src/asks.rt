@@ -1,7 +1,7 @@
 //! What was asked of a node through one gate.
 ghost use Rattle.std.specs.Prelude.{◌≡◌, ◌++◌, ◌∷◌, [], IfOk, IfErr};
 ghost use Rattle.node_cell.specs.Asks.{noted, outcome_of};
-ghost use Rattle.node_core.specs.State.{first_state};
+ghost use Rattle.node_step.specs.State.{first_state};
 ghost use Rattle.node_cell.specs.Journal.{Enters, IsHistory, IsRefused};
 
 use crate::cell::NodeCell;

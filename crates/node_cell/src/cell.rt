@@ -1,9 +1,8 @@
 //! A node with its journal and its seat at the tickets.
 ghost use Rattle.std.specs.Prelude.{◌≡◌, ◌<◌, ◌++◌, ◌∷◌, [], Err, IfOk, IfErr, OnErr, vec_len, vec_capacity};
 ghost use Rattle.tickets.specs.Tickets.{drawn, table_of, seats_of, IsFresh};
-ghost use Rattle.node_core.specs.Connections.{IsUsedUp};
-ghost use Rattle.node_core.specs.State.{first_state};
-ghost use Rattle.node_core.specs.Step.{NodeStep};
+ghost use Rattle.node_step.specs.State.{first_state};
+ghost use Rattle.node_step.specs.Step.{NodeStep};
 ghost use Rattle.node_core.specs.declared.fault.StepFault.TheVariants.{Exhausted};
 ghost use Rattle.node_cell.specs.Journal.{Advances, Enters, IsRefused, IsHistory, Makes, Rises, Skips, tickets_of};
 
@@ -37,13 +36,14 @@ impl<K: Deployment, L: Log> Model for NodeCell<K, L> {
     ghost use Rattle.std.specs.Cmp.Lexicographic.{slice_cmp};
     ghost use Rattle.std.specs.FinMap as map;
     ghost use Rattle.keyspace.specs.declared.value.Value.{Value as Stored};
+    ghost use Rattle.slot_moves.specs.declared.running.Move.{Move};
     ghost use Rattle.tickets.specs.Tickets.{drawn, table_of, seats_of};
-    ghost use Rattle.node_core.specs.State.{first_state};
+    ghost use Rattle.node_step.specs.State.{first_state};
     ghost use Rattle.node_cell.specs.Journal.{CellView, IsJournal};
 
     ghost Value = { CellView };
 
-    ghost coded = { Prim.hlevel (codes, let stored : Coded Stored = Prim.hlevel codes in map.code {R = slice_cmp nat_cmp} (coded_list coded_ℕ) stored) };
+    ghost coded = { Prim.hlevel (codes, let stored : Coded Stored = Prim.hlevel codes in map.code {R = slice_cmp nat_cmp} (coded_list coded_ℕ) stored, let move : Coded Move = Prim.hlevel codes in map.code {R = nat_cmp} coded_ℕ move, map.code {R = nat_cmp} coded_ℕ coded_ℕ) };
 
     ghost view = { λ cell. record { config = cell.config; node = cell.node; state = cell.core; journal = L.entries cell.log } };
 

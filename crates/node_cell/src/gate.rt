@@ -8,8 +8,8 @@ use node_core::{Event, Outputs, StepFault};
 
 /// A step that was made, as the one who asked for it sees it.
 pub trait Answered {
-    ghost use Rattle.node_core.specs.declared.event.Event.{Event as NodeEvent};
-    ghost use Rattle.node_core.specs.declared.outputs.Outputs.{Outputs as NodeOutputs};
+    ghost use Rattle.node_step.specs.declared.event.Event.{Event as NodeEvent};
+    ghost use Rattle.node_step.specs.declared.outputs.Outputs.{Outputs as NodeOutputs};
 
     ghost event: { Self → NodeEvent };
 
@@ -27,8 +27,8 @@ pub trait NodeGate {
     type Answer: Answered + Drop;
 
     ghost use Rattle.std.specs.Prelude.{List};
-    ghost use Rattle.node_core.specs.declared.event.Event.{Event as NodeEvent};
-    ghost use Rattle.node_core.specs.declared.outputs.Outputs.{Outputs as NodeOutputs};
+    ghost use Rattle.node_step.specs.declared.event.Event.{Event as NodeEvent};
+    ghost use Rattle.node_step.specs.declared.outputs.Outputs.{Outputs as NodeOutputs};
     ghost use Rattle.node_core.specs.declared.fault.StepFault.{StepFault as Refusal};
     ghost use Rattle.node_cell.specs.Asks.{Asked};
 

@@ -1,7 +1,7 @@
-pub mod Connections
-pub mod Outputs
-pub mod Planned
-pub mod Reports
-pub mod Served
-pub mod State
-pub mod Step
+pub mod Comes
+pub mod Fault
+pub mod Places
+pub mod Refusals
+pub mod Orders
+pub mod Questions
+pub mod SlotStates

@@ -2,18 +2,24 @@
 //! no socket and no clock.
 #![tactic(auto)]
 
-mod connections;
-mod event;
+mod claims;
+mod cluster_commands;
+mod commands;
+mod copies;
+mod decisions;
+mod draft;
+mod drained;
 mod fault;
+mod messages;
+mod migrations;
 mod node;
-mod outputs;
+mod nodes;
+mod orders;
 mod reports;
-mod response;
-mod slot_plan;
+mod requests;
+mod ticks;
 
-pub use connections::{Asking, Conn, Connection, Connections};
-pub use event::Event;
+pub use connections::{Conn, Connection};
 pub use fault::StepFault;
 pub use node::{Core, NodeCore};
-pub use outputs::{Keep, Outputs};
-pub use response::{Answer, Response, Why};
+pub use node_step::{Answer, Event, Keep, Messages, Outputs, Release, Releases, Response, Why};

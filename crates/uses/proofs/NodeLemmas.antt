@@ -1,72 +1,155 @@
 -- What a node answers that was asked to set a key.
-use Rattle.std.proofs.Common.{◌≡◌, ℕ, ◌+◌, List, [], ◌∷◌, true, length, length-append, ap, sym, ◌∙◌}
+use Rattle.std.proofs.Common.{◌≡◌, ℕ, zero, suc, ◌+◌, List, [], ◌∷◌, Bool, true, false, length, length-append, ap, refl, sym, subst, ◌∙◌}
 use Rattle.std.proofs.lemmas.Cmp.{nat_eq_equiv}
 use Rattle.std.specs.FinMap as map
-use Rattle.std.specs.Prelude.{Some, None, codes, if◌then◌else◌}
+use Rattle.std.specs.Prelude.{Option, Some, None, Ok, codes, if◌then◌else◌, is_some, slice_index_or, slice_set}
 use Rattle.resp2.specs.declared.reply.Reply.TheVariants.{Bulk}
+use Rattle.command.specs.Table.{command_of}
 use Rattle.command.specs.Keys.{data_keys}
+use Rattle.command.specs.declared.command.Command.TheVariants.{Data}
 use Rattle.command.specs.declared.command.DataCommand.{DataCommand}
 use Rattle.command.specs.declared.command.DataCommand.TheVariants.{Get, Set}
 use Rattle.command.specs.declared.command.Condition.TheVariants.{Always}
 use Rattle.keyspace.specs.Strings.{string_reply}
-use Rattle.redirect.specs.Decision.{decision}
-use Rattle.redirect.specs.declared.decision.Decision.TheVariants.{Serve}
 use Rattle.keyspace.specs.declared.value.Value.TheVariants.{Str}
-use Rattle.node_core.specs.Connections.{ConnectionTable, connection_at, with_generation, may_ask, fresh, Opens}
-use Rattle.node_core.specs.State.{NodeState}
-use Rattle.node_core.specs.Step.{NodeStep, IsAnswering, IsOpening, Outcome, decided}
-use Rattle.uses.specs.Serving.{IsServedBy, served}
-use Rattle.node_core.specs.declared.connections.Conn.{Conn}
-use Rattle.node_core.specs.declared.event.Event.{Event}
-use Rattle.node_core.specs.declared.event.Event.TheVariants.{Open, Request}
-use Rattle.node_core.specs.declared.outputs.Outputs.{Outputs}
-use Rattle.node_core.specs.declared.response.Response.{Response}
-use Rattle.node_core.specs.declared.response.Response.TheVariants.{Opened, Replied}
+use Rattle.slot_table.specs.declared.entry.SlotEntry.{SlotEntry}
+use Rattle.slot_moves.specs.Moves.{Moves}
+use Rattle.slot_moves.specs.declared.running.Move.{Move}
+use Rattle.slot_moves.specs.declared.running.Move.TheVariants.{Leaves, Comes}
+use Rattle.slot_moves.specs.declared.state.SlotState.{SlotState}
+use Rattle.slot_moves.specs.declared.state.SlotState.TheVariants.{Owned, Foreign, Moving}
+use Rattle.key_slot.specs.Slot.{hash_slot}
+use Rattle.slot_table.specs.Table.{owner_at}
+use Rattle.slot_decision.specs.Asked.{Asked, is_one_of}
+use Rattle.slot_decision.specs.Decision.{decision, in_slot, leaving, state_at}
+use Rattle.slot_decision.specs.declared.asked.Asking.TheVariants.{No}
+use Rattle.slot_decision.specs.declared.decision.Decision.{Decision}
+use Rattle.slot_decision.specs.declared.decision.Decision.TheVariants.{Serve, Ask, TryAgain}
+use Rattle.slot_decision.specs.declared.decision.Reason.TheVariants.{Frozen}
+use Rattle.connections.specs.Connections.{ConnectionTable, connection_at, open_at, with_change, updated, with_generation, may_ask, fresh, Opens}
+use Rattle.connections.specs.declared.conn.Conn.{Conn}
+use Rattle.connections.specs.declared.conn.Connection.{Connection}
+use Rattle.node_step.specs.Commands.{command_outcome, decision_on, served as served_by, executed}
+use Rattle.node_step.specs.Outcome.{Outcome, outputs_of}
+use Rattle.node_step.specs.Requests.{asking_of, is_numbered, request_outcome, using_up}
+use Rattle.node_step.specs.State.{NodeState}
+use Rattle.node_step.specs.Step.{NodeStep, IsAnswering, IsOpening}
+use Rattle.node_step.specs.declared.event.Event.{Event}
+use Rattle.node_step.specs.declared.event.Event.TheVariants.{Open, Request}
+use Rattle.node_step.specs.declared.outputs.Outputs.{Outputs}
+use Rattle.node_step.specs.declared.response.Response.{Response}
+use Rattle.node_step.specs.declared.response.Response.TheVariants.{Opened, Replied}
 use Rattle.node_cell.specs.Journal.{CellView, EnteredView, Enters}
+use Rattle.uses.specs.Serving.{IsServedBy, asked_at, served}
 use Rattle.uses.proofs.KeyLemmas.{get_set}
 
--- a connection that was just opened may ask
-opened_may_ask : (old new : ConnectionTable) (conn : Conn) → Opens old new conn → may_ask (connection_at new conn) ≡ true
-opened_may_ask old new conn opens =
-    ap (λ found. may_ask (with_generation conn.generation found)) opens.opened
-    ∙ ap (λ b. may_ask (if b then Some (fresh conn.generation) else None)) (nat_eq_equiv.refl conn.generation)
+-- ---- the connection
 
--- a request of a connection that may ask is answered
-asked : (ticket : ℕ) (old new : NodeState) (conn : Conn) (words : List (List ℕ)) (outputs : Outputs)
-    → may_ask (connection_at old.connections conn) ≡ true → NodeStep ticket old (Request conn words) outputs new → IsAnswering old words outputs.response new
-asked ticket old new conn words outputs may step = rw may at step.responds
+-- the connection is as it was opened
+abbrev IsFresh : NodeState → Conn → Type 0
+IsFresh state conn = connection_at state.connections conn ≡ Some (fresh conn.generation)
+
+fresh_here : (conn : Conn) (found : Option Connection) → found ≡ Some (fresh conn.generation) → with_generation conn.generation found ≡ Some (fresh conn.generation)
+fresh_here conn found is =
+    ap (with_generation conn.generation) is
+    ∙ ap (λ b. if b then Some (fresh conn.generation) else None) (nat_eq_equiv.refl conn.generation)
+
+-- what was put at a place where there was a connection stands there
+put_here : (slots : List (Option Connection)) (key : ℕ) (former other : Connection) → slice_index_or slots key None ≡ Some former
+    → slice_index_or (slice_set slots key (Some other)) key None ≡ Some other
+put_here [] key former other is = absurd (cc)
+put_here (slot ∷ slots) zero former other is = refl
+put_here (slot ∷ slots) (suc key) former other is = put_here slots key former other is
+
+-- one that is found stands at its key
+stands : (generation : ℕ) (found : Option Connection) (connection : Connection) → with_generation generation found ≡ Some connection → (former : Connection) × (found ≡ Some former)
+stands generation None connection is = absurd (cc)
+stands generation (Some former) connection is = (former, refl)
+
+-- a request leaves a fresh connection as it is
+still_fresh : (state : NodeState) (conn : Conn) → IsFresh state conn → IsFresh (using_up state conn) conn
+still_fresh state conn is =
+    let table = state.connections in
+    let there = stands conn.generation (open_at table conn.key) (fresh conn.generation) is in
+    ap (λ found. connection_at (updated table conn.key (λ (c : Connection). record c { asking = No }) found) conn) is
+    ∙ fresh_here conn _ (put_here table.slots conn.key there.0 (fresh conn.generation) there.1)
+
+-- ---- the decision
+
+abbrev asked_one : List ℕ → Bool → Asked
+asked_one key there = record { keys = key ∷ []; there = there ∷ []; asking = No }
+
+-- in a slot that leaves, a key that is served is served once it is there
+leaving_still : (elsewhere : Decision) (frozen : Option (List ℕ)) (key : List ℕ) (there : Bool) → leaving elsewhere frozen (asked_one key there) ≡ Serve
+    → leaving elsewhere frozen (asked_one key true) ≡ Serve
+leaving_still elsewhere frozen key true serves = serves
+leaving_still elsewhere frozen key false serves = by (is_one_of frozen (key ∷ [])) serves
+  where
+    by : (is_frozen : Bool) → (if is_frozen then TryAgain Frozen else elsewhere) ≡ Serve → (if is_frozen then TryAgain Frozen else Serve) ≡ Serve
+    by true serves = serves
+    by false serves = refl
+
+in_slot_still : (slot : ℕ) (owner : Option ℕ) (state : SlotState Move) (key : List ℕ) (there : Bool) → in_slot slot owner state (asked_one key there) ≡ Serve
+    → in_slot slot owner state (asked_one key true) ≡ Serve
+in_slot_still slot owner Owned key there serves = serves
+in_slot_still slot owner Foreign key there serves = serves
+in_slot_still slot owner (Moving (Comes from number last drained)) key there serves = serves
+in_slot_still slot None (Moving (Leaves to number copies frozen)) key there serves = serves
+in_slot_still slot (Some owner) (Moving (Leaves to number copies frozen)) key there serves = leaving_still (Ask slot to number) frozen key there serves
+
+still_served : (table : List (Option SlotEntry)) (moves : Moves) (node : ℕ) (key : List ℕ) (there : Bool) → decision table moves node (asked_one key there) ≡ Serve
+    → decision table moves node (asked_one key true) ≡ Serve
+still_served table moves node key there serves =
+    in_slot_still (hash_slot key) (owner_at table (hash_slot key)) (state_at table moves node (hash_slot key)) key there serves
+
+-- ---- the steps
+
+-- an Open makes the connection that is responded, and changes nothing else
+opened : (ticket : ℕ) (old new : NodeState) (conn : Conn) (outputs : Outputs) → NodeStep ticket old Open outputs new → outputs.response ≡ Opened conn
+    → IsFresh new conn × (new ≡ record old { connections = new.connections })
+opened ticket old new conn outputs step is_conn =
+    let opening = step.may_come in
+    let response : step.outcome.response ≡ Opened opening.conn = ap (λ (o : Outcome). o.response) opening.comes_to in
+    let gave : Opened opening.conn ≡ Opened conn = sym response ∙ sym (ap (λ (o : Outputs). o.response) step.outputs_are) ∙ is_conn in
+    let same : opening.conn ≡ conn = cc in
+    let known : IsFresh step.outcome.state opening.conn = fresh_here opening.conn _ opening.opens.opened in
+    let state : new ≡ record old { connections = step.outcome.state.connections } = step.state ∙ ap (λ (o : Outcome). o.state) opening.comes_to in (
+      subst (λ (s : NodeState). IsFresh s conn) (sym step.state) (subst (IsFresh step.outcome.state) same known),
+      subst (λ (c : ConnectionTable). new ≡ record old { connections = c }) (ap (λ (s : NodeState). s.connections) (sym step.state)) state,
+    )
+
+may : (state : NodeState) (conn : Conn) → IsFresh state conn → may_ask (connection_at state.connections conn) ≡ true
+may state conn is = ap may_ask is
 
 -- a command that the node decides to serve is executed
-executed : (state : NodeState) (command : DataCommand) (outcome : Outcome) → IsServedBy state (data_keys command)
-    → outcome ≡ decided (decision state.table state.states (data_keys command)) state command → outcome ≡ decided Serve state command
-executed state command outcome serves comes_to = comes_to ∙ ap (λ d. decided d state command) serves
-
--- what a node decides to serve it serves as long as it keeps its table and its states
-still_served : (old new : NodeState) (keys : List (List ℕ)) → new.table ≡ old.table → new.states ≡ old.states → IsServedBy old keys → IsServedBy new keys
-still_served old new keys table states serves = ap (λ t. decision t new.states keys) table ∙ ap (λ s. decision old.table s keys) states ∙ serves
-
--- an Open makes the connection that is responded
-is_opened : (s0 s1 : NodeState) (response : Response) (conn : Conn) → response ≡ Opened conn → (opening : IsOpening s0 response s1) → opening.conn ≡ conn
-is_opened s0 s1 response conn is_conn opening = let e : Opened opening.conn ≡ Opened conn = sym opening.responds ∙ is_conn in cc
+answered : (ticket : ℕ) (old new : NodeState) (conn : Conn) (words : List (List ℕ)) (outputs : Outputs) (command : DataCommand)
+    → NodeStep ticket old (Request conn words) outputs new → command_of words ≡ Ok (Data command) → IsFresh old conn → IsServedBy old (data_keys command)
+    → outputs ≡ outputs_of ticket (served_by (using_up old conn) command Serve) × (new ≡ executed (using_up old conn) command)
+answered ticket old new conn words outputs command step is_command is serves =
+    let answering = rw (may old conn is) at step.may_come in
+    let read : step.outcome ≡ request_outcome old conn (Ok (Data command)) answering.listing =
+    answering.comes_to ∙ ap (λ c. request_outcome old conn c answering.listing) is_command in
+    let known : step.outcome ≡ command_outcome (using_up old conn) false command (decision_on (using_up old conn) command No) =
+    read ∙ ap (λ c. command_outcome (using_up old conn) (is_numbered c) command (decision_on (using_up old conn) command (asking_of c))) is in
+    let made : step.outcome ≡ served_by (using_up old conn) command Serve = known ∙ ap (command_outcome (using_up old conn) false command) serves in
+    (step.outputs_are ∙ ap (outputs_of ticket) made, step.state ∙ ap (λ (o : Outcome). o.state) made)
 
 -- the value that was set is the one that is got
 pub set_is_got : (t0 t1 t2 : ℕ) (s0 s1 s2 s3 : NodeState) (conn : Conn) (key value : List ℕ) (o1 o2 o3 : Outputs)
     → NodeStep t0 s0 Open o1 s1 → o1.response ≡ Opened conn → NodeStep t1 s1 (Request conn (codes "SET" ∷ key ∷ value ∷ [])) o2 s2
     → NodeStep t2 s2 (Request conn (codes "GET" ∷ key ∷ [])) o3 s3 → IsServedBy s0 (key ∷ []) → o3.response ≡ served (Bulk value)
 set_is_got t0 t1 t2 s0 s1 s2 s3 conn key value o1 o2 o3 opens is_conn setting getting serves =
-    let opening = opens.responds in
-    let may : may_ask (connection_at s1.connections conn) ≡ true = rw (is_opened s0 s1 o1.response conn is_conn opening) at (opened_may_ask _ _ _ opening.opens) in
-    let first : IsServedBy s1 (key ∷ []) = still_served s0 s1 (key ∷ []) (ap (λ (s : NodeState). s.table) opening.state) (ap (λ (s : NodeState). s.states) opening.state) serves in
-    let asked_set = asked t1 s1 s2 conn _ o2 may setting in
-    let set = executed s1 (Set key value Always) (record { answer = asked_set.answer; after = s2.keyspace }) first asked_set.answered.comes_to in
-    let there : map.get s2.keyspace key ≡ Some (Str value) =
-    ap (λ (o : Outcome). map.get o.after key) set ∙ get_set s1.keyspace key (Str value) in
-    let still : may_ask (connection_at s2.connections conn) ≡ true =
-    ap (λ (s : NodeState). may_ask (connection_at s.connections conn)) asked_set.state ∙ may in
-    let second : IsServedBy s2 (key ∷ []) = still_served s1 s2 (key ∷ []) (ap (λ (s : NodeState). s.table) asked_set.state) (ap (λ (s : NodeState). s.states) asked_set.state) first in
-    let asked_get = asked t2 s2 s3 conn _ o3 still getting in
-    let got = executed s2 (Get key) (record { answer = asked_get.answer; after = s3.keyspace }) second asked_get.answered.comes_to in
-    asked_get.responds ∙ ap (λ (o : Outcome). Replied o.answer) got ∙ ap (λ found. served (string_reply found)) there
+    let opening = opened t0 s0 s1 conn o1 opens is_conn in
+    let first : IsServedBy s1 (key ∷ []) = subst (λ s. IsServedBy s (key ∷ [])) (sym opening.1) serves in
+    let set = answered t1 s1 s2 conn _ o2 (Set key value Always) setting refl opening.0 first in
+    let there : map.get s2.keyspace key ≡ Some (Str value) = ap (λ (s : NodeState). map.get s.keyspace key) set.1 ∙ get_set s1.keyspace key (Str value) in
+    let still : IsFresh s2 conn = subst (λ (s : NodeState). IsFresh s conn) (sym set.1) (still_fresh s1 conn opening.0) in
+    let served_then : decision s1.table s1.moves s1.number (asked_one key true) ≡ Serve = still_served s1.table s1.moves s1.number key _ first in
+    let second : IsServedBy s2 (key ∷ []) =
+    ap (λ (s : NodeState). decision s.table s.moves s.number (asked_one key (is_some (map.get s2.keyspace key)))) set.1
+    ∙ ap (λ found. decision s1.table s1.moves s1.number (asked_one key (is_some found))) there ∙ served_then in
+    let got = answered t2 s2 s3 conn _ o3 (Get key) getting refl still second in
+    ap (λ (o : Outputs). o.response) got.0 ∙ ap (λ found. served (string_reply found)) there
 
 -- an event that was answered is one more entry
 pub one_entry : (old new : CellView) (event : Event) (entered : EnteredView) → Enters old event entered new → length new.journal ≡ length old.journal + 1

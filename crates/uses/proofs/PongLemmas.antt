@@ -8,13 +8,13 @@ use Rattle.resp2.specs.Reply.{reply_spelling}
 use Rattle.resp2.specs.Request.{IsRequest, IsUnfinished, HasFirstBadByte, KeepsLimits, stream_spelling, with_words}
 use Rattle.resp2.specs.declared.fault.Fault.{Fault}
 use Rattle.node_cell.specs.Asks.{Asked}
-use Rattle.node_core.specs.declared.connections.Conn.{Conn}
-use Rattle.node_core.specs.declared.event.Event.{Event}
-use Rattle.node_core.specs.declared.event.Event.TheVariants.{Close}
+use Rattle.connections.specs.declared.conn.Conn.{Conn}
+use Rattle.node_step.specs.declared.event.Event.{Event}
+use Rattle.node_step.specs.declared.event.Event.TheVariants.{Close}
 use Rattle.node_core.specs.declared.fault.StepFault.{StepFault}
-use Rattle.node_core.specs.declared.outputs.Outputs.{Outputs}
-use Rattle.node_core.specs.declared.response.Answer.{Answer}
-use Rattle.node_core.specs.declared.response.Response.TheVariants.{Replied}
+use Rattle.node_step.specs.declared.outputs.Outputs.{Outputs}
+use Rattle.node_step.specs.declared.response.Answer.{Answer}
+use Rattle.node_step.specs.declared.response.Response.TheVariants.{Replied}
 use Rattle.listener.specs.declared.requests.Rest.{Rest}
 use Rattle.listener.specs.declared.requests.Rest.TheVariants.{Unfinished, BadByte}
 use Rattle.listener.specs.declared.fault.ConnFault.{ConnFault}

@@ -7,14 +7,14 @@ use Rattle.resp2.specs.declared.fault.Fault.{Fault}
 use Rattle.resp2.specs.declared.reply.Reply.{Reply}
 use Rattle.resp2.specs.declared.reply.Reply.TheVariants.{Simple}
 use Rattle.command.specs.declared.error_line.ErrorLine.TheVariants as line
-use Rattle.node_core.specs.declared.event.Event.{Event}
-use Rattle.node_core.specs.declared.event.Event.TheVariants.{Open, Close, Request, Tick}
-use Rattle.node_core.specs.declared.outputs.Outputs.{Outputs}
-use Rattle.node_core.specs.declared.response.Answer.{Answer}
-use Rattle.node_core.specs.declared.response.Response.{Response}
-use Rattle.node_core.specs.declared.response.Response.TheVariants.{Nothing, Opened, Replied}
-use Rattle.node_core.specs.declared.response.Why.TheVariants.{Decided}
-use Rattle.redirect.specs.declared.decision.Decision.TheVariants.{Serve}
+use Rattle.node_step.specs.declared.event.Event.{Event}
+use Rattle.node_step.specs.declared.event.Event.TheVariants.{Open, Close, Request, Deliver, Tick}
+use Rattle.node_step.specs.declared.outputs.Outputs.{Outputs}
+use Rattle.node_step.specs.declared.response.Answer.{Answer}
+use Rattle.node_step.specs.declared.response.Response.{Response}
+use Rattle.node_step.specs.declared.response.Response.TheVariants.{Nothing, Opened, Replied}
+use Rattle.node_step.specs.declared.response.Why.TheVariants.{Decided}
+use Rattle.slot_decision.specs.declared.decision.Decision.TheVariants.{Serve}
 use Rattle.listener.specs.Conversation.{error_bytes}
 
 abbrev pub pong : Reply
@@ -28,11 +28,12 @@ abbrev pub response_for : Event → Response
 response_for Open = Opened (record { key = 0; generation = 0 })
 response_for (Close conn) = Nothing
 response_for (Request conn words) = Replied pong_answer
+response_for (Deliver message) = Nothing
 response_for Tick = Nothing
 
 -- what comes out for an event
 abbrev pub outputs_for : Event → Outputs
-outputs_for event = record { ticket = 0; response = response_for event }
+outputs_for event = record { ticket = 0; response = response_for event; released = []; sent = [] }
 
 -- the bytes of n PONGs
 abbrev pub pongs : ℕ → List ℕ

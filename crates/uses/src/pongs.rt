@@ -4,9 +4,9 @@ ghost use Rattle.uses.specs.Pongs.{outputs_for, pong_answer, AreAnsweredExactly}
 
 use listener::{ConnFault, serve_conn};
 use node_cell::{Answered, History, NodeGate};
-use node_core::{Answer, Conn, Event, Outputs, Response, StepFault, Why};
-use redirect::Decision;
+use node_core::{Answer, Conn, Event, Messages, Outputs, Releases, Response, StepFault, Why};
 use resp2::{Counting, Line, Reply, a_stream_is_read_in_one_way, no_unfinished_is_whole};
+use slot_decision::Decision;
 use std::alloc::Global;
 use std::marker::Model;
 use std::snapshot::Snapshot;
@@ -14,6 +14,7 @@ use std::snapshot::Snapshot;
 /// A node that has one connection, and answers each request with PONG.
 #[derive(Drop)]
 pub struct PongGate {
+    alloc: Global,
     asked: History<Asking>,
 }
 
@@ -35,8 +36,9 @@ impl Model for Asking {
 
 impl PongGate {
     /// The node, which was asked nothing yet.
-    pub fn new() -> PongGate {
+    pub fn new(alloc: Global) -> PongGate {
         PongGate {
+            alloc,
             asked: History::new(),
         }
     }
@@ -73,7 +75,7 @@ impl NodeGate for PongGate {
     ghost may_refuse = { λ event fault. ⊥ };
 
     fn step(&mut self, event: Event) -> Result<PongStep, StepFault> {
-        let outputs = outputs_for(&event);
+        let outputs = outputs_for(self.alloc, &event);
         self.asked.push(&Asking {
             event: Snapshot::of(&event),
             outputs: Snapshot::of(&outputs),
@@ -82,7 +84,7 @@ impl NodeGate for PongGate {
     }
 }
 
-fn outputs_for(event: &Event) -> Outputs
+fn outputs_for(alloc: Global, event: &Event) -> Outputs
     ensures { result ≡ outputs_for event.now }
 {
     let response = match event {
@@ -91,11 +93,13 @@ fn outputs_for(event: &Event) -> Outputs
             generation: 0,
         }),
         Event::Request(_, _) => Response::Replied(pong()),
-        Event::Close(_) | Event::Tick => Response::Nothing,
+        Event::Close(_) | Event::Deliver(_) | Event::Tick => Response::Nothing,
     };
     Outputs {
         ticket: 0,
         response,
+        released: Releases::new(alloc),
+        sent: Messages::new(alloc),
     }
 }
 
@@ -114,7 +118,7 @@ pub fn exact_answers(alloc: Global, input: &[u8]) -> Result<Vec<u8>, ConnFault>
 {
     let mut reader = Counting::new(input);
     let mut writer = Counting::new(Vec::new(alloc));
-    let mut gate = PongGate::new();
+    let mut gate = PongGate::new(alloc);
     serve_conn(alloc, &mut gate, &mut reader, &mut writer)?;
     // Nothing whole is left where the client ended it, and there is no other reading of what it sent.
     no_unfinished_is_whole();

@@ -1,6 +1,6 @@
 use Rattle.std.proofs.Common.{refl, sym, ◌∙◌, ap, List, ℕ}
 use Rattle.std.proofs.lemmas.Result.{err_from_is_err_and}
-use Rattle.node_core.specs.declared.outputs.Outputs.{Outputs}
+use Rattle.node_step.specs.declared.outputs.Outputs.{Outputs}
 use Rattle.listener.proofs.DeskLemmas.{answers_one, halts_refused, halts_silent, halts_within, refusals_are_of_answering}
 use Rattle.listener.proofs.requests.answer.Goals as goal
 

@@ -1,5 +1,5 @@
 use Rattle.std.proofs.Common.{arith, sym, ap, ◌∙◌}
-use Rattle.node_core.specs.declared.outputs.Outputs.{Outputs}
+use Rattle.node_step.specs.declared.outputs.Outputs.{Outputs}
 use Rattle.uses.proofs.NodeLemmas.{set_is_got, one_entry}
 use Rattle.uses.proofs.OutcomeLemmas.{if_ok, on_ok_from_if_ok}
 use Rattle.uses.proofs.set_and_get.set_then_get.Goals as goal

@@ -1,0 +1,58 @@
+use Rattle.std.proofs.Common.{rules, ◌≡◌, ℕ, Option, List, Ok, Err, true, false, sym, ap, subst, ◌∙◌, to_z, of_z, w64}
+use Rattle.std.specs.List.{position}
+use Rattle.std.specs.Str.{bytes_eq}
+use Rattle.cluster_config.specs.declared.config.NodeConfig.{NodeConfig}
+use Rattle.command.specs.declared.command.ClusterCommand.{ClusterCommand}
+use Rattle.command.specs.declared.command.Command.TheVariants.{Cluster}
+use Rattle.node_core.specs.Comes.{AnswersSo, ComesTo}
+use Rattle.node_core.specs.Orders.{Obeys}
+use Rattle.node_core.proofs.AnswerLemmas.{migration_answered, migration_exhausted, order_answered, order_exhausted}
+use Rattle.node_step.specs.Copies.{copy_outcome, copy_verdict_on, is_at}
+use Rattle.node_step.specs.Requests.{has_copy_number, has_number, has_order_number, using_up}
+use Rattle.node_step.specs.State.{NodeState}
+use Rattle.node_core.proofs.node.NodeCore.answer_about_cluster.Goals as goal
+
+pub returns-in_err-obey-in-SetSlot-clause-exhausted : goal.returns-in_err-obey-in-SetSlot-clause-exhausted
+returns-in_err-obey-in-SetSlot-clause-exhausted g c = λ exhausted.
+    subst (λ (command : ClusterCommand). has_number (using_up c.args.self.now c.args.conn) (Ok (Cluster command)) ≡ false) (sym c.in-SetSlot.is)
+    (order_exhausted c.args.self.now c.args.conn c.in-SetSlot.slot c.in-SetSlot.order c.in-SetSlot.node c.node_with_id.result c.in-SetSlot.number c.self.inside.config.nodes
+    (ap (λ (node : NodeState). node.config.nodes) c.self.view_is)
+    (c.node_with_id.ensures ∙ ap (λ id. position (λ (node : NodeConfig). bytes_eq node.id id) c.self.inside.config.nodes) (c.as_slice.ensures ∙ c.deref.ensures))
+    (subst (λ (number : Option ℕ). has_order_number c.args.self.now c.in-SetSlot.slot c.in-SetSlot.order c.node_with_id.result number ≡ false) c.named_number.ensures
+    (c.in_err-obey-in-SetSlot.ensures.exhausted (search rules))))
+
+pub returns-in_ok-obey-in-SetSlot-clause-answer : goal.returns-in_ok-obey-in-SetSlot-clause-answer
+returns-in_ok-obey-in-SetSlot-clause-answer g c =
+    let outputs = c.in_ok-obey-in-SetSlot.field-0.0 in
+    subst (λ (command : ClusterCommand). AnswersSo c.args.ticket c.args.self.now c.args.conn (Ok (Cluster command)) outputs c.obey.new.self) (sym c.in-SetSlot.is)
+    (order_answered c.args.ticket c.args.self.now c.args.conn c.in-SetSlot.slot c.in-SetSlot.order c.in-SetSlot.node c.node_with_id.result c.in-SetSlot.number c.self.inside.config.nodes
+    outputs c.obey.new.self (ap (λ (node : NodeState). node.config.nodes) c.self.view_is)
+    (c.node_with_id.ensures ∙ ap (λ id. position (λ (node : NodeConfig). bytes_eq node.id id) c.self.inside.config.nodes) (c.as_slice.ensures ∙ c.deref.ensures))
+    (subst (λ (number : Option ℕ). Obeys c.args.ticket c.args.self.now c.args.conn c.in-SetSlot.slot c.in-SetSlot.order c.node_with_id.result number outputs c.obey.new.self) c.named_number.ensures
+    c.in_ok-obey-in-SetSlot.ensures.obeys))
+
+pub returns-in_err-migrate_key-in-Migrate-clause-exhausted : goal.returns-in_err-migrate_key-in-Migrate-clause-exhausted
+returns-in_err-migrate_key-in-Migrate-clause-exhausted g c = λ exhausted.
+    let target = c.node_at-target.result in
+    let same_port : to_z w64 (of_z w64 c.in-Migrate.port) ≡ c.in-Migrate.port = search rules in
+    subst (λ (command : ClusterCommand). has_number (using_up c.args.self.now c.args.conn) (Ok (Cluster command)) ≡ false) (sym c.in-Migrate.is)
+    (migration_exhausted c.args.self.now c.args.conn c.in-Migrate.host c.in-Migrate.port c.in-Migrate.key c.in-Migrate.timeout target c.self-in-Migrate.inside.config.nodes
+    (ap (λ (node : NodeState). node.config.nodes) c.self-in-Migrate.view_is)
+    (c.node_at-target.ensures ∙ ap (λ port. position (is_at c.as_slice-in-Migrate.result.now port) c.self-in-Migrate.inside.config.nodes) same_port
+    ∙ ap (λ host. position (is_at host c.in-Migrate.port) c.self-in-Migrate.inside.config.nodes) (c.as_slice-in-Migrate.ensures ∙ c.deref-in-Migrate.ensures))
+    (subst (λ (key : List ℕ). has_copy_number (copy_verdict_on c.args.self.now key target) ≡ false) c.bytes.ensures
+    (c.in_err-migrate_key-in-Migrate.ensures.exhausted (search rules))))
+
+pub returns-in_ok-migrate_key-in-Migrate-clause-answer : goal.returns-in_ok-migrate_key-in-Migrate-clause-answer
+returns-in_ok-migrate_key-in-Migrate-clause-answer g c =
+    let outputs = c.in_ok-migrate_key-in-Migrate.field-0.0 in
+    let target = c.node_at-target.result in
+    let same_port : to_z w64 (of_z w64 c.in-Migrate.port) ≡ c.in-Migrate.port = search rules in
+    subst (λ (command : ClusterCommand). AnswersSo c.args.ticket c.args.self.now c.args.conn (Ok (Cluster command)) outputs c.migrate_key.new.self) (sym c.in-Migrate.is)
+    (migration_answered c.args.ticket c.args.self.now c.args.conn c.in-Migrate.host c.in-Migrate.port c.in-Migrate.key c.in-Migrate.timeout target c.self-in-Migrate.inside.config.nodes
+    outputs c.migrate_key.new.self (ap (λ (node : NodeState). node.config.nodes) c.self-in-Migrate.view_is)
+    (c.node_at-target.ensures ∙ ap (λ port. position (is_at c.as_slice-in-Migrate.result.now port) c.self-in-Migrate.inside.config.nodes) same_port
+    ∙ ap (λ host. position (is_at host c.in-Migrate.port) c.self-in-Migrate.inside.config.nodes) (c.as_slice-in-Migrate.ensures ∙ c.deref-in-Migrate.ensures))
+    (subst (λ (key : List ℕ). has_copy_number (copy_verdict_on c.args.self.now key target) ≡ true) c.bytes.ensures c.in_ok-migrate_key-in-Migrate.ensures.number)
+    (subst (λ (key : List ℕ). ComesTo c.args.ticket (copy_outcome (using_up c.args.self.now c.args.conn) c.args.conn key c.in-Migrate.timeout (copy_verdict_on c.args.self.now key target)) outputs c.migrate_key.new.self)
+    c.bytes.ensures c.in_ok-migrate_key-in-Migrate.ensures.comes))

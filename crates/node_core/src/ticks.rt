@@ -1,0 +1,75 @@
+//! Ticks of a node's time: waits end, and what is not acknowledged is sent again.
+ghost use Rattle.std.specs.Prelude.{◌≡◌, IfOk, OnErr};
+ghost use Rattle.std.specs.List.{flat_map};
+ghost use Rattle.node_core.specs.Comes.{ComesTo, bodies_of};
+ghost use Rattle.node_step.specs.Ticks.{sent_again, tick};
+ghost use Rattle.slot_moves.specs.Moves.{running_moves};
+
+use crate::draft::{Draft, stamped};
+use crate::node::NodeCore;
+use bus::Body;
+use command::ErrorLine;
+use connections::Waiting;
+use key_slot::Slot;
+use migrate::{Resend, resent};
+use node_step::{Keep, Outputs, Releases, Response};
+use slot_moves::Move;
+use slot_store::{SlotKeys, SlotParts};
+use slot_table::NodeNo;
+use std::alloc::AllocError;
+
+impl<S: SlotParts + SlotKeys> NodeCore<S> {
+    /// A tick: connections that waited as long as they wanted get their reply, and copies are sent again.
+    pub(crate) fn tick<K: Keep>(&mut self, ticket: u64) -> Result<(Outputs, K::Kept), AllocError>
+        ensures comes { IfOk result (λ made. ComesTo ticket (tick self.old) made.0 self.new) }
+        ensures kept { IfOk result (λ made. K.kept made.1 ≡ made.0) }
+        ensures err { OnErr result (self.new ≡ self.old) }
+    {
+        let waiting = self.connections.waiting(self.alloc, &Waiting::Over)?;
+        let reply = ErrorLine::NotAcknowledged.reply();
+        let draft = Draft {
+            response: Response::Nothing,
+            released: Releases::to_all(self.alloc, waiting.as_slice(), &reply)?,
+            bodies: self.sent_again()?,
+        };
+        let made = stamped::<K>(self.alloc, self.stamp(ticket), draft)?;
+        self.connections.free(&Waiting::Over);
+        self.connections.age();
+        Ok(made)
+    }
+
+    // What is sent again, by rising slot.
+    fn sent_again(&self) -> Result<Vec<(NodeNo, Body)>, AllocError>
+        ensures { IfOk result (λ bodies. bodies.items ≡ flat_map (sent_again self.now) (running_moves self.now.moves)) }
+    {
+        let mut bodies = Vec::new(self.alloc);
+        for (slot, running) in self.moves.iter() {
+            if let Some(body) = self.sent_again_in(*slot, running)? {
+                bodies.push(body)?;
+            }
+        }
+        Ok(bodies)
+    }
+
+    // Of one slot: the copy that is not acknowledged, or the word that no key is left.
+    fn sent_again_in(
+        &self,
+        slot: Slot,
+        running: &Move,
+    ) -> Result<Option<(NodeNo, Body)>, AllocError>
+        ensures { IfOk result (λ body. bodies_of body ≡ sent_again self.now (slot, running.now)) }
+    {
+        let Some(again) = resent(running) else {
+            return Ok(None);
+        };
+        match again {
+            Resend::Drained { .. } => Ok(self.drained_if_empty(slot)),
+            Resend::Copy {
+                to,
+                number,
+                copy,
+                key,
+            } => self.copy_of(slot, to, number, copy, key),
+        }
+    }
+}
