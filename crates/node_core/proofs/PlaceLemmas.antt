@@ -1,5 +1,6 @@
 -- What a command comes to that was executed in the slot of its keys.
-use Rattle.std.proofs.Common.{◌≡◌, ℕ, Bool, true, false, List, [], ◌∷◌, Option, Some, None, All, IfSome, arith, cond, refl, sym, ap, ◌∙◌, subst}
+use Rattle.std.proofs.Common.{◌≡◌, ℕ, Bool, true, false, List, [], ◌∷◌, Option, Some, None, All, IfOk, IfSome, OnOk, arith, cond, refl, sym, ap, ◌∙◌, subst}
+use Rattle.std.specs.Prelude.{Result, Ok, Err}
 use Rattle.command.specs.Keys.{data_keys}
 use Rattle.command.specs.declared.command.DataCommand.{DataCommand}
 use Rattle.bus.specs.declared.message.Body.{Body}
@@ -82,6 +83,16 @@ quietly_served ticket old conn command why slot place plan reply outputs new in_
     comes_to_served ticket (using_up old conn) command why place plan reply new.keyspace [] outputs new replies planned made
     (says_nothing (using_up old conn) new.keyspace slot (data_keys command) in_place (sym none)) comes
 
+-- the same of a call that may fail
+pub quietly_served_if_made : {X E : Type 0} (ticket : ℕ) (old : NodeState) (conn : Conn) (command : DataCommand) (why : Decision) (slot : Option ℕ) (place : ℕ) (plan : Plan) (reply : Reply) (made : Result (Outputs × X) E) (new : NodeState)
+    → IsPlaceOf slot (data_keys command) → [] ≡ drained_at old slot → reply ≡ (exec old.keyspace command).reply
+    → IsCommittedInSlot place plan old.keyspace (exec old.keyspace command).after → OnOk made (IsCommittedInSlot place plan old.keyspace new.keyspace)
+    → IfOk made (λ m. ComesTo ticket (replied (record (using_up old conn) { keyspace = new.keyspace }) (Decided why) reply) m.0 new)
+    → IfOk made (λ m. ComesTo ticket (served (using_up old conn) command why) m.0 new)
+quietly_served_if_made ticket old conn command why slot place plan reply (Ok made) new in_place none replies planned keys comes =
+    quietly_served ticket old conn command why slot place plan reply made.0 new in_place none replies planned keys comes
+quietly_served_if_made ticket old conn command why slot place plan reply (Err error) new in_place none replies planned keys comes = tt
+
 -- the word is said of the slot in which the command is executed
 says_of_place : (node : NodeState) (after : Keyspace) (slot : Option ℕ) (place : ℕ) (word : ℕ × Body) (keys : List (List ℕ)) → IsPlaceOf slot keys → IfSome slot (λ s. place ≡ s)
     → word ∷ [] ≡ drained_at node slot → drained_by_command node (record node { keyspace = after }) keys ≡ cond (has_keys after place) [] (word ∷ [])
@@ -98,3 +109,13 @@ pub served_to_drain : (ticket : ℕ) (old : NodeState) (conn : Conn) (command : 
 served_to_drain ticket old conn command why slot place plan reply word outputs new in_place is one replies planned made comes =
     comes_to_served ticket (using_up old conn) command why place plan reply new.keyspace (cond (has_keys new.keyspace place) [] (word ∷ [])) outputs new replies planned made
     (says_of_place (using_up old conn) new.keyspace slot place word (data_keys command) in_place is one) comes
+
+-- the same of a call that may fail
+pub served_to_drain_if_made : {X E : Type 0} (ticket : ℕ) (old : NodeState) (conn : Conn) (command : DataCommand) (why : Decision) (slot : Option ℕ) (place : ℕ) (plan : Plan) (reply : Reply) (word : ℕ × Body) (made : Result (Outputs × X) E) (new : NodeState)
+    → IsPlaceOf slot (data_keys command) → IfSome slot (λ s. place ≡ s) → word ∷ [] ≡ drained_at old slot → reply ≡ (exec old.keyspace command).reply
+    → IsCommittedInSlot place plan old.keyspace (exec old.keyspace command).after → OnOk made (IsCommittedInSlot place plan old.keyspace new.keyspace)
+    → IfOk made (λ m. ComesTo ticket (replied_sending (record (using_up old conn) { keyspace = new.keyspace }) (Decided why) reply (cond (has_keys new.keyspace place) [] (word ∷ []))) m.0 new)
+    → IfOk made (λ m. ComesTo ticket (served (using_up old conn) command why) m.0 new)
+served_to_drain_if_made ticket old conn command why slot place plan reply word (Ok made) new in_place is one replies planned keys comes =
+    served_to_drain ticket old conn command why slot place plan reply word made.0 new in_place is one replies planned keys comes
+served_to_drain_if_made ticket old conn command why slot place plan reply word (Err error) new in_place is one replies planned keys comes = tt

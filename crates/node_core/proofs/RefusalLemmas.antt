@@ -1,5 +1,6 @@
 -- What a command comes to that is served, and one that isn't.
-use Rattle.std.proofs.Common.{◌≡◌, ◌≢◌, ℕ, Bool, true, false, true≢false, sym, refl, ap, ◌∙◌, subst}
+use Rattle.std.proofs.Common.{◌≡◌, ◌≢◌, ℕ, Bool, true, false, true≢false, IfOk, sym, refl, ap, ◌∙◌, subst}
+use Rattle.std.specs.Prelude.{Result, Ok, Err}
 use Rattle.command.specs.declared.command.DataCommand.{DataCommand}
 use Rattle.resp2.specs.declared.reply.Reply.{Reply}
 use Rattle.slot_decision.specs.declared.decision.Decision.{Decision}
@@ -51,3 +52,11 @@ module _ (ticket : ℕ) (node : NodeState) (numbered : Bool) (command : DataComm
       subst (λ d. ComesTo ticket (command_outcome node numbered command d) outputs new) is
       (subst (λ outcome. ComesTo ticket outcome outputs new) (refused_outcome node numbered command made (sym tests ∙ fails))
       (subst (λ r. ComesTo ticket (replied node (Decided made) r) outputs new) replies comes))
+
+-- the same of a call that may fail
+pub comes_of_serving_if_made : {X E : Type 0} (ticket : ℕ) (node : NodeState) (numbered : Bool) (command : DataCommand) (made decided : Decision) (result : Result (Outputs × X) E) (new : NodeState) (test : Bool)
+    → made ≡ decided → test ≡ is_served made → test ≡ true → IfOk result (λ m. ComesTo ticket (served node command made) m.0 new)
+    → IfOk result (λ m. ComesTo ticket (command_outcome node numbered command decided) m.0 new)
+comes_of_serving_if_made ticket node numbered command made decided (Ok m) new test is tests holds comes =
+    comes_of_serving ticket node numbered command made decided m.0 new test is tests holds comes
+comes_of_serving_if_made ticket node numbered command made decided (Err error) new test is tests holds comes = tt

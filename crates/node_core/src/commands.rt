@@ -15,13 +15,14 @@ ghost use Rattle.node_step.specs.Slots.{drained, has_keys};
 ghost use Rattle.slot_store.specs.InSlot.{IsCommittedInSlot, LiesInSlot, in_slot};
 
 use crate::copies::if_drained;
+use crate::draft::responded;
 use crate::node::NodeCore;
 use bus::Body;
 use command::DataCommand;
 use connections::{Conn, Connection};
 use key_slot::Slot;
 use keyspace::{Plan, plan_command};
-use node_step::{Keep, Outputs, Why};
+use node_step::{Answer, Keep, Outputs, Response, Why};
 use resp2::Reply;
 use slot_decision::Decision;
 use slot_store::{SlotKeys, SlotParts};
@@ -43,7 +44,7 @@ impl<S: SlotParts + SlotKeys> NodeCore<S> {
     {
         let (decision, slot) = self.decision(command, connection.asking)?;
         if is_served(&decision) {
-            return Ok(self.serve::<K>(ticket, conn, slot, command, decision)?);
+            return self.serve::<K>(ticket, conn, slot, command, decision);
         }
         let reply = self.refusal(&decision, connection.numbered)?;
         Ok(self.tell::<K>(ticket, conn, Why::Decided(decision), reply)?)
@@ -67,10 +68,10 @@ impl<S: SlotParts + SlotKeys> NodeCore<S> {
         let mut plan = self.empty_plan();
         let reply = self.plan_in_slot(place, command, &mut plan)?;
         let why = Why::Decided(decision);
-        match self.drained_at(slot) {
-            None => Ok(self.change_keys::<K>(ticket, conn, place, plan, why, reply)?),
-            Some(drained) => Ok(self.drain::<K>(ticket, conn, place, plan, why, reply, drained)?),
+        if let Some(drained) = self.drained_at(slot) {
+            return self.drain::<K>(ticket, conn, place, plan, why, reply, drained);
         }
+        self.change_keys::<K>(ticket, conn, place, plan, why, reply)
     }
 
     // A plan that changes nothing.
@@ -122,9 +123,10 @@ impl<S: SlotParts + SlotKeys> NodeCore<S> {
         ensures kept { IfOk result (λ made. K.kept made.1 ≡ made.0) }
         ensures err { OnErr result (self.new ≡ self.old) }
     {
-        let made = self.answered::<K>(ticket, why, reply, None)?;
+        let outputs = responded(ticket, Response::Replied(Answer { why, reply }));
+        let kept = K::keep(&outputs)?;
         self.commit(conn, slot, plan)?;
-        Ok(made)
+        Ok((outputs, kept))
     }
 
     // The same where the other node is told if no key is left. Both outputs are made before the keys change.

@@ -37,7 +37,7 @@ impl Draft {
     {
         Draft {
             response: Response::Nothing,
-            released: Releases::new(alloc),
+            released: Releases::new(),
             bodies: Vec::new(alloc),
         }
     }
@@ -49,7 +49,7 @@ impl Draft {
     {
         Draft {
             response: Response::Replied(Answer { why, reply }),
-            released: Releases::new(alloc),
+            released: Releases::new(),
             bodies: Vec::new(alloc),
         }
     }
@@ -80,21 +80,28 @@ pub(crate) fn stamped<K: Keep>(
 }
 
 /// The outputs of a step that gives this response and nothing else, which take no memory.
-pub(crate) fn plain<K: Keep>(alloc: Global, ticket: u64, response: Response) -> (Outputs, K::Kept)
+pub(crate) fn plain<K: Keep>(ticket: u64, response: Response) -> (Outputs, K::Kept)
     requires { HasNoReply response }
     ensures outputs { result.0 ≡ record { ticket = ticket; response = response; released = []; sent = [] } }
     ensures kept { K.kept result.1 ≡ result.0 }
 {
-    let outputs = Outputs {
-        ticket,
-        response,
-        released: Releases::new(alloc),
-        sent: Messages::new(alloc),
-    };
+    let outputs = responded(ticket, response);
     let Ok(kept) = K::keep(&outputs) else {
         unreachable!();
     };
     (outputs, kept)
+}
+
+/// The outputs of a step that gives this response and nothing else.
+pub(crate) fn responded(ticket: u64, response: Response) -> Outputs
+    ensures { result ≡ record { ticket = ticket; response = response; released = []; sent = [] } }
+{
+    Outputs {
+        ticket,
+        response,
+        released: Releases::new(),
+        sent: Messages::new(),
+    }
 }
 
 /// A list of this message, or of none.

@@ -24,7 +24,7 @@ impl<S: SlotParts + SlotKeys> NodeCore<S> {
         ensures err { OnErr result (self.new ≡ self.old) }
     {
         if message.to != self.number {
-            return Ok(plain::<K>(self.alloc, ticket, Response::Nothing));
+            return Ok(plain::<K>(ticket, Response::Nothing));
         }
         let from = message.from;
         let epoch = self.current_epoch.max(message.epoch);
@@ -57,7 +57,7 @@ impl<S: SlotParts + SlotKeys> NodeCore<S> {
         ensures kept { K.kept result.1 ≡ result.0 }
     {
         self.current_epoch = epoch;
-        plain::<K>(self.alloc, ticket, Response::Nothing)
+        plain::<K>(ticket, Response::Nothing)
     }
 
     /// What the messages of a step carry that leaves the node in that epoch.

@@ -94,7 +94,7 @@ impl<S: SlotParts + SlotKeys> NodeCore<S> {
         let frozen = key.clone()?;
         let draft = Draft {
             response: Response::Parked,
-            released: Releases::new(self.alloc),
+            released: Releases::new(),
             bodies: listed(self.alloc, body)?,
         };
         let made = stamped::<K>(self.alloc, self.stamp(ticket), draft)?;

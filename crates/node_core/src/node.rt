@@ -118,7 +118,7 @@ impl<S: SlotParts + SlotKeys> NodeCore<S> {
         ensures exhausted { result ≡ Err Exhausted → IsUsedUp self.old.connections }
     {
         let conn = self.connections.open()?;
-        Ok(plain::<K>(self.alloc, ticket, Response::Opened(conn)))
+        Ok(plain::<K>(ticket, Response::Opened(conn)))
     }
 
     #[inline(never)]
@@ -127,7 +127,7 @@ impl<S: SlotParts + SlotKeys> NodeCore<S> {
         ensures kept { K.kept result.1 ≡ result.0 }
     {
         let _was_open = self.connections.close(conn);
-        plain::<K>(self.alloc, ticket, Response::Nothing)
+        plain::<K>(ticket, Response::Nothing)
     }
 
     /// What the messages of a step carry that leaves the epoch as it is.

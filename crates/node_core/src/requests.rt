@@ -37,10 +37,10 @@ impl<S: SlotParts + SlotKeys> NodeCore<S> {
         ensures exhausted { result ≡ Err Exhausted → NoNumberLeft self.old (Event.Request conn words.now) }
     {
         let Some(connection) = self.connections.get(conn) else {
-            return Ok(plain::<K>(self.alloc, ticket, Response::Nothing));
+            return Ok(plain::<K>(ticket, Response::Nothing));
         };
         if let Some(_wait) = connection.waits {
-            return Ok(plain::<K>(self.alloc, ticket, Response::Nothing));
+            return Ok(plain::<K>(ticket, Response::Nothing));
         }
         self.answer::<K>(ticket, conn, connection, words)
     }
@@ -60,18 +60,17 @@ impl<S: SlotParts + SlotKeys> NodeCore<S> {
         ensures err { OnErr result (self.new ≡ self.old) }
         ensures exhausted { result ≡ Err Exhausted → has_number (using_up self.old conn) (command_of words.now) ≡ false }
     {
-        match parse(words) {
-            Ok(Command::Data(command)) => Ok(self.answer_on_keys::<K>(
-                ticket, conn, connection, &command,
-            )?),
-            Ok(Command::Cluster(command)) => Ok(self.answer_about_cluster::<K>(
-                ticket, conn, &command,
-            )?),
+        let command = match parse(words) {
+            Ok(Command::Data(command)) => command,
+            Ok(Command::Cluster(command)) => {
+                return self.answer_about_cluster::<K>(ticket, conn, &command);
+            }
             Err(fault) => {
                 let why = Why::NotACommand(fault);
-                Ok(self.tell::<K>(ticket, conn, why, fault.line().reply())?)
+                return Ok(self.tell::<K>(ticket, conn, why, fault.line().reply())?);
             }
-        }
+        };
+        Ok(self.answer_on_keys::<K>(ticket, conn, connection, &command)?)
     }
 
     /// Gives a reply. Only the asking of the connection is used up.

@@ -12,3 +12,4 @@ pub mod Reports
 pub mod Requests
 pub mod Numbers
 pub mod Step
+pub mod Few

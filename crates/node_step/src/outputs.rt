@@ -34,7 +34,8 @@ impl Clone for Release {
 /// Replies to connections that waited, by rising key.
 #[derive(Debug, Drop)]
 pub struct Releases {
-    releases: Vec<Release>,
+    // None where there is none, as in nearly all steps: so outputs are small, and quickly moved.
+    releases: Option<Box<Vec<Release>>>,
 }
 
 impl Model for Releases {
@@ -43,17 +44,17 @@ impl Model for Releases {
 
     ghost Value = { List Released };
 
-    ghost view = { λ releases. releases.releases.items };
+    ghost use Rattle.node_step.specs.Few.{listed};
+
+    ghost view = { λ releases. listed releases.releases };
 }
 
 impl Releases {
     /// No reply. It takes no memory.
-    pub fn new(alloc: Global) -> Releases
+    pub fn new() -> Releases
         ensures { result ≡ [] }
     {
-        Releases {
-            releases: Vec::new(alloc),
-        }
+        Releases { releases: None }
     }
 
     /// The same reply to each of the connections.
@@ -68,6 +69,7 @@ impl Releases {
             };
             releases.push(release)?;
         }
+        let releases = Some(Box::new(alloc, releases)?);
         Ok(Releases { releases })
     }
 
@@ -75,7 +77,10 @@ impl Releases {
     pub fn as_slice(&self) -> &[Release]
         ensures { result.now ≡ self.now }
     {
-        self.releases.as_slice()
+        match &self.releases {
+            Some(releases) => releases.as_slice(),
+            None => &[],
+        }
     }
 
     // An equal copy, which takes no memory where there is no reply.
@@ -83,19 +88,20 @@ impl Releases {
         ensures same { IfOk result (λ copy. copy ≡ self.now) }
         ensures plain { self.now ≡ [] → IsOk result }
     {
-        if self.releases.is_empty() {
-            return Ok(Releases::new(*self.releases.allocator()));
+        match &self.releases {
+            Some(releases) if !releases.is_empty() => Ok(Releases {
+                releases: Some(releases.clone()?),
+            }),
+            _ => Ok(Releases::new()),
         }
-        Ok(Releases {
-            releases: self.releases.clone()?,
-        })
     }
 }
 
 /// Messages to other nodes, in the order in which they are numbered.
 #[derive(Debug, Drop)]
 pub struct Messages {
-    messages: Vec<Message>,
+    // None where there is none, as in nearly all steps: so outputs are small, and quickly moved.
+    messages: Option<Box<Vec<Message>>>,
 }
 
 impl Model for Messages {
@@ -104,17 +110,17 @@ impl Model for Messages {
 
     ghost Value = { List Sent };
 
-    ghost view = { λ messages. messages.messages.items };
+    ghost use Rattle.node_step.specs.Few.{listed};
+
+    ghost view = { λ messages. listed messages.messages };
 }
 
 impl Messages {
     /// No message. It takes no memory.
-    pub fn new(alloc: Global) -> Messages
+    pub fn new() -> Messages
         ensures { result ≡ [] }
     {
-        Messages {
-            messages: Vec::new(alloc),
-        }
+        Messages { messages: None }
     }
 
     /// The messages that a node sends by the step of that ticket, each a body with the node that it is for.
@@ -129,7 +135,7 @@ impl Messages {
         ensures none { bodies.items ≡ [] → IsOk result }
     {
         if bodies.is_empty() {
-            return Ok(Messages::new(alloc));
+            return Ok(Messages::new());
         }
         let mut messages = Vec::with_capacity(alloc, bodies.len())?;
         for (to, body) in bodies {
@@ -142,6 +148,7 @@ impl Messages {
             };
             messages.push(message)?;
         }
+        let messages = Some(Box::new(alloc, messages)?);
         Ok(Messages { messages })
     }
 
@@ -149,7 +156,10 @@ impl Messages {
     pub fn as_slice(&self) -> &[Message]
         ensures { result.now ≡ self.now }
     {
-        self.messages.as_slice()
+        match &self.messages {
+            Some(messages) => messages.as_slice(),
+            None => &[],
+        }
     }
 
     // An equal copy, which takes no memory where there is no message.
@@ -157,12 +167,12 @@ impl Messages {
         ensures same { IfOk result (λ copy. copy ≡ self.now) }
         ensures plain { self.now ≡ [] → IsOk result }
     {
-        if self.messages.is_empty() {
-            return Ok(Messages::new(*self.messages.allocator()));
+        match &self.messages {
+            Some(messages) if !messages.is_empty() => Ok(Messages {
+                messages: Some(messages.clone()?),
+            }),
+            _ => Ok(Messages::new()),
         }
-        Ok(Messages {
-            messages: self.messages.clone()?,
-        })
     }
 }
 

@@ -14,7 +14,6 @@ use std::snapshot::Snapshot;
 /// A node that has one connection, and answers each request with PONG.
 #[derive(Drop)]
 pub struct PongGate {
-    alloc: Global,
     asked: History<Asking>,
 }
 
@@ -36,9 +35,8 @@ impl Model for Asking {
 
 impl PongGate {
     /// The node, which was asked nothing yet.
-    pub fn new(alloc: Global) -> PongGate {
+    pub fn new() -> PongGate {
         PongGate {
-            alloc,
             asked: History::new(),
         }
     }
@@ -75,7 +73,7 @@ impl NodeGate for PongGate {
     ghost may_refuse = { λ event fault. ⊥ };
 
     fn step(&mut self, event: Event) -> Result<PongStep, StepFault> {
-        let outputs = outputs_for(self.alloc, &event);
+        let outputs = outputs_for(&event);
         self.asked.push(&Asking {
             event: Snapshot::of(&event),
             outputs: Snapshot::of(&outputs),
@@ -84,7 +82,7 @@ impl NodeGate for PongGate {
     }
 }
 
-fn outputs_for(alloc: Global, event: &Event) -> Outputs
+fn outputs_for(event: &Event) -> Outputs
     ensures { result ≡ outputs_for event.now }
 {
     let response = match event {
@@ -98,8 +96,8 @@ fn outputs_for(alloc: Global, event: &Event) -> Outputs
     Outputs {
         ticket: 0,
         response,
-        released: Releases::new(alloc),
-        sent: Messages::new(alloc),
+        released: Releases::new(),
+        sent: Messages::new(),
     }
 }
 
@@ -118,7 +116,7 @@ pub fn exact_answers(alloc: Global, input: &[u8]) -> Result<Vec<u8>, ConnFault>
 {
     let mut reader = Counting::new(input);
     let mut writer = Counting::new(Vec::new(alloc));
-    let mut gate = PongGate::new(alloc);
+    let mut gate = PongGate::new();
     serve_conn(alloc, &mut gate, &mut reader, &mut writer)?;
     // Nothing whole is left where the client ended it, and there is no other reading of what it sent.
     no_unfinished_is_whole();

@@ -1,0 +1,7 @@
+-- A list that nearly always is empty.
+use Rattle.std.specs.Prelude.{List, [], Option, Some, None, Box, Vec}
+
+-- the items behind a pointer, which isn't there where there is none
+abbrev pub listed : {A Z : Type 0} → Option (Box (Vec A Z) Z) → List A
+listed None = []
+listed (Some items) = items.value.items
