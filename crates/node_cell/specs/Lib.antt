@@ -1,4 +1,3 @@
 pub mod Asks
-pub mod History
 pub mod Journal
 pub mod Log

@@ -7,8 +7,8 @@ ghost use Rattle.node_cell.specs.Journal.{Enters, IsHistory, IsRefused};
 use crate::cell::NodeCell;
 use crate::deployment::Deployment;
 use crate::entered::Entered;
-use crate::history::History;
 use crate::log::Log;
+use history::History;
 use node_core::{Event, Outputs, StepFault};
 use std::marker::Model;
 use std::snapshot::Snapshot;
@@ -72,21 +72,24 @@ impl Asks {
         ensures err { IfErr result (λ fault. IsRefused cell.old event fault cell.new) }
     {
         let asked = Snapshot::of(&event);
-        match cell.apply(event) {
-            Ok(entered) => {
-                self.note(asked, Outcome::Stepped(Snapshot::of(entered.outputs())));
-                Ok(entered)
-            }
-            Err(fault) => {
-                self.note(asked, Outcome::Refused(fault));
-                Err(fault)
-            }
-        }
+        let answered = cell.apply(event);
+        self.note(asked, note_of(&answered));
+        answered
     }
 
     fn note(&mut self, event: Snapshot<Event>, outcome: Outcome)
         ensures { self.new ≡ self.old ++ (record { event = event.value; outcome = noted outcome }) ∷ [] }
     {
         self.asked.push(&Asking { event, outcome });
+    }
+}
+
+// What came of an event, as it is noted.
+fn note_of<K: Deployment>(answered: &Result<Entered<K>, StepFault>) -> Outcome
+    ensures { noted result ≡ outcome_of (λ entered. entered.outputs) answered.now }
+{
+    match answered {
+        Ok(entered) => Outcome::Stepped(Snapshot::of(entered.outputs())),
+        Err(fault) => Outcome::Refused(*fault),
     }
 }

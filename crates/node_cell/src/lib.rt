@@ -7,7 +7,6 @@ mod deployment;
 mod entered;
 mod entry;
 mod gate;
-mod history;
 mod log;
 
 pub use asks::Asks;
@@ -16,5 +15,4 @@ pub use deployment::Deployment;
 pub use entered::Entered;
 pub use entry::Entry;
 pub use gate::{Answered, NodeGate};
-pub use history::History;
 pub use log::{GhostJournal, Journal, Log};

@@ -4,7 +4,7 @@ ghost use Rattle.node_cell.specs.Log.{entry_of};
 ghost use Rattle.node_cell.specs.declared.entry.Entry.TheVariants.{Step, Skipped};
 
 use crate::entry::Entry;
-use crate::history::History;
+use history::History;
 use node_core::{Event, Keep, Outputs};
 use std::alloc::{AllocError, Global};
 use std::marker::Model;

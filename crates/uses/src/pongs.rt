@@ -2,8 +2,9 @@
 ghost use Rattle.std.specs.Prelude.{◌≡◌, IfOk};
 ghost use Rattle.uses.specs.Pongs.{outputs_for, pong_answer, AreAnsweredExactly};
 
+use history::History;
 use listener::{ConnFault, serve_conn};
-use node_cell::{Answered, History, NodeGate};
+use node_cell::{Answered, NodeGate};
 use node_core::{Answer, Conn, Event, Messages, Outputs, Releases, Response, StepFault, Why};
 use resp2::{Counting, Line, Reply, a_stream_is_read_in_one_way, no_unfinished_is_whole};
 use slot_decision::Decision;

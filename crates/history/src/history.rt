@@ -23,7 +23,7 @@ impl<A> Model for Past<A> {
 
     ghost Value = { List A };
 
-    ghost use Rattle.node_cell.specs.History.{items};
+    ghost use Rattle.history.specs.History.{items};
 
     ghost view = { λ past. items past.last };
 

@@ -1,0 +1,6 @@
+//! Lists that only proofs read.
+#![tactic(auto)]
+
+mod history;
+
+pub use history::History;
