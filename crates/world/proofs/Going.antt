@@ -1,0 +1,181 @@
+-- Further entries of a world.
+use Rattle.std.proofs.Common.{◌≡◌, ℕ, Bool, List, drop, length, [], ◌∷◌, ◌++◌, Contains, refl, sym, ap, subst, ◌∙◌, inl, inr, append-nil, append_assoc}
+use Rattle.std.specs.Prelude.{false, reverse, slice_get, slice_set, Some, zero, suc}
+use Rattle.std.specs.List.{flat_map}
+use Rattle.std.proofs.lemmas.List.{reverse-append}
+use Rattle.std.proofs.lemmas.List.Elements.{Contains-append_cases, Contains-append_left, Contains-append_right}
+use Rattle.std.proofs.lemmas.Grind.{flat_map-append}
+use Rattle.std.proofs.lemmas.Option.{slice_get_within, get_or_from_slice_get}
+use Rattle.bus.specs.declared.message.Message.{Message}
+use Rattle.connections.specs.declared.conn.Conn.{Conn}
+use Rattle.node_step.specs.State.{NodeState}
+use Rattle.node_step.specs.declared.event.Event.{Event}
+use Rattle.node_step.specs.declared.event.Event.TheVariants.{Open, Close, Request, Deliver, Tick}
+use Rattle.node_step.specs.declared.outputs.Outputs.{Outputs}
+use Rattle.node_step.specs.declared.outputs.Release.{Release}
+use Rattle.world_run.specs.Run.{Deed, Entry, Goes, MayHappen, WorldStep, first_nodes, sent_by, sent_in}
+use Rattle.world_run.specs.Run.Deed.{Made, Skipped}
+use Rattle.world.specs.Entered.{EntersAt, NeedsNumber, Steps}
+use Rattle.world.specs.Plays.{Closes, Enters, Makes, Plays, PlaysAll, message_at, released_conns, served_conns}
+use Rattle.world.specs.Outputs.{shown, shown_from}
+use Rattle.std.proofs.Math.Seq.{drop-append_seam}
+use Rattle.world.specs.declared.output.Output.{Output}
+use Rattle.world.specs.declared.step.Step.{Step}
+use Rattle.world.specs.View.{GoesOn, IsKept, IsReached, RunView, WorldView}
+
+-- ---- runs in two parts
+
+pub goes-append : (past : List Entry) (old mid new : List NodeState) (first others : List Entry) → Goes past old first mid
+    → Goes (reverse first ++ past) mid others new → Goes past old (first ++ others) new
+goes-append past old mid new [] others same goes = subst (λ (nodes : List NodeState). Goes past nodes others new) same goes
+goes-append past old mid new (entry ∷ first) others goes more =
+    let behind : reverse (entry ∷ first) ++ past ≡ reverse first ++ (entry ∷ past) =
+    ap (λ (entries : List Entry). entries ++ past) (reverse-append (entry ∷ []) first) ∙ append_assoc (reverse first) (entry ∷ []) past in (
+      goes.0,
+      goes.1,
+      goes-append (entry ∷ past) goes.0 mid new first others goes.2 (subst (λ (entries : List Entry). Goes entries mid others new) behind more),
+    )
+
+pub goes_on_refl : (run : RunView) → GoesOn run run
+goes_on_refl run = record { entries = []; added = sym (append-nil run.entries); goes = refl }
+
+pub goes_further : (old mid new : RunView) → GoesOn old mid → GoesOn mid new → GoesOn old new
+goes_further old mid new first others =
+    let behind : reverse mid.entries ≡ reverse first.entries ++ reverse old.entries =
+    ap reverse first.added ∙ reverse-append old.entries first.entries in
+    record {
+      entries = first.entries ++ others.entries;
+      added = others.added ∙ ap (λ (entries : List Entry). entries ++ others.entries) first.added ∙ append_assoc old.entries first.entries others.entries;
+      goes = goes-append (reverse old.entries) old.nodes mid.nodes new.nodes first.entries others.entries first.goes
+          (subst (λ (entries : List Entry). Goes entries mid.nodes others.entries new.nodes) behind others.goes);
+    }
+
+-- ---- one entry
+
+pub enters_goes_on : (old new : RunView) (node : ℕ) (deed : Deed) → EntersAt old.entries old.nodes node deed new.entries new.nodes → GoesOn old new
+enters_goes_on old new node deed enters = record {
+  entries = (record { node = node; ticket = enters.ticket; deed = deed }) ∷ [];
+  added = enters.entered;
+  goes = (new.nodes, enters.step, refl);
+}
+
+-- a run whose parts are these goes on from one that was seen as it was
+pub seen_goes_on : (old inside : RunView) (nodes : List NodeState) (stopped : List Bool) (sent : List Message) (entries : List Entry) (node : ℕ) (deed : Deed) → inside ≡ old
+    → EntersAt inside.entries inside.nodes node deed entries nodes → GoesOn old (record { nodes = nodes; stopped = stopped; sent = sent; entries = entries })
+seen_goes_on old inside nodes stopped sent entries node deed is enters =
+    subst (λ (run : RunView). GoesOn run (record { nodes = nodes; stopped = stopped; sent = sent; entries = entries })) is (enters_goes_on inside (record { nodes = nodes; stopped = stopped; sent = sent; entries = entries }) node deed enters)
+
+-- a step of one node, among the others
+pub made_at : (past : List Entry) (old : List NodeState) (node : ℕ) (event : Event) (outputs : Outputs) (entries : List Entry) (new : List NodeState) (before after : NodeState)
+    → slice_get old node ≡ Some before → MayHappen (reverse past) event → Steps past before node (Made event outputs) entries after
+    → new ≡ slice_set old node after → EntersAt past old node (Made event outputs) entries new
+made_at past old node event outputs entries new before after was may steps is = record {
+  ticket = steps.ticket;
+  step = record { before = before; after = after; was = was; leads = (may, steps.does); is = is };
+  entered = steps.entered;
+}
+
+-- a node that made no step, among the others
+pub skipped_at : (past : List Entry) (old : List NodeState) (node : ℕ) (entries : List Entry) (new : List NodeState) (before after : NodeState)
+    → slice_get old node ≡ Some before → Steps past before node Skipped entries after → new ≡ slice_set old node after → EntersAt past old node Skipped entries new
+skipped_at past old node entries new before after was steps is = record {
+  ticket = steps.ticket;
+  step = record { before = before; after = after; was = was; leads = steps.does; is = is };
+  entered = steps.entered;
+}
+
+pub sent_by-push : (entries : List Entry) (entry : Entry) → sent_by (entries ++ entry ∷ []) ≡ sent_by entries ++ sent_in entry.deed
+sent_by-push entries entry =
+    flat_map-append (λ (e : Entry). sent_in e.deed) entries (entry ∷ []) ∙ ap (λ (messages : List Message). sent_by entries ++ messages) (append-nil (sent_in entry.deed))
+
+pub enters_keeps : (old new : RunView) (node : ℕ) (deed : Deed) → Enters old node deed new → IsKept old → IsKept new
+enters_keeps old new node deed entered kept =
+    let entry : Entry = record { node = node; ticket = entered.enters.ticket; deed = deed } in
+    ap (λ (run : RunView). run.sent) entered.is ∙ ap (λ (messages : List Message). messages ++ sent_in deed) kept
+    ∙ sym (sent_by-push old.entries entry) ∙ sym (ap sent_by entered.enters.entered)
+
+-- ---- messages that were sent
+
+pub sent_reversed : (entries : List Entry) (message : Message) → Contains (sent_by entries) message → Contains (sent_by (reverse entries)) message
+sent_reversed [] message among = among
+sent_reversed (entry ∷ entries) message among =
+    let turned : sent_by (reverse (entry ∷ entries)) ≡ sent_by (reverse entries) ++ sent_in entry.deed =
+    ap sent_by (reverse-append (entry ∷ []) entries) ∙ sent_by-push (reverse entries) entry in
+    subst (λ (messages : List Message). Contains messages message) (sym turned)
+    (elim (Contains-append_cases (sent_in entry.deed) (sent_by entries) message among) [
+      | inl now ↦ Contains-append_right (sent_by (reverse entries)) (sent_in entry.deed) message now
+      | inr earlier ↦ Contains-append_left (sent_by (reverse entries)) (sent_in entry.deed) message (sent_reversed entries message earlier)
+    ])
+
+-- a message that is among those that were sent may arrive
+pub may_arrive : (run : RunView) (number : ℕ) (message : Message) → IsKept run → Some message ≡ message_at run.sent number → MayHappen (reverse run.entries) (Deliver message)
+may_arrive run zero message kept is = absurd (cc)
+may_arrive run (suc before) message kept is =
+    let among : Contains run.sent message =
+    (before, slice_get_within run.sent before message (sym is), get_or_from_slice_get run.sent before message message (sym is)) in
+    sent_reversed run.entries message (subst (λ (messages : List Message). Contains messages message) kept among)
+
+-- ---- connections closed one after another
+
+pub closes-append : (old mid new : RunView) (node : ℕ) (first others : List Conn) → Closes old node first mid → Closes mid node others new → Closes old node (first ++ others) new
+closes-append old mid new node [] others same closes = subst (λ (run : RunView). Closes run node others new) same closes
+closes-append old mid new node (conn ∷ first) others closes more = (closes.0, closes.1, closes.2, closes-append closes.0 mid new node first others closes.3 more)
+
+-- and one more
+pub closes_one_more : (old mid new : RunView) (node : ℕ) (first : List Release) (release : Release) → Closes old node (released_conns first) mid → Closes mid node (release.conn ∷ []) new
+    → Closes old node (released_conns (first ++ release ∷ [])) new
+closes_one_more old mid new node [] release same closes = subst (λ (run : RunView). Closes run node (release.conn ∷ []) new) same closes
+closes_one_more old mid new node (earlier ∷ first) release closes more = (closes.0, closes.1, closes.2, closes_one_more closes.0 mid new node first release closes.3 more)
+
+-- a step that isn't made for a request has no connection of its own
+pub closes_served : (event : Event) (outputs : Outputs) (after new : RunView) (node : ℕ) → (NeedsNumber event → ⊥) → Closes after node (released_conns outputs.released) new
+    → Closes after node (served_conns event outputs) new
+closes_served Open outputs after new node none closes = absurd (none tt)
+closes_served (Request conn words) outputs after new node none closes = absurd (none tt)
+closes_served (Close conn) outputs after new node none closes = closes
+closes_served (Deliver message) outputs after new node none closes = closes
+closes_served Tick outputs after new node none closes = closes
+
+-- the messages behind those that were sent before are those of the step
+pub shown_since : (old after : RunView) (node : ℕ) (event : Event) (made : Outputs) (first : ℕ) (outputs : List Output) → Makes old node event made after → first ≡ length old.sent
+    → outputs ≡ shown_from node first (drop first after.sent) made → outputs ≡ shown node old.sent made
+shown_since old after node event made first outputs makes is gives =
+    gives ∙ ap (λ (n : ℕ). shown_from node n (drop n after.sent) made) is
+    ∙ ap (λ (messages : List Message). shown_from node (length old.sent) messages made)
+    (ap (λ (run : RunView). drop (length old.sent) run.sent) makes.is ∙ drop-append_seam old.sent made.sent)
+
+-- ---- worlds
+
+-- a world that goes on is reached, if it keeps its messages as long as memory isn't refused
+pub reaches_on : (old new : WorldView) → IsReached old → new.config ≡ old.config → GoesOn old.run new.run → (new.refused ≡ false → IsKept new.run) → IsReached new
+reaches_on old new reached same on kept =
+    let behind : Goes (reverse old.run.entries ++ []) old.run.nodes on.entries new.run.nodes =
+    subst (λ (past : List Entry). Goes past old.run.nodes on.entries new.run.nodes) (sym (append-nil (reverse old.run.entries))) on.goes in
+    let whole : Goes [] (first_nodes old.config) (old.run.entries ++ on.entries) new.run.nodes =
+    goes-append [] (first_nodes old.config) old.run.nodes new.run.nodes old.run.entries on.entries reached.goes behind in
+    record {
+      goes = rw (same, on.added) whole;
+      kept = kept;
+    }
+
+-- ---- steps one after another
+
+-- one step more
+pub plays_one_more : (old mid new : RunView) (steps : List Step) (step : Step) (outputs shown : List Output) → PlaysAll old steps outputs mid → Plays mid step shown new
+    → PlaysAll old (steps ++ step ∷ []) (outputs ++ shown) new
+plays_one_more old mid new [] step outputs shown before plays = (
+  new,
+  shown,
+  [],
+  subst (λ (run : RunView). Plays run step shown new) before.1 plays,
+  (refl, refl),
+  ap (λ (others : List Output). others ++ shown) before.0 ∙ sym (append-nil shown),
+)
+plays_one_more old mid new (first ∷ steps) step outputs shown before plays = (
+  before.0,
+  before.1,
+  before.2 ++ shown,
+  before.3,
+  plays_one_more before.0 mid new steps step before.2 shown before.4 plays,
+  ap (λ (others : List Output). others ++ shown) before.5 ∙ append_assoc before.1 before.2 shown,
+)

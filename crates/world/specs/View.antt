@@ -1,0 +1,60 @@
+-- A world of nodes.
+use Rattle.std.specs.Prelude.{◌≡◌, ◌++◌, ◌&&◌, ℕ, nat_lt, not, Bool, true, false, List, [], map, length, replicate, reverse, slice_index_or}
+use Rattle.bus.specs.declared.message.Message.{Message}
+use Rattle.cluster_config.specs.Config.{ClusterConfig}
+use Rattle.node_step.specs.State.{NodeState}
+use Rattle.world_run.specs.Executed.{AreOfOneKeyspace, KeepsAsking, executed}
+use Rattle.world_run.specs.Run.{Entry, Goes, first_nodes, sent_by}
+
+-- the nodes by their numbers, and which of them were stopped; all messages that were sent, and what the nodes did, in order
+pub record RunView : Type 0 where
+  pub nodes : List NodeState
+  pub stopped : List Bool
+  pub sent : List Message
+  pub entries : List Entry
+
+-- a cluster's nodes, and whether memory was refused
+pub record WorldView : Type 0 where
+  pub config : ClusterConfig
+  pub run : RunView
+  pub refused : Bool
+
+-- ---- the start
+
+abbrev pub first_run : ClusterConfig → RunView
+first_run config = record {
+  nodes = first_nodes config;
+  stopped = replicate (length config.nodes) false;
+  sent = [];
+  entries = [];
+}
+
+abbrev pub first_world : ClusterConfig → WorldView
+first_world config = record { config = config; run = first_run config; refused = false }
+
+-- ---- nodes that stopped
+
+-- the node is there, and wasn't stopped
+abbrev pub is_up : RunView → ℕ → Bool
+is_up run node = nat_lt node (length run.nodes) && not (slice_index_or run.stopped node true)
+
+-- ---- what holds of each world
+
+-- further entries lead from the old nodes to the new ones
+pub record GoesOn (old new : RunView) : Type 0 where
+  pub entries : List Entry
+  pub added : new.entries ≡ old.entries ++ entries
+  pub goes : Goes (reverse old.entries) old.nodes entries new.nodes
+
+-- the messages are those that the nodes sent
+abbrev pub IsKept : RunView → Type 0
+IsKept run = run.sent ≡ sent_by run.entries
+
+-- the entries lead from the cluster's start to the nodes, and as long as memory wasn't refused all messages are kept
+pub record IsReached (world : WorldView) : Type 0 where
+  pub goes : Goes [] (first_nodes world.config) world.run.entries world.run.nodes
+  pub kept : world.refused ≡ false → IsKept world.run
+
+-- if clients kept to the asking rule, the replies are those of one keyspace
+abbrev pub IsOneKeyspace : List Entry → Type 0
+IsOneKeyspace entries = KeepsAsking [] entries → AreOfOneKeyspace (executed entries)

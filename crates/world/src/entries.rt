@@ -1,0 +1,117 @@
+//! What the nodes of a world did, as proofs see it.
+ghost use Rattle.std.specs.Prelude.{◌≡◌, ◌++◌, ◌∷◌, [], ◌≢◌, IfOk, IfSome, IfNone, OnErr};
+ghost use Rattle.node_step.specs.Numbers.{NoNumberLeft};
+ghost use Rattle.world_run.specs.Run.Deed.{Made, Skipped};
+ghost use Rattle.world.specs.Entered.{Steps};
+ghost use Rattle.world.specs.Lines.{deed_of};
+
+use history::History;
+use node_core::{Core, Event, Keep, Outputs, StepFault};
+use std::alloc::AllocError;
+use std::marker::Model;
+use std::snapshot::Snapshot;
+
+// What a node did.
+#[derive(Drop)]
+enum Doing {
+    Made(Snapshot<Event>, Snapshot<Outputs>),
+    Skipped,
+}
+
+// An entry as only proofs read it.
+#[derive(Drop)]
+struct Line {
+    node: u64,
+    ticket: u64,
+    doing: Doing,
+}
+
+impl Model for Line {
+    ghost use Rattle.world_run.specs.Run.{Entry};
+
+    ghost Value = { Entry };
+
+    ghost use Rattle.world.specs.Lines.{deed_of};
+
+    ghost view = { λ line. record { node = line.node; ticket = line.ticket; deed = deed_of line.doing } };
+}
+
+/// What the nodes did, an entry a ticket. Only proofs read the entries, so they take no memory.
+#[derive(Drop)]
+pub struct Entries {
+    lines: History<Line>,
+    count: u64,
+}
+
+impl Model for Entries {
+    ghost use Rattle.std.specs.Prelude.{List};
+    ghost use Rattle.world_run.specs.Run.{Entry};
+
+    ghost Value = { List Entry };
+
+    ghost view = { λ entries. entries.lines };
+}
+
+// Of the outputs of a step only proofs keep something.
+struct Seen;
+
+impl Keep for Seen {
+    type Kept = Snapshot<Outputs>;
+
+    ghost kept = { λ outputs. outputs.value };
+
+    fn keep(outputs: &Outputs) -> Result<Snapshot<Outputs>, AllocError> {
+        Ok(Snapshot::of(outputs))
+    }
+}
+
+impl Entries {
+    /// No entry.
+    pub fn new() -> Entries
+        ensures { result ≡ [] }
+    {
+        Entries {
+            lines: History::new(),
+            count: 0,
+        }
+    }
+
+    /// Has the node make its step for the event, and enters it. None says that a number has no next one: then the node is as
+    /// before, and that is entered.
+    pub fn step(
+        &mut self,
+        core: &mut Core,
+        node: u64,
+        event: Event,
+    ) -> Result<Option<Outputs>, AllocError>
+        ensures made { IfOk result (λ made. IfSome made (λ outputs. Steps self.old core.old node (Made event outputs) self.new core.new)) }
+        ensures skipped { IfOk result (λ made. IfNone made (Steps self.old core.old node Skipped self.new core.new)) }
+        ensures number { IfOk result (λ made. IfNone made (NoNumberLeft core.old event)) }
+        ensures err { OnErr result ((self.new ≡ self.old) × (core.new ≡ core.old)) }
+    {
+        let ticket = self.count.saturating_add(1);
+        match core.step::<Seen>(ticket, &event) {
+            Ok((outputs, kept)) => {
+                let doing = Doing::Made(Snapshot::of(&event), kept);
+                self.enter(node, ticket, doing);
+                Ok(Some(outputs))
+            }
+            Err(StepFault::Exhausted) => {
+                self.enter(node, ticket, Doing::Skipped);
+                Ok(None)
+            }
+            Err(StepFault::Memory) => Err(AllocError),
+        }
+    }
+
+    fn enter(&mut self, node: u64, ticket: u64, doing: Doing)
+        ensures { self.new ≡ self.old ++ (record { node = node; ticket = ticket; deed = deed_of doing }) ∷ [] }
+    {
+        self.lines.push(&Line {
+            node,
+            ticket,
+            doing,
+        });
+        self.count = ticket;
+    }
+}

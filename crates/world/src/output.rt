@@ -1,0 +1,106 @@
+//! What comes out of a step of a world.
+ghost use Rattle.std.specs.Prelude.{◌≡◌, ◌≤◌, ◌++◌, ◌∷◌, [], map, length, drop, IfOk, OnOk};
+ghost use Rattle.node_step.specs.Outcome.{error};
+ghost use Rattle.command.specs.declared.error_line.ErrorLine.TheVariants.{Exhausted};
+ghost use Rattle.world.specs.Outputs.{numbered, own_reply, released_reply};
+ghost use Rattle.world.specs.declared.output.Output.TheVariants.{Admin, Nothing};
+
+use bus::Message;
+use command::ErrorLine;
+use node_core::{Release, Response};
+use resp2::Reply;
+use std::alloc::{AllocError, Global};
+
+/// What comes out of a step of a world.
+#[derive(Debug, Drop)]
+pub enum Output {
+    /// A request of an administrator is answered.
+    Admin {
+        /// The node that answers.
+        node: u64,
+        /// What the administrator reads.
+        reply: Reply,
+    },
+    /// A node sends a message.
+    Sent {
+        /// The number of the message.
+        number: u64,
+        /// The message.
+        message: Message,
+    },
+    /// There was nothing to do.
+    Nothing,
+}
+
+/// There was nothing to do.
+pub(crate) fn nothing(alloc: Global) -> Result<Vec<Output>, AllocError>
+    ensures { IfOk result (λ outputs. outputs.items ≡ Nothing ∷ []) }
+{
+    let mut outputs = Vec::new(alloc);
+    outputs.push(Output::Nothing)?;
+    Ok(outputs)
+}
+
+/// The node needs a number that has no next one.
+pub(crate) fn exhausted(alloc: Global, node: u64) -> Result<Vec<Output>, AllocError>
+    ensures { IfOk result (λ outputs. outputs.items ≡ Admin node (error Exhausted) ∷ []) }
+{
+    let mut outputs = Vec::new(alloc);
+    outputs.push(Output::Admin {
+        node,
+        reply: ErrorLine::Exhausted.reply(),
+    })?;
+    Ok(outputs)
+}
+
+/// Adds the reply to the request that the node was asked, if it came.
+pub(crate) fn add_own(
+    outputs: &mut Vec<Output>,
+    node: u64,
+    response: &Response,
+) -> Result<(), AllocError>
+    ensures { OnOk result (outputs.new.items ≡ outputs.old.items ++ own_reply node response.now) }
+{
+    if let Response::Replied(answer) = response {
+        outputs.push(Output::Admin {
+            node,
+            reply: answer.reply.clone()?,
+        })?;
+    }
+    Ok(())
+}
+
+/// Adds the replies to requests that waited.
+pub(crate) fn add_released(
+    outputs: &mut Vec<Output>,
+    node: u64,
+    releases: &[Release],
+) -> Result<(), AllocError>
+    ensures { OnOk result (outputs.new.items ≡ outputs.old.items ++ map (released_reply node) releases.now) }
+{
+    for release in releases {
+        outputs.push(Output::Admin {
+            node,
+            reply: release.reply.clone()?,
+        })?;
+    }
+    Ok(())
+}
+
+/// Adds the messages from that place on.
+pub(crate) fn add_sent(
+    outputs: &mut Vec<Output>,
+    sent: &[Message],
+    first: usize,
+) -> Result<(), AllocError>
+    requires { first ≤ length sent.now }
+    ensures { OnOk result (outputs.new.items ≡ outputs.old.items ++ numbered first (drop first sent.now)) }
+{
+    for at in first..sent.len() {
+        outputs.push(Output::Sent {
+            number: at as u64 + 1,
+            message: sent[at].clone()?,
+        })?;
+    }
+    Ok(())
+}

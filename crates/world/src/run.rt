@@ -1,0 +1,358 @@
+//! The nodes of a world, and what they do.
+ghost use Rattle.std.specs.Prelude.{◌≡◌, ◌+◌, ◌<◌, ◌≤◌, ◌++◌, ◌∷◌, [], ℕ, true, false, drop, map, length, replicate, reverse, Contains, slice_get, slice_set, MatchBool, IfOk, IfSome, IfNone, OnOk, OnErr, option_copied};
+ghost use Rattle.std.specs.List.{range_with_len};
+ghost use Rattle.cluster_config.specs.Config.{ClusterConfig};
+ghost use Rattle.node_step.specs.declared.event.Event.TheVariants.{Open, Close, Request, Deliver, Tick};
+ghost use Rattle.node_step.specs.Numbers.{NoNumberLeft};
+ghost use Rattle.node_step.specs.State.{first_state};
+ghost use Rattle.world_run.specs.Run.{MayHappen, WorldStep, first_nodes, sent_by};
+ghost use Rattle.world_run.specs.Run.Deed.{Made, Skipped};
+ghost use Rattle.world.specs.Entered.{EntersAt, NeedsNumber};
+ghost use Rattle.world.specs.Outputs.{shown_from};
+ghost use Rattle.world.specs.Plays.{Closes, Enters, IsAdministered, IsAsked, IsDelivered, IsHeard, IsIdle, IsRefused, IsStopping, Makes, Plays, Turns, answered_conn, is_admin, is_admin_name, message_at, released_conns};
+ghost use Rattle.world.specs.declared.step.Step.TheVariants as step;
+ghost use Rattle.world.specs.View.{GoesOn, IsKept, first_run, is_up};
+
+use crate::entries::Entries;
+use crate::output::{Output, add_own, add_released, add_sent, exhausted, nothing};
+use crate::step::Step;
+use bus::Message;
+use cluster_config::Config;
+use connections::Conn;
+use node_core::{Core, Event, Outputs, Release, Response};
+use resp2::Words;
+use slot_store::SlotStore;
+use slot_table::NodeNo;
+use std::alloc::{AllocError, Global};
+use std::marker::Model;
+
+/// The nodes of a world, the messages that they sent, and what they did.
+#[derive(Drop)]
+pub struct Run {
+    alloc: Global,
+    nodes: Vec<Core>,
+    stopped: Vec<bool>,
+    sent: Vec<Message>,
+    entries: Entries,
+}
+
+impl Model for Run {
+    ghost use Rattle.std.specs.Coded.{Coded, codes, coded_list, coded_ℕ};
+    ghost use Rattle.std.specs.Ordering.{nat_cmp};
+    ghost use Rattle.std.specs.Cmp.Lexicographic.{slice_cmp};
+    ghost use Rattle.std.specs.FinMap as map;
+    ghost use Rattle.keyspace.specs.declared.value.Value.{Value as Stored};
+    ghost use Rattle.slot_moves.specs.declared.running.Move.{Move};
+    ghost use Rattle.world.specs.View.{RunView};
+
+    ghost Value = { RunView };
+
+    ghost coded = { Prim.hlevel (codes, let stored : Coded Stored = Prim.hlevel codes in map.code {R = slice_cmp nat_cmp} (coded_list coded_ℕ) stored, let move : Coded Move = Prim.hlevel codes in map.code {R = nat_cmp} coded_ℕ move, map.code {R = nat_cmp} coded_ℕ coded_ℕ) };
+
+    ghost view = { λ run. record { nodes = run.nodes.items; stopped = run.stopped.items; sent = run.sent.items; entries = run.entries } };
+}
+
+impl Run {
+    /// The nodes of a cluster as they begin.
+    pub fn new(alloc: Global, config: &Config) -> Result<Run, AllocError>
+        ensures { IfOk result (λ run. run ≡ first_run config.now) }
+    {
+        Ok(Run {
+            alloc,
+            nodes: first_nodes(alloc, config)?,
+            stopped: none_stopped(alloc, config.nodes().len())?,
+            sent: Vec::new(alloc),
+            entries: Entries::new(),
+        })
+    }
+
+    /// Plays a step. Where memory is refused, steps of nodes may have been made for it.
+    pub fn play(&mut self, step: &Step) -> Result<Vec<Output>, AllocError>
+        requires { IsKept self.old }
+        ensures goes_on { GoesOn self.old self.new }
+        ensures kept { OnOk result (IsKept self.new) }
+        ensures plays { IfOk result (λ outputs. Plays self.old step.now outputs.items self.new) }
+    {
+        match step {
+            Step::Admin { node, words } => self.admin(*node, words),
+            Step::Tick { node } => self.tick(*node),
+            Step::Stop { node } => self.stop(*node),
+            Step::Deliver { message } => self.deliver(*message),
+        }
+    }
+
+    fn admin(&mut self, node: u64, words: &Words) -> Result<Vec<Output>, AllocError>
+        requires { IsKept self.old }
+        ensures goes_on { GoesOn self.old self.new }
+        ensures kept { OnOk result (IsKept self.new) }
+        ensures plays { IfOk result (λ outputs. Plays self.old (step.Admin node words.now) outputs.items self.new) }
+    {
+        if self.is_up(node) && is_admin(words) {
+            self.ask(node, words)
+        } else {
+            nothing(self.alloc)
+        }
+    }
+
+    fn tick(&mut self, node: u64) -> Result<Vec<Output>, AllocError>
+        requires { IsKept self.old }
+        ensures goes_on { GoesOn self.old self.new }
+        ensures kept { OnOk result (IsKept self.new) }
+        ensures plays { IfOk result (λ outputs. Plays self.old (step.Tick node) outputs.items self.new) }
+    {
+        if self.is_up(node) {
+            self.turn(node, Event::Tick)
+        } else {
+            nothing(self.alloc)
+        }
+    }
+
+    fn stop(&mut self, node: u64) -> Result<Vec<Output>, AllocError>
+        requires { IsKept self.old }
+        ensures goes_on { GoesOn self.old self.new }
+        ensures kept { OnOk result (IsKept self.new) }
+        ensures plays { IfOk result (λ outputs. Plays self.old (step.Stop node) outputs.items self.new) }
+    {
+        if !self.is_up(node) {
+            return nothing(self.alloc);
+        }
+        self.stopped[node as usize] = true;
+        Ok(Vec::new(self.alloc))
+    }
+
+    #[tactic(auto, using(crate::proofs::Going::may_arrive))]
+    fn deliver(&mut self, number: u64) -> Result<Vec<Output>, AllocError>
+        requires { IsKept self.old }
+        ensures goes_on { GoesOn self.old self.new }
+        ensures kept { OnOk result (IsKept self.new) }
+        ensures plays { IfOk result (λ outputs. Plays self.old (step.Deliver number) outputs.items self.new) }
+    {
+        let Some(message) = self.message(number)? else {
+            return nothing(self.alloc);
+        };
+        let node = u64::from(message.to.get());
+        if self.is_up(node) {
+            self.turn(node, Event::Deliver(message))
+        } else {
+            nothing(self.alloc)
+        }
+    }
+
+    // The node is there, and wasn't stopped.
+    fn is_up(&self, node: u64) -> bool
+        ensures { result ≡ is_up self.now node }
+    {
+        node < self.nodes.len() as u64 && !self.stopped.get(node as usize).copied().unwrap_or(true)
+    }
+
+    // A copy of the message of that number.
+    fn message(&self, number: u64) -> Result<Option<Message>, AllocError>
+        ensures { IfOk result (λ message. message ≡ message_at self.now.sent number) }
+    {
+        let Some(before) = number.checked_sub(1) else {
+            return Ok(None);
+        };
+        match self.sent.get(before as usize) {
+            Some(message) => Ok(Some(message.clone()?)),
+            None => Ok(None),
+        }
+    }
+
+    // A step of a node that needs no number of its own, and what comes out of it.
+    fn turn(&mut self, node: u64, event: Event) -> Result<Vec<Output>, AllocError>
+        requires kept { IsKept self.old }
+        requires there { node < length self.old.nodes }
+        requires may { MayHappen (reverse self.old.entries) event }
+        requires number { NeedsNumber event → ⊥ }
+        ensures goes_on { GoesOn self.old self.new }
+        ensures kept { OnOk result (IsKept self.new) }
+        ensures turns { IfOk result (λ outputs. Turns self.old node event outputs.items self.new) }
+    {
+        let first = self.sent.len();
+        let Some(made) = self.make(node, event)? else {
+            unreachable!();
+        };
+        let outputs = self.outputs(node, first, &made)?;
+        self.close_all(node, made.released.as_slice())?;
+        Ok(outputs)
+    }
+
+    // A request on a connection of its own, and what comes out of it.
+    fn ask(&mut self, node: u64, words: &Words) -> Result<Vec<Output>, AllocError>
+        requires kept { IsKept self.old }
+        requires there { node < length self.old.nodes }
+        ensures goes_on { GoesOn self.old self.new }
+        ensures kept { OnOk result (IsKept self.new) }
+        ensures asks { IfOk result (λ outputs. IsAdministered self.old node words.now outputs.items self.new) }
+    {
+        let Some(opening) = self.make(node, Event::Open)? else {
+            return exhausted(self.alloc, node);
+        };
+        let Response::Opened(conn) = opening.response else {
+            unreachable!();
+        };
+        self.request(node, conn, words)
+    }
+
+    // A request on a connection that was opened for it.
+    fn request(&mut self, node: u64, conn: Conn, words: &Words) -> Result<Vec<Output>, AllocError>
+        requires kept { IsKept self.old }
+        requires there { node < length self.old.nodes }
+        ensures goes_on { GoesOn self.old self.new }
+        ensures kept { OnOk result (IsKept self.new) }
+        ensures asks { IfOk result (λ outputs. IsHeard self.old node conn words.now outputs.items self.new) }
+    {
+        let first = self.sent.len();
+        let event = Event::Request(conn, words.clone()?);
+        let Some(made) = self.make(node, event)? else {
+            self.close(node, conn)?;
+            return exhausted(self.alloc, node);
+        };
+        let outputs = self.outputs(node, first, &made)?;
+        self.close_served(node, conn, &made)?;
+        Ok(outputs)
+    }
+
+    // Closes the connections that got their replies by a step for a request.
+    fn close_served(&mut self, node: u64, conn: Conn, made: &Outputs) -> Result<(), AllocError>
+        requires there { node < length self.old.nodes }
+        ensures goes_on { GoesOn self.old self.new }
+        ensures kept { OnOk result (IsKept self.old → IsKept self.new) }
+        ensures closes { OnOk result (Closes self.old node (answered_conn conn made.now.response ++ released_conns made.now.released) self.new) }
+    {
+        if let Response::Replied(_) = made.response {
+            self.close(node, conn)?;
+        }
+        self.close_all(node, made.released.as_slice())
+    }
+
+    // Closes the connections that got these replies.
+    fn close_all(&mut self, node: u64, releases: &[Release]) -> Result<(), AllocError>
+        requires there { node < length self.old.nodes }
+        ensures goes_on { GoesOn self.old self.new }
+        ensures kept { OnOk result (IsKept self.old → IsKept self.new) }
+        ensures closes { OnOk result (Closes self.old node (released_conns releases.now) self.new) }
+    {
+        for release in releases {
+            self.close(node, release.conn)?;
+        }
+        Ok(())
+    }
+
+    fn close(&mut self, node: u64, conn: Conn) -> Result<(), AllocError>
+        requires there { node < length self.old.nodes }
+        ensures goes_on { GoesOn self.old self.new }
+        ensures there { length self.new.nodes ≡ length self.old.nodes }
+        ensures kept { OnOk result (IsKept self.old → IsKept self.new) }
+        ensures closes { OnOk result (Closes self.old node (conn ∷ []) self.new) }
+    {
+        let Some(_closed) = self.make(node, Event::Close(conn))? else {
+            unreachable!();
+        };
+        Ok(())
+    }
+
+    // Has the node make its step for the event. None says that it needs a number that has no next one, and made no step.
+    fn make(&mut self, node: u64, event: Event) -> Result<Option<Outputs>, AllocError>
+        requires there { node < length self.old.nodes }
+        requires may { MayHappen (reverse self.old.entries) event }
+        ensures goes_on { GoesOn self.old self.new }
+        ensures there { length self.new.nodes ≡ length self.old.nodes }
+        ensures kept { OnOk result (IsKept self.old → IsKept self.new) }
+        ensures made { IfOk result (λ made. IfSome made (λ outputs. Makes self.old node event outputs self.new)) }
+        ensures skipped { IfOk result (λ made. IfNone made (Enters self.old node Skipped self.new)) }
+        ensures number { IfOk result (λ made. IfNone made (NeedsNumber event)) }
+    {
+        let Some(outputs) = step_at(&mut self.nodes, &mut self.entries, node, event)? else {
+            return Ok(None);
+        };
+        keep(&mut self.sent, outputs.sent.as_slice())?;
+        Ok(Some(outputs))
+    }
+
+    // What comes out of a step of the node, where the messages from that place on are those of the step.
+    fn outputs(&self, node: u64, first: usize, made: &Outputs) -> Result<Vec<Output>, AllocError>
+        requires { first ≤ length self.now.sent }
+        ensures { IfOk result (λ outputs. outputs.items ≡ shown_from node first (drop first self.now.sent) made.now) }
+    {
+        let mut outputs = Vec::new(self.alloc);
+        add_own(&mut outputs, node, &made.response)?;
+        add_released(&mut outputs, node, made.released.as_slice())?;
+        add_sent(&mut outputs, self.sent.as_slice(), first)?;
+        Ok(outputs)
+    }
+}
+
+// Has the node of that number make its step for the event.
+fn step_at(
+    nodes: &mut Vec<Core>,
+    entries: &mut Entries,
+    node: u64,
+    event: Event,
+) -> Result<Option<Outputs>, AllocError>
+    requires there { node < length nodes.old.items }
+    requires may { MayHappen (reverse entries.old) event }
+    ensures made { IfOk result (λ made. IfSome made (λ outputs. EntersAt entries.old nodes.old.items node (Made event outputs) entries.new nodes.new.items)) }
+    ensures skipped { IfOk result (λ made. IfNone made (EntersAt entries.old nodes.old.items node Skipped entries.new nodes.new.items)) }
+    ensures number { IfOk result (λ made. IfNone made (NeedsNumber event)) }
+    ensures err { OnErr result ((nodes.new.items ≡ nodes.old.items) × (entries.new ≡ entries.old)) }
+{
+    match entries.step(&mut nodes[node as usize], node, event) {
+        Ok(Some(outputs)) => Ok(Some(outputs)),
+        Ok(None) => Ok(None),
+        Err(fault) => Err(fault),
+    }
+}
+
+// Keeps messages behind the others.
+fn keep(sent: &mut Vec<Message>, messages: &[Message]) -> Result<(), AllocError>
+    ensures { OnOk result (sent.new.items ≡ sent.old.items ++ messages.now) }
+{
+    for message in messages {
+        sent.push(message.clone()?)?;
+    }
+    Ok(())
+}
+
+// The nodes of a cluster as they begin.
+fn first_nodes(alloc: Global, config: &Config) -> Result<Vec<Core>, AllocError>
+    ensures { IfOk result (λ nodes. nodes.items ≡ first_nodes config.now) }
+{
+    let mut nodes = Vec::new(alloc);
+    for at in 0..config.nodes().len() {
+        nodes.push(first_node(alloc, config, at as u8)?)?;
+    }
+    Ok(nodes)
+}
+
+// The node of that number as it begins.
+fn first_node(alloc: Global, config: &Config, at: u8) -> Result<Core, AllocError>
+    requires { at < 16 }
+    ensures { IfOk result (λ core. core ≡ first_state config.now at) }
+{
+    let number = NodeNo::new(at).unwrap();
+    Core::new(alloc, config.clone()?, number, SlotStore::new(alloc)?)
+}
+
+fn none_stopped(alloc: Global, count: usize) -> Result<Vec<bool>, AllocError>
+    ensures { IfOk result (λ stopped. stopped.items ≡ replicate count false) }
+{
+    let mut stopped = Vec::new(alloc);
+    for _at in 0..count {
+        stopped.push(false)?;
+    }
+    Ok(stopped)
+}
+
+// The first word is CLUSTER or MIGRATE, in letters of any case.
+fn is_admin(words: &Words) -> bool
+    ensures { result ≡ is_admin words.now }
+{
+    is_admin_name(words.name().as_slice())
+}
+
+fn is_admin_name(name: &[u8]) -> bool
+    ensures { result ≡ is_admin_name name.now }
+{
+    name.eq_ignore_ascii_case(b"cluster") || name.eq_ignore_ascii_case(b"migrate")
+}

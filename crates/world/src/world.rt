@@ -1,0 +1,142 @@
+//! A world of nodes.
+ghost use Rattle.std.specs.Prelude.{◌≡◌, true, false, IfOk, IfErr, OnOk, OnErr, IsErr};
+ghost use Rattle.world.specs.Plays.{Plays, PlaysAll};
+ghost use Rattle.world.specs.View.{GoesOn, IsOneKeyspace, first_world};
+
+use crate::fault::OutOfMemory;
+use crate::output::Output;
+use crate::run::Run;
+use crate::step::Step;
+use cluster_config::Config;
+use single_keyspace::replies_are_those_of_one_keyspace;
+use std::alloc::{AllocError, Global};
+use std::marker::Model;
+
+/// The nodes of a cluster in one process, each message that they ever sent, and, for proofs alone, all that they did.
+///
+/// Once memory is refused, what was done before stays done, and each later call is refused.
+#[derive(Drop)]
+pub struct World {
+    alloc: Global,
+    config: Config,
+    run: Run,
+    is_refused: bool,
+}
+
+impl Model for World {
+    ghost use Rattle.std.specs.Coded.{Coded, codes, coded_list, coded_ℕ};
+    ghost use Rattle.std.specs.Ordering.{nat_cmp};
+    ghost use Rattle.std.specs.Cmp.Lexicographic.{slice_cmp};
+    ghost use Rattle.std.specs.FinMap as map;
+    ghost use Rattle.keyspace.specs.declared.value.Value.{Value as Stored};
+    ghost use Rattle.slot_moves.specs.declared.running.Move.{Move};
+    ghost use Rattle.world.specs.View.{WorldView, IsReached};
+
+    ghost Value = { WorldView };
+
+    ghost coded = { Prim.hlevel (codes, let stored : Coded Stored = Prim.hlevel codes in map.code {R = slice_cmp nat_cmp} (coded_list coded_ℕ) stored, let move : Coded Move = Prim.hlevel codes in map.code {R = nat_cmp} coded_ℕ move, map.code {R = nat_cmp} coded_ℕ coded_ℕ) };
+
+    ghost view = { λ world. record { config = world.config; run = world.run; refused = world.is_refused } };
+
+    ghost invariant = { λ world. IsReached (record { config = world.config; run = world.run; refused = world.is_refused }) };
+}
+
+impl World {
+    /// The cluster as it begins.
+    pub fn new(alloc: Global, config: &Config) -> Result<World, OutOfMemory>
+        ensures { IfOk result (λ world. world ≡ first_world config.now) }
+    {
+        let run = Run::new(alloc, config)?;
+        Ok(World {
+            alloc,
+            config: config.clone()?,
+            run,
+            is_refused: false,
+        })
+    }
+
+    /// Makes a step.
+    pub fn step(&mut self, step: Step) -> Result<Vec<Output>, OutOfMemory>
+        ensures config { self.new.config ≡ self.old.config }
+        ensures goes_on { GoesOn self.old.run self.new.run }
+        ensures one_keyspace { IsOneKeyspace self.new.run.entries }
+        ensures plays { IfOk result (λ outputs. Plays self.old.run step outputs.items self.new.run) }
+        ensures ok { OnOk result ((self.old.refused ≡ false) × (self.new.refused ≡ false)) }
+        ensures err { OnErr result (self.new.refused ≡ true) }
+        ensures refused { self.old.refused ≡ true → self.new ≡ self.old }
+    {
+        let outputs = self.play(&step);
+        self.is_of_one_keyspace();
+        outputs
+    }
+
+    /// Makes steps, one after another.
+    pub fn run(&mut self, steps: &[Step]) -> Result<Vec<Output>, OutOfMemory>
+        ensures config { self.new.config ≡ self.old.config }
+        ensures goes_on { GoesOn self.old.run self.new.run }
+        ensures one_keyspace { IsOneKeyspace self.new.run.entries }
+        ensures plays { IfOk result (λ outputs. PlaysAll self.old.run steps.now outputs.items self.new.run) }
+        ensures err { OnErr result (self.new.refused ≡ true) }
+        ensures refused { self.old.refused ≡ true → self.new ≡ self.old }
+    {
+        let outputs = self.play_all(steps);
+        self.is_of_one_keyspace();
+        outputs
+    }
+
+    fn play_all(&mut self, steps: &[Step]) -> Result<Vec<Output>, OutOfMemory>
+        ensures config { self.new.config ≡ self.old.config }
+        ensures goes_on { GoesOn self.old.run self.new.run }
+        ensures plays { IfOk result (λ outputs. PlaysAll self.old.run steps.now outputs.items self.new.run) }
+        ensures err { OnErr result (self.new.refused ≡ true) }
+        ensures refused { self.old.refused ≡ true → self.new ≡ self.old }
+    {
+        if self.is_refused {
+            return Err(OutOfMemory);
+        }
+        let mut outputs = Vec::new(self.alloc);
+        for step in steps {
+            let mut shown = self.play(step)?;
+            let Ok(()) = outputs.append(&mut shown) else {
+                return Err(self.refuse());
+            };
+        }
+        Ok(outputs)
+    }
+
+    fn play(&mut self, step: &Step) -> Result<Vec<Output>, OutOfMemory>
+        ensures config { self.new.config ≡ self.old.config }
+        ensures goes_on { GoesOn self.old.run self.new.run }
+        ensures plays { IfOk result (λ outputs. Plays self.old.run step.now outputs.items self.new.run) }
+        ensures ok { OnOk result ((self.old.refused ≡ false) × (self.new.refused ≡ false)) }
+        ensures err { OnErr result (self.new.refused ≡ true) }
+        ensures refused { self.old.refused ≡ true → self.new ≡ self.old }
+    {
+        if self.is_refused {
+            return Err(OutOfMemory);
+        }
+        match self.run.play(step) {
+            Ok(outputs) => Ok(outputs),
+            Err(_) => {
+                self.is_refused = true;
+                Err(OutOfMemory)
+            }
+        }
+    }
+
+    // From now on no step is made.
+    fn refuse(&mut self) -> OutOfMemory
+        ensures { self.new ≡ record self.old { refused = true } }
+    {
+        self.is_refused = true;
+        OutOfMemory
+    }
+
+    fn is_of_one_keyspace(&self)
+        ensures { IsOneKeyspace self.now.run.entries }
+    {
+        replies_are_those_of_one_keyspace();
+        let _run = &self.run;
+        let _nodes = self.config.nodes();
+    }
+}
