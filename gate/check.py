@@ -13,10 +13,13 @@ from gate import Gate
 from memory import Memory, sum_of_paths
 
 ROOT = os.path.dirname(os.path.dirname(os.path.abspath(__file__)))
+REFUSING = ("tests/each_allocation.sh", "tests/refuse.c")
 # The test scripts: the program that each runs, and what else it depends on.
 SCRIPTS = {
-    "tests/refused_memory": ("refused_memory", ("tests/refused_memory", "tests/refuse.c")),
+    "tests/refused_memory": ("refused_memory", ("tests/refused_memory", *REFUSING)),
+    "tests/refused_moves": ("node_cases", ("tests/refused_moves", *REFUSING)),
     "tests/on_a_socket/run": ("rcluster", ("tests/on_a_socket", "examples")),
+    "tests/simulated/run": ("rcluster", ("tests/simulated", "examples")),
 }
 
 

@@ -9,6 +9,7 @@ mod client_connections;
 mod clusters;
 mod conversation;
 mod events;
+mod moves;
 mod node;
 mod seats;
 mod streams;
@@ -38,6 +39,7 @@ impl Player for Topics {
             "cell" => cell::play(rt, script),
             "connections" => client_connections::play(alloc, script),
             "conversation" => conversation::play(*rt, script),
+            "moves" => moves::play(rt, script),
             "node" => node::play(rt, script),
             "seats" => seats::play(alloc, script),
             _ => bail!("no such topic"),

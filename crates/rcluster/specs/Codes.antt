@@ -1,9 +1,9 @@
 -- The codes of the faults that the program prints.
-use Rattle.std.specs.Prelude.{ℕ, List, codes}
+use Rattle.std.specs.Prelude.{ℕ, List, Option, Some, None, codes}
 use Rattle.cluster_config.specs.declared.fault.ConfigFault.{ConfigFault}
 use Rattle.cluster_config.specs.declared.fault.ConfigFault.TheVariants as config
 use Rattle.rcluster.specs.declared.fault.ProgramFault.{ProgramFault}
-use Rattle.rcluster.specs.declared.fault.ProgramFault.TheVariants.{UnreadableFile, AddressInUse, Memory, Thread, Output, Config}
+use Rattle.rcluster.specs.declared.fault.ProgramFault.TheVariants.{UnreadableFile, AddressInUse, Memory, Thread, Output, Config, Script}
 
 -- of a configuration
 abbrev pub config_code : ConfigFault → List ℕ
@@ -24,3 +24,14 @@ code_of Memory = codes "F3"
 code_of Thread = codes "F3"
 code_of Output = codes "F4"
 code_of (Config fault) = config_code fault
+code_of (Script line) = codes "S"
+
+-- what stands behind the code: the number of the line
+abbrev pub number_of : ProgramFault → Option ℕ
+number_of UnreadableFile = None
+number_of AddressInUse = None
+number_of Memory = None
+number_of Thread = None
+number_of Output = None
+number_of (Config fault) = None
+number_of (Script line) = Some line

@@ -21,6 +21,13 @@ pub enum Call<'a> {
         /// Whether each node keeps its journal in memory.
         keeps_journal: bool,
     },
+    /// To play a script in a cluster that a file describes.
+    Simulate {
+        /// The path of the cluster's file.
+        config: &'a str,
+        /// The path of the script.
+        script: &'a str,
+    },
 }
 
 /// Reads the words of a command line, the program's name first.
@@ -30,8 +37,15 @@ pub fn read_call<'a>(alloc: Global, words: &'a [String]) -> Result<Call<'a>, Err
         .version(VERSION)
         .subcommand_required(true)
         .arg_required_else_help(true)
-        .subcommand(serve_command(alloc)?)?;
+        .subcommand(serve_command(alloc)?)?
+        .subcommand(simulate_command(alloc)?)?;
     let matches = command.try_get_matches_from(words)?;
+    if let Some(simulate) = matches.subcommand_matches("simulate") {
+        return Ok(Call::Simulate {
+            config: simulate.get_str("config").unwrap_or(""),
+            script: simulate.get_str("script").unwrap_or(""),
+        });
+    }
     let serve = matches.subcommand_matches("serve");
     let config = serve
         .and_then(|serve| serve.get_str("config"))
@@ -45,13 +59,32 @@ pub fn read_call<'a>(alloc: Global, words: &'a [String]) -> Result<Call<'a>, Err
     })
 }
 
-fn serve_command<'a>(alloc: Global) -> Result<Command<'a>, Error> {
-    let config = Arg::new(alloc, "config")
+fn config_option<'a>(alloc: Global) -> Arg<'a> {
+    Arg::new(alloc, "config")
         .long("config")
         .value_name("FILE")
         .help("The cluster's configuration, a JSON file")
         .required(true)
+        .action(ArgAction::Set)
+}
+
+fn simulate_command<'a>(alloc: Global) -> Result<Command<'a>, Error> {
+    let script = Arg::new(alloc, "script")
+        .long("script")
+        .value_name("FILE")
+        .help("The script, one step a line: admin N WORDS, tick N, stop N or deliver M")
+        .required(true)
         .action(ArgAction::Set);
+    let simulate = Command::new(alloc, "simulate")
+        .about(
+            "Plays a script in a cluster without sockets, and prints what comes out of each step",
+        )
+        .arg(config_option(alloc))?
+        .arg(script)?;
+    Ok(simulate)
+}
+
+fn serve_command<'a>(alloc: Global) -> Result<Command<'a>, Error> {
     let ticks = Arg::new(alloc, "ticks")
         .long("ticks")
         .value_name("N")
@@ -66,7 +99,7 @@ fn serve_command<'a>(alloc: Global) -> Result<Command<'a>, Error> {
         .action(ArgAction::SetTrue);
     let serve = Command::new(alloc, "serve")
         .about("Serves all nodes of a cluster, each at its own address")
-        .arg(config)?
+        .arg(config_option(alloc))?
         .arg(ticks)?
         .arg(journal)?;
     Ok(serve)

@@ -1,6 +1,6 @@
 //! Why the program stops.
 ghost use Rattle.std.specs.Prelude.{◌≡◌};
-ghost use Rattle.rcluster.specs.Codes.{code_of, config_code};
+ghost use Rattle.rcluster.specs.Codes.{code_of, config_code, number_of};
 
 use cluster_config::ConfigFault;
 use std::fmt;
@@ -20,10 +20,12 @@ pub enum ProgramFault {
     Output,
     /// The file describes no cluster.
     Config(ConfigFault),
+    /// The line of the script is no step. Lines are counted from 1.
+    Script(u64),
 }
 
 impl ProgramFault {
-    /// The code that is printed.
+    /// The code that is printed. Behind the code of a script stands the number of the line.
     pub fn code(self) -> &'static str
         ensures { result.now ≡ code_of self }
     {
@@ -33,6 +35,26 @@ impl ProgramFault {
             ProgramFault::Memory | ProgramFault::Thread => "F3",
             ProgramFault::Output => "F4",
             ProgramFault::Config(fault) => config_code(fault),
+            ProgramFault::Script(_) => "S",
+        }
+    }
+
+    // The number that stands behind the code.
+    fn number(self) -> Option<u64>
+        ensures { result ≡ number_of self }
+    {
+        match self {
+            ProgramFault::Script(line) => Some(line),
+            _ => None,
+        }
+    }
+
+    /// Writes the code, with the number behind it if there is one.
+    pub fn write_code<W: fmt::Write>(self, f: &mut fmt::Formatter<W>) -> fmt::Result {
+        let code = self.code();
+        match self.number() {
+            Some(number) => write!(f, "{code}{number}"),
+            None => write!(f, "{code}"),
         }
     }
 
@@ -45,6 +67,7 @@ impl ProgramFault {
             ProgramFault::Thread => "a node's thread can't be started",
             ProgramFault::Output => "the output can't be written",
             ProgramFault::Config(_) => "the file describes no cluster",
+            ProgramFault::Script(_) => "a line of the script is no step",
         }
     }
 }
@@ -67,7 +90,7 @@ fn config_code(fault: ConfigFault) -> &'static str
 
 impl fmt::Display for ProgramFault {
     fn fmt<W: fmt::Write>(&self, f: &mut fmt::Formatter<W>) -> fmt::Result {
-        let code = self.code();
-        write!(f, "fault {code}")
+        write!(f, "fault ")?;
+        self.write_code(f)
     }
 }

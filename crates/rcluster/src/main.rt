@@ -4,13 +4,16 @@
 mod arguments;
 mod failure;
 mod fault;
+mod files;
 mod serving;
+mod simulating;
 
 use arguments::{Call, read_call};
 use failure::Failure;
 use fault::ProgramFault;
 use node_cell::{GhostJournal, Journal};
 use serving::serve;
+use simulating::simulate;
 use std::io;
 use std::process::ExitCode;
 
@@ -24,16 +27,15 @@ fn main(rt: HostRuntime) -> io::Result<ExitCode> {
             return Ok(ExitCode::from(error.exit_code() as u8));
         }
     };
-    let Call::Serve {
-        config,
-        ticks,
-        keeps_journal,
-    } = call;
-    // A journal is kept where it is asked for, or where somebody gathers it at the end.
-    let outcome = if keeps_journal || ticks.is_some() {
-        serve::<Journal, _>(rt, config, ticks)
-    } else {
-        serve::<GhostJournal, _>(rt, config, ticks)
+    let outcome = match call {
+        // A journal is kept where it is asked for, or where somebody gathers it at the end.
+        Call::Serve {
+            config,
+            ticks,
+            keeps_journal,
+        } if keeps_journal || ticks.is_some() => serve::<Journal, _>(rt, config, ticks),
+        Call::Serve { config, ticks, .. } => serve::<GhostJournal, _>(rt, config, ticks),
+        Call::Simulate { config, script } => simulate(&rt, config, script),
     };
     match outcome {
         Ok(()) => Ok(ExitCode::SUCCESS),

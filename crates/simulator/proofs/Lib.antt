@@ -1,0 +1,4 @@
+pub mod Reading
+pub mod Requests
+pub mod Splitting
+pub mod Steps

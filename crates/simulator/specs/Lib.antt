@@ -1,0 +1,6 @@
+pub mod Escaping
+pub mod Lines
+pub mod Printing
+pub mod Script
+pub mod Simulation
+pub mod Splitting

@@ -1,0 +1,29 @@
+-- What comes out of a world as a text, in the simulator's own format: a line an output.
+use Rattle.std.specs.Prelude.{◌++◌, ℕ, List, codes, decimal}
+use Rattle.std.specs.List.{flat_map}
+use Rattle.bus.specs.declared.message.Body.{Body}
+use Rattle.bus.specs.declared.message.Body.TheVariants.{Copy, Ack, Drained, Claim}
+use Rattle.resp2.specs.Reply.{reply_spelling}
+use Rattle.world.specs.declared.output.Output.{Output}
+use Rattle.world.specs.declared.output.Output.TheVariants.{Admin, Sent, Nothing}
+use Rattle.simulator.specs.Escaping.{escaped}
+
+-- ---- outputs
+
+-- what a message says, by its kind
+abbrev pub kind : Body → List ℕ
+kind (Copy slot number copy key value) = codes "Copy"
+kind (Ack slot number copy) = codes "Ack"
+kind (Drained slot number epoch) = codes "Drained"
+kind (Claim claim) = codes "Claim"
+
+-- `admin <node> <reply>`, `sent <message> <from> <to> <kind>` or `none`
+abbrev pub shown : Output → List ℕ
+shown (Admin node reply) = codes "admin " ++ decimal node ++ codes " " ++ flat_map escaped (reply_spelling reply)
+shown (Sent number message) =
+    codes "sent " ++ decimal number ++ codes " " ++ decimal message.from ++ codes " " ++ decimal message.to ++ codes " " ++ kind message.body
+shown Nothing = codes "none"
+
+-- its line
+abbrev pub printed : Output → List ℕ
+printed output = shown output ++ codes "\n"

@@ -1,0 +1,64 @@
+-- Scripts, in the simulator's own format: a step a line.
+use Rattle.std.specs.Prelude.{◌≡◌, ◌+◌, ◌++◌, ◌∷◌, ◌&&◌, ◌==◌, ℕ, nat_lt, nat_le, Bool, List, [], length, All, IsSome, Option, Some, None, option_map, option_and_then, codes, if◌then◌else◌}
+use Rattle.std.specs.List.{list_all}
+use Rattle.std.specs.Str.{bytes_eq}
+use Rattle.command.specs.Numbers.{count_of, positive_of}
+use Rattle.resp2.specs.Request.{request_spelling}
+use Rattle.resp2.specs.declared.words.TheConstants.{MOST_WORDS, MOST_WORD_BYTES, MOST_REQUEST_BYTES}
+use Rattle.world.specs.declared.step.Step.{Step}
+use Rattle.world.specs.declared.step.Step.TheVariants.{Admin, Tick, Stop, Deliver}
+use Rattle.simulator.specs.Lines.{is_plain, lines, words}
+
+-- ---- steps
+
+-- the words keep the limits of a request
+abbrev pub is_request : List (List ℕ) → Bool
+is_request request =
+    nat_lt 0 (length request) && nat_le (length request) MOST_WORDS
+    && list_all (λ word. nat_le (length word) MOST_WORD_BYTES) request
+    && nat_le (length (request_spelling request)) MOST_REQUEST_BYTES
+
+-- `admin <node> <request>`
+abbrev pub admin_of : List (List ℕ) → Option Step
+admin_of [] = None
+admin_of (node ∷ request) = if is_request request then option_map (λ number. Admin number request) (count_of node) else None
+
+-- the only word
+abbrev pub only : List (List ℕ) → Option (List ℕ)
+only [] = None
+only (word ∷ []) = Some word
+only (word ∷ next ∷ others) = None
+
+-- a node's number
+abbrev pub node_of : List (List ℕ) → Option ℕ
+node_of arguments = option_and_then count_of (only arguments)
+
+-- the number of a message
+abbrev pub message_of : List (List ℕ) → Option ℕ
+message_of arguments = option_and_then positive_of (only arguments)
+
+-- the first word names the kind of step: `admin`, `tick <node>`, `stop <node>`, `deliver <message>`
+abbrev pub step_of : List (List ℕ) → Option Step
+step_of [] = None
+step_of (name ∷ arguments) =
+    if bytes_eq name (codes "admin") then admin_of arguments
+    else (if bytes_eq name (codes "tick") then option_map Tick (node_of arguments)
+    else (if bytes_eq name (codes "stop") then option_map Stop (node_of arguments)
+    else (if bytes_eq name (codes "deliver") then option_map Deliver (message_of arguments)
+    else None)))
+
+-- the step that a line is
+abbrev pub step_in : List ℕ → Option Step
+step_in line = if list_all is_plain line then step_of (words line) else None
+
+-- ---- scripts
+
+-- the line of this number, from 1 on, is no step, and those before it are
+pub record IsFirstUnreadable (number : ℕ) (text : List ℕ) : Type 0 where
+  pub before : List (List ℕ)
+  pub line : List ℕ
+  pub behind : List (List ℕ)
+  pub among : lines text ≡ before ++ line ∷ behind
+  pub steps : All (λ other. IsSome (step_in other)) before
+  pub no_step : step_in line ≡ None
+  pub number_is : number ≡ length before + 1

@@ -1,0 +1,14 @@
+//! A cluster in one process that plays a script: a step a line, and what comes out of each, a line an output.
+#![tactic(auto)]
+
+mod escaping;
+mod fault;
+mod lines;
+mod printing;
+mod script;
+mod simulation;
+
+pub use fault::ScriptFault;
+pub use printing::print_outputs;
+pub use script::read_script;
+pub use simulation::simulate;

@@ -1,0 +1,98 @@
+//! What comes out of a world as a text, in the simulator's own format: a line an output.
+ghost use Rattle.std.specs.Prelude.{◌≡◌, ◌++◌, decimal, OnOk, codes};
+ghost use Rattle.std.specs.List.{flat_map};
+ghost use Rattle.resp2.specs.Reply.{reply_spelling};
+ghost use Rattle.simulator.specs.Escaping.{escaped};
+ghost use Rattle.simulator.specs.Printing.{kind, printed, shown};
+ghost use Rattle.world.specs.declared.output.Output.TheVariants as output;
+
+use crate::escaping::print_bytes;
+use bus::{Body, Message};
+use itoa::Buffer;
+use resp2::{Reply, append_reply};
+use std::alloc::AllocError;
+use world::Output;
+
+/// Puts the outputs behind the text, a line each: `admin NODE REPLY`, `sent MESSAGE FROM TO KIND` or `none`.
+///
+/// A reply is shown as its bytes on the connection: CR as `\r`, LF as `\n`, a backslash as `\\`, and other bytes outside of
+/// 32 to 126 as `\x` and two hexadecimal digits.
+pub fn print_outputs(outputs: &[Output], out: &mut Vec<u8>) -> Result<(), AllocError>
+    ensures { OnOk result (out.new.items ≡ out.old.items ++ flat_map printed outputs.now) }
+{
+    let mut spelling = Vec::new(*out.allocator());
+    for output in outputs {
+        print_output(output, &mut spelling, out)?;
+    }
+    Ok(())
+}
+
+// The output and the end of its line. A reply is spelled in the first list, whose room is used again.
+fn print_output(
+    output: &Output,
+    spelling: &mut Vec<u8>,
+    out: &mut Vec<u8>,
+) -> Result<(), AllocError>
+    ensures { OnOk result (out.new.items ≡ out.old.items ++ printed output.now) }
+{
+    match output {
+        Output::Admin { node, reply } => print_admin(*node, reply, spelling, out)?,
+        Output::Sent { number, message } => print_sent(*number, message, out)?,
+        Output::Nothing => out.extend_from_slice(b"none")?,
+    }
+    out.extend_from_slice(b"\n")
+}
+
+fn print_admin(
+    node: u64,
+    reply: &Reply,
+    spelling: &mut Vec<u8>,
+    out: &mut Vec<u8>,
+) -> Result<(), AllocError>
+    ensures { OnOk result (out.new.items ≡ out.old.items ++ shown (output.Admin node reply.now)) }
+{
+    out.extend_from_slice(b"admin ")?;
+    print_number(node, out)?;
+    out.extend_from_slice(b" ")?;
+    print_reply(reply, spelling, out)
+}
+
+fn print_sent(number: u64, message: &Message, out: &mut Vec<u8>) -> Result<(), AllocError>
+    ensures { OnOk result (out.new.items ≡ out.old.items ++ shown (output.Sent number message.now)) }
+{
+    out.extend_from_slice(b"sent ")?;
+    print_number(number, out)?;
+    out.extend_from_slice(b" ")?;
+    print_number(u64::from(message.from.get()), out)?;
+    out.extend_from_slice(b" ")?;
+    print_number(u64::from(message.to.get()), out)?;
+    out.extend_from_slice(b" ")?;
+    out.extend_from_slice(kind(&message.body))
+}
+
+fn print_number(number: u64, out: &mut Vec<u8>) -> Result<(), AllocError>
+    ensures { OnOk result (out.new.items ≡ out.old.items ++ decimal number) }
+{
+    out.extend_from_slice(Buffer::new().format(number).as_bytes())
+}
+
+// What a message says, by its kind.
+fn kind(body: &Body) -> &'static [u8]
+    ensures { result.now ≡ kind body.now }
+{
+    match body {
+        Body::Copy { .. } => b"Copy",
+        Body::Ack { .. } => b"Ack",
+        Body::Drained { .. } => b"Drained",
+        Body::Claim(_) => b"Claim",
+    }
+}
+
+// The reply's bytes, each as a line shows it.
+fn print_reply(reply: &Reply, spelling: &mut Vec<u8>, out: &mut Vec<u8>) -> Result<(), AllocError>
+    ensures { OnOk result (out.new.items ≡ out.old.items ++ flat_map escaped (reply_spelling reply.now)) }
+{
+    spelling.clear();
+    append_reply(reply, spelling)?;
+    print_bytes(spelling.as_slice(), out)
+}

@@ -1,0 +1,154 @@
+//! Scripts, in the simulator's own format: a step a line, `admin N WORD..`, `tick N`, `stop N` or `deliver M`.
+ghost use Rattle.std.specs.Prelude.{◌≡◌, ◌+◌, ◌++◌, ◌∷◌, [], ℕ, vec_len, map, option_map, Some, Err, IfOk};
+ghost use Rattle.std.specs.List.{list_all};
+ghost use Rattle.command.specs.Numbers.{count_of};
+ghost use Rattle.simulator.specs.Lines.{is_plain, lines, words};
+ghost use Rattle.simulator.specs.Script.{IsFirstUnreadable, admin_of, message_of, node_of, only, step_in, step_of};
+ghost use Rattle.simulator.specs.Splitting.{words_behind};
+ghost use Rattle.simulator.specs.declared.fault.ScriptFault.TheVariants.{Line};
+ghost use Rattle.world.specs.declared.step.Step.TheVariants as step;
+
+use crate::fault::ScriptFault;
+use crate::lines::{split_line, split_word};
+use byte_string::ByteString;
+use command::{Positive, number_in};
+use resp2::Words;
+use std::alloc::{AllocError, Global};
+use world::Step;
+
+/// Reads a script, a step a line.
+///
+/// Words are parted by one blank and have bytes from 33 to 126; only those of a request may be empty. Numbers are decimal
+/// texts without a plus and without a leading zero; that of a message is at least 1. A newline ends each line, and the last
+/// one may go without. The fault Line names the first line that is no step.
+pub fn read_script(alloc: Global, text: &[u8]) -> Result<Vec<Step>, ScriptFault>
+    ensures steps { IfOk result (λ steps. map Some steps.items ≡ map step_in (lines text.now)) }
+    ensures line { (number : ℕ) → result ≡ Err (Line number) → IsFirstUnreadable number text.now }
+{
+    let mut steps = Vec::new(alloc);
+    let mut rest = text;
+    while let Some((line, behind)) = split_line(rest) {
+        let Some(step) = step_in(alloc, line)? else {
+            return Err(ScriptFault::Line(steps.len() as u64 + 1));
+        };
+        add(&mut steps, step)?;
+        rest = behind;
+    }
+    Ok(steps)
+}
+
+// Adds a step behind the others.
+fn add(steps: &mut Vec<Step>, step: Step) -> Result<(), AllocError>
+    ensures items { IfOk result (λ _. steps.new.items ≡ steps.old.items ++ step ∷ []) }
+    ensures len { IfOk result (λ _. vec_len steps.new ≡ vec_len steps.old + 1) }
+{
+    Ok(steps.push(step)?)
+}
+
+// The step that the line is, or None.
+fn step_in(alloc: Global, line: &[u8]) -> Result<Option<Step>, AllocError>
+    ensures { IfOk result (λ step. step ≡ step_in line.now) }
+{
+    if !is_plain(line) {
+        return Ok(None);
+    }
+    let (name, Some(arguments)) = split_word(line) else {
+        return Ok(None);
+    };
+    step_of(alloc, name, arguments)
+}
+
+// Whether the line has blanks and bytes of words alone.
+fn is_plain(line: &[u8]) -> bool
+    ensures { result ≡ list_all is_plain line.now }
+{
+    line.iter().all(|byte| matches!(*byte, b' '..=b'~'))
+}
+
+// The step of that name with these arguments.
+fn step_of(alloc: Global, name: &[u8], arguments: &[u8]) -> Result<Option<Step>, AllocError>
+    ensures { IfOk result (λ step. step ≡ step_of (name.now ∷ words arguments.now)) }
+{
+    if name == b"admin".as_slice() {
+        return admin_of(alloc, arguments);
+    }
+    if name == b"tick".as_slice() {
+        return Ok(tick_of(arguments));
+    }
+    if name == b"stop".as_slice() {
+        return Ok(stop_of(arguments));
+    }
+    if name == b"deliver".as_slice() {
+        return Ok(delivery_of(arguments));
+    }
+    Ok(None)
+}
+
+fn admin_of(alloc: Global, arguments: &[u8]) -> Result<Option<Step>, AllocError>
+    ensures { IfOk result (λ step. step ≡ admin_of (words arguments.now)) }
+{
+    let (node, Some(request)) = split_word(arguments) else {
+        return Ok(None);
+    };
+    let Some(node) = count_in(node) else {
+        return Ok(None);
+    };
+    match Words::new(words_in(alloc, request)?) {
+        Some(words) => Ok(Some(Step::Admin { node, words })),
+        None => Ok(None),
+    }
+}
+
+// The words of a request.
+fn words_in(alloc: Global, request: &[u8]) -> Result<Vec<ByteString>, AllocError>
+    ensures { IfOk result (λ all. all.items ≡ words request.now) }
+{
+    let mut all = Vec::new(alloc);
+    let mut rest = Some(request);
+    while let Some(line) = rest {
+        let (word, behind) = split_word(line);
+        all.push(ByteString::copy_from_slice(alloc, word)?)?;
+        rest = behind;
+    }
+    Ok(all)
+}
+
+fn tick_of(arguments: &[u8]) -> Option<Step>
+    ensures { result ≡ option_map step.Tick (node_of (words arguments.now)) }
+{
+    let node = count_in(only_word(arguments)?)?;
+    Some(Step::Tick { node })
+}
+
+fn stop_of(arguments: &[u8]) -> Option<Step>
+    ensures { result ≡ option_map step.Stop (node_of (words arguments.now)) }
+{
+    let node = count_in(only_word(arguments)?)?;
+    Some(Step::Stop { node })
+}
+
+fn delivery_of(arguments: &[u8]) -> Option<Step>
+    ensures { result ≡ option_map step.Deliver (message_of (words arguments.now)) }
+{
+    let number = Positive::of(only_word(arguments)?)?;
+    Some(Step::Deliver {
+        message: number.get(),
+    })
+}
+
+// The word, where it is the only one.
+fn only_word(arguments: &[u8]) -> Option<&[u8]>
+    ensures { option_map (λ word. word.now) result ≡ only (words arguments.now) }
+{
+    match split_word(arguments) {
+        (word, None) => Some(word),
+        (_, Some(_)) => None,
+    }
+}
+
+// The number of at least 0 that the text is, or None.
+fn count_in(text: &[u8]) -> Option<u64>
+    ensures { result ≡ count_of text.now }
+{
+    u64::try_from(number_in(text)?).ok()
+}

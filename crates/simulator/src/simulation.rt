@@ -1,0 +1,19 @@
+//! A cluster that plays a script.
+ghost use Rattle.std.specs.Prelude.{IfOk};
+ghost use Rattle.simulator.specs.Simulation.{Simulates};
+
+use crate::printing::print_outputs;
+use cluster_config::Config;
+use std::alloc::Global;
+use world::{OutOfMemory, Step, World};
+
+/// Plays the steps in a cluster that begins, and prints what comes out of it.
+pub fn simulate(alloc: Global, config: &Config, steps: &[Step]) -> Result<Vec<u8>, OutOfMemory>
+    ensures { IfOk result (λ printed. Simulates config.now steps.now printed.items) }
+{
+    let mut world = World::new(alloc, config)?;
+    let outputs = world.run(steps)?;
+    let mut printed = Vec::new(alloc);
+    print_outputs(outputs.as_slice(), &mut printed)?;
+    Ok(printed)
+}
