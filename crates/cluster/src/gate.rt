@@ -2,13 +2,15 @@
 
 use node_cell::{Asks, Deployment, Entered, Log, NodeCell, NodeGate};
 use node_core::{Event, StepFault};
-use std::sync::{Mutex, Wait};
+use std::sync::{Mutex, MutexGuard, Wait};
 
 /// One conversation's way to a node of the cluster `K`, whose journal is an `L`. The handle `rt` is the leave to wait for the node's lock.
 #[derive(Drop)]
 pub struct Gate<'n, K: Deployment, L: Log, R: Wait> {
     rt: R,
     node: &'n Mutex<NodeCell<K, L>>,
+    // The node with its lock, from a step on until others are let in.
+    held: Option<MutexGuard<'n, NodeCell<K, L>>>,
     asks: Asks,
 }
 
@@ -18,6 +20,7 @@ impl<'n, K: Deployment, L: Log, R: Wait> Gate<'n, K, L, R> {
         Gate {
             rt,
             node,
+            held: None,
             asks: Asks::new(),
         }
     }
@@ -35,10 +38,16 @@ impl<'n, K: Deployment, L: Log, R: Wait> NodeGate for Gate<'n, K, L, R> {
     ghost may_refuse = { MayRefuse };
 
     fn step(&mut self, event: Event) -> Result<Entered<K>, StepFault> {
-        let mut cell = self.node.lock(&self.rt);
-        match self.asks.ask(&mut cell, event) {
-            Ok(entered) => Ok(entered),
-            Err(fault) => Err(fault),
-        }
+        let mut cell = match self.held.take() {
+            Some(cell) => cell,
+            None => self.node.lock(&self.rt),
+        };
+        let answer = self.asks.ask(&mut cell, event);
+        self.held = Some(cell);
+        answer
+    }
+
+    fn release(&mut self) {
+        self.held = None;
     }
 }

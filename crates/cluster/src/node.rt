@@ -174,5 +174,6 @@ pub(crate) fn pass_time<K: Deployment, L: Log + Drop, R: Wait + Copy + Drop>(
         }
         // A tick for which there is no memory is no step.
         let _refused = gate.step(Event::Tick);
+        gate.release();
     }
 }

@@ -31,12 +31,27 @@ pub fn put<W: Write>(reply: &Reply, batch: &mut Vec<u8>, writer: &mut Counting<W
     if fits_in(reply, batch) {
         return Ok(());
     }
+    send(reply, batch, writer)
+}
+
+/// Writes what waits, and the reply behind it.
+pub fn send<W: Write>(
+    reply: &Reply,
+    batch: &mut Vec<u8>,
+    writer: &mut Counting<W>,
+) -> io::Result<()>
+    ensures put { OnOk result (Puts (streams W.contents writer.old writer.new)
+        (change batch.old.items batch.new.items) (reply_spelling reply.now)) }
+    ensures kept { OnOk result (failures_of writer.new ≡ failures_of writer.old) }
+    ensures err { OnErr result (Fails (streams W.contents writer.old writer.new)
+        (batch.old.items ++ reply_spelling reply.now)) }
+{
     flush(batch, writer)?;
     send_reply(reply, writer)
 }
 
-// Appends a short reply to a batch that isn't full, where memory allows.
-fn fits_in(reply: &Reply, batch: &mut Vec<u8>) -> bool
+/// Appends a short reply to a batch that isn't full, where memory allows, and says whether it did.
+pub fn fits_in(reply: &Reply, batch: &mut Vec<u8>) -> bool
     ensures { MatchBool result (batch.new.items ≡ batch.old.items ++ reply_spelling reply.now)
         (batch.new.items ≡ batch.old.items) }
 {

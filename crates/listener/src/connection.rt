@@ -6,7 +6,7 @@ ghost use Rattle.listener.specs.Streams.{IsAllowed, change, streams};
 
 use crate::batch::{flush, say};
 use crate::fault::ConnFault;
-use crate::requests::{Rest, ask, converse};
+use crate::requests::{Rest, ask_alone, converse};
 use command::ErrorLine;
 use node_cell::{Answered, NodeGate};
 use node_core::{Conn, Event, Response};
@@ -79,7 +79,7 @@ fn open<G: NodeGate>(gate: &mut G) -> Result<Conn, ConnFault>
     ensures ok { IfOk result (λ conn. Opens (IsAllowed G.may G.may_refuse) (change (G.asked gate.old) (G.asked gate.new)) conn) }
     ensures err { IfErr result (λ fault. Refuses (IsAllowed G.may G.may_refuse) (change (G.asked gate.old) (G.asked gate.new)) fault) }
 {
-    let step = ask(gate, Event::Open)?;
+    let step = ask_alone(gate, Event::Open)?;
     let Response::Opened(conn) = step.outputs().response else {
         return Err(ConnFault::Unanswered);
     };
@@ -90,7 +90,7 @@ fn open<G: NodeGate>(gate: &mut G) -> Result<Conn, ConnFault>
 fn close<G: NodeGate>(gate: &mut G, conn: Conn)
     ensures { Closes (IsAllowed G.may G.may_refuse) (change (G.asked gate.old) (G.asked gate.new)) conn }
 {
-    let _step = ask(gate, Event::Close(conn));
+    let _step = ask_alone(gate, Event::Close(conn));
 }
 
 // Writes what waits, and the line that tells the client why the conversation ended.

@@ -1,16 +1,19 @@
 //! Requests on a connection: read, asked, answered.
 ghost use Rattle.std.specs.Prelude.{◌≡◌, ◌≢◌, ◌<◌, ◌++◌, ◌∷◌, [], List, ℕ, length, Ok, None, IfOk, IfErr, OnOk, OnErr};
+ghost use Rattle.resp2.specs.Counting.{failures_of};
+ghost use Rattle.resp2.specs.Reply.{reply_spelling};
 ghost use Rattle.resp2.specs.Request.{IsRequest, request_spelling};
 ghost use Rattle.node_cell.specs.Asks.{outcome_of};
 ghost use Rattle.listener.specs.Conversation.{IsRest};
-ghost use Rattle.listener.specs.Progress.{Answers, Halts, IsOfAnswering, Stops, desk};
-ghost use Rattle.listener.specs.Streams.{Adds, IsAllowed, asking, change, stream_of, streams};
+ghost use Rattle.listener.specs.Progress.{Answers, Halts, IsOfAnswering, Puts, Stops, desk};
+ghost use Rattle.listener.specs.Streams.{Adds, Fails, IsAllowed, Sends, asking, change, stream_of, streams};
 
-use crate::batch::{flush, put};
+use crate::batch::{fits_in, flush, send};
 use crate::fault::ConnFault;
 use node_cell::{Answered, NodeGate};
 use node_core::{Conn, Event, Response, StepFault};
-use resp2::{Counting, Fault, Reader, Words};
+use resp2::{Counting, Fault, Reader, Reply, Words};
+use std::io;
 use std::io::{Read, Write};
 
 /// What is left of the input behind the last whole request.
@@ -57,7 +60,7 @@ pub fn converse<R: Read, W: Write, G: NodeGate>(
             Rest::Unfinished => {}
             Rest::BadByte => return Ok(Rest::BadByte),
         }
-        let Ok(()) = flush(batch, writer) else {
+        let Ok(()) = write_out(gate, batch, writer) else {
             return Err(ConnFault::Writer);
         };
     }
@@ -116,14 +119,61 @@ fn answer<W: Write, G: NodeGate>(
     let Response::Replied(answer) = &step.outputs().response else {
         return Err(ConnFault::Unanswered);
     };
-    let Ok(()) = put(&answer.reply, batch, writer) else {
+    let Ok(()) = hand_over(gate, &answer.reply, batch, writer) else {
         return Err(ConnFault::Writer);
     };
     Ok(())
 }
 
-/// Asks the node once.
-pub fn ask<G: NodeGate>(gate: &mut G, event: Event) -> Result<G::Answer, StepFault>
+// Puts a reply behind those that wait. Where they are to be written, others may ask the node meanwhile: the client may be
+// slow to read.
+fn hand_over<W: Write, G: NodeGate>(
+    gate: &mut G,
+    reply: &Reply,
+    batch: &mut Vec<u8>,
+    writer: &mut Counting<W>,
+) -> io::Result<()>
+    ensures asked { G.asked gate.new ≡ G.asked gate.old }
+    ensures put { OnOk result (Puts (streams W.contents writer.old writer.new)
+        (change batch.old.items batch.new.items) (reply_spelling reply.now)) }
+    ensures kept { OnOk result (failures_of writer.new ≡ failures_of writer.old) }
+    ensures err { OnErr result (Fails (streams W.contents writer.old writer.new)
+        (batch.old.items ++ reply_spelling reply.now)) }
+{
+    if fits_in(reply, batch) {
+        return Ok(());
+    }
+    gate.release();
+    send(reply, batch, writer)
+}
+
+// Writes what waits, while others may ask the node.
+fn write_out<W: Write, G: NodeGate>(
+    gate: &mut G,
+    batch: &mut Vec<u8>,
+    writer: &mut Counting<W>,
+) -> io::Result<()>
+    ensures asked { G.asked gate.new ≡ G.asked gate.old }
+    ensures ok { OnOk result (Sends (streams W.contents writer.old writer.new) batch.old.items) }
+    ensures empty { OnOk result (batch.new.items ≡ []) }
+    ensures err { OnErr result (Fails (streams W.contents writer.old writer.new) batch.old.items) }
+{
+    gate.release();
+    flush(batch, writer)
+}
+
+/// Asks the node once, and lets others ask it.
+pub fn ask_alone<G: NodeGate>(gate: &mut G, event: Event) -> Result<G::Answer, StepFault>
+    ensures { Adds (IsAllowed G.may G.may_refuse) (change (G.asked gate.old) (G.asked gate.new))
+        (asking event (outcome_of G.Answer.gave result) ∷ []) }
+{
+    let answer = ask(gate, event);
+    gate.release();
+    answer
+}
+
+// Asks the node once. Others wait until they are let in.
+fn ask<G: NodeGate>(gate: &mut G, event: Event) -> Result<G::Answer, StepFault>
     ensures { Adds (IsAllowed G.may G.may_refuse) (change (G.asked gate.old) (G.asked gate.new))
         (asking event (outcome_of G.Answer.gave result) ∷ []) }
 {

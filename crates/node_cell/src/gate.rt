@@ -46,6 +46,10 @@ pub trait NodeGate {
         ensures event { IfOk result (λ answer. Self.Answer.event answer ≡ event) }
         ensures may { IfOk result (λ answer. may event (Self.Answer.gave answer)) }
         ensures refused { IfErr result (λ fault. may_refuse event fault) };
+
+    /// Lets others ask the node. A step may keep them waiting until then, so it is called before anything is waited for.
+    fn release(&mut self)
+        ensures { asked self.new ≡ asked self.old };
 }
 
 impl<K: Deployment> Answered for Entered<K> {

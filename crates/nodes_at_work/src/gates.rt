@@ -80,6 +80,10 @@ impl<'n, G: NodeGate, T, R: Wait> NodeGate for HoldingGate<'n, G, T, R> {
         }
         self.gate.step(event)
     }
+
+    fn release(&mut self) {
+        self.gate.release();
+    }
 }
 
 /// A gate that asks once the other node's request is held up, and tells when it was answered.
@@ -111,6 +115,10 @@ impl<'n, G: NodeGate> NodeGate for TellingGate<'n, G> {
         }
         step
     }
+
+    fn release(&mut self) {
+        self.gate.release();
+    }
 }
 
 /// A gate of a cluster with one lock round all nodes.
@@ -136,5 +144,9 @@ impl<'n, G: NodeGate, R: Wait> NodeGate for OneLockGate<'n, G, R> {
     fn step(&mut self, event: Event) -> Result<G::Answer, StepFault> {
         let _all = self.lock.lock(&self.rt);
         self.gate.step(event)
+    }
+
+    fn release(&mut self) {
+        self.gate.release();
     }
 }

@@ -85,31 +85,24 @@ fn hold_up<K: Deployment, R: Wait + Copy + Drop>(
     let gate = Gate::new(rt, node);
     match locks {
         Locks::Own => {
-            let lock = node;
-            converse(
-                alloc,
-                HoldingGate {
-                    rt,
-                    gate,
-                    lock,
-                    signals,
-                },
-                SET_C,
-            );
+            let mut gate = HoldingGate {
+                rt,
+                gate,
+                lock: node,
+                signals,
+            };
+            converse(alloc, &mut gate, SET_C);
         }
         Locks::One => {
             let lock = all;
             let gate = OneLockGate { rt, gate, lock };
-            converse(
-                alloc,
-                HoldingGate {
-                    rt,
-                    gate,
-                    lock,
-                    signals,
-                },
-                SET_C,
-            );
+            let mut gate = HoldingGate {
+                rt,
+                gate,
+                lock,
+                signals,
+            };
+            converse(alloc, &mut gate, SET_C);
         }
     }
 }
@@ -125,21 +118,25 @@ fn ask<K: Deployment, R: Wait + Copy + Drop>(
 ) {
     let gate = Gate::new(rt, node);
     match locks {
-        Locks::Own => converse(alloc, TellingGate { gate, signals }, SET_X),
+        Locks::Own => {
+            let mut gate = TellingGate { gate, signals };
+            converse(alloc, &mut gate, SET_X);
+        }
         Locks::One => {
             let gate = OneLockGate {
                 rt,
                 gate,
                 lock: all,
             };
-            converse(alloc, TellingGate { gate, signals }, SET_X);
+            let mut gate = TellingGate { gate, signals };
+            converse(alloc, &mut gate, SET_X);
         }
     }
 }
 
 // Serves a client that sends this request.
-fn converse<G: NodeGate + Drop>(alloc: Global, mut gate: G, request: &[u8]) {
+fn converse<G: NodeGate>(alloc: Global, gate: &mut G, request: &[u8]) {
     let mut reader = Counting::new(request);
     let mut writer = Counting::new(Vec::new(alloc));
-    let _ended = serve_conn(alloc, &mut gate, &mut reader, &mut writer);
+    let _ended = serve_conn(alloc, gate, &mut reader, &mut writer);
 }

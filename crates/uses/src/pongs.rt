@@ -81,6 +81,8 @@ impl NodeGate for PongGate {
         });
         Ok(PongStep { event, outputs })
     }
+
+    fn release(&mut self) {}
 }
 
 fn outputs_for(event: &Event) -> Outputs

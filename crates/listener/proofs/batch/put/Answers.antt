@@ -1,18 +1,7 @@
-use Rattle.std.proofs.lemmas.Result.{err_from_is_err_and, on_ok_weaker}
-use Rattle.listener.proofs.BatchLemmas.{fails_before, fails_behind, on_err_both, puts_out}
 use Rattle.listener.proofs.batch.put.Goals as goal
 
-pub returns-in_err-flush-clause-err : goal.returns-in_err-flush-clause-err
-returns-in_err-flush-clause-err g c =
-    let p = err_from_is_err_and c.from_residual.result c.from_residual.ensures.1 in
-    rw (p.1, ← c.if-fits_in.ensures) (fails_before _ _ _ _ c.in_err-flush.ensures.err)
-
 pub returns-clause-put : goal.returns-clause-put
-returns-clause-put g c =
-    rw (← c.if-fits_in.ensures)
-    (on_ok_weaker c.send_reply.result (puts_out _ _ _ _ _ _ c.in_ok-flush.ensures.ok c.in_ok-flush.ensures.empty) c.send_reply.ensures.written)
+returns-clause-put g c = rw (← c.if-fits_in.ensures) c.send.ensures.put
 
 pub returns-clause-err : goal.returns-clause-err
-returns-clause-err g c =
-    rw (← c.if-fits_in.ensures)
-    (on_err_both c.send_reply.result (fails_behind _ _ _ _ _ c.in_ok-flush.ensures.ok) c.send_reply.ensures.begun c.send_reply.ensures.err)
+returns-clause-err g c = rw (← c.if-fits_in.ensures) c.send.ensures.err

@@ -7,7 +7,7 @@ pub returns-in_err-step-clause-err : goal.returns-in_err-step-clause-err
 returns-in_err-step-clause-err g c =
     let p = err_from_is_err_and c.from_residual.result c.from_residual.ensures.1 in
     rw (p.1, p.2)
-    (record { asks = _; history = rw c.in_err-step.was at c.ask.ensures; why = was_refused c.in_err-step.field-0.0 refl refl })
+    (record { asks = _; history = rw c.in_err-step.was at c.ask_alone.ensures; why = was_refused c.in_err-step.field-0.0 refl refl })
 
 pub returns-in_default : goal.returns-in_default
 returns-in_default g c =
@@ -15,7 +15,7 @@ returns-in_default g c =
       ok = tt;
       err = record {
         asks = _;
-        history = rw c.in_ok-step.was at c.ask.ensures;
+        history = rw c.in_ok-step.was at c.ask_alone.ensures;
         why = gave_none _ refl (rw c.outputs.ensures at c.in_default.not-Opened) refl;
       };
     }

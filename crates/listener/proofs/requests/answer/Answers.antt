@@ -24,12 +24,14 @@ returns-in_default g c =
       fault = tt;
     }
 
-pub returns-in_default-put-clause-halts : goal.returns-in_default-put-clause-halts
-returns-in_default-put-clause-halts g c behind =
-    halts_within _ _ c.args.words _ c.in-Replied.answer _ _ behind c.requires (ap (λ (o : Outputs). o.response) (sym c.outputs.ensures) ∙ c.in-Replied.is) refl
-    (rw c.in_ok-step.was at c.ask.ensures) c.in_default-put.ensures.err
+pub returns-in_default-hand_over-clause-halts : goal.returns-in_default-hand_over-clause-halts
+returns-in_default-hand_over-clause-halts g c behind =
+    rw c.in_default-hand_over.ensures.asked
+    (halts_within _ _ c.args.words _ c.in-Replied.answer _ _ behind c.requires (ap (λ (o : Outputs). o.response) (sym c.outputs.ensures) ∙ c.in-Replied.is) refl
+    (rw c.in_ok-step.was at c.ask.ensures) c.in_default-hand_over.ensures.err)
 
 pub returns-clause-answered : goal.returns-clause-answered
 returns-clause-answered g c behind =
-    answers_one _ _ c.args.words _ c.in-Replied.answer _ _ c.requires (ap (λ (o : Outputs). o.response) (sym c.outputs.ensures) ∙ c.in-Replied.is) refl
-    (rw c.in_ok-step.was at c.ask.ensures) c.in-Ok.ensures.put c.in-Ok.ensures.kept
+    rw c.in-Ok.ensures.asked
+    (answers_one _ _ c.args.words _ c.in-Replied.answer _ _ c.requires (ap (λ (o : Outputs). o.response) (sym c.outputs.ensures) ∙ c.in-Replied.is) refl
+    (rw c.in_ok-step.was at c.ask.ensures) c.in-Ok.ensures.put c.in-Ok.ensures.kept)

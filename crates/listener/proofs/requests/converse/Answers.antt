@@ -64,13 +64,14 @@ returns-in-BadByte-clause-stops g c =
     (halts_here _ _ _ _ _ _ c.in_ok-answer_all.ensures.answered (λ e. cc) (refl, rw c.in-BadByte.is at c.in_ok-answer_all.ensures.rest))
     (c.in-Ok.ensures.ok ∙ so_far.reader)
 
-pub returns-in_default-flush-clause-stops : goal.returns-in_default-flush-clause-stops
-returns-in_default-flush-clause-stops g c =
+pub returns-in_default-write_out-clause-stops : goal.returns-in_default-write_out-clause-stops
+returns-in_default-write_out-clause-stops g c =
     let so_far = c.reads.invariant in
-    stops_fed _ _ _ _ _ _ _ _ _ _ _ _ so_far.read c.in-Ok.ensures.bytes.0 so_far.answers
+    rw c.in_default-write_out.ensures.asked
+    (stops_fed _ _ _ _ _ _ _ _ _ _ _ _ so_far.read c.in-Ok.ensures.bytes.0 so_far.answers
     (ap (λ (state : ReaderState). state.pending) c.in-Ok-feed.ensures.fed)
-    (halts_again _ _ _ _ _ _ c.in_ok-answer_all.ensures.answered (halts_unsent _ _ _ _ _ _ c.in_default-flush.ensures.err))
-    (c.in-Ok.ensures.ok ∙ so_far.reader)
+    (halts_again _ _ _ _ _ _ c.in_ok-answer_all.ensures.answered (halts_unsent _ _ _ _ _ _ c.in_default-write_out.ensures.err))
+    (c.in-Ok.ensures.ok ∙ so_far.reader))
 
 pub reads-preserved : goal.reads-preserved
 reads-preserved g c =
@@ -81,10 +82,10 @@ reads-preserved g c =
       came = _;
       read = Consumes-trans _ _ _ _ _ so_far.read c.in-Ok.ensures.bytes.0;
       long = more_came _ _ _ so_far.long (subst (λ n. 0 < n) c.in-Ok.ensures.bound.1 (omega arith));
-      answers = answers_flush _ _ _ _ _ _ answered c.in-Ok-flush.ensures.ok c.in-Ok-flush.ensures.empty;
+      answers = rw c.in-Ok-write_out.ensures.asked (answers_flush _ _ _ _ _ _ answered c.in-Ok-write_out.ensures.ok c.in-Ok-write_out.ensures.empty);
       unfinished = rw c.in-Unfinished.is at c.in_ok-answer_all.ensures.rest;
       good = c.in_ok-answer_all.ensures.good c.in-Unfinished.is;
-      empty = c.in-Ok-flush.ensures.empty;
+      empty = c.in-Ok-write_out.ensures.empty;
       reader = c.in-Ok.ensures.ok ∙ so_far.reader;
     }
 

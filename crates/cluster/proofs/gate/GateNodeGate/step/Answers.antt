@@ -1,5 +1,8 @@
-use Rattle.cluster.proofs.GateLemmas.{may_answer}
+use Rattle.cluster.proofs.GateLemmas.{may_answer_if_made, may_refuse_if_refused}
 use Rattle.cluster.proofs.gate.GateNodeGate.step.Goals as goal
 
-pub returns-in-Ok-clause-may : goal.returns-in-Ok-clause-may
-returns-in-Ok-clause-may g c = may_answer _ _ _ _ _ c.in-Ok.ensures.cluster c.in-Ok.ensures.history c.in-Ok.ensures.ok
+pub returns-clause-may : goal.returns-clause-may
+returns-clause-may g c = may_answer_if_made _ _ _ _ c.ask-answer.result c.ask-answer.ensures.cluster c.ask-answer.ensures.history c.ask-answer.ensures.ok
+
+pub returns-clause-refused : goal.returns-clause-refused
+returns-clause-refused g c = may_refuse_if_refused _ _ _ c.ask-answer.result c.ask-answer.ensures.err
