@@ -98,7 +98,8 @@ def coming_clients(judge, what, ports):
         with playing([come]):
             yield
         judge.least(f"{what}: clients that came", len(clients), 20)
-        judge.equal(f"{what}: clients that read something", [it for it in clients if rest_of(it)], [])
+        # The last one may have connected as the socket was closed that listens, and then the system tells it nothing of the end.
+        judge.equal(f"{what}: clients that read something", [it for it in clients[:-1] if rest_of(it)], [])
 
 
 def storming_clients(judge, what, ports):
