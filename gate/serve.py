@@ -58,7 +58,7 @@ def build(kit):
     left = [it.name for it in needed if not memory.is_known(it)]
     if left:
         print(f"{len(left)} of {len(needed)} crates are not proved yet on this machine: {', '.join(left)}.")
-        print("From nothing that takes about 8 minutes on 4 cores; the next start takes a second.", flush=True)
+        print("From nothing that takes half an hour or more on 4 cores; the next start takes a second.", flush=True)
     begun = time.monotonic()
     if not Gate(kit, memory, needed, False).prove_all():
         print("The program is not proved, so it isn't started.", file=sys.stderr)
