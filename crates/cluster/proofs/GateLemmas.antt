@@ -1,12 +1,15 @@
 -- What a gate answers.
-use Rattle.std.proofs.Common.{◌≡◌, IfErr, IfOk, subst}
-use Rattle.std.specs.Prelude.{Result, Ok, Err}
+use Rattle.std.proofs.Common.{◌≡◌, ℕ, List, IfErr, IfOk, Option, Some, None, subst}
+use Rattle.std.specs.Prelude.{IfSome, Result, Ok, Err}
 use Rattle.cluster_config.specs.Config.{ClusterConfig}
-use Rattle.node_step.specs.State.{first_state}
+use Rattle.connections.specs.declared.conn.Conn.{Conn}
+use Rattle.node_step.specs.State.{NodeState, first_state}
 use Rattle.node_step.specs.declared.event.Event.{Event}
-use Rattle.node_cell.specs.Journal.{CellView, EnteredView, Enters, IsHistory, IsRefused}
+use Rattle.node_cell.specs.Journal.{CellView, EnteredView, Enters, IsGiven, IsHistory, IsRefused}
+use Rattle.node_cell.specs.declared.entry.Entry.{Entry}
 use Rattle.node_core.specs.declared.fault.StepFault.{StepFault}
-use Rattle.cluster.specs.Answers.{MayAnswer, MayRefuse}
+use Rattle.resp2.specs.declared.reply.Reply.{Reply}
+use Rattle.cluster.specs.Answers.{MayAnswer, MayGive, MayRefuse}
 
 -- a step that a cell of the cluster entered is one that a node of it may answer
 pub may_answer : (config : ClusterConfig) (old new : CellView) (event : Event) (entered : EnteredView) → old.config ≡ config
@@ -33,3 +36,17 @@ pub may_refuse_if_refused : (old new : CellView) (event : Event) (result : Resul
     → IfErr result (λ fault. MayRefuse event fault)
 may_refuse_if_refused old new event (Ok entered) refused = tt
 may_refuse_if_refused old new event (Err fault) refused = record { old = old; new = new; refused = refused }
+
+-- a reply that a cell of the cluster kept is one that a node of it may give
+pub may_give_if_kept : (config own : ClusterConfig) (node : ℕ) (journal : List Entry) (state : NodeState) (conn : Conn) (result : Option Reply) → own ≡ config
+    → IsHistory (first_state own node) journal state → IfSome result (λ reply. IsGiven journal (record { conn = conn; reply = reply }))
+    → IfSome result (λ reply. MayGive config conn reply)
+may_give_if_kept config own node journal state conn None same history given = tt
+may_give_if_kept config own node journal state conn (Some reply) same history given =
+    record {
+      number = node;
+      journal = journal;
+      state = state;
+      history = subst (λ c. IsHistory (first_state c node) journal state) same history;
+      given = given;
+    }

@@ -1,14 +1,18 @@
 //! A conversation's way to a node: a cell behind a lock.
+ghost use Rattle.std.specs.Prelude.{IfSome};
+ghost use Rattle.cluster.specs.Answers.{MayGive};
 
+use crate::shared::SharedNode;
 use node_cell::{Asks, Deployment, Entered, Log, NodeCell, NodeGate};
-use node_core::{Event, StepFault};
-use std::sync::{Mutex, MutexGuard, Wait};
+use node_core::{Conn, Event, StepFault};
+use resp2::Reply;
+use std::sync::{MutexGuard, Wait};
 
 /// One conversation's way to a node of the cluster `K`, whose journal is an `L`. The handle `rt` is the leave to wait for the node's lock.
 #[derive(Drop)]
 pub struct Gate<'n, K: Deployment, L: Log, R: Wait> {
     rt: R,
-    node: &'n Mutex<NodeCell<K, L>>,
+    node: &'n SharedNode<K, L>,
     // The node with its lock, from a step on until others are let in.
     held: Option<MutexGuard<'n, NodeCell<K, L>>>,
     asks: Asks,
@@ -16,7 +20,7 @@ pub struct Gate<'n, K: Deployment, L: Log, R: Wait> {
 
 impl<'n, K: Deployment, L: Log, R: Wait> Gate<'n, K, L, R> {
     /// A way through which nothing was asked yet.
-    pub fn new(rt: R, node: &'n Mutex<NodeCell<K, L>>) -> Gate<'n, K, L, R> {
+    pub fn new(rt: R, node: &'n SharedNode<K, L>) -> Gate<'n, K, L, R> {
         Gate {
             rt,
             node,
@@ -29,7 +33,7 @@ impl<'n, K: Deployment, L: Log, R: Wait> Gate<'n, K, L, R> {
 impl<'n, K: Deployment, L: Log, R: Wait> NodeGate for Gate<'n, K, L, R> {
     type Answer = Entered<K>;
 
-    ghost use Rattle.cluster.specs.Answers.{MayAnswer, MayRefuse};
+    ghost use Rattle.cluster.specs.Answers.{MayAnswer, MayGive, MayRefuse};
 
     ghost asked = { λ gate. gate.asks };
 
@@ -37,17 +41,49 @@ impl<'n, K: Deployment, L: Log, R: Wait> NodeGate for Gate<'n, K, L, R> {
 
     ghost may_refuse = { MayRefuse };
 
+    ghost may_give = { MayGive K.config };
+
     fn step(&mut self, event: Event) -> Result<Entered<K>, StepFault> {
         let mut cell = match self.held.take() {
             Some(cell) => cell,
             None => self.node.lock(&self.rt),
         };
         let answer = self.asks.ask(&mut cell, event);
+        self.node.ring(&cell);
         self.held = Some(cell);
         answer
+    }
+
+    fn wait(&mut self, conn: Conn) -> Option<Reply> {
+        let cell = match self.held.take() {
+            Some(cell) => cell,
+            None => self.node.lock(&self.rt),
+        };
+        let reply = wait_at(&self.rt, self.node, cell, conn);
+        self.asks.note_wait(conn, &reply);
+        reply
     }
 
     fn release(&mut self) {
         self.held = None;
     }
+}
+
+// Waits at the node until it keeps a reply for the connection, or none will come any more.
+fn wait_at<'n, K: Deployment, L: Log, R: Wait>(
+    rt: &R,
+    node: &SharedNode<K, L>,
+    mut cell: MutexGuard<'n, NodeCell<K, L>>,
+    conn: Conn,
+) -> Option<Reply>
+    ensures { IfSome result (λ reply. MayGive K.config conn reply) }
+{
+    for _ in rt.forever() {
+        let reply = cell.take_reply(conn);
+        if reply.is_some() || node.is_closed() {
+            return reply;
+        }
+        cell = node.wait_for_replies(rt, cell);
+    }
+    None
 }

@@ -4,8 +4,10 @@ ghost use Rattle.tickets.specs.Tickets.{IsFresh};
 
 use crate::clients::{Clients, Refused};
 use crate::gate::Gate;
+use crate::shared::SharedNode;
 use crate::stop::Stop;
 use cluster_config::Config;
+use links::Inbox;
 use listener::serve_conn;
 use node_cell::{Deployment, Log, NodeCell, NodeGate};
 use node_core::Event;
@@ -13,7 +15,7 @@ use resp2::Counting;
 use slot_table::NodeNo;
 use std::alloc::{AllocError, Global};
 use std::net::{Net, TcpListener, TcpStream};
-use std::sync::{Arc, Mutex, Wait};
+use std::sync::{Arc, Wait};
 use std::thread;
 use std::thread::Threads;
 use std::time::Duration;
@@ -26,10 +28,11 @@ const PAUSE: u64 = 10;
 // not made at all, and that thread needs no waking.
 const WAKING: u64 = 100;
 
-/// A node of the cluster `K`, whose journal is an `L`, and where its clients connect.
+/// A node of the cluster `K`, whose journal is an `L`, where its clients connect, and where messages reach it.
 #[derive(Drop)]
 pub(crate) struct Node<K: Deployment, L: Log> {
-    cell: Mutex<NodeCell<K, L>>,
+    pub(crate) shared: SharedNode<K, L>,
+    pub(crate) inbox: Inbox,
     listener: TcpListener,
 }
 
@@ -48,13 +51,17 @@ impl<K: Deployment, L: Log> Node<K, L> {
         requires seat { IsFresh K.table K.seats seat }
     {
         let cell = NodeCell::<K, L>::new(alloc, config, number, seat)?;
-        let cell = Mutex::new(cell);
-        Ok(Node { cell, listener })
+        let inbox = Inbox::new(alloc, config.nodes().len())?;
+        Ok(Node {
+            shared: SharedNode::new(cell),
+            inbox,
+            listener,
+        })
     }
 
     /// The cell, once nobody serves the node.
     pub(crate) fn into_cell(self) -> NodeCell<K, L> {
-        self.cell.into_inner()
+        self.shared.into_cell()
     }
 
     /// Wakes the thread that accepts clients.
@@ -152,7 +159,7 @@ fn serve_client<K: Deployment, L: Log + Drop, R: Wait + Drop>(
 ) {
     // A reply is one write, so nothing is gained by waiting for more.
     let _nodelay = stream.set_nodelay(true);
-    let mut gate = Gate::new(rt, &node.cell);
+    let mut gate = Gate::new(rt, &node.shared);
     let mut reader = Counting::new(stream);
     let mut writer = Counting::new(stream);
     let _ended = serve_conn(alloc, &mut gate, &mut reader, &mut writer);
@@ -166,7 +173,7 @@ pub(crate) fn pass_time<K: Deployment, L: Log + Drop, R: Wait + Copy + Drop>(
     interval: Duration,
     most: u64,
 ) {
-    let mut gate = Gate::new(rt, &node.cell);
+    let mut gate = Gate::new(rt, &node.shared);
     for _ in 0..most {
         stop.sleep(&rt, interval);
         if stop.has_ended() {

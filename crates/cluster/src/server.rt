@@ -3,6 +3,7 @@ ghost use Rattle.std.specs.Prelude.{◌≡◌, All, IfOk, length, vec_len};
 ghost use Rattle.tickets.specs.Tickets.{IsFresh};
 
 use crate::clients::Clients;
+use crate::mail::Carrier;
 use crate::node::{Node, accept_clients, pass_time};
 use crate::stop::Stop;
 use cluster_config::Config;
@@ -45,7 +46,8 @@ pub struct Place {
 /// Serves the nodes of the cluster at their places, each with an `L` as its journal, until the first of them has made
 /// `ticks` ticks, or for ever. It returns the cells, in the order of their places, once all threads are done with them.
 ///
-/// Each node has a thread that accepts clients and one that lets its time pass, and each client has one.
+/// Each node has a thread that accepts clients, one that lets its time pass and one that carries its messages, and each
+/// client has one.
 pub fn serve_nodes<
     K: Deployment + Send + Sync + 'static,
     L: Log + Drop + Send + 'static,
@@ -74,7 +76,7 @@ where
     let clients = Arc::new(alloc, Clients::new(alloc)).map_err(AllocError::from)?;
     let stop = Arc::new(alloc, Stop::new()).map_err(AllocError::from)?;
     let interval = Duration::from_millis(u64::from(config.tick_ms()));
-    let mut threads = Vec::with_capacity(alloc, 2 * nodes.len())?;
+    let mut threads = Vec::with_capacity(alloc, 3 * nodes.len())?;
     let started = start_all(
         rt,
         alloc,
@@ -100,6 +102,9 @@ fn end_all<
     L: Log + Drop,
     R: Threads + Wait + Net<Listener = TcpListener, Stream = TcpStream>,
 >(rt: &R, nodes: &[Arc<Node<K, L>, Global>], clients: &Clients, threads: Vec<JoinHandle<()>>) {
+    for node in nodes {
+        node.shared.close(rt);
+    }
     // Connections go first: where no more files can be opened, no thread that accepts can be woken before one is closed.
     clients.shut_down(rt);
     for node in nodes {
@@ -159,6 +164,8 @@ where
         threads.push(clock).map_err(AllocError::from)?;
         let door = start_accepting(rt, alloc, node, clients, stop)?;
         threads.push(door).map_err(AllocError::from)?;
+        let carrier = start_carrying(rt, alloc, node, nodes)?;
+        threads.push(carrier).map_err(AllocError::from)?;
         most = u64::MAX;
     }
     Ok(())
@@ -218,6 +225,27 @@ where
     };
     let started = thread::spawn(&rt, move || {
         accept_clients(rt, alloc, &node, &clients, &*stop);
+    });
+    started.map_err(|_| ServeFault::Thread)
+}
+
+// Starts the thread that carries the messages of the node.
+fn start_carrying<
+    K: Deployment + Send + Sync + 'static,
+    L: Log + Drop + Send + 'static,
+    R: Threads + Wait + Copy + Drop + Send + Sync + 'static,
+>(
+    rt: R,
+    alloc: Global,
+    node: &Arc<Node<K, L>, Global>,
+    nodes: &[Arc<Node<K, L>, Global>],
+) -> Result<JoinHandle<()>, ServeFault>
+where
+    L::Kept: Send + 'static,
+{
+    let mut carrier = Carrier::new(alloc, node, nodes)?;
+    let started = thread::spawn(&rt, move || {
+        carrier.carry(&rt, alloc);
     });
     started.map_err(|_| ServeFault::Thread)
 }

@@ -1,5 +1,5 @@
 -- Bytes that wait, go out, or go out in part.
-use Rattle.std.proofs.Common.{◌≡◌, ℕ, List, [], ◌++◌, append_assoc, append-nil, Ok, Err, OnErr, Result, sym, ◌∙◌, ap, subst}
+use Rattle.std.proofs.Common.{◌≡◌, ℕ, List, [], ◌++◌, append_assoc, append-nil, Ok, Err, OnErr, OnOk, Result, sym, ◌∙◌, ap, subst}
 use Rattle.std.specs.Io.KnownBytes.{Appends}
 use Rattle.std.proofs.KnownBytes.{Appends-nil, Appends-trans}
 use Rattle.resp2.specs.Counting.{HasRisen}
@@ -27,13 +27,17 @@ pub puts_waiting : (a b : Stream) (x y : List ℕ) → Sends (change a b) x → 
 puts_waiting a b x y sent empty = record { sent = x; appends = sent.appends; all = ap (λ w. x ++ w) empty }
 
 -- all that waited went out, and these bytes behind it
-pub puts_out : (a b c : Stream) (x y p : List ℕ) → Sends (change a b) x → y ≡ [] → Appends b.bytes c.bytes p → Puts (change a c) (change x y) p
-puts_out a b c x y p sent empty wrote =
+pub puts_out : (a b : Stream) (x y p : List ℕ) → Sends (change a b) (x ++ p) → y ≡ [] → Puts (change a b) (change x y) p
+puts_out a b x y p sent empty =
     record {
       sent = x ++ p;
-      appends = Appends-trans _ _ _ x p sent.appends wrote;
+      appends = sent.appends;
       all = ap (λ w. (x ++ p) ++ w) empty ∙ append-nil (x ++ p);
     }
+
+-- first these and then those bytes went out
+pub sends_both : (a b c : Stream) (x p : List ℕ) → Sends (change a b) x → Appends b.bytes c.bytes p → c.failures ≡ b.failures → Sends (change a c) (x ++ p)
+sends_both a b c x p sent wrote kept = record { appends = Appends-trans _ _ _ x p sent.appends wrote; kept = kept ∙ sent.kept }
 
 -- what waited went out, and a beginning of these bytes
 pub fails_behind : (a b c : Stream) (x p : List ℕ) → Sends (change a b) x → AppendsBeginning b.bytes c.bytes p → HasRisen b.failures c.failures → Fails (change a c) (x ++ p)
@@ -68,6 +72,11 @@ puts_longer a b x y p more puts =
       appends = puts.appends;
       all = sym (append_assoc puts.sent y more) ∙ ap (λ w. w ++ more) puts.all ∙ append_assoc x p more;
     }
+
+-- two facts of a success
+pub on_ok_both : {T E P Q S : Type 0} (r : Result T E) → (P → Q → S) → OnOk r P → OnOk r Q → OnOk r S
+on_ok_both (Ok x) both p q = both p q
+on_ok_both (Err e) both p q = tt
 
 -- two facts of an error
 pub on_err_both : {T E P Q S : Type 0} (r : Result T E) → (P → Q → S) → OnErr r P → OnErr r Q → OnErr r S

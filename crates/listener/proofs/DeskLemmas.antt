@@ -1,8 +1,10 @@
 -- Requests that are answered one after another.
 use Rattle.std.proofs.Common.{◌≡◌, ◌≢◌, ℕ, List, Option, [], ◌∷◌, ◌++◌, Result, Ok, Err, append_assoc, append-nil, refl, sym, ◌∙◌, ap, subst, map, inr, length, length-append, ◌+◌, ◌<◌, ◌≤◌, replicate, arith}
 use Rattle.std.proofs.lemmas.List.{map-append}
-use Rattle.std.proofs.lemmas.List.Elements.{All-nil}
+use Rattle.std.proofs.lemmas.List.Elements.{All-cons, All-nil}
 use Rattle.std.proofs.lemmas.Grind.{flat_map-append}
+use Rattle.std.specs.Prelude.{Some, None}
+use Rattle.std.specs.List.{flat_map}
 use Rattle.std.specs.Io.KnownBytes.{Consumes}
 use Rattle.std.proofs.KnownBytes.{Consumes-trans}
 use Rattle.resp2.specs.Counting.{HasRisen}
@@ -11,20 +13,23 @@ use Rattle.resp2.specs.declared.words.TheConstants.{MOST_WORD_BYTES}
 use Rattle.resp2.specs.Request.{IsRequest, IsUnfinished, request_spelling, stream_spelling, with_words}
 use Rattle.resp2.specs.Reader.{Breaks, HandsOut, PassesOver, ReaderState, empty_requests}
 use Rattle.resp2.specs.declared.fault.Fault.{Fault}
+use Rattle.resp2.specs.declared.reply.Reply.{Reply}
 use Rattle.resp2.proofs.Callers.{none_with_words, stream_spelling-append, with_words-append}
 use Rattle.node_cell.specs.Asks.{Asked}
+use Rattle.node_cell.specs.Asks.Asked.{asking, waiting}
 use Rattle.connections.specs.declared.conn.Conn.{Conn}
 use Rattle.node_step.specs.declared.event.Event.TheVariants.{Request}
 use Rattle.node_core.specs.declared.fault.StepFault.{StepFault}
 use Rattle.node_core.specs.declared.fault.StepFault.TheVariants as refused
 use Rattle.node_step.specs.declared.outputs.Outputs.{Outputs}
 use Rattle.node_step.specs.declared.response.Answer.{Answer}
-use Rattle.node_step.specs.declared.response.Response.TheVariants.{Replied}
+use Rattle.node_step.specs.declared.response.Response.{Response}
+use Rattle.node_step.specs.declared.response.Response.TheVariants.{Nothing, Opened, Parked, Replied}
 use Rattle.listener.specs.declared.fault.ConnFault.{ConnFault}
 use Rattle.listener.specs.declared.fault.ConnFault.TheVariants.{Reader, Writer, Memory, Exhausted, Unanswered, Endless}
 use Rattle.listener.specs.declared.requests.Rest.{Rest}
-use Rattle.listener.specs.Streams.{Adds, Change, Fails, Sends, Stream, asking, change}
-use Rattle.listener.specs.Conversation.{EndsBy, Exchange, HasNoReply, IsSpoilt, ReadsTo, Tail, asked_for, AreAnswered, fault_of, replies_bytes}
+use Rattle.listener.specs.Streams.{Adds, Change, Fails, Sends, Stream, change}
+use Rattle.listener.specs.Conversation.{ComesBy, EndsBy, Exchange, HasNoReply, IsSpoilt, ReadsTo, Tail, asked_for, awaited, AreAnswered, fault_of, replies_bytes}
 use Rattle.listener.specs.Progress.{Answers, Desk, Halts, IsOfAnswering, Puts, Stops, WriterCount}
 use Rattle.listener.proofs.HistoryLemmas.{adds_again, adds_nothing}
 use Rattle.listener.proofs.BatchLemmas.{puts_again, puts_nothing, puts_waiting}
@@ -47,7 +52,7 @@ one_answered [] is_request = absurd (let some = is_request.some in omega arith)
 one_answered (word ∷ words) is_request = refl
 
 replies_bytes-append : (xs ys : List Exchange) → replies_bytes (xs ++ ys) ≡ replies_bytes xs ++ replies_bytes ys
-replies_bytes-append xs ys = flat_map-append (λ (exchange : Exchange). reply_spelling exchange.answer.reply) xs ys
+replies_bytes-append xs ys = flat_map-append (λ (exchange : Exchange). reply_spelling exchange.reply) xs ys
 
 -- where the writer didn't fail, its count is what it was
 pub writes_on : (ended : Result Rest ConnFault) (n : ℕ) → ended ≢ Err Writer → WriterCount ended n n
@@ -76,7 +81,7 @@ module _ (allowed : Asked → Type 0) (conn : Conn) where
   answers_again a b c p q =
       record {
         exchanges = p.exchanges ++ q.exchanges;
-        history = rw (map-append (asked_for conn) p.exchanges q.exchanges) (adds_again allowed _ _ _ _ _ p.history q.history);
+        history = rw (flat_map-append (asked_for conn) p.exchanges q.exchanges) (adds_again allowed _ _ _ _ _ p.history q.history);
         requests = p.requests ++ q.requests;
         answered = answered_again p.requests q.requests p.exchanges q.exchanges p.answered q.answered;
         spelled = spelled_again _ _ _ p.requests q.requests p.spelled q.spelled;
@@ -125,16 +130,16 @@ module _ (allowed : Asked → Type 0) (conn : Conn) where
       }
 
   -- what waited went out
-  pub answers_flush : (a b : Desk) (waiting : List ℕ) (out : Stream) → Answers allowed conn a b → Sends (change b.out out) b.waiting → waiting ≡ []
-      → Answers allowed conn a (record b { waiting = waiting; out = out })
-  answers_flush a b waiting out p sent empty =
+  pub answers_flush : (a b : Desk) (left : List ℕ) (out : Stream) → Answers allowed conn a b → Sends (change b.out out) b.waiting → left ≡ []
+      → Answers allowed conn a (record b { waiting = left; out = out })
+  answers_flush a b left out p sent empty =
       record {
         exchanges = p.exchanges;
         history = p.history;
         requests = p.requests;
         answered = p.answered;
         spelled = p.spelled;
-        puts = subst (λ w. Puts (change a.out out) (change a.waiting waiting) w) (append-nil (replies_bytes p.exchanges))
+        puts = subst (λ w. Puts (change a.out out) (change a.waiting left) w) (append-nil (replies_bytes p.exchanges))
             (puts_again _ _ _ _ _ _ _ _ p.puts (puts_waiting _ _ _ _ sent empty));
         kept = sent.kept ∙ p.kept;
       }
@@ -146,7 +151,7 @@ module _ (allowed : Asked → Type 0) (conn : Conn) where
         exchanges = p.exchanges ++ q.exchanges;
         tail = q.tail;
         left = q.left;
-        history = rw (map-append (asked_for conn) p.exchanges q.exchanges, append_assoc) (adds_again allowed _ _ _ _ _ p.history q.history);
+        history = rw (flat_map-append (asked_for conn) p.exchanges q.exchanges, append_assoc) (adds_again allowed _ _ _ _ _ p.history q.history);
         requests = p.requests ++ q.requests;
         answered = answered_again p.requests q.requests p.exchanges q.exchanges p.answered q.answered;
         spelled = spelled_again _ _ _ p.requests q.requests p.spelled q.spelled;
@@ -176,9 +181,9 @@ module _ (allowed : Asked → Type 0) (conn : Conn) where
       }
 
   -- what waited went out in part
-  pub halts_unsent : (a : Desk) (waiting : List ℕ) (out : Stream) (pending : List ℕ) → Fails (change a.out out) a.waiting
-      → Halts allowed conn (Err Writer) a (record a { pending = pending; waiting = waiting; out = out })
-  halts_unsent a waiting out pending fails =
+  pub halts_unsent : (a : Desk) (left : List ℕ) (out : Stream) (pending : List ℕ) → Fails (change a.out out) a.waiting
+      → Halts allowed conn (Err Writer) a (record a { pending = pending; waiting = left; out = out })
+  halts_unsent a left out pending fails =
       record {
         exchanges = [];
         tail = record { asked = []; rest = a.pending };
@@ -193,14 +198,21 @@ module _ (allowed : Asked → Type 0) (conn : Conn) where
         ends = refl;
       }
 
+  -- what is asked for one request
+  one_asked : (exchange : Exchange) (old new : List Asked) → Adds allowed (change old new) (asked_for conn exchange)
+      → Adds allowed (change old new) (flat_map (asked_for conn) (exchange ∷ []))
+  one_asked exchange old new history = subst (λ (asks : List Asked). Adds allowed (change old new) asks) (sym (append-nil (asked_for conn exchange))) history
+
   -- a request was asked and answered
-  pub answers_one : (words : List (List ℕ)) (outputs : Outputs) (answer : Answer) (a b : Desk) → IsRequest words → outputs.response ≡ Replied answer
-      → a.pending ≡ request_spelling words ++ b.pending → Adds allowed (change a.asked b.asked) (asking (Request conn words) (Ok outputs) ∷ [])
-      → Puts (change a.out b.out) (change a.waiting b.waiting) (reply_spelling answer.reply) → b.out.failures ≡ a.out.failures → Answers allowed conn a b
-  answers_one words outputs answer a b is_request replied spelled history puts kept =
+  pub answers_one : (words : List (List ℕ)) (outputs : Outputs) (reply : Reply) (a b : Desk) → IsRequest words → ComesBy outputs.response reply
+      → a.pending ≡ request_spelling words ++ b.pending
+      → Adds allowed (change a.asked b.asked) (asking (Request conn words) (Ok outputs) ∷ awaited conn outputs.response (Some reply))
+      → Puts (change a.out b.out) (change a.waiting b.waiting) (reply_spelling reply) → b.out.failures ≡ a.out.failures → Answers allowed conn a b
+  answers_one words outputs reply a b is_request replied spelled history puts kept =
+      let exchange : Exchange = record { words = words; outputs = outputs; reply = reply; is_request = is_request; replied = replied } in
       record {
-        exchanges = record { words = words; outputs = outputs; answer = answer; is_request = is_request; replied = replied } ∷ [];
-        history = history;
+        exchanges = exchange ∷ [];
+        history = one_asked exchange _ _ history;
         requests = words ∷ [];
         answered = one_answered words is_request;
         spelled = spelled ∙ ap (λ w. w ++ b.pending) (sym (append-nil (request_spelling words)));
@@ -209,27 +221,86 @@ module _ (allowed : Asked → Type 0) (conn : Conn) where
       }
 
   -- a request was asked, and its reply went out in part
-  pub halts_within : (words : List (List ℕ)) (outputs : Outputs) (answer : Answer) (a b : Desk) (behind : List ℕ) → IsRequest words → outputs.response ≡ Replied answer
-      → a.pending ≡ request_spelling words ++ behind → Adds allowed (change a.asked b.asked) (asking (Request conn words) (Ok outputs) ∷ [])
-      → Fails (change a.out b.out) (a.waiting ++ reply_spelling answer.reply) → Halts allowed conn (Err Writer) a b
-  halts_within words outputs answer a b behind is_request replied spelled history fails =
+  pub halts_within : (words : List (List ℕ)) (outputs : Outputs) (reply : Reply) (a b : Desk) (behind : List ℕ) → IsRequest words → ComesBy outputs.response reply
+      → a.pending ≡ request_spelling words ++ behind
+      → Adds allowed (change a.asked b.asked) (asking (Request conn words) (Ok outputs) ∷ awaited conn outputs.response (Some reply))
+      → Fails (change a.out b.out) (a.waiting ++ reply_spelling reply) → Halts allowed conn (Err Writer) a b
+  halts_within words outputs reply a b behind is_request replied spelled history fails =
+      let exchange : Exchange = record { words = words; outputs = outputs; reply = reply; is_request = is_request; replied = replied } in
       record {
-        exchanges = record { words = words; outputs = outputs; answer = answer; is_request = is_request; replied = replied } ∷ [];
+        exchanges = exchange ∷ [];
         tail = record { asked = []; rest = behind };
         left = fails.begun.rest;
-        history = history;
+        history = subst (λ (asks : List Asked). Adds allowed (change a.asked b.asked) asks)
+            (sym (append-nil (flat_map (asked_for conn) (exchange ∷ [])) ∙ append-nil (asked_for conn exchange))) history;
         requests = words ∷ [];
         answered = one_answered words is_request;
         spelled = spelled ∙ ap (λ w. w ++ behind) (sym (append-nil (request_spelling words)));
         puts = record {
           sent = fails.begun.written;
           appends = fails.begun.appends;
-          all = fails.begun.split ∙ ap (λ w. a.waiting ++ w) (sym (append-nil (reply_spelling answer.reply)));
+          all = fails.begun.split ∙ ap (λ w. a.waiting ++ w) (sym (append-nil (reply_spelling reply)));
         };
         waits = λ other. absurd (other refl);
         count = writes_no_more _ _ fails.risen;
         ends = refl;
       }
+
+  -- a reply was waited for
+  pub adds_wait : (old new : List Asked) (reply : Option Reply) → new ≡ old ++ waiting conn reply ∷ [] → allowed (waiting conn reply)
+      → Adds allowed (change old new) (waiting conn reply ∷ [])
+  adds_wait old new reply grown given = record { grown = grown; each = All-cons allowed (waiting conn reply) [] given (All-nil allowed) }
+
+  -- behind the step for a request
+  waits_too : (old between new : List Asked) (words : List (List ℕ)) (outputs : Outputs) (reply : Option Reply) → outputs.response ≡ Parked
+      → Adds allowed (change old between) (asking (Request conn words) (Ok outputs) ∷ []) → Adds allowed (change between new) (waiting conn reply ∷ [])
+      → Adds allowed (change old new) (asking (Request conn words) (Ok outputs) ∷ awaited conn outputs.response reply)
+  waits_too old between new words outputs reply parked asked waited =
+      subst (λ (response : Response). Adds allowed (change old new) (asking (Request conn words) (Ok outputs) ∷ awaited conn response reply)) (sym parked)
+      (adds_again allowed old between new _ _ asked waited)
+
+  not_waited : (old new : List Asked) (words : List (List ℕ)) (outputs : Outputs) (answer : Answer) → outputs.response ≡ Replied answer
+      → Adds allowed (change old new) (asking (Request conn words) (Ok outputs) ∷ [])
+      → Adds allowed (change old new) (asking (Request conn words) (Ok outputs) ∷ awaited conn outputs.response (Some answer.reply))
+  not_waited old new words outputs answer replied asked =
+      subst (λ (response : Response). Adds allowed (change old new) (asking (Request conn words) (Ok outputs) ∷ awaited conn response (Some answer.reply))) (sym replied) asked
+
+  comes_at_once : (outputs : Outputs) (answer : Answer) → outputs.response ≡ Replied answer → ComesBy outputs.response answer.reply
+  comes_at_once outputs answer replied = subst (λ (response : Response). ComesBy response answer.reply) (sym replied) refl
+
+  comes_later : (outputs : Outputs) (reply : Reply) → outputs.response ≡ Parked → ComesBy outputs.response reply
+  comes_later outputs reply parked = subst (λ (response : Response). ComesBy response reply) (sym parked) tt
+
+  -- the step gave the reply
+  pub answers_at_once : (words : List (List ℕ)) (outputs : Outputs) (answer : Answer) (a b : Desk) → IsRequest words → outputs.response ≡ Replied answer
+      → a.pending ≡ request_spelling words ++ b.pending → Adds allowed (change a.asked b.asked) (asking (Request conn words) (Ok outputs) ∷ [])
+      → Puts (change a.out b.out) (change a.waiting b.waiting) (reply_spelling answer.reply) → b.out.failures ≡ a.out.failures → Answers allowed conn a b
+  answers_at_once words outputs answer a b is_request replied spelled asked puts kept =
+      answers_one words outputs answer.reply a b is_request (comes_at_once outputs answer replied) spelled (not_waited _ _ words outputs answer replied asked) puts kept
+
+  pub halts_at_once : (words : List (List ℕ)) (outputs : Outputs) (answer : Answer) (a b : Desk) (behind : List ℕ) → IsRequest words
+      → outputs.response ≡ Replied answer → a.pending ≡ request_spelling words ++ behind
+      → Adds allowed (change a.asked b.asked) (asking (Request conn words) (Ok outputs) ∷ [])
+      → Fails (change a.out b.out) (a.waiting ++ reply_spelling answer.reply) → Halts allowed conn (Err Writer) a b
+  halts_at_once words outputs answer a b behind is_request replied spelled asked fails =
+      halts_within words outputs answer.reply a b behind is_request (comes_at_once outputs answer replied) spelled (not_waited _ _ words outputs answer replied asked) fails
+
+  -- the reply was waited for
+  pub answers_later : (words : List (List ℕ)) (outputs : Outputs) (reply : Reply) (a b : Desk) (between : List Asked) → IsRequest words → outputs.response ≡ Parked
+      → a.pending ≡ request_spelling words ++ b.pending → Adds allowed (change a.asked between) (asking (Request conn words) (Ok outputs) ∷ [])
+      → Adds allowed (change between b.asked) (waiting conn (Some reply) ∷ [])
+      → Puts (change a.out b.out) (change a.waiting b.waiting) (reply_spelling reply) → b.out.failures ≡ a.out.failures → Answers allowed conn a b
+  answers_later words outputs reply a b between is_request parked spelled asked waited puts kept =
+      answers_one words outputs reply a b is_request (comes_later outputs reply parked) spelled
+      (waits_too _ between _ words outputs (Some reply) parked asked waited) puts kept
+
+  pub halts_later : (words : List (List ℕ)) (outputs : Outputs) (reply : Reply) (a b : Desk) (between : List Asked) (behind : List ℕ) → IsRequest words
+      → outputs.response ≡ Parked → a.pending ≡ request_spelling words ++ behind
+      → Adds allowed (change a.asked between) (asking (Request conn words) (Ok outputs) ∷ []) → Adds allowed (change between b.asked) (waiting conn (Some reply) ∷ [])
+      → Fails (change a.out b.out) (a.waiting ++ reply_spelling reply) → Halts allowed conn (Err Writer) a b
+  halts_later words outputs reply a b between behind is_request parked spelled asked waited fails =
+      halts_within words outputs reply a b behind is_request (comes_later outputs reply parked) spelled
+      (waits_too _ between _ words outputs (Some reply) parked asked waited) fails
 
   -- a request was refused
   pub halts_refused : (words : List (List ℕ)) (why : StepFault) (asked : List Asked) (a : Desk) (pending behind : List ℕ) → IsRequest words
@@ -243,8 +314,9 @@ module _ (allowed : Asked → Type 0) (conn : Conn) where
       (record { words = words; behind = behind; is_request = is_request; asked = refl; in_front = spelled })
 
   -- the node gave no reply to a request
-  pub halts_silent : (words : List (List ℕ)) (outputs : Outputs) (asked : List Asked) (a : Desk) (pending behind : List ℕ) → IsRequest words → HasNoReply outputs.response
-      → a.pending ≡ request_spelling words ++ behind → Adds allowed (change a.asked asked) (asking (Request conn words) (Ok outputs) ∷ [])
+  halts_silent : (words : List (List ℕ)) (outputs : Outputs) (asked : List Asked) (a : Desk) (pending behind : List ℕ) → IsRequest words → HasNoReply outputs.response
+      → a.pending ≡ request_spelling words ++ behind
+      → Adds allowed (change a.asked asked) (asking (Request conn words) (Ok outputs) ∷ awaited conn outputs.response None)
       → Halts allowed conn (Err Unanswered) a (record a { asked = asked; pending = pending })
   halts_silent words outputs asked a pending behind is_request no_reply spelled history =
       halts_now _ asked (record { asked = _; rest = a.pending }) a pending refl history (λ e. cc)
@@ -253,6 +325,31 @@ module _ (allowed : Asked → Type 0) (conn : Conn) where
         asks = record { words = words; behind = behind; is_request = is_request; asked = refl; in_front = spelled };
         no_reply = no_reply;
       })
+
+  -- none came where one was waited for
+  pub halts_waited : (words : List (List ℕ)) (outputs : Outputs) (between asked : List Asked) (a : Desk) (pending behind : List ℕ) → IsRequest words
+      → outputs.response ≡ Parked → a.pending ≡ request_spelling words ++ behind
+      → Adds allowed (change a.asked between) (asking (Request conn words) (Ok outputs) ∷ []) → Adds allowed (change between asked) (waiting conn None ∷ [])
+      → Halts allowed conn (Err Unanswered) a (record a { asked = asked; pending = pending })
+  halts_waited words outputs between asked a pending behind is_request parked spelled first waited =
+      halts_silent words outputs asked a pending behind is_request (λ answer is. let e : Parked ≡ Replied answer = sym parked ∙ is in cc) spelled
+      (waits_too _ between _ words outputs None parked first waited)
+
+  none_awaited : (response : Response) (reply : Option Reply) → response ≢ Parked → [] ≡ awaited conn response reply
+  none_awaited (Opened opened) reply other = refl
+  none_awaited (Replied answer) reply other = refl
+  none_awaited Parked reply other = absurd (other refl)
+  none_awaited Nothing reply other = refl
+
+  -- none came, and none was waited for
+  pub halts_unanswered : (words : List (List ℕ)) (outputs : Outputs) (asked : List Asked) (a : Desk) (pending behind : List ℕ) → IsRequest words
+      → HasNoReply outputs.response → outputs.response ≢ Parked → a.pending ≡ request_spelling words ++ behind
+      → Adds allowed (change a.asked asked) (asking (Request conn words) (Ok outputs) ∷ [])
+      → Halts allowed conn (Err Unanswered) a (record a { asked = asked; pending = pending })
+  halts_unanswered words outputs asked a pending behind is_request no_reply other spelled history =
+      halts_silent words outputs asked a pending behind is_request no_reply spelled
+      (subst (λ (waits : List Asked). Adds allowed (change a.asked asked) (asking (Request conn words) (Ok outputs) ∷ waits))
+      (none_awaited outputs.response None other) history)
 
   -- requests were answered, and nothing more was asked before this ended the conversation
   pub halts_here : (ended : Result Rest ConnFault) (a b : Desk) (pending : List ℕ) → Answers allowed conn a b → ended ≢ Err Writer

@@ -1,11 +1,12 @@
 -- What a conversation with a client is: what the node is asked for the bytes that come, and which bytes go out.
-use Rattle.std.specs.Prelude.{◌≡◌, ◌≢◌, ◌≤◌, ◌-◌, ◌^◌, ℕ, List, [], ◌∷◌, ◌++◌, ◌⊎◌, length, map, Result, Ok, Err}
+use Rattle.std.specs.Prelude.{◌≡◌, ◌≢◌, ◌≤◌, ◌-◌, ◌^◌, ℕ, List, [], ◌∷◌, ◌++◌, ◌⊎◌, length, map, Option, Some, None, Result, Ok, Err}
 use Rattle.std.specs.List.{flat_map}
 use Rattle.std.specs.Io.KnownBytes.{Consumes, IsAtEnd}
 use Rattle.resp2.specs.Counting.{HasRisen}
 use Rattle.resp2.specs.Reply.{reply_spelling}
 use Rattle.resp2.specs.Request.{IsRequest, request_spelling, stream_spelling, with_words, IsUnfinished, HasFirstBadByte, HasNoRequest}
 use Rattle.resp2.specs.declared.fault.Fault.{Fault}
+use Rattle.resp2.specs.declared.reply.Reply.{Reply}
 use Rattle.resp2.specs.declared.reply.Reply.TheVariants.{Error}
 use Rattle.command.specs.ErrorLine.{error_text}
 use Rattle.command.specs.declared.error_line.ErrorLine.{ErrorLine}
@@ -17,31 +18,44 @@ use Rattle.node_core.specs.declared.fault.StepFault.TheVariants as refused
 use Rattle.node_step.specs.declared.outputs.Outputs.{Outputs}
 use Rattle.node_step.specs.declared.response.Answer.{Answer}
 use Rattle.node_step.specs.declared.response.Response.{Response}
-use Rattle.node_step.specs.declared.response.Response.TheVariants.{Opened, Replied}
+use Rattle.node_step.specs.declared.response.Response.TheVariants.{Opened, Parked, Replied}
 use Rattle.node_cell.specs.Asks.{Asked}
+use Rattle.node_cell.specs.Asks.Asked.{asking, waiting}
 use Rattle.listener.specs.declared.fault.ConnFault.{ConnFault}
 use Rattle.listener.specs.declared.fault.ConnFault.TheVariants.{Reader, Writer, Memory, Exhausted, Unanswered, Endless}
 use Rattle.listener.specs.declared.requests.Rest.{Rest}
 use Rattle.listener.specs.declared.requests.Rest.TheVariants.{Unfinished, BadByte}
-use Rattle.listener.specs.Streams.{Adds, Change, Fails, Sends, Stream, asking}
+use Rattle.listener.specs.Streams.{Adds, Change, Fails, Sends, Stream}
 
--- a request that was read, the step that the node made for it, and the answer
+-- a reply comes with the step for its request, or its connection waits for it
+abbrev pub ComesBy : Response → Reply → Type 0
+ComesBy (Replied answer) reply = answer.reply ≡ reply
+ComesBy Parked reply = Unit {0}
+ComesBy _ reply = ⊥
+
+-- a request that was read, the step that the node made for it, and the reply
 pub record Exchange : Type 0 where
   pub words : List (List ℕ)
   pub outputs : Outputs
-  pub answer : Answer
+  pub reply : Reply
   pub is_request : IsRequest words
-  pub replied : outputs.response ≡ Replied answer
+  pub replied : ComesBy outputs.response reply
 
-abbrev pub asked_for : Conn → Exchange → Asked
-asked_for conn exchange = asking (Request conn exchange.words) (Ok exchange.outputs)
+-- what is waited for behind a step, and comes: the reply, where the step gave none yet
+abbrev pub awaited : Conn → Response → Option Reply → List Asked
+awaited conn Parked reply = waiting conn reply ∷ []
+awaited conn _ reply = []
+
+-- what the node is asked for a request that is answered
+abbrev pub asked_for : Conn → Exchange → List Asked
+asked_for conn exchange = asking (Request conn exchange.words) (Ok exchange.outputs) ∷ awaited conn exchange.outputs.response (Some exchange.reply)
 
 -- those of the requests that have words are answered, in order; one without words is passed over
 abbrev pub AreAnswered : List (List (List ℕ)) → List Exchange → Type 0
 AreAnswered requests exchanges = with_words requests ≡ map (λ exchange. exchange.words) exchanges
 
 abbrev pub replies_bytes : List Exchange → List ℕ
-replies_bytes exchanges = flat_map (λ exchange. reply_spelling exchange.answer.reply) exchanges
+replies_bytes exchanges = flat_map (λ exchange. reply_spelling exchange.reply) exchanges
 
 -- what comes behind those requests: what the node was still asked, and the bytes that were still read
 pub record Tail : Type 0 where
@@ -57,30 +71,30 @@ pub record Conversation : Type 0 where
   pub tail : Tail
   pub closing : Result Outputs StepFault
 
--- all that it asks of the node: one Open, a Request for each that was answered, the tail, one Close
+-- all that it asks of the node: one Open, a Request for each that was answered, with a wait where it was parked, the tail, one Close
 abbrev pub history_of : Conversation → List Asked
 history_of talk =
-    asking Open (Ok talk.opening) ∷ ((map (asked_for talk.conn) talk.exchanges ++ talk.tail.asked) ++ asking (Close talk.conn) talk.closing ∷ [])
+    asking Open (Ok talk.opening) ∷ ((flat_map (asked_for talk.conn) talk.exchanges ++ talk.tail.asked) ++ asking (Close talk.conn) talk.closing ∷ [])
 
 -- all that it reads
 abbrev pub input_of : Conversation → List ℕ
 input_of talk = stream_spelling talk.requests ++ talk.tail.rest
 
--- the last request in front of the rest was asked, and this came of it
-pub record AsksLast (conn : Conn) (outcome : Result Outputs StepFault) (tail : Tail) : Type 0 where
+-- the last request in front of the rest was asked, this came of it, and this was waited for
+pub record AsksLast (conn : Conn) (outcome : Result Outputs StepFault) (waits : List Asked) (tail : Tail) : Type 0 where
   pub words : List (List ℕ)
   pub behind : List ℕ
   pub is_request : IsRequest words
-  pub asked : tail.asked ≡ asking (Request conn words) outcome ∷ []
+  pub asked : tail.asked ≡ asking (Request conn words) outcome ∷ waits
   pub in_front : tail.rest ≡ request_spelling words ++ behind
 
 abbrev pub HasNoReply : Response → Type 0
 HasNoReply response = (answer : Answer) → response ≢ Replied answer
 
--- the node made a step for the last request, and gave no reply
+-- the node made a step for the last request, and gave no reply, not even where one was waited for
 pub record IsSilent (conn : Conn) (tail : Tail) : Type 0 where
   pub outputs : Outputs
-  pub asks : AsksLast conn (Ok outputs) tail
+  pub asks : AsksLast conn (Ok outputs) (awaited conn outputs.response None) tail
   pub no_reply : HasNoReply outputs.response
 
 -- a bad byte is in the rest, and no whole request in front of it
@@ -99,8 +113,8 @@ abbrev pub EndsBy : Conn → Result Rest ConnFault → Tail → Type 0
 EndsBy conn (Ok rest) tail = (tail.asked ≡ []) × IsRest rest tail.rest
 EndsBy conn (Err Reader) tail = (tail.asked ≡ []) × IsUnfinished tail.rest
 EndsBy conn (Err Writer) tail = tail.asked ≡ []
-EndsBy conn (Err Memory) tail = (tail.asked ≡ []) ⊎ AsksLast conn (Err refused.Memory) tail
-EndsBy conn (Err Exhausted) tail = AsksLast conn (Err refused.Exhausted) tail
+EndsBy conn (Err Memory) tail = (tail.asked ≡ []) ⊎ AsksLast conn (Err refused.Memory) [] tail
+EndsBy conn (Err Exhausted) tail = AsksLast conn (Err refused.Exhausted) [] tail
 EndsBy conn (Err Unanswered) tail = IsSilent conn tail
 EndsBy conn (Err Endless) tail = (tail.asked ≡ []) × IsUnfinished tail.rest
 

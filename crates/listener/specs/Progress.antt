@@ -1,5 +1,6 @@
 -- How far a conversation has got, between its calls. No public clause needs it.
-use Rattle.std.specs.Prelude.{◌≡◌, ◌≢◌, ℕ, List, [], ◌∷◌, ◌++◌, ◌⊎◌, map, Result, Ok, Err}
+use Rattle.std.specs.Prelude.{◌≡◌, ◌≢◌, ℕ, List, [], ◌∷◌, ◌++◌, ◌⊎◌, Result, Ok, Err}
+use Rattle.std.specs.List.{flat_map}
 use Rattle.std.specs.Io.KnownBytes.{Appends, Consumes}
 use Rattle.resp2.specs.Counting.{HasRisen}
 use Rattle.resp2.specs.Request.{stream_spelling}
@@ -9,10 +10,11 @@ use Rattle.node_core.specs.declared.fault.StepFault.{StepFault}
 use Rattle.node_step.specs.declared.outputs.Outputs.{Outputs}
 use Rattle.node_step.specs.declared.response.Response.TheVariants.{Opened}
 use Rattle.node_cell.specs.Asks.{Asked}
+use Rattle.node_cell.specs.Asks.Asked.{asking}
 use Rattle.listener.specs.declared.fault.ConnFault.{ConnFault}
 use Rattle.listener.specs.declared.fault.ConnFault.TheVariants.{Reader, Writer, Endless}
 use Rattle.listener.specs.declared.requests.Rest.{Rest}
-use Rattle.listener.specs.Streams.{Adds, Change, Stream, asking, change}
+use Rattle.listener.specs.Streams.{Adds, Change, Stream, change}
 use Rattle.listener.specs.Conversation.{Converses, EndsBy, EndsUnopened, Exchange, IsUnopened, ReadsTo, Tail, asked_for, AreAnswered, replies_bytes}
 
 -- what waited went out or still waits, and so do these bytes behind it
@@ -34,7 +36,7 @@ desk asked pending waiting out = record { asked = asked; pending = pending; wait
 -- whole requests were answered, and no more was asked
 pub record Answers (allowed : Asked → Type 0) (conn : Conn) (old new : Desk) : Type 0 where
   pub exchanges : List Exchange
-  pub history : Adds allowed (change old.asked new.asked) (map (asked_for conn) exchanges)
+  pub history : Adds allowed (change old.asked new.asked) (flat_map (asked_for conn) exchanges)
   pub requests : List (List (List ℕ))
   pub answered : AreAnswered requests exchanges
   pub spelled : old.pending ≡ stream_spelling requests ++ new.pending
@@ -51,7 +53,7 @@ pub record Halts (allowed : Asked → Type 0) (conn : Conn) (ended : Result Rest
   pub exchanges : List Exchange
   pub tail : Tail
   pub left : List ℕ
-  pub history : Adds allowed (change old.asked new.asked) (map (asked_for conn) exchanges ++ tail.asked)
+  pub history : Adds allowed (change old.asked new.asked) (flat_map (asked_for conn) exchanges ++ tail.asked)
   pub requests : List (List (List ℕ))
   pub answered : AreAnswered requests exchanges
   pub spelled : old.pending ≡ stream_spelling requests ++ tail.rest

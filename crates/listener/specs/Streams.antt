@@ -1,13 +1,16 @@
 -- A client's two streams, and what was asked of the node: before a call, and after it.
-use Rattle.std.specs.Prelude.{◌≡◌, ℕ, List, ◌++◌, Option, Result, All, MatchResult}
+use Rattle.std.specs.Prelude.{◌≡◌, ℕ, List, ◌++◌, Option, Result, All, IfSome, MatchResult}
 use Rattle.std.specs.Io.KnownBytes.{Appends}
 use Rattle.resp2.specs.Counting.{inner_of, failures_of, HasRisen}
 use Rattle.resp2.specs.Writing.{AppendsBeginning}
 use Rattle.resp2.specs.declared.counting.Counting.{Counting}
+use Rattle.connections.specs.declared.conn.Conn.{Conn}
 use Rattle.node_cell.specs.Asks.{Asked}
+use Rattle.node_cell.specs.Asks.Asked.{asking, waiting}
 use Rattle.node_step.specs.declared.event.Event.{Event}
 use Rattle.node_core.specs.declared.fault.StepFault.{StepFault}
 use Rattle.node_step.specs.declared.outputs.Outputs.{Outputs}
+use Rattle.resp2.specs.declared.reply.Reply.{Reply}
 
 -- something before a call, and after it
 pub record Change (A : Type 0) : Type 0 where
@@ -38,12 +41,10 @@ pub record Fails (out : Change Stream) (bytes : List ℕ) : Type 0 where
   pub begun : AppendsBeginning out.old.bytes out.new.bytes bytes
   pub risen : HasRisen out.old.failures out.new.failures
 
-abbrev pub asking : Event → Result Outputs StepFault → Asked
-asking event outcome = record { event = event; outcome = outcome }
-
--- the gate may give these outputs for the event, or refuse it with this fault
-abbrev pub IsAllowed : (Event → Outputs → Type 0) → (Event → StepFault → Type 0) → Asked → Type 0
-IsAllowed may may_refuse asked = MatchResult asked.outcome (may asked.event) (may_refuse asked.event)
+-- the gate may give these outputs for the event, or refuse it with this fault; and it may give this reply to a connection that waits
+abbrev pub IsAllowed : (Event → Outputs → Type 0) → (Event → StepFault → Type 0) → (Conn → Reply → Type 0) → Asked → Type 0
+IsAllowed may may_refuse may_give (asking event outcome) = MatchResult outcome (may event) (may_refuse event)
+IsAllowed may may_refuse may_give (waiting conn reply) = IfSome reply (may_give conn)
 
 -- this was asked of the node, in this order and nothing else, and each outcome is one that is allowed
 pub record Adds (allowed : Asked → Type 0) (asked : Change (List Asked)) (added : List Asked) : Type 0 where

@@ -1,10 +1,8 @@
 //! Replies on their way to a client: those of one read go out together.
 ghost use Rattle.std.specs.Prelude.{◌≡◌, ◌++◌, [], OnOk, OnErr, MatchBool};
-ghost use Rattle.resp2.specs.Counting.{failures_of};
 ghost use Rattle.resp2.specs.Reply.{reply_spelling};
 ghost use Rattle.listener.specs.Conversation.{error_bytes};
-ghost use Rattle.listener.specs.Progress.{Puts};
-ghost use Rattle.listener.specs.Streams.{Fails, Sends, change, streams};
+ghost use Rattle.listener.specs.Streams.{Fails, Sends, streams};
 
 use command::ErrorLine;
 use resp2::{Counting, Element, Reply, append_reply, send_reply};
@@ -18,31 +16,15 @@ const MOST_WAITING: usize = 65_536;
 // A longer value is written from where it stands: to copy it would cost more than a write of its own.
 const LONG_VALUE: usize = 16_384;
 
-/// Puts a reply behind those that wait, or writes them all where it is long or memory is refused.
-///
-/// Refused memory is no error: the node has executed the request, so its reply has to go out.
-pub fn put<W: Write>(reply: &Reply, batch: &mut Vec<u8>, writer: &mut Counting<W>) -> io::Result<()>
-    ensures put { OnOk result (Puts (streams W.contents writer.old writer.new)
-        (change batch.old.items batch.new.items) (reply_spelling reply.now)) }
-    ensures kept { OnOk result (failures_of writer.new ≡ failures_of writer.old) }
-    ensures err { OnErr result (Fails (streams W.contents writer.old writer.new)
-        (batch.old.items ++ reply_spelling reply.now)) }
-{
-    if fits_in(reply, batch) {
-        return Ok(());
-    }
-    send(reply, batch, writer)
-}
-
 /// Writes what waits, and the reply behind it.
 pub fn send<W: Write>(
     reply: &Reply,
     batch: &mut Vec<u8>,
     writer: &mut Counting<W>,
 ) -> io::Result<()>
-    ensures put { OnOk result (Puts (streams W.contents writer.old writer.new)
-        (change batch.old.items batch.new.items) (reply_spelling reply.now)) }
-    ensures kept { OnOk result (failures_of writer.new ≡ failures_of writer.old) }
+    ensures ok { OnOk result (Sends (streams W.contents writer.old writer.new)
+        (batch.old.items ++ reply_spelling reply.now)) }
+    ensures empty { OnOk result (batch.new.items ≡ []) }
     ensures err { OnErr result (Fails (streams W.contents writer.old writer.new)
         (batch.old.items ++ reply_spelling reply.now)) }
 {
@@ -84,8 +66,11 @@ pub fn say<W: Write>(
     ensures ok { OnOk result (Sends (streams W.contents writer.old writer.new) (batch.old.items ++ error_bytes line)) }
     ensures err { OnErr result (Fails (streams W.contents writer.old writer.new) (batch.old.items ++ error_bytes line)) }
 {
-    put(&line.reply(), batch, writer)?;
-    flush(batch, writer)
+    let reply = line.reply();
+    if fits_in(&reply, batch) {
+        return flush(batch, writer);
+    }
+    send(&reply, batch, writer)
 }
 
 fn is_long(reply: &Reply) -> bool {

@@ -29,7 +29,7 @@ pub fn serve_conn<R: Read, W: Write, G: NodeGate>(
     reader: &mut Counting<R>,
     writer: &mut Counting<W>,
 ) -> Result<(), ConnFault>
-    ensures { Serves (IsAllowed G.may G.may_refuse) (change (G.asked gate.old) (G.asked gate.new))
+    ensures { Serves (IsAllowed G.may G.may_refuse G.may_give) (change (G.asked gate.old) (G.asked gate.new))
         (streams R.remaining reader.old reader.new) (streams W.contents writer.old writer.new) result }
 {
     let mut batch = Vec::new(alloc);
@@ -46,7 +46,7 @@ fn talk<R: Read, W: Write, G: NodeGate>(
     writer: &mut Counting<W>,
 ) -> Result<Rest, ConnFault>
     requires { batch.old.items ≡ [] }
-    ensures { Talks (IsAllowed G.may G.may_refuse) (change (G.asked gate.old) (G.asked gate.new))
+    ensures { Talks (IsAllowed G.may G.may_refuse G.may_give) (change (G.asked gate.old) (G.asked gate.new))
         (streams R.remaining reader.old reader.new) (streams W.contents writer.old writer.new) result batch.new.items }
 {
     let Ok(mut input) = read_buffer(alloc) else {
@@ -76,19 +76,19 @@ fn read_buffer(alloc: Global) -> Result<Vec<u8>, AllocError>
 
 // A new connection at the node.
 fn open<G: NodeGate>(gate: &mut G) -> Result<Conn, ConnFault>
-    ensures ok { IfOk result (λ conn. Opens (IsAllowed G.may G.may_refuse) (change (G.asked gate.old) (G.asked gate.new)) conn) }
-    ensures err { IfErr result (λ fault. Refuses (IsAllowed G.may G.may_refuse) (change (G.asked gate.old) (G.asked gate.new)) fault) }
+    ensures ok { IfOk result (λ conn. Opens (IsAllowed G.may G.may_refuse G.may_give) (change (G.asked gate.old) (G.asked gate.new)) conn) }
+    ensures err { IfErr result (λ fault. Refuses (IsAllowed G.may G.may_refuse G.may_give) (change (G.asked gate.old) (G.asked gate.new)) fault) }
 {
     let step = ask_alone(gate, Event::Open)?;
-    let Response::Opened(conn) = step.outputs().response else {
+    let Response::Opened(conn) = step.response() else {
         return Err(ConnFault::Unanswered);
     };
-    Ok(conn)
+    Ok(*conn)
 }
 
 // Closes the connection. Where the node refuses, it stays open there.
 fn close<G: NodeGate>(gate: &mut G, conn: Conn)
-    ensures { Closes (IsAllowed G.may G.may_refuse) (change (G.asked gate.old) (G.asked gate.new)) conn }
+    ensures { Closes (IsAllowed G.may G.may_refuse G.may_give) (change (G.asked gate.old) (G.asked gate.new)) conn }
 {
     let _step = ask_alone(gate, Event::Close(conn));
 }

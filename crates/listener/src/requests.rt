@@ -4,9 +4,10 @@ ghost use Rattle.resp2.specs.Counting.{failures_of};
 ghost use Rattle.resp2.specs.Reply.{reply_spelling};
 ghost use Rattle.resp2.specs.Request.{IsRequest, request_spelling};
 ghost use Rattle.node_cell.specs.Asks.{outcome_of};
+ghost use Rattle.node_cell.specs.Asks.Asked.{asking, waiting};
 ghost use Rattle.listener.specs.Conversation.{IsRest};
 ghost use Rattle.listener.specs.Progress.{Answers, Halts, IsOfAnswering, Puts, Stops, desk};
-ghost use Rattle.listener.specs.Streams.{Adds, Fails, IsAllowed, Sends, asking, change, stream_of, streams};
+ghost use Rattle.listener.specs.Streams.{Adds, Fails, IsAllowed, Sends, change, stream_of, streams};
 
 use crate::batch::{fits_in, flush, send};
 use crate::fault::ConnFault;
@@ -39,7 +40,7 @@ pub fn converse<R: Read, W: Write, G: NodeGate>(
     requires good { requests.old.fault ≡ None }
     requires begins { requests.old.pending ≡ [] }
     requires empty { batch.old.items ≡ [] }
-    ensures stops { Stops (IsAllowed G.may G.may_refuse) conn result (streams R.remaining reader.old reader.new)
+    ensures stops { Stops (IsAllowed G.may G.may_refuse G.may_give) conn result (streams R.remaining reader.old reader.new)
         (desk (G.asked gate.old) [] [] (stream_of W.contents writer.old))
         (desk (G.asked gate.new) [] batch.new.items (stream_of W.contents writer.new)) }
     // A bad byte is no fault here: so a word that is too long is not reported as out of memory.
@@ -76,11 +77,11 @@ fn answer_all<W: Write, G: NodeGate>(
     writer: &mut Counting<W>,
 ) -> Result<Rest, ConnFault>
     requires { requests.old.fault ≡ None }
-    ensures answered { OnOk result (Answers (IsAllowed G.may G.may_refuse) conn
+    ensures answered { OnOk result (Answers (IsAllowed G.may G.may_refuse G.may_give) conn
         (desk (G.asked gate.old) requests.old.pending batch.old.items (stream_of W.contents writer.old))
         (desk (G.asked gate.new) requests.new.pending batch.new.items (stream_of W.contents writer.new))) }
     ensures rest { IfOk result (λ rest. IsRest rest requests.new.pending) }
-    ensures halts { IfErr result (λ fault. Halts (IsAllowed G.may G.may_refuse) conn (Err fault)
+    ensures halts { IfErr result (λ fault. Halts (IsAllowed G.may G.may_refuse G.may_give) conn (Err fault)
         (desk (G.asked gate.old) requests.old.pending batch.old.items (stream_of W.contents writer.old))
         (desk (G.asked gate.new) [] batch.new.items (stream_of W.contents writer.new))) }
     ensures fault { IfErr result IsOfAnswering }
@@ -98,7 +99,7 @@ fn answer_all<W: Write, G: NodeGate>(
     }
 }
 
-// Asks the node, and puts its reply behind those that wait. This holds whatever bytes come behind the request.
+// Asks the node, waits for its reply where that comes later, and puts the reply behind those that wait. This holds whatever bytes come behind the request.
 fn answer<W: Write, G: NodeGate>(
     gate: &mut G,
     conn: Conn,
@@ -107,22 +108,33 @@ fn answer<W: Write, G: NodeGate>(
     writer: &mut Counting<W>,
 ) -> Result<(), ConnFault>
     requires { IsRequest words }
-    ensures answered { OnOk result ((behind : List ℕ) → Answers (IsAllowed G.may G.may_refuse) conn
+    ensures answered { OnOk result ((behind : List ℕ) → Answers (IsAllowed G.may G.may_refuse G.may_give) conn
         (desk (G.asked gate.old) (request_spelling words ++ behind) batch.old.items (stream_of W.contents writer.old))
         (desk (G.asked gate.new) behind batch.new.items (stream_of W.contents writer.new))) }
-    ensures halts { IfErr result (λ fault. (behind : List ℕ) → Halts (IsAllowed G.may G.may_refuse) conn (Err fault)
+    ensures halts { IfErr result (λ fault. (behind : List ℕ) → Halts (IsAllowed G.may G.may_refuse G.may_give) conn (Err fault)
         (desk (G.asked gate.old) (request_spelling words ++ behind) batch.old.items (stream_of W.contents writer.old))
         (desk (G.asked gate.new) [] batch.new.items (stream_of W.contents writer.new))) }
     ensures fault { IfErr result IsOfAnswering }
 {
     let step = ask(gate, Event::Request(conn, words))?;
-    let Response::Replied(answer) = &step.outputs().response else {
-        return Err(ConnFault::Unanswered);
-    };
-    let Ok(()) = hand_over(gate, &answer.reply, batch, writer) else {
-        return Err(ConnFault::Writer);
-    };
-    Ok(())
+    match step.response() {
+        Response::Replied(answer) => {
+            let Ok(()) = hand_over(gate, &answer.reply, batch, writer) else {
+                return Err(ConnFault::Writer);
+            };
+            Ok(())
+        }
+        Response::Parked => {
+            let Some(reply) = gate.wait(conn) else {
+                return Err(ConnFault::Unanswered);
+            };
+            let Ok(()) = hand_over(gate, &reply, batch, writer) else {
+                return Err(ConnFault::Writer);
+            };
+            Ok(())
+        }
+        _ => return Err(ConnFault::Unanswered),
+    }
 }
 
 // Puts a reply behind those that wait. Where they are to be written, others may ask the node meanwhile: the client may be
@@ -164,7 +176,7 @@ fn write_out<W: Write, G: NodeGate>(
 
 /// Asks the node once, and lets others ask it.
 pub fn ask_alone<G: NodeGate>(gate: &mut G, event: Event) -> Result<G::Answer, StepFault>
-    ensures { Adds (IsAllowed G.may G.may_refuse) (change (G.asked gate.old) (G.asked gate.new))
+    ensures { Adds (IsAllowed G.may G.may_refuse G.may_give) (change (G.asked gate.old) (G.asked gate.new))
         (asking event (outcome_of G.Answer.gave result) ∷ []) }
 {
     let answer = ask(gate, event);
@@ -174,7 +186,7 @@ pub fn ask_alone<G: NodeGate>(gate: &mut G, event: Event) -> Result<G::Answer, S
 
 // Asks the node once. Others wait until they are let in.
 fn ask<G: NodeGate>(gate: &mut G, event: Event) -> Result<G::Answer, StepFault>
-    ensures { Adds (IsAllowed G.may G.may_refuse) (change (G.asked gate.old) (G.asked gate.new))
+    ensures { Adds (IsAllowed G.may G.may_refuse G.may_give) (change (G.asked gate.old) (G.asked gate.new))
         (asking event (outcome_of G.Answer.gave result) ∷ []) }
 {
     gate.step(event)

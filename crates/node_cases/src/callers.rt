@@ -3,7 +3,7 @@ ghost use Rattle.std.specs.Prelude.{◌≡◌};
 ghost use Rattle.tickets.specs.Tickets.{IsFresh};
 
 use crate::clusters::node_of;
-use crate::events::push_outputs;
+use crate::events::push_response;
 use anyhow::{Context, Result, bail};
 use byte_string::ByteString;
 use case_files::{bytes_of, push_bytes, push_values, push_words, string_of, verb_of};
@@ -98,7 +98,7 @@ fn push_got_of<K: Deployment>(
     let entered = set_then_get(alloc, &mut cell, key, value)?;
     let ticket = entered.ticket();
     given.push_str(format!(in alloc; "{ticket} ")?.as_str())?;
-    push_outputs(alloc, given, entered.outputs())
+    push_response(alloc, given, entered.response())
 }
 
 fn push_turns(given: &mut String, turns: Turns) -> Result<()> {

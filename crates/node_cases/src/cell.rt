@@ -3,36 +3,52 @@ ghost use Rattle.std.specs.Prelude.{◌≡◌};
 ghost use Rattle.tickets.specs.Tickets.{IsFresh};
 
 use crate::clusters::node_of;
-use crate::events::{event_of, push_event, push_outputs};
+use crate::events::{conn_of, event_of, push_event, push_message, push_outputs, push_response};
 use anyhow::{Context, Result};
+use case_files::{push_reply, verb_of};
 use cluster_config::Config;
 use node_cell::{Deployment, Entry, Journal, NodeCell};
-use node_core::Event;
+use node_core::{Conn, Event};
 use slot_table::NodeNo;
 use std::alloc::Global;
 use std::marker::Brand;
 use std::rt::Files;
 use tickets::{Seat, open};
 
+// What a line asks of the cell.
+#[derive(Drop)]
+enum Call {
+    Apply(Event),
+    TakeReply(Conn),
+    TakeSent,
+}
+
 /// The first line, `node CLUSTER NUMBER`, names the node. Each further line is an event, and gives the ticket of its step and
-/// what the node answers. Then come the journal, what else is left of the node, and what its seat draws next.
+/// what the node answers; or `take_reply KEY GENERATION`, which gives the reply that is kept for that connection, or
+/// `take_sent`, which gives the messages in the outbox. Then come the journal, what else is left of the node, and what its seat
+/// draws next.
 pub fn play<R: Files + AllocGlobal>(rt: &R, script: &str) -> Result<String> {
     let alloc = rt.alloc();
     let script = script.strip_prefix("node ").context("no node")?;
     let (name, commands) = script.split_once('\n').context("no event")?;
     let (config, node) = node_of(rt, name)?;
-    let events = events_of(alloc, commands)?;
+    let calls = calls_of(alloc, commands)?;
     let (_table, mut seats) = open(alloc, 1)?;
     let seat = seats.pop().context("there is no seat")?;
-    hold::<Brand>(alloc, &config, node, seat, events)
+    hold::<Brand>(alloc, &config, node, seat, calls)
 }
 
-fn events_of(alloc: Global, commands: &str) -> Result<Vec<Event>> {
-    let mut events = Vec::new(alloc);
+fn calls_of(alloc: Global, commands: &str) -> Result<Vec<Call>> {
+    let mut calls = Vec::new(alloc);
     for command in commands.lines() {
-        events.push(event_of(alloc, command)?)?;
+        let call = match verb_of(command) {
+            ("take_reply", conn) => Call::TakeReply(conn_of(conn)?.0),
+            ("take_sent", "") => Call::TakeSent,
+            _ => Call::Apply(event_of(alloc, command)?),
+        };
+        calls.push(call)?;
     }
-    Ok(events)
+    Ok(calls)
 }
 
 fn hold<K: Deployment>(
@@ -40,15 +56,19 @@ fn hold<K: Deployment>(
     config: &Config,
     node: NodeNo,
     seat: Seat,
-    events: Vec<Event>,
+    calls: Vec<Call>,
 ) -> Result<String>
     requires cluster { config.now ≡ K.config }
     requires seat { IsFresh K.table K.seats seat }
 {
     let mut cell = NodeCell::<K, Journal>::new(alloc, config, node, seat)?;
     let mut given = String::new(alloc);
-    for event in events {
-        apply(alloc, &mut cell, &mut given, event)?;
+    for call in calls {
+        match call {
+            Call::Apply(event) => apply(alloc, &mut cell, &mut given, event)?,
+            Call::TakeReply(conn) => take_reply(alloc, &mut cell, &mut given, conn)?,
+            Call::TakeSent => take_sent(alloc, &mut cell, &mut given)?,
+        }
     }
     let (config, node, log, seat) = cell.finish();
     let journal = log.into_entries();
@@ -61,7 +81,7 @@ fn hold<K: Deployment>(
     Ok(given)
 }
 
-// Makes the step, and tells its ticket and what came out.
+// Makes the step, and tells its ticket and what its sender got back.
 fn apply<K: Deployment>(
     alloc: Global,
     cell: &mut NodeCell<K, Journal>,
@@ -70,7 +90,37 @@ fn apply<K: Deployment>(
 ) -> Result<()> {
     let entered = cell.apply(event)?;
     push_ticket(given, entered.ticket())?;
-    push_outputs(alloc, given, entered.outputs())
+    push_response(alloc, given, entered.response())
+}
+
+fn take_reply<K: Deployment>(
+    alloc: Global,
+    cell: &mut NodeCell<K, Journal>,
+    given: &mut String,
+    conn: Conn,
+) -> Result<()> {
+    let is_kept = cell.has_kept();
+    match cell.take_reply(conn) {
+        Some(reply) => push_reply(alloc, given, &reply),
+        None if is_kept => Ok(given.push_str("none for it\n")?),
+        None => Ok(given.push_str("none\n")?),
+    }
+}
+
+fn take_sent<K: Deployment>(
+    alloc: Global,
+    cell: &mut NodeCell<K, Journal>,
+    given: &mut String,
+) -> Result<()> {
+    if !cell.has_sent() {
+        given.push_str("none\n")?;
+    }
+    for messages in cell.take_sent(alloc) {
+        for message in messages.into_vec(alloc) {
+            push_message(given, &message)?;
+        }
+    }
+    Ok(())
 }
 
 fn push_ticket(text: &mut String, ticket: u64) -> Result<()> {

@@ -7,7 +7,7 @@ use crate::clusters::node_of;
 use crate::streams::{Pieces, Written};
 use anyhow::{Context, Result, bail};
 use case_files::push_bytes;
-use cluster::Gate;
+use cluster::{Gate, SharedNode};
 use cluster_config::Config;
 use listener::{ConnFault, serve_conn};
 use node_cell::{Deployment, Entry, Journal, NodeCell};
@@ -17,7 +17,7 @@ use slot_table::NodeNo;
 use std::alloc::Global;
 use std::marker::Brand;
 use std::rt::Files;
-use std::sync::{Mutex, Wait};
+use std::sync::Wait;
 use tickets::{Seat, open};
 
 // Up to this number, lines that are the same are written one by one.
@@ -127,11 +127,13 @@ fn hold<K: Deployment, R: Wait + Drop>(
     requires seat { IsFresh K.table K.seats seat }
 {
     let cell = NodeCell::<K, Journal>::new(alloc, config, node, seat)?;
-    let node = Mutex::new(cell);
+    let node = SharedNode::new(cell);
+    // Nobody carries the messages of this node, so no reply comes later.
+    node.close(&rt);
     let mut reader = Counting::new(reader);
     let mut writer = Counting::new(writer);
     let ended = converse(rt, alloc, &node, &mut reader, &mut writer);
-    let (_config, _node, log, _seat) = node.into_inner().finish();
+    let (_config, _node, log, _seat) = node.into_cell().finish();
     let journal = log.into_entries();
     Ok(Held {
         ended,
@@ -144,7 +146,7 @@ fn hold<K: Deployment, R: Wait + Drop>(
 fn converse<K: Deployment, R: Wait + Drop>(
     rt: R,
     alloc: Global,
-    node: &Mutex<NodeCell<K, Journal>>,
+    node: &SharedNode<K, Journal>,
     reader: &mut Counting<Pieces<'_>>,
     writer: &mut Counting<Written>,
 ) -> Result<(), ConnFault> {

@@ -63,7 +63,19 @@ pub fn push_event(text: &mut String, event: &Event) -> Result<()> {
 /// Puts the outputs behind the text: a line for the response, and one for each reply to a connection that waited and for each
 /// message.
 pub fn push_outputs(alloc: Global, text: &mut String, outputs: &Outputs) -> Result<()> {
-    match &outputs.response {
+    push_response(alloc, text, &outputs.response)?;
+    for release in outputs.released.as_slice() {
+        push_release(alloc, text, release)?;
+    }
+    for message in outputs.sent.as_slice() {
+        push_message(text, message)?;
+    }
+    Ok(())
+}
+
+/// Writes what the sender of an event got back, on a line.
+pub fn push_response(alloc: Global, text: &mut String, response: &Response) -> Result<()> {
+    match response {
         Response::Nothing => text.push_str("nothing\n")?,
         Response::Opened(conn) => {
             text.push_str("opened")?;
@@ -77,12 +89,6 @@ pub fn push_outputs(alloc: Global, text: &mut String, outputs: &Outputs) -> Resu
         }
         Response::Parked => text.push_str("parked\n")?,
     }
-    for release in outputs.released.as_slice() {
-        push_release(alloc, text, release)?;
-    }
-    for message in outputs.sent.as_slice() {
-        push_message(text, message)?;
-    }
     Ok(())
 }
 
@@ -93,7 +99,8 @@ fn push_release(alloc: Global, text: &mut String, release: &Release) -> Result<(
     push_reply(alloc, text, &release.reply)
 }
 
-fn push_message(text: &mut String, message: &Message) -> Result<()> {
+/// Writes a message on a line.
+pub fn push_message(text: &mut String, message: &Message) -> Result<()> {
     let to = message.to.get();
     let name = name_of_body(&message.body);
     let line = format!(in *text.allocator(); "sent {name} to {to}\n")?;

@@ -1,15 +1,17 @@
 -- What was asked of a node through one gate.
-use Rattle.std.specs.Prelude.{Result, Ok, Err}
+use Rattle.std.specs.Prelude.{Option, Result, Ok, Err}
+use Rattle.connections.specs.declared.conn.Conn.{Conn}
 use Rattle.node_step.specs.declared.event.Event.{Event}
 use Rattle.node_core.specs.declared.fault.StepFault.{StepFault}
 use Rattle.node_step.specs.declared.outputs.Outputs.{Outputs}
-use Rattle.node_cell.specs.declared.asks.Outcome.{Outcome}
-use Rattle.node_cell.specs.declared.asks.Outcome.TheVariants.{Stepped, Refused}
+use Rattle.node_cell.specs.declared.asks.Note.{Note}
+use Rattle.node_cell.specs.declared.asks.Note.TheVariants.{Stepped, Refused, Waited}
+use Rattle.resp2.specs.declared.reply.Reply.{Reply}
 
--- an event that was given to a node, and what came of it
-pub record Asked : Type 0 where
-  pub event : Event
-  pub outcome : Result Outputs StepFault
+-- what was asked of a node, and what came of it: a step for an event, or the reply that a connection waited for
+pub data Asked : Type 0 where
+  asking : Event → Result Outputs StepFault → Asked
+  waiting : Conn → Option Reply → Asked
 
 -- what came of an event, by what the asker sees of the step
 abbrev pub outcome_of : {A : Type 0} → (A → Outputs) → Result A StepFault → Result Outputs StepFault
@@ -17,6 +19,7 @@ outcome_of gave (Ok answer) = Ok (gave answer)
 outcome_of gave (Err fault) = Err fault
 
 -- what is noted of it
-abbrev pub noted : Outcome → Result Outputs StepFault
-noted (Stepped outputs) = Ok outputs.value
-noted (Refused fault) = Err fault
+abbrev pub noted : Note → Asked
+noted (Stepped event outputs) = asking event.value (Ok outputs.value.value)
+noted (Refused event fault) = asking event.value (Err fault)
+noted (Waited conn reply) = waiting conn reply.value

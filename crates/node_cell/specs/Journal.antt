@@ -1,5 +1,6 @@
 -- The journal of a node: what it did, in order, each step under the ticket that was drawn for it.
 use Rattle.std.specs.Prelude.{◌≡◌, ◌<◌, ◌≤◌, ◌^◌, ◌⊎◌, ℕ, List, [], ◌∷◌, ◌++◌, map, length, All}
+use Rattle.std.specs.List.{Contains, flat_map}
 use Rattle.cluster_config.specs.Config.{ClusterConfig}
 use Rattle.node_step.specs.Numbers.{NoNumberLeft}
 use Rattle.node_step.specs.State.{NodeState}
@@ -8,6 +9,9 @@ use Rattle.node_step.specs.declared.event.Event.{Event}
 use Rattle.node_core.specs.declared.fault.StepFault.{StepFault}
 use Rattle.node_core.specs.declared.fault.StepFault.TheVariants.{Memory, Exhausted}
 use Rattle.node_step.specs.declared.outputs.Outputs.{Outputs}
+use Rattle.node_step.specs.declared.outputs.Release.{Release}
+use Rattle.bus.specs.declared.message.Message.{Message}
+use Rattle.node_cell.specs.Kept.{kept_after}
 use Rattle.node_cell.specs.declared.entry.Entry.{Entry}
 use Rattle.node_cell.specs.declared.entry.Entry.TheVariants.{Step, Skipped}
 
@@ -20,12 +24,15 @@ pub record EnteredView : Type 0 where
   pub event : Event
   pub outputs : Outputs
 
--- a cell: the cluster's configuration, which node it is, its state, and its journal
+-- a cell: the cluster's configuration, which node it is, its state, its journal, the replies to connections that waited and the
+-- messages to other nodes that nobody has taken yet
 pub record CellView : Type 0 where
   pub config : ClusterConfig
   pub node : ℕ
   pub state : NodeState
   pub journal : List Entry
+  pub kept : List Release
+  pub outbox : List Message
 
 -- the ticket of an entry
 abbrev pub ticket_of : Entry → ℕ
@@ -34,6 +41,15 @@ ticket_of (Skipped ticket) = ticket
 
 abbrev pub tickets_of : List Entry → List ℕ
 tickets_of entries = map ticket_of entries
+
+-- the replies that the step of an entry gave to connections that waited
+abbrev pub released_by : Entry → List Release
+released_by (Step event outputs) = outputs.released
+released_by (Skipped ticket) = []
+
+-- a step of the journal gave this reply to a connection that waited
+abbrev pub IsGiven : List Entry → Release → Type 0
+IsGiven journal release = Contains (flat_map released_by journal) release
 
 -- an entry leads from a state to the next: by a step under its ticket, or to the same state
 abbrev pub Leads : NodeState → Entry → NodeState → Type 0
@@ -89,7 +105,9 @@ pub record Skips (old : NodeState) (before : List Entry) (ticket : ℕ) (event :
 -- a step was made: it stands at the end of the journal, and is a step of the node
 pub record Enters (old : CellView) (event : Event) (entered : EnteredView) (new : CellView) : Type 0 where
   pub makes : Makes old.state old.journal entered.outputs.ticket event entered new.state new.journal
-  pub rest : new ≡ record old { state = new.state; journal = new.journal }
+  pub kept : new.kept ≡ kept_after event old.kept entered.outputs.released
+  pub outbox : new.outbox ≡ old.outbox ++ entered.outputs.sent
+  pub rest : new ≡ record old { state = new.state; journal = new.journal; kept = new.kept; outbox = new.outbox }
 
 -- nothing was drawn, since memory was refused or all numbers of the seat are drawn
 pub record IsTurnedAway (old : CellView) (fault : StepFault) (new : CellView) : Type 0 where

@@ -1,3 +1,4 @@
 pub mod Asks
 pub mod Journal
+pub mod Kept
 pub mod Log

@@ -1,6 +1,7 @@
 //! What was asked of a node through one gate.
 ghost use Rattle.std.specs.Prelude.{◌≡◌, ◌++◌, ◌∷◌, [], IfOk, IfErr};
 ghost use Rattle.node_cell.specs.Asks.{noted, outcome_of};
+ghost use Rattle.node_cell.specs.Asks.Asked.{asking, waiting};
 ghost use Rattle.node_step.specs.State.{first_state};
 ghost use Rattle.node_cell.specs.Journal.{Enters, IsHistory, IsRefused};
 
@@ -9,21 +10,22 @@ use crate::deployment::Deployment;
 use crate::entered::Entered;
 use crate::log::Log;
 use history::History;
-use node_core::{Event, Outputs, StepFault};
+use node_core::{Conn, Event, Outputs, StepFault};
+use resp2::Reply;
 use std::marker::Model;
 use std::snapshot::Snapshot;
 
-// What came of an event.
+// What was asked of a node, and what came of it.
 #[derive(Drop)]
-enum Outcome {
-    Stepped(Snapshot<Outputs>),
-    Refused(StepFault),
+enum Note {
+    Stepped(Snapshot<Event>, Snapshot<Snapshot<Outputs>>),
+    Refused(Snapshot<Event>, StepFault),
+    Waited(Conn, Snapshot<Option<Reply>>),
 }
 
 #[derive(Drop)]
 struct Asking {
-    event: Snapshot<Event>,
-    outcome: Outcome,
+    note: Note,
 }
 
 impl Model for Asking {
@@ -31,10 +33,11 @@ impl Model for Asking {
 
     ghost Value = { Asked };
 
-    ghost view = { λ asking. record { event = asking.event.value; outcome = noted asking.outcome } };
+    ghost view = { λ asking. noted asking.note };
 }
 
-/// The events that were given to a node through one gate, each with what came of it. Only proofs read it.
+/// What was asked of a node through one gate: the events that were given to it and the replies that were waited for, each with
+/// what came of it. Only proofs read it.
 #[derive(Drop)]
 pub struct Asks {
     asked: History<Asking>,
@@ -65,7 +68,7 @@ impl Asks {
         cell: &mut NodeCell<K, L>,
         event: Event,
     ) -> Result<Entered<K>, StepFault>
-        ensures asked { self.new ≡ self.old ++ (record { event = event; outcome = outcome_of (λ entered. entered.outputs) result }) ∷ [] }
+        ensures asked { self.new ≡ self.old ++ asking event (outcome_of (λ entered. entered.outputs) result) ∷ [] }
         ensures cluster { cell.old.config ≡ K.config }
         ensures history { IsHistory (first_state cell.old.config cell.old.node) cell.old.journal cell.old.state }
         ensures ok { IfOk result (λ entered. Enters cell.old event entered cell.new) }
@@ -73,23 +76,28 @@ impl Asks {
     {
         let asked = Snapshot::of(&event);
         let answered = cell.apply(event);
-        self.note(asked, note_of(&answered));
+        self.asked.push(&Asking {
+            note: note_of(asked, &answered),
+        });
         answered
     }
 
-    fn note(&mut self, event: Snapshot<Event>, outcome: Outcome)
-        ensures { self.new ≡ self.old ++ (record { event = event.value; outcome = noted outcome }) ∷ [] }
+    /// Notes which reply came to the connection that waited for it.
+    pub fn note_wait(&mut self, conn: Conn, reply: &Option<Reply>)
+        ensures { self.new ≡ self.old ++ waiting conn reply.now ∷ [] }
     {
-        self.asked.push(&Asking { event, outcome });
+        self.asked.push(&Asking {
+            note: Note::Waited(conn, Snapshot::of(reply)),
+        });
     }
 }
 
 // What came of an event, as it is noted.
-fn note_of<K: Deployment>(answered: &Result<Entered<K>, StepFault>) -> Outcome
-    ensures { noted result ≡ outcome_of (λ entered. entered.outputs) answered.now }
+fn note_of<K: Deployment>(event: Snapshot<Event>, answered: &Result<Entered<K>, StepFault>) -> Note
+    ensures { noted result ≡ asking event.value (outcome_of (λ entered. entered.outputs) answered.now) }
 {
     match answered {
-        Ok(entered) => Outcome::Stepped(Snapshot::of(entered.outputs())),
-        Err(fault) => Outcome::Refused(*fault),
+        Ok(entered) => Note::Stepped(event, Snapshot::of(entered.gave())),
+        Err(fault) => Note::Refused(event, *fault),
     }
 }

@@ -1,20 +1,26 @@
 //! A node with its journal and its seat at the tickets.
-ghost use Rattle.std.specs.Prelude.{◌≡◌, ◌<◌, ◌++◌, ◌∷◌, [], Err, IfOk, IfErr, OnErr, vec_len, vec_capacity};
+ghost use Rattle.std.specs.Prelude.{◌≡◌, ◌<◌, ◌==◌, ◌++◌, ◌∷◌, [], All, length, not, Err, IfOk, IfErr, IfSome, OnErr, OnOk, vec_len, vec_capacity};
+ghost use Rattle.std.specs.List.{list_any};
 ghost use Rattle.tickets.specs.Tickets.{drawn, table_of, seats_of, IsFresh};
 ghost use Rattle.node_step.specs.State.{first_state};
 ghost use Rattle.node_step.specs.Step.{NodeStep};
 ghost use Rattle.node_core.specs.declared.fault.StepFault.TheVariants.{Exhausted};
-ghost use Rattle.node_cell.specs.Journal.{Advances, Enters, IsRefused, IsHistory, Makes, Rises, Skips, tickets_of};
+ghost use Rattle.node_step.specs.Kept.{reply_to, without_reply_to};
+ghost use Rattle.node_cell.specs.Kept.{joined, kept_after};
+ghost use Rattle.node_cell.specs.Journal.{Advances, Enters, IsGiven, IsRefused, IsHistory, Makes, Rises, Skips, tickets_of};
 
 use crate::deployment::Deployment;
 use crate::entered::Entered;
+use crate::kept::{has_some, keep, take};
 use crate::log::Log;
 use cluster_config::Config;
-use node_core::{Core, Event, StepFault};
+use node_core::{Conn, Core, Event, Messages, Outputs, Releases, StepFault};
+use resp2::Reply;
 use slot_store::SlotStore;
 use slot_table::NodeNo;
 use std::alloc::{AllocError, Global};
 use std::marker::{Model, PhantomData};
+use std::mem;
 use std::snapshot::Snapshot;
 use tickets::Seat;
 
@@ -25,12 +31,15 @@ pub struct NodeCell<K: Deployment, L: Log> {
     node: NodeNo,
     core: Core,
     log: L,
+    // An item for each step that gave some, until they are taken.
+    kept: Vec<Releases>,
+    outbox: Vec<Messages>,
     seat: Seat,
     cluster: PhantomData<K>,
 }
 
 impl<K: Deployment, L: Log> Model for NodeCell<K, L> {
-    ghost use Rattle.std.specs.Prelude.{◌≡◌, ℕ};
+    ghost use Rattle.std.specs.Prelude.{◌≡◌, ℕ, All};
     ghost use Rattle.std.specs.Coded.{Coded, codes, coded_list, coded_ℕ};
     ghost use Rattle.std.specs.Ordering.{nat_cmp};
     ghost use Rattle.std.specs.Cmp.Lexicographic.{slice_cmp};
@@ -39,15 +48,17 @@ impl<K: Deployment, L: Log> Model for NodeCell<K, L> {
     ghost use Rattle.slot_moves.specs.declared.running.Move.{Move};
     ghost use Rattle.tickets.specs.Tickets.{drawn, table_of, seats_of};
     ghost use Rattle.node_step.specs.State.{first_state};
-    ghost use Rattle.node_cell.specs.Journal.{CellView, IsJournal};
+    ghost use Rattle.node_cell.specs.Journal.{CellView, IsGiven, IsJournal};
+    ghost use Rattle.node_cell.specs.Kept.{joined};
 
     ghost Value = { CellView };
 
     ghost coded = { Prim.hlevel (codes, let stored : Coded Stored = Prim.hlevel codes in map.code {R = slice_cmp nat_cmp} (coded_list coded_ℕ) stored, let move : Coded Move = Prim.hlevel codes in map.code {R = nat_cmp} coded_ℕ move, map.code {R = nat_cmp} coded_ℕ coded_ℕ) };
 
-    ghost view = { λ cell. record { config = cell.config; node = cell.node; state = cell.core; journal = L.entries cell.log } };
+    ghost view = { λ cell. record { config = cell.config; node = cell.node; state = cell.core; journal = L.entries cell.log; kept = joined cell.kept.items; outbox = joined cell.outbox.items } };
 
     ghost invariant = { λ cell. IsJournal (first_state cell.config cell.node) (L.entries cell.log) cell.core (drawn cell.seat)
+        × All (IsGiven (L.entries cell.log)) (joined cell.kept.items)
         × (cell.config ≡ K.config) × (table_of cell.seat ≡ K.table) × (seats_of cell.seat ≡ K.seats) };
 }
 
@@ -61,7 +72,7 @@ impl<K: Deployment, L: Log> NodeCell<K, L> {
     ) -> Result<NodeCell<K, L>, AllocError>
         requires cluster { config.now ≡ K.config }
         requires seat { IsFresh K.table K.seats seat }
-        ensures { IfOk result (λ cell. cell ≡ record { config = config.now; node = node; state = first_state config.now node; journal = [] }) }
+        ensures { IfOk result (λ cell. cell ≡ record { config = config.now; node = node; state = first_state config.now node; journal = []; kept = []; outbox = [] }) }
     {
         let core = Core::new(alloc, config.clone()?, node, SlotStore::new(alloc)?)?;
         Ok(NodeCell {
@@ -69,6 +80,8 @@ impl<K: Deployment, L: Log> NodeCell<K, L> {
             node,
             core,
             log: L::new(alloc),
+            kept: Vec::new(alloc),
+            outbox: Vec::new(alloc),
             seat,
             cluster: PhantomData,
         })
@@ -85,11 +98,51 @@ impl<K: Deployment, L: Log> NodeCell<K, L> {
         ensures err { IfErr result (λ fault. IsRefused self.old event fault self.new) }
     {
         // Room comes before the ticket: one that is drawn has to be entered.
-        self.log.reserve()?;
+        make_room(&mut self.log, &mut self.kept, &mut self.outbox)?;
         let Some(ticket) = self.seat.draw() else {
             return Err(StepFault::Exhausted);
         };
-        advance(&mut self.core, &mut self.log, ticket, event)
+        advance(
+            &mut self.core,
+            &mut self.log,
+            &mut self.kept,
+            &mut self.outbox,
+            ticket,
+            event,
+        )
+    }
+
+    /// Takes the first reply that is kept for the connection.
+    pub fn take_reply(&mut self, conn: Conn) -> Option<Reply>
+        ensures cluster { self.old.config ≡ K.config }
+        ensures history { IsHistory (first_state self.old.config self.old.node) self.old.journal self.old.state }
+        ensures given { IfSome result (λ reply. IsGiven self.old.journal (record { conn = conn; reply = reply })) }
+        ensures reply { result ≡ reply_to conn self.old.kept }
+        ensures left { self.new ≡ record self.old { kept = without_reply_to conn self.old.kept } }
+    {
+        take(&mut self.kept, conn)
+    }
+
+    /// Whether replies are kept that nobody has taken yet.
+    pub fn has_kept(&self) -> bool
+        ensures { result ≡ not (length self.now.kept == 0) }
+    {
+        has_some(self.kept.as_slice())
+    }
+
+    /// Whether messages were sent that nobody has taken yet.
+    pub fn has_sent(&self) -> bool
+        ensures { result ≡ not (length self.now.outbox == 0) }
+    {
+        has_message(self.outbox.as_slice())
+    }
+
+    /// Takes all messages that were sent and that nobody has taken yet.
+    pub fn take_sent(&mut self, alloc: Global) -> Vec<Messages>
+        ensures sent { joined result.items ≡ self.old.outbox }
+        ensures left { self.new ≡ record self.old { outbox = [] } }
+    {
+        mem::replace(&mut self.outbox, Vec::new(alloc))
     }
 
     /// The configuration, the node's number, its log and its seat.
@@ -104,6 +157,8 @@ impl<K: Deployment, L: Log> NodeCell<K, L> {
             node,
             core: _,
             log,
+            kept: _,
+            outbox: _,
             seat,
             cluster: _,
         } = self;
@@ -111,27 +166,88 @@ impl<K: Deployment, L: Log> NodeCell<K, L> {
     }
 }
 
+// Makes room for what one step adds.
+fn make_room<L: Log>(
+    log: &mut L,
+    kept: &mut Vec<Releases>,
+    outbox: &mut Vec<Messages>,
+) -> Result<(), AllocError>
+    ensures room { OnOk result (L.has_room log.new) }
+    ensures kept_room { OnOk result (vec_len kept.new < vec_capacity kept.new) }
+    ensures outbox_room { OnOk result (vec_len outbox.new < vec_capacity outbox.new) }
+    ensures log { L.entries log.new ≡ L.entries log.old }
+    ensures kept { kept.new.items ≡ kept.old.items }
+    ensures outbox { outbox.new.items ≡ outbox.old.items }
+{
+    log.reserve()?;
+    kept.reserve(1)?;
+    outbox.reserve(1)
+}
+
 // Makes the step and enters it, or enters the ticket as skipped.
 fn advance<K: Deployment, L: Log>(
     core: &mut Core,
     log: &mut L,
+    kept: &mut Vec<Releases>,
+    outbox: &mut Vec<Messages>,
     ticket: u64,
     event: Event,
 ) -> Result<Entered<K>, StepFault>
-    requires { L.has_room log.old }
+    requires log { L.has_room log.old }
+    requires kept { vec_len kept.old < vec_capacity kept.old }
+    requires outbox { vec_len outbox.old < vec_capacity outbox.old }
     ensures entered { Advances core.old (L.entries log.old) ticket core.new (L.entries log.new) }
     ensures ok { IfOk result (λ entered. Makes core.old (L.entries log.old) ticket event entered core.new (L.entries log.new)) }
+    ensures kept { IfOk result (λ entered. joined kept.new.items ≡ kept_after event (joined kept.old.items) entered.outputs.released) }
+    ensures outbox { IfOk result (λ entered. joined outbox.new.items ≡ joined outbox.old.items ++ entered.outputs.sent) }
     ensures err { IfErr result (λ fault. Skips core.old (L.entries log.old) ticket event fault core.new (L.entries log.new)) }
+    ensures given { All (IsGiven (L.entries log.old)) (joined kept.old.items) → All (IsGiven (L.entries log.new)) (joined kept.new.items) }
+    ensures rest { OnErr result ((joined kept.new.items ≡ joined kept.old.items) × (joined outbox.new.items ≡ joined outbox.old.items)) }
 {
     let asked = Snapshot::of(&event);
     match core.step::<L>(ticket, &event) {
-        Ok((outputs, kept)) => {
-            log.enter_step(event, kept);
-            Ok(Entered::new(asked, outputs))
+        Ok((outputs, seen)) => {
+            let gave = Snapshot::of(&outputs);
+            let Outputs {
+                ticket,
+                response,
+                released,
+                sent,
+            } = outputs;
+            keep(kept, &event, released);
+            put_out(outbox, sent);
+            log.enter_step(event, seen);
+            Ok(Entered::new(asked, gave, ticket, response))
         }
         Err(fault) => {
             log.enter_skip(ticket);
             Err(fault)
         }
     }
+}
+
+// Puts the messages of a step behind those that wait. There has to be room.
+fn put_out(outbox: &mut Vec<Messages>, sent: Messages)
+    requires { vec_len outbox.old < vec_capacity outbox.old }
+    ensures { joined outbox.new.items ≡ joined outbox.old.items ++ sent }
+{
+    if sent.as_slice().is_empty() {
+        return;
+    }
+    let Ok(()) = outbox.push(sent) else {
+        unreachable!();
+    };
+}
+
+// Whether a message is among those of the steps.
+fn has_message(outbox: &[Messages]) -> bool
+    ensures { result ≡ list_any (λ part. not (length part == 0)) outbox.now }
+{
+    outbox.iter().any(|part| is_some(part))
+}
+
+fn is_some(part: &Messages) -> bool
+    ensures { result ≡ not (length part.now == 0) }
+{
+    !part.as_slice().is_empty()
 }

@@ -2,33 +2,48 @@
 ghost use Rattle.std.specs.Prelude.{◌≡◌};
 
 use crate::deployment::Deployment;
-use node_core::{Event, Outputs};
+use node_core::{Event, Outputs, Response};
 use std::marker::{Model, PhantomData};
 use std::snapshot::Snapshot;
 
 /// A step that a cell of this cluster made and entered. Only [`apply`](crate::NodeCell::apply) makes one.
 ///
-/// Clauses also see the event, which the program doesn't keep here a second time.
+/// Clauses also see the event and all that came out. The program keeps the ticket and the response here.
 #[derive(Drop)]
 pub struct Entered<K: Deployment> {
+    ticket: u64,
+    response: Response,
     event: Snapshot<Event>,
-    outputs: Outputs,
+    outputs: Snapshot<Outputs>,
     cluster: PhantomData<K>,
 }
 
 impl<K: Deployment> Model for Entered<K> {
+    ghost use Rattle.std.specs.Prelude.{◌≡◌};
     ghost use Rattle.node_cell.specs.Journal.{EnteredView};
 
     ghost Value = { EnteredView };
 
-    ghost view = { λ entered. record { event = entered.event.value; outputs = entered.outputs } };
+    ghost view = { λ entered. record { event = entered.event.value; outputs = entered.outputs.value } };
+
+    ghost invariant = { λ entered. (entered.ticket ≡ entered.outputs.value.ticket) × (entered.response ≡ entered.outputs.value.response) };
 }
 
 impl<K: Deployment> Entered<K> {
-    pub(crate) fn new(event: Snapshot<Event>, outputs: Outputs) -> Entered<K>
-        ensures { result ≡ record { event = event.value; outputs = outputs } }
+    // A step that was made for the event. Of its outputs the ticket and the response are kept here.
+    pub(crate) fn new(
+        event: Snapshot<Event>,
+        outputs: Snapshot<Outputs>,
+        ticket: u64,
+        response: Response,
+    ) -> Entered<K>
+        requires ticket { ticket ≡ outputs.value.ticket }
+        requires response { response ≡ outputs.value.response }
+        ensures { result ≡ record { event = event.value; outputs = outputs.value } }
     {
         Entered {
+            ticket,
+            response,
             event,
             outputs,
             cluster: PhantomData,
@@ -39,12 +54,19 @@ impl<K: Deployment> Entered<K> {
     pub fn ticket(&self) -> u64
         ensures { result ≡ self.now.outputs.ticket }
     {
-        self.outputs.ticket
+        self.ticket
     }
 
-    /// What came out of the step.
-    pub fn outputs(&self) -> &Outputs
-        ensures { result.now ≡ self.now.outputs }
+    /// What the sender of the event gets back.
+    pub fn response(&self) -> &Response
+        ensures { result.now ≡ self.now.outputs.response }
+    {
+        &self.response
+    }
+
+    // All that came out of the step, as only proofs read it.
+    pub(crate) fn gave(&self) -> &Snapshot<Outputs>
+        ensures { result.now.value ≡ self.now.outputs }
     {
         &self.outputs
     }

@@ -1,10 +1,12 @@
 //! How the threads of connections reach a node.
-ghost use Rattle.std.specs.Prelude.{◌≡◌, ◌++◌, ◌∷◌, [], IfOk, IfErr};
+ghost use Rattle.std.specs.Prelude.{◌≡◌, ◌++◌, ◌∷◌, [], IfOk, IfErr, IfSome};
 ghost use Rattle.node_cell.specs.Asks.{outcome_of};
+ghost use Rattle.node_cell.specs.Asks.Asked.{asking, waiting};
 
 use crate::deployment::Deployment;
 use crate::entered::Entered;
-use node_core::{Event, Outputs, StepFault};
+use node_core::{Conn, Event, Response, StepFault};
+use resp2::Reply;
 
 /// A step that was made, as the one who asked for it sees it.
 pub trait Answered {
@@ -15,9 +17,9 @@ pub trait Answered {
 
     ghost gave: { Self → NodeOutputs };
 
-    /// What came out of the step.
-    fn outputs(&self) -> &Outputs
-        ensures { result.now ≡ gave self.now };
+    /// What the sender of the event gets back.
+    fn response(&self) -> &Response
+        ensures { result.now ≡ (gave self.now).response };
 }
 
 /// One conversation's way to a node that several of them may ask.
@@ -30,6 +32,8 @@ pub trait NodeGate {
     ghost use Rattle.node_step.specs.declared.event.Event.{Event as NodeEvent};
     ghost use Rattle.node_step.specs.declared.outputs.Outputs.{Outputs as NodeOutputs};
     ghost use Rattle.node_core.specs.declared.fault.StepFault.{StepFault as Refusal};
+    ghost use Rattle.connections.specs.declared.conn.Conn.{Conn as Connection};
+    ghost use Rattle.resp2.specs.declared.reply.Reply.{Reply as Given};
     ghost use Rattle.node_cell.specs.Asks.{Asked};
 
     ghost asked: { Self → List Asked };
@@ -38,14 +42,22 @@ pub trait NodeGate {
 
     ghost may_refuse: { NodeEvent → Refusal → Type 0 };
 
+    ghost may_give: { Connection → Given → Type 0 };
+
     /// Makes the node's step for the event: the answer is for this event, and one that the node may give.
     ///
     /// Memory and Exhausted leave the node as it was, and come where the node may refuse the event so.
     fn step(&mut self, event: Event) -> Result<Self::Answer, StepFault>
-        ensures asked { asked self.new ≡ asked self.old ++ (record { event = event; outcome = outcome_of Self.Answer.gave result }) ∷ [] }
+        ensures asked { asked self.new ≡ asked self.old ++ asking event (outcome_of Self.Answer.gave result) ∷ [] }
         ensures event { IfOk result (λ answer. Self.Answer.event answer ≡ event) }
         ensures may { IfOk result (λ answer. may event (Self.Answer.gave answer)) }
         ensures refused { IfErr result (λ fault. may_refuse event fault) };
+
+    /// Waits for the reply to the connection, whose last request was answered with [`Parked`](Response::Parked): a reply that the
+    /// node may give to it, or None where none will come. Others may ask the node meanwhile.
+    fn wait(&mut self, conn: Conn) -> Option<Reply>
+        ensures asked { asked self.new ≡ asked self.old ++ waiting conn result ∷ [] }
+        ensures given { IfSome result (λ reply. may_give conn reply) };
 
     /// Lets others ask the node. A step may keep them waiting until then, so it is called before anything is waited for.
     fn release(&mut self)
@@ -57,7 +69,7 @@ impl<K: Deployment> Answered for Entered<K> {
 
     ghost gave = { λ entered. entered.outputs };
 
-    fn outputs(&self) -> &Outputs {
-        Entered::outputs(self)
+    fn response(&self) -> &Response {
+        Entered::response(self)
     }
 }

@@ -7,6 +7,7 @@ mod deployment;
 mod entered;
 mod entry;
 mod gate;
+mod kept;
 mod log;
 
 pub use asks::Asks;

@@ -13,3 +13,4 @@ pub mod Requests
 pub mod Numbers
 pub mod Step
 pub mod Few
+pub mod Kept

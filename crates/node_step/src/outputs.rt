@@ -1,5 +1,6 @@
 //! What a step gives to the world outside its node.
-ghost use Rattle.std.specs.Prelude.{◌≡◌, [], map, IfOk, IsOk};
+ghost use Rattle.std.specs.Prelude.{◌≡◌, ◌<◌, [], map, length, position, IfOk, IfSome, IsOk};
+ghost use Rattle.node_step.specs.Kept.{is_for, of_others, reply_to, without_reply_to};
 ghost use Rattle.node_step.specs.Outcome.{release, stamped};
 ghost use Rattle.node_step.specs.Plain.{IsPlain};
 
@@ -83,6 +84,27 @@ impl Releases {
         }
     }
 
+    /// Takes out the first reply to the connection.
+    pub fn take(&mut self, conn: Conn) -> Option<Reply>
+        ensures reply { result ≡ reply_to conn self.old }
+        ensures left { self.new ≡ without_reply_to conn self.old }
+    {
+        match &mut self.releases {
+            Some(releases) => take_from(releases, conn),
+            None => None,
+        }
+    }
+
+    /// Drops the replies to the connection.
+    pub fn forget(&mut self, conn: Conn)
+        ensures { self.new ≡ of_others conn self.old }
+    {
+        match &mut self.releases {
+            Some(releases) => forget_in(releases, conn),
+            None => {}
+        }
+    }
+
     // An equal copy, which takes no memory where there is no reply.
     fn copy(&self) -> Result<Releases, AllocError>
         ensures same { IfOk result (λ copy. copy ≡ self.now) }
@@ -95,6 +117,30 @@ impl Releases {
             _ => Ok(Releases::new()),
         }
     }
+}
+
+// Takes out the first reply to the connection.
+fn take_from(releases: &mut Vec<Release>, conn: Conn) -> Option<Reply>
+    ensures reply { result ≡ reply_to conn releases.old.items }
+    ensures left { releases.new.items ≡ without_reply_to conn releases.old.items }
+{
+    let place = place_of(releases.as_slice(), conn)?;
+    Some(releases.remove(place).reply)
+}
+
+// The place of the first reply to the connection.
+fn place_of(releases: &[Release], conn: Conn) -> Option<usize>
+    ensures place { result ≡ position (is_for conn) releases.now }
+    ensures within { IfSome result (λ place. place < length releases.now) }
+{
+    releases.iter().position(|release| release.conn == conn)
+}
+
+// Drops the replies to the connection.
+fn forget_in(releases: &mut Vec<Release>, conn: Conn)
+    ensures { releases.new.items ≡ of_others conn releases.old.items }
+{
+    releases.retain(|release| release.conn != conn);
 }
 
 /// Messages to other nodes, in the order in which they are numbered.
@@ -150,6 +196,16 @@ impl Messages {
         }
         let messages = Some(Box::new(alloc, messages)?);
         Ok(Messages { messages })
+    }
+
+    /// The messages in order, by value.
+    pub fn into_vec(self, alloc: Global) -> Vec<Message>
+        ensures { result.items ≡ self }
+    {
+        match self.messages {
+            Some(messages) => Box::into_inner(messages),
+            None => Vec::new(alloc),
+        }
     }
 
     /// The messages in order.

@@ -1,7 +1,8 @@
 //! Gates that hold a request up, or that wait for one lock round all nodes.
 
 use node_cell::NodeGate;
-use node_core::{Event, StepFault};
+use node_core::{Conn, Event, StepFault};
+use resp2::Reply;
 use std::sync::atomic::{AtomicBool, Ordering};
 use std::sync::{Mutex, Wait};
 use std::thread::yield_now;
@@ -12,11 +13,11 @@ const MOST_TURNS: u32 = 100_000;
 /// What two conversations tell each other.
 #[derive(Drop)]
 pub struct Signals {
-    /// The request at the first node is held up, under the node's lock.
+    /// The answer of the first node is held back, under the node's lock.
     pub is_held: AtomicBool,
     /// The request at the second node was answered.
     pub was_answered: AtomicBool,
-    /// The request at the first node was held up until the turns ran out.
+    /// The answer of the first node was held back until the turns ran out.
     pub ran_out: AtomicBool,
 }
 
@@ -42,22 +43,22 @@ fn is_set_in_time(flag: &AtomicBool) -> bool {
     false
 }
 
-/// A gate that holds each request up, under a lock, until the other node answered one.
+/// A gate that holds the answer to each request back, under the lock of its node and another one, until the other node answered
+/// a request.
 #[derive(Drop)]
-pub struct HoldingGate<'n, G, T, R> {
-    /// The leave to wait for the lock.
+pub struct HoldingGate<'n, G, R> {
+    /// The leave to wait for the other lock.
     pub rt: R,
-    /// The way to the node.
+    /// The way to the node, which keeps the node's lock after a step.
     pub gate: G,
-    /// The lock that the request has while it is held up.
-    pub lock: &'n Mutex<T>,
+    /// The other lock.
+    pub lock: &'n Mutex<()>,
     /// What is told to the other conversation, and heard from it.
     pub signals: &'n Signals,
 }
 
-impl<'n, G: NodeGate, T, R: Wait> HoldingGate<'n, G, T, R> {
+impl<'n, G, R> HoldingGate<'n, G, R> {
     fn hold(&self) {
-        let _held = self.lock.lock(&self.rt);
         self.signals.is_held.store(true, Ordering::SeqCst);
         if !is_set_in_time(&self.signals.was_answered) {
             self.signals.ran_out.store(true, Ordering::SeqCst);
@@ -65,7 +66,7 @@ impl<'n, G: NodeGate, T, R: Wait> HoldingGate<'n, G, T, R> {
     }
 }
 
-impl<'n, G: NodeGate, T, R: Wait> NodeGate for HoldingGate<'n, G, T, R> {
+impl<'n, G: NodeGate, R: Wait> NodeGate for HoldingGate<'n, G, R> {
     type Answer = G::Answer;
 
     ghost asked = { λ holding. G.asked holding.gate };
@@ -74,11 +75,20 @@ impl<'n, G: NodeGate, T, R: Wait> NodeGate for HoldingGate<'n, G, T, R> {
 
     ghost may_refuse = { G.may_refuse };
 
+    ghost may_give = { G.may_give };
+
     fn step(&mut self, event: Event) -> Result<G::Answer, StepFault> {
-        if let Event::Request(_, _) = &event {
-            self.hold();
+        if !matches!(&event, Event::Request(_, _)) {
+            return self.gate.step(event);
         }
-        self.gate.step(event)
+        let _held = self.lock.lock(&self.rt);
+        let step = self.gate.step(event);
+        self.hold();
+        step
+    }
+
+    fn wait(&mut self, conn: Conn) -> Option<Reply> {
+        self.gate.wait(conn)
     }
 
     fn release(&mut self) {
@@ -104,6 +114,8 @@ impl<'n, G: NodeGate> NodeGate for TellingGate<'n, G> {
 
     ghost may_refuse = { G.may_refuse };
 
+    ghost may_give = { G.may_give };
+
     fn step(&mut self, event: Event) -> Result<G::Answer, StepFault> {
         let is_request = matches!(&event, Event::Request(_, _));
         if is_request {
@@ -114,6 +126,10 @@ impl<'n, G: NodeGate> NodeGate for TellingGate<'n, G> {
             self.signals.was_answered.store(true, Ordering::SeqCst);
         }
         step
+    }
+
+    fn wait(&mut self, conn: Conn) -> Option<Reply> {
+        self.gate.wait(conn)
     }
 
     fn release(&mut self) {
@@ -141,9 +157,15 @@ impl<'n, G: NodeGate, R: Wait> NodeGate for OneLockGate<'n, G, R> {
 
     ghost may_refuse = { G.may_refuse };
 
+    ghost may_give = { G.may_give };
+
     fn step(&mut self, event: Event) -> Result<G::Answer, StepFault> {
         let _all = self.lock.lock(&self.rt);
         self.gate.step(event)
+    }
+
+    fn wait(&mut self, conn: Conn) -> Option<Reply> {
+        self.gate.wait(conn)
     }
 
     fn release(&mut self) {

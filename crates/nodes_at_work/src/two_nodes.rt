@@ -3,7 +3,7 @@ ghost use Rattle.std.specs.Prelude.{◌≡◌, ◌<◌};
 ghost use Rattle.tickets.specs.Tickets.{IsFresh};
 
 use crate::gates::{HoldingGate, OneLockGate, Signals, TellingGate};
-use cluster::Gate;
+use cluster::{Gate, SharedNode};
 use cluster_config::Config;
 use listener::serve_conn;
 use node_cell::{Deployment, GhostJournal, NodeCell, NodeGate};
@@ -46,8 +46,9 @@ pub fn answers_meanwhile<
     requires second { IsFresh K.table K.seats second_seat }
     requires third { IsFresh K.table K.seats third_seat }
 {
-    let second = Mutex::new(node::<K>(alloc, config, 1, second_seat)?);
-    let third = Arc::new(alloc, Mutex::new(node::<K>(alloc, config, 2, third_seat)?))?;
+    let second = SharedNode::new(node::<K>(alloc, config, 1, second_seat)?);
+    let third = SharedNode::new(node::<K>(alloc, config, 2, third_seat)?);
+    let third = Arc::new(alloc, third)?;
     let all = Arc::new(alloc, Mutex::new(()))?;
     let signals = Arc::new(alloc, Signals::new())?;
     let (their_all, their_signals) = (Arc::try_clone(&all)?, Arc::try_clone(&signals)?);
@@ -77,41 +78,31 @@ fn node<K: Deployment>(
 fn hold_up<K: Deployment, R: Wait + Copy + Drop>(
     rt: R,
     alloc: Global,
-    node: &Mutex<NodeCell<K, GhostJournal>>,
+    node: &SharedNode<K, GhostJournal>,
     all: &Mutex<()>,
     signals: &Signals,
     locks: Locks,
 ) {
+    let own = Mutex::new(());
+    let lock = match locks {
+        Locks::Own => &own,
+        Locks::One => all,
+    };
     let gate = Gate::new(rt, node);
-    match locks {
-        Locks::Own => {
-            let mut gate = HoldingGate {
-                rt,
-                gate,
-                lock: node,
-                signals,
-            };
-            converse(alloc, &mut gate, SET_C);
-        }
-        Locks::One => {
-            let lock = all;
-            let gate = OneLockGate { rt, gate, lock };
-            let mut gate = HoldingGate {
-                rt,
-                gate,
-                lock,
-                signals,
-            };
-            converse(alloc, &mut gate, SET_C);
-        }
-    }
+    let mut gate = HoldingGate {
+        rt,
+        gate,
+        lock,
+        signals,
+    };
+    converse(alloc, &mut gate, SET_C);
 }
 
 // A conversation that asks its node meanwhile.
 fn ask<K: Deployment, R: Wait + Copy + Drop>(
     rt: R,
     alloc: Global,
-    node: &Mutex<NodeCell<K, GhostJournal>>,
+    node: &SharedNode<K, GhostJournal>,
     all: &Mutex<()>,
     signals: &Signals,
     locks: Locks,

@@ -8,7 +8,7 @@ mod second_tries;
 ghost use Rattle.std.specs.Prelude.{◌≡◌};
 ghost use Rattle.tickets.specs.Tickets.{IsFresh};
 
-use cluster::Gate;
+use cluster::{Gate, SharedNode};
 use cluster_config::{Config, ConfigFault, read_config};
 use listener::serve_conn;
 use node_cell::{Deployment, Journal, NodeCell};
@@ -18,7 +18,7 @@ use slot_table::NodeNo;
 use std::alloc::{AllocError, Global};
 use std::io;
 use std::marker::Brand;
-use std::sync::{Mutex, Wait};
+use std::sync::Wait;
 use tickets::{Seat, open};
 
 // Two masters, the first of which has the slots up to 8191.
@@ -111,7 +111,7 @@ fn converse<K: Deployment, R: Wait + Drop>(
     requires seat { IsFresh K.table K.seats seat }
 {
     let cell = NodeCell::<K, Journal>::new(alloc, config, node, seat)?;
-    let node = Mutex::new(cell);
+    let node = SharedNode::new(cell);
     let mut gate = Gate::new(rt, &node);
     // Reserved up front: what a socket takes is no allocation of the program.
     let written = Vec::with_capacity(alloc, 1024)?;

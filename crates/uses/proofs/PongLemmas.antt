@@ -1,25 +1,27 @@
 -- What a conversation with the node of PONGs writes.
 use Rattle.std.proofs.Common.{◌≡◌, ℕ, List, [], ◌∷◌, ◌++◌, length, sym, ap, subst, ◌∙◌, append_assoc, append-nil, inl, inr, refl, ◌⊎◌}
 use Rattle.std.specs.Prelude.{Some, All, Ok, Err, Result, map}
-use Rattle.std.specs.List.{AllByRecursion}
+use Rattle.std.specs.List.{AllByRecursion, flat_map}
 use Rattle.std.proofs.lemmas.List.Elements.{All-from_recursion, All-head, All-tail}
 use Rattle.resp2.specs.Law.{IsStream, NoUnfinishedIsWhole, StreamIsReadInOneWay}
 use Rattle.resp2.specs.Reply.{reply_spelling}
 use Rattle.resp2.specs.Request.{IsRequest, IsUnfinished, HasFirstBadByte, KeepsLimits, stream_spelling, with_words}
 use Rattle.resp2.specs.declared.fault.Fault.{Fault}
+use Rattle.resp2.specs.declared.reply.Reply.{Reply}
 use Rattle.node_cell.specs.Asks.{Asked}
+use Rattle.node_cell.specs.Asks.Asked.{asking}
 use Rattle.connections.specs.declared.conn.Conn.{Conn}
 use Rattle.node_step.specs.declared.event.Event.{Event}
-use Rattle.node_step.specs.declared.event.Event.TheVariants.{Close}
+use Rattle.node_step.specs.declared.event.Event.TheVariants.{Close, Request}
 use Rattle.node_core.specs.declared.fault.StepFault.{StepFault}
 use Rattle.node_step.specs.declared.outputs.Outputs.{Outputs}
-use Rattle.node_step.specs.declared.response.Answer.{Answer}
+use Rattle.node_step.specs.declared.response.Response.{Response}
 use Rattle.node_step.specs.declared.response.Response.TheVariants.{Replied}
 use Rattle.listener.specs.declared.requests.Rest.{Rest}
 use Rattle.listener.specs.declared.requests.Rest.TheVariants.{Unfinished, BadByte}
 use Rattle.listener.specs.declared.fault.ConnFault.{ConnFault}
-use Rattle.listener.specs.Conversation.{Converses, EndsUnopened, Exchange, Serves, Tells, asked_for, line_of, replies_bytes}
-use Rattle.listener.specs.Streams.{Change, IsAllowed, Stream, asking}
+use Rattle.listener.specs.Conversation.{ComesBy, Converses, EndsUnopened, Exchange, Serves, Tells, asked_for, awaited, line_of, replies_bytes}
+use Rattle.listener.specs.Streams.{Change, IsAllowed, Stream}
 use Rattle.uses.proofs.RequestLemmas.{all_keep_limits}
 use Rattle.uses.specs.Pongs.{pong, pongs, pong_answer, outputs_for, AreAnsweredExactly, EndsInTime, EndsBadly}
 
@@ -29,25 +31,37 @@ may event outputs = outputs ≡ outputs_for event
 abbrev may_refuse : Event → StepFault → Type 0
 may_refuse event fault = ⊥
 
+abbrev may_give : Conn → Reply → Type 0
+may_give conn reply = ⊥
+
 abbrev allowed : Asked → Type 0
-allowed = IsAllowed may may_refuse
+allowed = IsAllowed may may_refuse may_give
 
 abbrev words_of : Exchange → List (List ℕ)
 words_of exchange = exchange.words
 
-is_pong : (conn : Conn) (exchange : Exchange) → allowed (asked_for conn exchange) → exchange.answer.reply ≡ pong
-is_pong conn exchange given =
-    let same : Replied exchange.answer ≡ Replied pong_answer = sym exchange.replied ∙ ap (λ (o : Outputs). o.response) given in
-    let answer : exchange.answer ≡ pong_answer = cc in
-    ap (λ (a : Answer). a.reply) answer
+-- the step for a request gives its PONG at once
+gives_pong : (conn : Conn) (exchange : Exchange) → allowed (asking (Request conn exchange.words) (Ok exchange.outputs)) → exchange.outputs.response ≡ Replied pong_answer
+gives_pong conn exchange given = ap (λ (o : Outputs). o.response) given
+
+is_pong : (exchange : Exchange) → exchange.outputs.response ≡ Replied pong_answer → exchange.reply ≡ pong
+is_pong exchange gives = sym (subst (λ (response : Response). ComesBy response exchange.reply) gives exchange.replied)
+
+-- so nothing is waited for
+asked_alone : (conn : Conn) (exchange : Exchange) → exchange.outputs.response ≡ Replied pong_answer
+    → awaited conn exchange.outputs.response (Some exchange.reply) ≡ []
+asked_alone conn exchange gives = ap (λ (response : Response). awaited conn response (Some exchange.reply)) gives
 
 -- each reply is a PONG
-all_pongs : (conn : Conn) (exchanges : List Exchange) (more : List Asked) → All allowed (map (asked_for conn) exchanges ++ more)
+all_pongs : (conn : Conn) (exchanges : List Exchange) (more : List Asked) → All allowed (flat_map (asked_for conn) exchanges ++ more)
     → replies_bytes exchanges ≡ pongs (length (map words_of exchanges))
 all_pongs conn [] more given = refl
 all_pongs conn (exchange ∷ exchanges) more given =
-    ap (λ reply. reply_spelling reply ++ replies_bytes exchanges) (is_pong conn exchange (All-head allowed _ _ given))
-    ∙ ap (λ bytes. reply_spelling pong ++ bytes) (all_pongs conn exchanges more (All-tail allowed _ _ given))
+    let gives = gives_pong conn exchange (All-head allowed _ _ given) in
+    let rest : All allowed ((awaited conn exchange.outputs.response (Some exchange.reply) ++ flat_map (asked_for conn) exchanges) ++ more) = All-tail allowed _ _ given in
+    let others = subst (λ (asks : List Asked). All allowed ((asks ++ flat_map (asked_for conn) exchanges) ++ more)) (asked_alone conn exchange gives) rest in
+    ap (λ reply. reply_spelling reply ++ replies_bytes exchanges) (is_pong exchange gives)
+    ∙ ap (λ bytes. reply_spelling pong ++ bytes) (all_pongs conn exchanges more others)
 
 each_is_request : (exchanges : List Exchange) → AllByRecursion IsRequest (map words_of exchanges)
 each_is_request [] = tt
@@ -84,7 +98,7 @@ module _ (none_whole : NoUnfinishedIsWhole) (one_way : StreamIsReadInOneWay) (as
 
   replies_are : (rest : Rest) (replies : List ℕ) (c : ConversesOn rest replies) → replies ≡ pongs (length (map words_of c.talk.exchanges))
   replies_are rest replies c =
-      let steps = map (asked_for c.talk.conn) c.talk.exchanges in
+      let steps = flat_map (asked_for c.talk.conn) c.talk.exchanges in
       c.replied
       ∙ all_pongs c.talk.conn c.talk.exchanges (c.talk.tail.asked ++ asking (Close c.talk.conn) c.talk.closing ∷ [])
       (subst (All allowed) (append_assoc steps c.talk.tail.asked (asking (Close c.talk.conn) c.talk.closing ∷ [])) (All-tail allowed _ _ c.history.each))

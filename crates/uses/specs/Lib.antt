@@ -1,3 +1,4 @@
 pub mod Pongs
 pub mod Serving
 pub mod WholeRequests
+pub mod Notes

@@ -18,20 +18,25 @@ pub struct PongGate {
     asked: History<Asking>,
 }
 
-// A step that the node was asked for. Only proofs read it.
+// What the node was asked for: a step, or a reply that never comes. Only proofs read it.
+#[derive(Drop)]
+enum Note {
+    Stepped(Snapshot<Event>, Snapshot<Outputs>),
+    Waited(Conn),
+}
+
 #[derive(Drop)]
 struct Asking {
-    event: Snapshot<Event>,
-    outputs: Snapshot<Outputs>,
+    note: Note,
 }
 
 impl Model for Asking {
-    ghost use Rattle.std.specs.Prelude.{Ok};
     ghost use Rattle.node_cell.specs.Asks.{Asked};
+    ghost use Rattle.uses.specs.Notes.{noted};
 
     ghost Value = { Asked };
 
-    ghost view = { λ asking. record { event = asking.event.value; outcome = Ok asking.outputs.value } };
+    ghost view = { λ asking. noted asking.note };
 }
 
 impl PongGate {
@@ -57,8 +62,8 @@ impl Answered for PongStep {
 
     ghost gave = { λ step. step.outputs };
 
-    fn outputs(&self) -> &Outputs {
-        &self.outputs
+    fn response(&self) -> &Response {
+        &self.outputs.response
     }
 }
 
@@ -73,13 +78,21 @@ impl NodeGate for PongGate {
 
     ghost may_refuse = { λ event fault. ⊥ };
 
+    ghost may_give = { λ conn reply. ⊥ };
+
     fn step(&mut self, event: Event) -> Result<PongStep, StepFault> {
         let outputs = outputs_for(&event);
         self.asked.push(&Asking {
-            event: Snapshot::of(&event),
-            outputs: Snapshot::of(&outputs),
+            note: Note::Stepped(Snapshot::of(&event), Snapshot::of(&outputs)),
         });
         Ok(PongStep { event, outputs })
+    }
+
+    fn wait(&mut self, conn: Conn) -> Option<Reply> {
+        self.asked.push(&Asking {
+            note: Note::Waited(conn),
+        });
+        None
     }
 
     fn release(&mut self) {}

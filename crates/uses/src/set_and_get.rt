@@ -26,9 +26,10 @@ pub fn set_then_get<K: Deployment, L: Log>(
     let set = set_words(alloc, key, value)?;
     let get = get_words(alloc, key)?;
     let opened = cell.apply(Event::Open)?;
-    let Response::Opened(conn) = opened.outputs().response else {
+    let Response::Opened(conn) = opened.response() else {
         unreachable!()
     };
+    let conn = *conn;
     let _set = cell.apply(Event::Request(conn, set))?;
     cell.apply(Event::Request(conn, get))
 }

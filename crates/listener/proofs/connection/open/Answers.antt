@@ -16,6 +16,6 @@ returns-in_default g c =
       err = record {
         asks = _;
         history = rw c.in_ok-step.was at c.ask_alone.ensures;
-        why = gave_none _ refl (rw c.outputs.ensures at c.in_default.not-Opened) refl;
+        why = gave_none _ refl (rw c.response.ensures at c.in_default.not-Opened) refl;
       };
     }

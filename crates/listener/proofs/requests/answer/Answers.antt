@@ -1,7 +1,8 @@
-use Rattle.std.proofs.Common.{refl, sym, ◌∙◌, ap, List, ℕ}
+use Rattle.std.proofs.Common.{◌≡◌, refl, sym, ◌∙◌, ap, List, ℕ, Some, None}
 use Rattle.std.proofs.lemmas.Result.{err_from_is_err_and}
 use Rattle.node_step.specs.declared.outputs.Outputs.{Outputs}
-use Rattle.listener.proofs.DeskLemmas.{answers_one, halts_refused, halts_silent, halts_within, refusals_are_of_answering}
+use Rattle.listener.specs.Streams.{IsAllowed}
+use Rattle.listener.proofs.DeskLemmas.{adds_wait, answers_at_once, answers_later, halts_at_once, halts_later, halts_refused, halts_unanswered, halts_waited, refusals_are_of_answering}
 use Rattle.listener.proofs.requests.answer.Goals as goal
 
 pub returns-in_err-step-clause-halts : goal.returns-in_err-step-clause-halts
@@ -15,23 +16,38 @@ returns-in_err-step-clause-fault g c =
     let p = err_from_is_err_and c.from_residual.result c.from_residual.ensures.1 in
     rw (p.1, p.2) (refusals_are_of_answering c.in_err-step.field-0.0)
 
-pub returns-in_default : goal.returns-in_default
-returns-in_default g c =
-    record {
-      answered = tt;
-      halts = λ (behind : List ℕ). halts_silent _ _ c.args.words _ _ _ _ behind c.requires (rw c.outputs.ensures at c.in_default.not-Replied) refl
-          (rw c.in_ok-step.was at c.ask.ensures);
-      fault = tt;
-    }
-
 pub returns-in_default-hand_over-clause-halts : goal.returns-in_default-hand_over-clause-halts
 returns-in_default-hand_over-clause-halts g c behind =
     rw c.in_default-hand_over.ensures.asked
-    (halts_within _ _ c.args.words _ c.in-Replied.answer _ _ behind c.requires (ap (λ (o : Outputs). o.response) (sym c.outputs.ensures) ∙ c.in-Replied.is) refl
+    (halts_at_once _ _ c.args.words _ c.in-Replied.answer _ _ behind c.requires (sym c.response.ensures ∙ c.in-Replied.is) refl
     (rw c.in_ok-step.was at c.ask.ensures) c.in_default-hand_over.ensures.err)
 
-pub returns-clause-answered : goal.returns-clause-answered
-returns-clause-answered g c behind =
+pub returns-in-Replied-clause-answered : goal.returns-in-Replied-clause-answered
+returns-in-Replied-clause-answered g c behind =
     rw c.in-Ok.ensures.asked
-    (answers_one _ _ c.args.words _ c.in-Replied.answer _ _ c.requires (ap (λ (o : Outputs). o.response) (sym c.outputs.ensures) ∙ c.in-Replied.is) refl
+    (answers_at_once _ _ c.args.words _ c.in-Replied.answer _ _ c.requires (sym c.response.ensures ∙ c.in-Replied.is) refl
     (rw c.in_ok-step.was at c.ask.ensures) c.in-Ok.ensures.put c.in-Ok.ensures.kept)
+
+pub returns-in_default-wait-clause-halts : goal.returns-in_default-wait-clause-halts
+returns-in_default-wait-clause-halts g c behind =
+    halts_waited _ _ c.args.words _ _ _ _ _ behind c.requires (sym c.response.ensures ∙ c.in-Parked.is) refl
+    (rw c.in_ok-step.was at c.ask.ensures) (rw c.in_default-wait.is at (adds_wait (IsAllowed g.G.NodeGate.may g.G.NodeGate.may_refuse g.G.NodeGate.may_give) c.args.conn _ _ c.wait.result c.wait.ensures.asked c.wait.ensures.given))
+
+pub returns-in_default-hand_over-2-clause-halts : goal.returns-in_default-hand_over-2-clause-halts
+returns-in_default-hand_over-2-clause-halts g c behind =
+    rw c.in_default-hand_over-2.ensures.asked
+    (halts_later _ _ c.args.words _ c.in-Some.reply _ _ _ behind c.requires (sym c.response.ensures ∙ c.in-Parked.is) refl
+    (rw c.in_ok-step.was at c.ask.ensures) (rw c.in-Some.is at (adds_wait (IsAllowed g.G.NodeGate.may g.G.NodeGate.may_refuse g.G.NodeGate.may_give) c.args.conn _ _ c.wait.result c.wait.ensures.asked c.wait.ensures.given))
+    c.in_default-hand_over-2.ensures.err)
+
+pub returns-in-Parked-clause-answered : goal.returns-in-Parked-clause-answered
+returns-in-Parked-clause-answered g c behind =
+    rw c.in-Ok-hand_over.ensures.asked
+    (answers_later _ _ c.args.words _ c.in-Some.reply _ _ _ c.requires (sym c.response.ensures ∙ c.in-Parked.is) refl
+    (rw c.in_ok-step.was at c.ask.ensures) (rw c.in-Some.is at (adds_wait (IsAllowed g.G.NodeGate.may g.G.NodeGate.may_refuse g.G.NodeGate.may_give) c.args.conn _ _ c.wait.result c.wait.ensures.asked c.wait.ensures.given))
+    c.in-Ok-hand_over.ensures.put c.in-Ok-hand_over.ensures.kept)
+
+pub returns-in_default-clause-halts : goal.returns-in_default-clause-halts
+returns-in_default-clause-halts g c behind =
+    halts_unanswered _ _ c.args.words _ _ _ _ behind c.requires (rw c.response.ensures at c.in_default.not-Replied)
+    (λ parked. c.in_default.not-Parked (c.response.ensures ∙ parked)) refl (rw c.in_ok-step.was at c.ask.ensures)

@@ -12,7 +12,7 @@ invariant-reads g l = record {
   came : List ℕ;
   read : Consumes (g.R.Read.remaining (inner_of l.fn.reader)) (g.R.Read.remaining (inner_of l.reader)) came;
   long : l.counter ≤ length came;
-  answers : Answers (IsAllowed g.G.NodeGate.may g.G.NodeGate.may_refuse) l.conn
+  answers : Answers (IsAllowed g.G.NodeGate.may g.G.NodeGate.may_refuse g.G.NodeGate.may_give) l.conn
       (desk (g.G.NodeGate.asked l.fn.gate) came [] (stream_of g.W.Write.contents l.fn.writer))
       (desk (g.G.NodeGate.asked l.gate) l.requests.pending l.batch.items (stream_of g.W.Write.contents l.writer));
   unfinished : IsUnfinished l.requests.pending;

@@ -1,7 +1,0 @@
-use Rattle.listener.proofs.batch.put.Goals as goal
-
-pub returns-clause-put : goal.returns-clause-put
-returns-clause-put g c = rw (← c.if-fits_in.ensures) c.send.ensures.put
-
-pub returns-clause-err : goal.returns-clause-err
-returns-clause-err g c = rw (← c.if-fits_in.ensures) c.send.ensures.err
