@@ -9,7 +9,7 @@ from wire import PING, PONG, ask, connect
 
 SECONDS = 2
 # Ticks of the system's clock, of 10 ms each.
-MOST = 2
+MOST = 5
 
 
 def play(judge):

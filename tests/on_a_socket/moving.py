@@ -1,16 +1,26 @@
-"""A slot that begins to move from one master to another: all bytes that both answer about it, up to the end of the connection.
+"""A slot that moves from one master to another: all bytes that nodes answer about it, up to the end of the connection.
 
-Nothing carries messages between nodes yet, so no key arrives.
+Then the slot goes to and fro while clients count at its keys, and each of their replies is compared.
 """
+
+import contextlib
+import threading
+import time
 
 import clusters
 from clusters import node_id, ports_of
 from program import Server
-from wire import NIL, OK, array, bulk, moved, number, spelled, talk
+from wire import NIL, OK, array, bulk, connect, moved, number, playing, reply_of, spelled, talk
 
 # The slot of foo, which the third master has, and the nodes that it moves between.
 SLOT = 12182
 SOURCE, TARGET = 2, 1
+# How many clients count while the slot moves, and how often it moves.
+COUNTERS, MOVES = 4, 12
+# How many seconds a node may take to learn what another one tells it.
+PATIENCE = 5
+NOT_ACKNOWLEDGED = b"-IOERR copy not acknowledged\r\n"
+NOT_DRAINED = b"-ERR slot is not drained\r\n"
 
 
 def asked(port, *move):
@@ -52,10 +62,21 @@ def rows(ports):
     yield TARGET, "the move ends too early", order(b"NODE", TARGET), b"-ERR slot is not drained\r\n"
     yield SOURCE, "a key that is gone is not copied", spelled(b"MIGRATE", *target, b"{foo}3", b"0", b"10"), b"+NOKEY\r\n"
     yield SOURCE, "a key for another node", spelled(b"MIGRATE", b"127.0.0.1", b"%d" % ports[0], b"foo", b"0", b"10"), b"-ERR slot is not migrating to that address\r\n"
-    yield SOURCE, "a key that is copied: nothing carries the copy", spelled(b"MIGRATE", *target, b"foo", b"0", b"10"), b""
-    yield SOURCE, "it is on its way", get, b"-TRYAGAIN Key is being moved\r\n"
+    yield SOURCE, "a key that is copied", spelled(b"MIGRATE", *target, b"foo", b"0", b"50"), OK
+    yield SOURCE, "it is gone from there", get, asked(ports[TARGET])
+    yield TARGET, "it is there", spelled(b"ASKING") + get, OK + bulk(b"v")
     yield 0, "a node that has no part in the move", get, moved(SLOT, ports[SOURCE])
     yield SOURCE, "a key of another slot", spelled(b"GET", b"x"), NIL
+
+
+def rows_behind(ports):
+    """Once the last key is gone, each node learns what it needs within a moment."""
+    get = spelled(b"GET", b"foo")
+    yield TARGET, "the move ends where the slot goes to", order(b"NODE", TARGET), OK
+    yield SOURCE, "and where it comes from", order(b"NODE", TARGET), OK
+    yield TARGET, "the key is served there", get, bulk(b"v")
+    for node in (0, SOURCE, 3, 4, 5):
+        yield node, "a client is told where the slot is", get, moved(SLOT, ports[TARGET])
 
 
 def play(judge):
@@ -64,3 +85,100 @@ def play(judge):
     with Server(cluster):
         for node, what, request, wanted in rows(ports):
             judge.equal(f"at node {node}: {what}", talk(ports[node], request), wanted)
+        for node, what, request, wanted in rows_behind(ports):
+            judge.equal(f"at node {node}: {what}", in_time(ports[node], request, wanted), wanted)
+    with judge.part("a copy that nobody takes"):
+        play_refused(judge)
+    with judge.part("a slot that goes to and fro"):
+        play_counters(judge)
+
+
+def in_time(port, request, wanted):
+    """What is answered, once it is what is wanted or the patience has ended."""
+    last = time.monotonic() + PATIENCE
+    while (answer := talk(port, request)) != wanted and time.monotonic() < last:
+        time.sleep(0.005)
+    return answer
+
+
+def play_refused(judge):
+    """The other node doesn't import the slot, so nothing is acknowledged, and the client learns so after its ticks."""
+    cluster = clusters.six_nodes(tick_ms=50)
+    ports = ports_of(cluster)
+    migrate = spelled(b"MIGRATE", b"127.0.0.1", b"%d" % ports[TARGET], b"foo", b"0", b"3")
+    with Server(cluster):
+        judge.equal("a key is set", talk(ports[SOURCE], spelled(b"SET", b"foo", b"v")), OK)
+        judge.equal("its slot migrates", talk(ports[SOURCE], order(b"MIGRATING", TARGET)), OK)
+        judge.equal("the copy, and a request behind it", talk(ports[SOURCE], migrate + spelled(b"ECHO", b"e")), NOT_ACKNOWLEDGED + bulk(b"e"))
+        judge.equal("the key is still on its way", talk(ports[SOURCE], spelled(b"GET", b"foo")), b"-TRYAGAIN Key is being moved\r\n")
+        judge.equal("the other node imports it now", talk(ports[TARGET], order(b"IMPORTING", SOURCE)), OK)
+        judge.equal("the copy that is sent again arrives", in_time(ports[SOURCE], spelled(b"GET", b"foo"), asked(ports[TARGET])), asked(ports[TARGET]))
+
+
+def play_counters(judge):
+    """Each client counts at a key of its own, and has to be told 1, 2, 3 and so on, wherever the key is."""
+    cluster = clusters.six_nodes(tick_ms=20)
+    ports = ports_of(cluster)
+    ended = threading.Event()
+    counts = [[] for _ in range(COUNTERS)]
+    with Server(cluster):
+        with playing([lambda key=key: count_at(ports, key, counts[key], ended) for key in range(COUNTERS)]):
+            try:
+                for move in range(1, MOVES + 1):
+                    source, target = (SOURCE, TARGET) if move % 2 else (TARGET, SOURCE)
+                    judge.equal(f"move {move} of the slot", move_slot(ports, source, target, move), "moved")
+            finally:
+                ended.set()
+        for key, replies in enumerate(counts):
+            judge.least(f"how often client {key} counted", len(replies), MOVES)
+            judge.equal(f"what client {key} was told", replies, [number(it + 1) for it in range(len(replies))])
+            judge.equal(f"the key of client {key} at the end", talk(ports[SOURCE], spelled(b"GET", b"{foo}%d" % key)), bulk(b"%d" % len(replies)))
+
+
+def count_at(ports, key, replies, ended):
+    """Increases the counter until the end, as a client does that follows the nodes."""
+    request = spelled(b"INCR", b"{foo}%d" % key)
+    with contextlib.ExitStack() as stack:
+        clients = {port: stack.enter_context(connect(port)) for port in ports[:3]}
+        # Where the slot is as far as the client knows, and where it asks just once.
+        home, other = ports[0], None
+        while not ended.is_set():
+            client = clients[other or home]
+            client.sendall(spelled(b"ASKING") + request if other else request)
+            if other:
+                reply_of(client)
+            answer, other = reply_of(client), None
+            if answer.startswith(b"-MOVED"):
+                home = port_in(answer)
+            elif answer.startswith(b"-ASK"):
+                other = port_in(answer)
+            elif answer.startswith(b"-TRYAGAIN"):
+                time.sleep(0.001)
+            else:
+                replies.append(answer)
+
+
+def port_in(redirection):
+    return int(redirection.rpartition(b":")[2])
+
+
+def move_slot(ports, source, target, number_of_move):
+    """Moves the slot, key by key, as an administrator does."""
+    for node, kind, other in ((target, b"IMPORTING", source), (source, b"MIGRATING", target)):
+        if (answer := in_time(ports[node], order(kind, other, number_of_move), OK)) != OK:
+            return node, kind, answer
+    about, address = b"%d" % SLOT, (b"127.0.0.1", b"%d" % ports[target])
+    with connect(ports[source]) as client:
+        while True:
+            client.sendall(spelled(b"CLUSTER", b"GETKEYSINSLOT", about, b"16"))
+            keys = reply_of(client).split(b"\r\n")[2::2]
+            if not keys:
+                break
+            for key in keys:
+                client.sendall(spelled(b"MIGRATE", *address, key, b"0", b"50"))
+                if (answer := reply_of(client)) not in (OK, b"+NOKEY\r\n", NOT_ACKNOWLEDGED):
+                    return key, answer
+    for node in (target, source, 0):
+        if (answer := in_time(ports[node], order(b"NODE", target), OK)) != OK:
+            return node, b"NODE", answer
+    return "moved"

@@ -90,6 +90,24 @@ def take(client, count):
     return bytes(answer)
 
 
+def reply_of(client):
+    """The bytes of one reply, which is no array in an array."""
+    line = line_of(client)
+    if line[:1] == b"*":
+        return line + b"".join(reply_of(client) for _ in range(int(line[1:])))
+    if line[:1] == b"$" and line != NIL:
+        return line + take(client, int(line[1:]) + 2)
+    return line
+
+
+def line_of(client):
+    """The bytes up to the end of a line, or up to the end of the connection."""
+    line = bytearray()
+    while not line.endswith(b"\r\n") and (more := client.recv(1)):
+        line += more
+    return bytes(line)
+
+
 @contextlib.contextmanager
 def playing(calls):
     """Runs these calls in threads while the block runs, and until each returns."""
