@@ -6,6 +6,7 @@ mod commands;
 mod configuration;
 mod keys;
 mod narrow;
+mod received;
 mod replies;
 mod requests;
 mod slots;
@@ -35,6 +36,7 @@ impl Player for Topics {
             "commands" => commands::play(alloc, script),
             "configuration" => configuration::play(alloc, script),
             "keys" => keys::play(alloc, script),
+            "received" => received::play(alloc, script),
             "replies" => replies::play(alloc, script),
             "requests" => requests::play(alloc, script),
             "slots" => slots::play(alloc, script),

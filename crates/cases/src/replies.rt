@@ -1,6 +1,6 @@
 //! Replies as bytes on a connection.
 use anyhow::{Context, Result, bail};
-use case_files::{push_bytes, push_space, push_word, shared_bytes_of, string_of, verb_of};
+use case_files::{push_bytes, push_word, shared_bytes_of, string_of, verb_of};
 use resp2::{Array, Counting, Element, Line, Reply, append_reply, send_reply, write_reply};
 use std::alloc::{AllocError, Global};
 use std::io;
@@ -8,6 +8,9 @@ use std::io::{ErrorKind, Read, Write};
 
 // What stands in front of each reply.
 const BEFORE: &[u8] = b"before";
+
+// More bytes are shown by their number.
+const MOST_SHOWN: usize = 64;
 
 /// `write REPLY` gives the bytes that each writer writes, `elements REPLY` the parts of an array. `broken CALL` calls a
 /// stream that can't be read or written.
@@ -119,11 +122,38 @@ fn push_elements(given: &mut String, reply: &Reply) -> Result<()> {
     let Reply::Array(array) = reply else {
         bail!("no array");
     };
+    Ok(push_array(given, array)?)
+}
+
+fn push_array(given: &mut String, array: &Array) -> Result<(), AllocError> {
+    let mut separator = "";
     for element in array.as_slice() {
-        push_space(given)?;
+        given.push_str(separator)?;
         push_element(given, element)?;
+        separator = " ";
     }
     Ok(())
+}
+
+/// The parts of a reply, in the notation of the cases.
+pub fn push_reply(given: &mut String, reply: &Reply) -> Result<(), AllocError> {
+    match reply {
+        Reply::Simple(text) => push_long(given, "simple:", text.as_slice()),
+        Reply::Error(text) => push_long(given, "error:", text.as_slice()),
+        Reply::Integer(number) => write!(given, "integer:{number}"),
+        Reply::Bulk(bytes) => push_long(given, "bulk:", bytes.as_slice()),
+        Reply::Null => given.push_str("null"),
+        Reply::Array(array) => push_array(given, array),
+    }
+}
+
+// Long bytes are shown by their number.
+fn push_long(given: &mut String, kind: &str, bytes: &[u8]) -> Result<(), AllocError> {
+    let len = bytes.len();
+    if len > MOST_SHOWN {
+        return write!(given, "{kind}({len} bytes)");
+    }
+    push_text(given, kind, bytes)
 }
 
 fn push_element(given: &mut String, element: &Element) -> Result<(), AllocError> {

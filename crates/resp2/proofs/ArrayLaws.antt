@@ -189,6 +189,10 @@ reply_of-elements (Array (element.Bulk _ ∷ _)) is = absurd cc
 reply_of-elements (Array (element.Null ∷ _)) is = absurd cc
 reply_of-elements (Array (element.Array len ∷ elements)) is = refl
 
+-- one reply is made of these elements
+pub same_reply : (reply other : Reply) → is_reply reply ≡ true → is_reply other ≡ true → elements_of reply ≡ elements_of other → reply ≡ other
+same_reply reply other is also same = sym (reply_of-elements reply is) ∙ ap reply_of same ∙ reply_of-elements other also
+
 replies_are : (replies others : List Reply) → length replies ≡ length others → AreReplies replies → AreReplies others
     → flat_map elements_of replies ≡ flat_map elements_of others → replies ≡ others
 replies_are [] [] long are all same = refl
@@ -197,7 +201,7 @@ replies_are (_ ∷ _) [] long are all same = absurd (omega arith)
 replies_are (reply ∷ replies) (other ∷ others) long are all same =
     let first = stand_once 1 (elements_of reply) (elements_of other) (flat_map elements_of replies) (flat_map elements_of others)
     (one_reply reply are.0) (one_reply other all.0) same in
-    let head : reply ≡ other = sym (reply_of-elements reply are.0) ∙ ap reply_of first.0 ∙ reply_of-elements other all.0 in
+    let head : reply ≡ other = same_reply reply other are.0 all.0 first.0 in
     let tails : replies ≡ others = replies_are replies others (omega arith) are.1 all.1 first.1 in
     ap (λ (r : Reply). r ∷ replies) head ∙ ap (λ (t : List Reply). other ∷ t) tails
 

@@ -11,92 +11,9 @@ use Rattle.resp2.specs.Reading.{reading, reading_words, within_size, one_past_si
 use Rattle.resp2.proofs.RequestReading.{RequestMeans, header_onto-append, bulks_onto-append}
 use Rattle.resp2.proofs.RequestRoundTrip.{IsDecided}
 use Rattle.resp2.proofs.ReadingDecides.{waiting_is_beginning, waiting_passes_no_limit, bad_is_no_beginning}
+use Rattle.resp2.proofs.ShortestBad.{shortest_bad}
 use Rattle.resp2.proofs.SizeLimit.{IsPast, SizedMeans, sized_means, stays_bad, stays_found, decided_within, long_decided}
 use Rattle.resp2.proofs.WordsDecide.{words_mean, found_words_are, one_decided, wanting_ends, ending_is_beginning, found_is_beginning, count_is_beginning, count_passes, length_is_beginning, length_passes}
-
--- ---- the least number that passes a test
-
-record Least (test : ℕ → Bool) (k : ℕ) : Type 0 where
-  at : ℕ
-  within : at ≤ k
-  passes : test at ≡ true
-  before : (j : ℕ) → j < at → test j ≡ false
-
-least_below : (test : ℕ → Bool) (k : ℕ) → ((j : ℕ) → j < k → test j ≡ false) ⊎ Least test k
-least_below test zero = inl (λ j lt. absurd (omega arith))
-least_below test (suc k) = behind (least_below test k) (test k) refl
-  where
-    below : ((j : ℕ) → j < k → test j ≡ false) → test k ≡ false → (j : ℕ) → j < suc k → test j ≡ false
-    below none last j lt = elim (cases_lt j k) [ inl less ↦ none j less | inr more ↦ let e : j ≡ k = omega arith in rw e last ]
-
-    behind : ((j : ℕ) → j < k → test j ≡ false) ⊎ Least test k → (b : Bool) → test k ≡ b → ((j : ℕ) → j < suc k → test j ≡ false) ⊎ Least test (suc k)
-    behind (inr l) b e = inr (record { at = l.at; within = (let w : l.at ≤ k = l.within in omega arith); passes = l.passes; before = l.before })
-    behind (inl none) true e = inr (record { at = k; within = omega arith; passes = e; before = none })
-    behind (inl none) false e = inl (below none e)
-
-least : (test : ℕ → Bool) (k : ℕ) → test k ≡ true → Least test k
-least test k passes = elim (least_below test (suc k)) [
-  | inl none ↦ (let fails : test k ≡ false = none k (omega arith) in absurd cc)
-  | inr l ↦ behind l (cases_lt l.at (suc k))
-]
-  where
-    behind : (l : Least test (suc k)) → (l.at < suc k) ⊎ (suc k ≤ l.at) → Least test k
-    behind l (inl less) = record { at = l.at; within = omega arith; passes = l.passes; before = l.before }
-    behind l (inr more) = record { at = k; within = omega arith; passes = passes; before = λ j lt. l.before j (omega arith) }
-
--- ---- the shortest front that decides
-
-is_decided : {X : Type 0} → Seen X → Bool
-is_decided Wants = false
-is_decided (Bad fault) = true
-is_decided (Found x rest) = true
-
-undecided : {X : Type 0} (s : Seen X) → is_decided s ≡ false → s ≡ Wants
-unfolding is_decided
-undecided Wants e = refl
-undecided (Bad fault) e = absurd cc
-undecided (Found x rest) e = absurd cc
-
-bad_is_decided : {X : Type 0} (s : Seen X) (fault : Fault) → s ≡ Bad fault → is_decided s ≡ true
-unfolding is_decided
-bad_is_decided {X} s fault e = ap (λ (u : Seen X). is_decided u) e
-
--- what decides a front decides the whole
-decided_so : (front rest : List ℕ) (fault : Fault) (s : Seen (List (List ℕ))) → reading front ≡ s → is_decided s ≡ true → reading (front ++ rest) ≡ Bad fault → s ≡ Bad fault
-unfolding is_decided
-decided_so front rest fault Wants e decided whole = absurd cc
-decided_so front rest fault (Bad other) e decided whole =
-    sym (stays_bad front rest other e) ∙ whole
-decided_so front rest fault (Found words last) e decided whole =
-    let found : reading (front ++ rest) ≡ Found words (last ++ rest) = stays_found front rest words last e in
-    absurd cc
-
--- the shortest front with the fault
-record ShortestBad (fault : Fault) (bytes : List ℕ) : Type 0 where
-  front : List ℕ
-  rest : List ℕ
-  split : bytes ≡ front ++ rest
-  bad : reading front ≡ Bad fault
-  first : (shorter more : List ℕ) → front ≡ shorter ++ more → 0 < length more → reading shorter ≡ Wants
-
-shortest_bad : (fault : Fault) (bytes : List ℕ) → reading bytes ≡ Bad fault → ShortestBad fault bytes
-shortest_bad fault bytes e =
-    let test : ℕ → Bool = λ k. is_decided (reading (take k bytes)) in
-    let whole : test (length bytes) ≡ true = bad_is_decided (reading (take (length bytes) bytes)) fault (ap reading (take_all (length bytes) bytes (omega arith)) ∙ e) in
-    let l = least test (length bytes) whole in
-    let split : bytes ≡ take l.at bytes ++ drop l.at bytes = sym (take-append-drop l.at bytes) in
-    record {
-      front = take l.at bytes;
-      rest = drop l.at bytes;
-      split = split;
-      bad = decided_so (take l.at bytes) (drop l.at bytes) fault (reading (take l.at bytes)) refl l.passes (ap reading (sym split) ∙ e);
-      first = λ shorter more parts wanted.
-          let within : l.at ≤ length bytes = l.within in
-          let size : length shorter + length more ≡ l.at = sym (length-append shorter more) ∙ sym (ap length parts) ∙ length-take l.at bytes ∙ omega arith in
-          let front_is : take (length shorter) bytes ≡ shorter =
-          sym (take-take (length shorter) l.at bytes (omega arith)) ∙ ap (take (length shorter)) parts ∙ take_at shorter more (length shorter) refl in
-          ap reading (sym front_is) ∙ undecided (reading (take (length shorter) bytes)) (l.before (length shorter) (omega arith));
-    }
 
 -- ---- what is wrong with the shortest front
 
@@ -188,7 +105,7 @@ shortest_is_bad Memory front known e first = known refl
 
 pub first_bad : (fault : Fault) (bytes : List ℕ) → (fault ≡ Memory → ⊥) → reading bytes ≡ Bad fault → HasFirstBadByte fault bytes
 first_bad fault bytes known e =
-    let s = shortest_bad fault bytes e in
+    let s = shortest_bad reading (record { bad = stays_bad; found = stays_found }) fault bytes e in
     record {
       front = s.front;
       rest = s.rest;

@@ -1,11 +1,13 @@
 -- What a header that is read says of the bytes, and that a header that is spelled is read.
 use Rattle.std.proofs.Common.{◌≡◌, ℕ, ◌+◌, ◌-◌, ◌*◌, ◌/◌, ◌%◌, ◌^◌, ◌<◌, ◌≤◌, Bool, true, false, cond, ltb, eqb, ◌||◌, List, [], ◌∷◌, ◌++◌, length, refl, sym, ap, subst, ◌∙◌, append_assoc, arith}
-use Rattle.std.specs.Prelude.{decimal}
+use Rattle.std.specs.Prelude.{decimal, drop, Option, Some, Ok}
 use Rattle.std.proofs.lemmas.Bool.{ltb-true, ltb-false, eqb-true, eqb-false}
-use Rattle.std.proofs.lemmas.Fmt.{decimal_step, decimal_digit}
+use Rattle.std.proofs.lemmas.Fmt.{decimal_step_wide, decimal_digit}
 use Rattle.std.proofs.lemmas.List.{append-nil}
 use Rattle.resp2.specs.declared.fault.Fault.{Fault}
 use Rattle.resp2.specs.declared.fault.Fault.TheVariants.{Protocol, TooLong}
+use Rattle.resp2.specs.declared.header.Header.{Header}
+use Rattle.resp2.specs.Header.{Gives}
 use Rattle.resp2.specs.Reading.{Seen, Wants, Bad, Found, MatchSeen, after_cr, digits_at, number_at, header_at, header_onto}
 
 -- by cases on a test, with what it tells
@@ -19,11 +21,11 @@ or_parts true y e = absurd cc
 or_parts false y e = (refl, e)
 
 -- one more digit
-pub decimal_more : (n d : ℕ) → 0 < n → d < 10 → 10 * n + d < 2 ^ 64 → decimal (10 * n + d) ≡ decimal n ++ ((48 + d) ∷ [])
+pub decimal_more : (n d : ℕ) → 0 < n → d < 10 → 10 * n + d < 10 ^ 64 → decimal (10 * n + d) ≡ decimal n ++ ((48 + d) ∷ [])
 decimal_more n d some digit fits =
     let front : (10 * n + d) / 10 ≡ n = omega arith in
     let last : (10 * n + d) % 10 ≡ d = omega arith in
-    decimal_step (10 * n + d) (omega arith) fits ∙ rw (front, last) refl
+    decimal_step_wide (10 * n + d) (omega arith) fits ∙ rw (front, last) refl
 
 -- more bytes end the text in a number within its bounds
 pub record CanEnd (least most : ℕ) (text : List ℕ) : Type 0 where
@@ -60,7 +62,7 @@ after_cr_means above least most n (b ∷ bs) low high =
     (λ e. record { low = low; high = high; spelled = ap (λ (c : ℕ). decimal n ++ (13 ∷ c ∷ bs)) (eqb-true b 10 e) })
     (λ e p. absurd cc)
 
-digits_mean : (above : Fault) (least most n : ℕ) (bs : List ℕ) → most < 2 ^ 60 → least ≤ n → n ≤ most → NumberMeans above least most (decimal n ++ bs) (digits_at above most n bs)
+digits_mean : (above : Fault) (least most n : ℕ) (bs : List ℕ) → most < 10 ^ 62 → least ≤ n → n ≤ most → NumberMeans above least most (decimal n ++ bs) (digits_at above most n bs)
 digits_mean above least most n [] small low high =
     record { number = n; more = 13 ∷ 10 ∷ []; low = low; high = high; wanted = omega arith; spelled = ap (λ (t : List ℕ). t ++ (13 ∷ 10 ∷ [])) (append-nil (decimal n)) }
 digits_mean above least most n (b ∷ bs) small low high =
@@ -85,7 +87,7 @@ digits_mean above least most n (b ∷ bs) small low high =
     subst (λ (t : List ℕ). NumberMeans above least most t (digits_at above most (10 * n + (b - 48)) bs)) text
     (digits_mean above least most (10 * n + (b - 48)) bs small (omega arith) fits))))
 
-pub number_means : (above : Fault) (least most : ℕ) (bs : List ℕ) → 0 < most → least ≤ 1 → most < 2 ^ 60 → NumberMeans above least most bs (number_at above least most bs)
+pub number_means : (above : Fault) (least most : ℕ) (bs : List ℕ) → 0 < most → least ≤ 1 → most < 10 ^ 62 → NumberMeans above least most bs (number_at above least most bs)
 number_means above least most [] some small bound =
     record { number = 1; more = decimal 1 ++ (13 ∷ 10 ∷ []); low = small; high = some; wanted = rw (decimal_digit 1 (omega arith)) (omega arith); spelled = refl }
 number_means above least most (b ∷ bs) some small bound =
@@ -120,16 +122,26 @@ number_behind mark above least most bs Wants m = (m.number, m.more, m.low, m.hig
 number_behind mark above least most bs (Bad fault) m = λ p. ((m p).0, (m p).1.number, (m p).1.rest, (m p).1.above, (m p).1.near, ap (λ (t : List ℕ). mark ∷ t) (m p).1.spelled)
 number_behind mark above least most bs (Found n rest) m = (m.low, m.high, ap (λ (t : List ℕ). mark ∷ t) m.spelled)
 
-pub header_means : (mark : ℕ) (above : Fault) (least most : ℕ) (bytes : List ℕ) → 0 < most → least ≤ 1 → most < 2 ^ 60
+pub header_means : (mark : ℕ) (above : Fault) (least most : ℕ) (bytes : List ℕ) → 0 < most → least ≤ 1 → most < 2 ^ 64
     → HeaderMeans mark above least most bytes (header_at mark above least most bytes)
 header_means mark above least most [] some small bound = (1, header_onto mark 1 [], small, some, omega arith, refl)
 header_means mark above least most (b ∷ bs) some small bound =
     by_test (HeaderMeans mark above least most (b ∷ bs)) (eqb b mark) (number_at above least most bs) (Bad Protocol)
     (λ e. subst (λ (c : ℕ). HeaderMeans mark above least most (c ∷ bs) (number_at above least most bs)) (sym (eqb-true b mark e))
-    (number_behind mark above least most bs (number_at above least most bs) (number_means above least most bs some small bound)))
+    (number_behind mark above least most bs (number_at above least most bs) (number_means above least most bs some small (omega arith))))
     (λ _ p. absurd cc)
 
-pub header_takes : (mark : ℕ) (above : Fault) (least most n : ℕ) (bytes rest : List ℕ) → 0 < most → least ≤ 1 → most < 2 ^ 60
+pub header_takes : (mark : ℕ) (above : Fault) (least most n : ℕ) (bytes rest : List ℕ) → 0 < most → least ≤ 1 → most < 2 ^ 64
     → header_at mark above least most bytes ≡ Found n rest → (least ≤ n) × (n ≤ most) × (bytes ≡ header_onto mark n rest)
 header_takes mark above least most n bytes rest some small bound e =
     subst (HeaderMeans mark above least most bytes) e (header_means mark above least most bytes some small bound)
+
+-- a header, once it is read
+pub header_is : (mark : ℕ) (above : Fault) (least most : ℕ) (bytes input : List ℕ) (found : Option Header) (header : Header) → 0 < most → least ≤ 1 → most < 2 ^ 64
+    → bytes ≡ input → Gives bytes (Ok found) (header_at mark above least most bytes) → found ≡ Some header
+    → (least ≤ header.number) × (header.number ≤ most) × (input ≡ header_onto mark header.number (drop header.len input))
+header_is mark above least most bytes input found header some small bound same gives is =
+    let at : List ℕ → Type 0 = λ t. t ≡ header_onto mark header.number (drop header.len t) in
+    let read = subst (λ (o : Option Header). Gives bytes (Ok o) (header_at mark above least most bytes)) is gives in
+    let takes = header_takes mark above least most header.number bytes (drop header.len bytes) some small bound read.0 in
+    (takes.0, takes.1, subst at same takes.2)

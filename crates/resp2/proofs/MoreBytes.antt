@@ -46,7 +46,7 @@ digits_go same above most wider n (b ∷ bs) more le tie =
     (λ _. by_one_test (Goes {X = ℕ} same more) (eqb n 0 || (ltb b 48 || ltb 57 b)) (Bad Protocol) _ (Bad Protocol) _ (λ _ _. refl)
     (λ _. bound_goes same above most wider (10 * n + (b - 48)) more _ _ le tie (digits_go same above most wider (10 * n + (b - 48)) bs more le tie)))
 
-number_goes : (same : Type 0) (above : Fault) (least most wider : ℕ) (bs more : List ℕ) → most ≤ wider → Ties same above most wider
+pub number_goes : (same : Type 0) (above : Fault) (least most wider : ℕ) (bs more : List ℕ) → most ≤ wider → Ties same above most wider
     → Goes same more (number_at above least most bs) (number_at above least wider (bs ++ more))
 number_goes same above least most wider [] more le tie = tt
 number_goes same above least most wider (b ∷ bs) more le tie =
@@ -61,7 +61,7 @@ header_goes same mark above least most wider (b ∷ bs) more le tie =
     by_one_test (Goes {X = ℕ} same more) (eqb b mark) (number_at above least most bs) (Bad Protocol) (number_at above least wider (bs ++ more)) (Bad Protocol)
     (λ _. number_goes same above least most wider bs more le tie) (λ _ _. refl)
 
-body_goes : (same : Type 0) (n : ℕ) (bytes more : List ℕ) → Goes same more (body_at n bytes) (body_at n (bytes ++ more))
+pub body_goes : (same : Type 0) (n : ℕ) (bytes more : List ℕ) → Goes same more (body_at n bytes) (body_at n (bytes ++ more))
 body_goes same n bytes more =
     by_test (λ (u : Seen (List ℕ)). Goes same more u (body_at n (bytes ++ more))) (ltb (length bytes) n) Wants (line_end_at (take n bytes) (drop n bytes))
     (λ _. tt)

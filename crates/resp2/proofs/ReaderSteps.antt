@@ -14,7 +14,7 @@ use Rattle.resp2.specs.Reading.{reading, reading_words, Seen, Wants, Bad, Found,
 use Rattle.resp2.specs.Progress.{Refuses, Takes, TakesWord, HasLen, IsPartial, word_front, partial_onto, request_front, partial_of, pending_of}
 use Rattle.resp2.specs.Reader.{ReaderState, empty_requests, PassesOver, HandsOut, Waits, Breaks, FailsBy, remembered}
 use Rattle.resp2.specs.Request.{request_spelling, header_spelling, bulks_spelling, IsRequest, KeepsLimits, WordsKeepLimits, IsUnfinished}
-use Rattle.resp2.proofs.HeaderReading.{header_takes}
+use Rattle.resp2.proofs.HeaderReading.{header_is}
 use Rattle.resp2.proofs.RequestReading.{word_takes, header_onto-append, bulks_onto-append}
 use Rattle.resp2.proofs.RequestRoundTrip.{body_behind, request_behind, with_words}
 use Rattle.resp2.proofs.Spellings.{each_by_recursion, each_by_index}
@@ -29,20 +29,18 @@ pub length_is : (bytes input : List ℕ) (found : Option Header) (header : Heade
     → bytes ≡ input → Gives bytes (Ok found) (header_at 36 TooLong 0 MOST_WORD_BYTES bytes) → found ≡ Some header
     → (header.number ≤ MOST_WORD_BYTES) × (input ≡ header_onto 36 header.number (drop header.len input))
 length_is bytes input found header same gives is =
-    let at : List ℕ → Type 0 = λ t. t ≡ header_onto 36 header.number (drop header.len t) in
-    let read = subst (λ (o : Option Header). Gives bytes (Ok o) (header_at 36 TooLong 0 MOST_WORD_BYTES bytes)) is gives in
-    let takes = header_takes 36 TooLong 0 MOST_WORD_BYTES header.number bytes (drop header.len bytes) bytes_some (omega arith) bytes_bound read.0 in
-    (takes.1, subst at same takes.2)
+    let bound : MOST_WORD_BYTES < 2 ^ 60 = bytes_bound in
+    let read = header_is 36 TooLong 0 MOST_WORD_BYTES bytes input found header bytes_some (omega arith) (omega (arith, bound)) same gives is in
+    (read.1, read.2)
 
 -- the header of a request, once it is read
 pub count_is : (bytes input : List ℕ) (found : Option Header) (header : Header)
     → bytes ≡ input → Gives bytes (Ok found) (header_at 42 TooLong 0 MOST_WORDS bytes) → found ≡ Some header
     → (header.number ≤ MOST_WORDS) × (input ≡ header_onto 42 header.number (drop header.len input))
 count_is bytes input found header same gives is =
-    let at : List ℕ → Type 0 = λ t. t ≡ header_onto 42 header.number (drop header.len t) in
-    let read = subst (λ (o : Option Header). Gives bytes (Ok o) (header_at 42 TooLong 0 MOST_WORDS bytes)) is gives in
-    let takes = header_takes 42 TooLong 0 MOST_WORDS header.number bytes (drop header.len bytes) words_some (omega arith) words_bound read.0 in
-    (takes.1, subst at same takes.2)
+    let bound : MOST_WORDS < 2 ^ 60 = words_bound in
+    let read = header_is 42 TooLong 0 MOST_WORDS bytes input found header words_some (omega arith) (omega (arith, bound)) same gives is in
+    (read.1, read.2)
 
 -- ---- a word
 

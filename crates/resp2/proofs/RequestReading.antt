@@ -29,18 +29,18 @@ request_onto-append words rest more =
 -- ---- a word
 
 -- more bytes end this word
-record BodyEnds (n : ℕ) (bytes : List ℕ) : Type 0 where
-  word : List ℕ
-  more : List ℕ
-  len : length word ≡ n
-  wanted : 0 < length more
-  spelled : bytes ++ more ≡ word ++ (13 ∷ 10 ∷ [])
+pub record BodyEnds (n : ℕ) (bytes : List ℕ) : Type 0 where
+  pub word : List ℕ
+  pub more : List ℕ
+  pub len : length word ≡ n
+  pub wanted : 0 < length more
+  pub spelled : bytes ++ more ≡ word ++ (13 ∷ 10 ∷ [])
 
-record BodyIs (n : ℕ) (bytes word rest : List ℕ) : Type 0 where
-  len : length word ≡ n
-  spelled : bytes ≡ word ++ (13 ∷ 10 ∷ rest)
+pub record BodyIs (n : ℕ) (bytes word rest : List ℕ) : Type 0 where
+  pub len : length word ≡ n
+  pub spelled : bytes ≡ word ++ (13 ∷ 10 ∷ rest)
 
-abbrev BodyMeans : ℕ → List ℕ → Seen (List ℕ) → Type 0
+abbrev pub BodyMeans : ℕ → List ℕ → Seen (List ℕ) → Type 0
 BodyMeans n bytes seen = MatchSeen seen (BodyEnds n bytes) (λ fault. fault ≡ TooLong → ⊥) (BodyIs n bytes)
 
 line_end_means : (n : ℕ) (word bytes : List ℕ) → length word ≡ n → BodyMeans n (word ++ bytes) (line_end_at word bytes)
@@ -57,7 +57,7 @@ line_end_means n word (b ∷ bs) len =
         (λ lf. record { len = len; spelled = ap (λ (x : ℕ). word ++ (13 ∷ x ∷ cs)) (eqb-true c 10 lf) })
         (λ _ p. absurd cc)
 
-body_means : (n : ℕ) (bytes : List ℕ) → BodyMeans n bytes (body_at n bytes)
+pub body_means : (n : ℕ) (bytes : List ℕ) → BodyMeans n bytes (body_at n bytes)
 body_means n bytes =
     by_test (BodyMeans n bytes) (ltb (length bytes) n) Wants (line_end_at (take n bytes) (drop n bytes))
     (λ short.
@@ -113,7 +113,7 @@ behind_header limit n rest (Found word last) high m =
     record { short = omega (arith, m.len); spelled = ap (header_onto 36 n) m.spelled ∙ ap (λ (k : ℕ). header_onto 36 k (word ++ (13 ∷ 10 ∷ last))) (sym m.len) }
 
 word_means : (limit : ℕ) (bytes : List ℕ) → 0 < limit → limit < 2 ^ 60 → WordMeans limit bytes (word_at limit bytes)
-word_means limit bytes some bound = behind (header_at 36 TooLong 0 limit bytes) (header_means 36 TooLong 0 limit bytes some (omega arith) bound)
+word_means limit bytes some bound = behind (header_at 36 TooLong 0 limit bytes) (header_means 36 TooLong 0 limit bytes some (omega arith) (omega arith))
   where
     behind : (s : Seen ℕ) → HeaderMeans 36 TooLong 0 limit bytes s → WordMeans limit bytes (and_then s body_at)
     behind Wants m =
@@ -302,7 +302,7 @@ behind_count most limit n rest (Found words last) few m = record {
 }
 
 pub request_means : (most limit : ℕ) (bytes : List ℕ) → 0 < most → most < 2 ^ 60 → 0 < limit → limit < 2 ^ 60 → RequestMeans most limit bytes (request_at most limit bytes)
-request_means most limit bytes words_some words_bound some bound = behind (header_at 42 TooLong 0 most bytes) (header_means 42 TooLong 0 most bytes words_some (omega arith) words_bound)
+request_means most limit bytes words_some words_bound some bound = behind (header_at 42 TooLong 0 most bytes) (header_means 42 TooLong 0 most bytes words_some (omega arith) (omega arith))
   where
     behind : (s : Seen ℕ) → HeaderMeans 42 TooLong 0 most bytes s → RequestMeans most limit bytes (and_then s (words_at limit))
     behind Wants m =

@@ -8,7 +8,7 @@ use Rattle.resp2.specs.Reading.{Seen, Wants, Bad, Found, and_then, MatchSeen, he
 use Rattle.resp2.proofs.HeaderRoundTrip.{header_again, header_decides, header_passes, IsBad}
 use Rattle.resp2.proofs.RequestReading.{AreShort}
 
-body_again : (word rest : List ℕ) → body_at (length word) (word ++ (13 ∷ 10 ∷ rest)) ≡ Found word rest
+pub body_again : (word rest : List ℕ) → body_at (length word) (word ++ (13 ∷ 10 ∷ rest)) ≡ Found word rest
 body_again word rest =
     let long : ltb (length (word ++ (13 ∷ 10 ∷ rest))) (length word) ≡ false = le-ltb _ _ (omega (arith, length-append word (13 ∷ 10 ∷ rest))) in
     rw (long, take_at word (13 ∷ 10 ∷ rest) (length word) refl, drop_at word (13 ∷ 10 ∷ rest) (length word) refl) refl

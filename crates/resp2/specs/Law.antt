@@ -5,7 +5,8 @@ use Rattle.resp2.specs.declared.array.Element.{Element}
 use Rattle.resp2.specs.declared.fault.Fault.TheVariants.{Protocol, TooLong}
 use Rattle.resp2.specs.declared.reply.Reply.{Reply}
 use Rattle.resp2.specs.Array.{is_array, depth_of}
-use Rattle.resp2.specs.Reply.{array_of, is_reply, greatest_depth}
+use Rattle.resp2.specs.Reply.{array_of, is_reply, greatest_depth, reply_spelling}
+use Rattle.resp2.specs.ReplyReader.{ReplyKeepsLimits, replies_spelling, HasFirstBadReplyByte, HasNoReply, IsUnfinishedReply}
 use Rattle.resp2.specs.Request.{request_spelling, stream_spelling, KeepsLimits, IsUnfinished, HasFirstBadByte, HasNoRequest}
 
 -- bytes begin with one request at most, perhaps one without words, and its end is where the next begins
@@ -62,6 +63,54 @@ pub record HasOneFront (bytes : List ℕ) : Type 0 where
 -- so each rule of the bytes says what a reader does with any bytes at all
 abbrev pub BytesHaveOneFront : Type 0
 BytesHaveOneFront = (bytes : List ℕ) → HasOneFront bytes
+
+-- ---- replies
+
+-- bytes begin with one reply at most, and its end is where the next begins
+abbrev pub NoReplyBeginsAnother : Type 0
+NoReplyBeginsAnother =
+    (one other : Reply) (rest more : List ℕ) → ReplyKeepsLimits one → ReplyKeepsLimits other
+    → reply_spelling one ++ rest ≡ reply_spelling other ++ more → (one ≡ other) × (rest ≡ more)
+
+-- the bytes are these replies, and then no whole one
+pub record AreReplies (bytes : List ℕ) (replies : List Reply) (rest : List ℕ) : Type 0 where
+  pub spelled : bytes ≡ replies_spelling replies ++ rest
+  pub each : All ReplyKeepsLimits replies
+  pub none : HasNoReply rest
+
+-- so it doesn't matter in which pieces the bytes came
+abbrev pub RepliesAreReadInOneWay : Type 0
+RepliesAreReadInOneWay =
+    (bytes : List ℕ) (replies others : List Reply) (rest more : List ℕ)
+    → AreReplies bytes replies rest → AreReplies bytes others more → (replies ≡ others) × (rest ≡ more)
+
+-- a whole reply stands in front of these bytes
+pub record HasReply (bytes : List ℕ) : Type 0 where
+  pub reply : Reply
+  pub rest : List ℕ
+  pub limits : ReplyKeepsLimits reply
+  pub spelled : bytes ≡ reply_spelling reply ++ rest
+
+-- what bytes can have in front: a reply, the beginning of one, or a byte that none can have there
+pub data ReplyFront : Type 0 where
+  WholeReply : ReplyFront
+  PartOfReply : ReplyFront
+  NoneOfReply : ReplyFront
+
+abbrev pub HasReplyFront : ReplyFront → List ℕ → Type 0
+HasReplyFront WholeReply bytes = HasReply bytes
+HasReplyFront PartOfReply bytes = IsUnfinishedReply bytes
+HasReplyFront NoneOfReply bytes = HasFirstBadReplyByte bytes × HasNoReply bytes
+
+-- one of the three, and no other
+pub record HasOneReplyFront (bytes : List ℕ) : Type 0 where
+  pub front : ReplyFront
+  pub has : HasReplyFront front bytes
+  pub only : (other : ReplyFront) → HasReplyFront other bytes → other ≡ front
+
+-- so each rule of the bytes says what a reader of replies does with any bytes at all
+abbrev pub BytesHaveOneReplyFront : Type 0
+BytesHaveOneReplyFront = (bytes : List ℕ) → HasOneReplyFront bytes
 
 -- ---- arrays
 

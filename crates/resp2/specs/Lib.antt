@@ -8,5 +8,8 @@ pub mod Progress
 pub mod Reader
 pub mod Reading
 pub mod Reply
+pub mod ReplyProgress
+pub mod ReplyReader
+pub mod ReplyReading
 pub mod Request
 pub mod Writing

@@ -65,6 +65,14 @@ impl Array {
         Ok(Array { elements })
     }
 
+    /// The array that has these elements.
+    pub(crate) fn of_elements(elements: Vec<Element>) -> Array
+        requires { IsTrue (is_array elements.items) }
+        ensures { result ≡ elements.items }
+    {
+        Array { elements }
+    }
+
     /// The header of the array, and all that stands behind it.
     pub fn as_slice(&self) -> &[Element]
         ensures elements { result.now ≡ self.now }

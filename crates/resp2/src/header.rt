@@ -1,5 +1,5 @@
 //! The header of a request or of a word: a mark, a number, and the end of the line.
-ghost use Rattle.std.specs.Prelude.{◌≡◌, ◌<◌, ◌≤◌, ◌^◌, length, drop};
+ghost use Rattle.std.specs.Prelude.{◌≡◌, ◌<◌, ◌≤◌, ◌-◌, ◌^◌, length, drop};
 ghost use Rattle.resp2.specs.Reading.{header_at, number_at, digits_at, after_cr};
 ghost use Rattle.resp2.specs.Header.{Gives};
 
@@ -30,7 +30,7 @@ pub struct Bounds {
 /// The first byte that no header has there is a fault at once, whatever may follow it: so a peer
 /// that doesn't speak the protocol is never waited for.
 pub fn read_header(bytes: &[u8], mark: u8, bounds: Bounds) -> Result<Option<Header>, Fault>
-    requires { bounds.most < 2 ^ 60 }
+    requires { bounds.most < 2 ^ 64 - 1 }
     ensures { Gives bytes.now result
         (header_at mark bounds.above bounds.least bounds.most bytes.now) }
 {
@@ -45,7 +45,7 @@ pub fn read_header(bytes: &[u8], mark: u8, bounds: Bounds) -> Result<Option<Head
 
 /// The same behind the mark: the first digit.
 fn read_number(bytes: &[u8], bounds: Bounds) -> Result<Option<Header>, Fault>
-    requires small { bounds.most < 2 ^ 60 }
+    requires small { bounds.most < 2 ^ 64 - 1 }
     requires mark { 0 < length bytes.now }
     ensures { Gives bytes.now result
         (number_at bounds.above bounds.least bounds.most (drop 1 bytes.now)) }
@@ -69,7 +69,7 @@ fn read_number(bytes: &[u8], bounds: Bounds) -> Result<Option<Header>, Fault>
 
 /// The same behind the first digit.
 fn read_digits(bytes: &[u8], first: usize, bounds: Bounds) -> Result<Option<Header>, Fault>
-    requires small { bounds.most < 2 ^ 60 }
+    requires small { bounds.most < 2 ^ 64 - 1 }
     requires first { first ≤ bounds.most }
     requires mark { 2 ≤ length bytes.now }
     ensures { Gives bytes.now result
@@ -88,7 +88,9 @@ fn read_digits(bytes: &[u8], first: usize, bounds: Bounds) -> Result<Option<Head
         if number == 0 || byte < b'0' || byte > b'9' {
             return Err(Fault::Protocol);
         }
-        let next = 10 * number + (byte - b'0') as usize;
+        let next = number
+            .saturating_mul(10)
+            .saturating_add((byte - b'0') as usize);
         if next > most {
             return Err(above);
         }

@@ -1,5 +1,5 @@
 //! Laws of the spellings: bytes are read in one way, and an array is that of some replies.
-ghost use Rattle.resp2.specs.Law.{NoSpellingBeginsAnother, NoUnfinishedIsWhole, StreamIsReadInOneWay, BytesHaveOneFront, ArraysAreOfReplies, ArrayDeterminesReplies, ArrayIsOneDeeper};
+ghost use Rattle.resp2.specs.Law.{NoReplyBeginsAnother, RepliesAreReadInOneWay, BytesHaveOneReplyFront, NoSpellingBeginsAnother, NoUnfinishedIsWhole, StreamIsReadInOneWay, BytesHaveOneFront, ArraysAreOfReplies, ArrayDeterminesReplies, ArrayIsOneDeeper};
 
 /// No request's bytes begin another's, so what stands in front of a stream is one request at most.
 pub fn no_spelling_begins_another()
@@ -20,6 +20,22 @@ pub fn a_stream_is_read_in_one_way()
 /// that breaks the protocol, or one that makes a count, a length or a whole request pass its limit.
 pub fn bytes_have_one_front()
     ensures { BytesHaveOneFront }
+{}
+
+/// No reply's bytes begin another's, so what stands in front of a stream is one reply at most.
+pub fn no_reply_begins_another()
+    ensures { NoReplyBeginsAnother }
+{}
+
+/// Bytes are one list of replies and one rest, whoever reads them and in whichever pieces.
+pub fn replies_are_read_in_one_way()
+    ensures { RepliesAreReadInOneWay }
+{}
+
+/// Any bytes have exactly one of three things in front: a whole reply, the beginning of one, or a byte
+/// that no reply can have there.
+pub fn bytes_have_one_reply_front()
+    ensures { BytesHaveOneReplyFront }
 {}
 
 /// Elements are an array exactly if they are the array of some replies.

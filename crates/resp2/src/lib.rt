@@ -2,14 +2,18 @@
 #![tactic(auto)]
 
 mod array;
+mod array_part;
+mod bulk;
 mod counting;
 mod fault;
 mod header;
 mod law;
+mod leaf;
 mod line;
 mod parts;
 mod reader;
 mod reply;
+mod reply_reader;
 mod sending;
 mod whole;
 mod words;
@@ -20,12 +24,14 @@ pub use counting::Counting;
 pub use fault::Fault;
 pub use law::{
     a_stream_is_read_in_one_way, array_determines_replies, array_is_one_deeper,
-    arrays_are_of_replies, bytes_have_one_front, no_spelling_begins_another,
-    no_unfinished_is_whole,
+    arrays_are_of_replies, bytes_have_one_front, bytes_have_one_reply_front,
+    no_reply_begins_another, no_spelling_begins_another, no_unfinished_is_whole,
+    replies_are_read_in_one_way,
 };
 pub use line::Line;
 pub use reader::Reader;
 pub use reply::Reply;
+pub use reply_reader::{MOST_COUNT, MOST_DEPTH, ReplyReader};
 pub use sending::write_words;
 pub use words::{MOST_REQUEST_BYTES, MOST_WORD_BYTES, MOST_WORDS, Words};
 pub use writing::{append_reply, send_reply, write_reply};

@@ -48,6 +48,14 @@ impl Line {
         }
     }
 
+    /// The line with this text, in which no line ends.
+    pub(crate) fn of(text: Bytes) -> Line
+        requires { IsTrue (is_one_line text) }
+        ensures { result ≡ text }
+    {
+        Line { text }
+    }
+
     /// The bytes of the line, without its end.
     pub fn as_slice(&self) -> &[u8]
         ensures text { result.now ≡ self.now }
@@ -86,7 +94,7 @@ fn is_one_line(text: &[u8]) -> bool
     text.iter().all(|byte| is_text_byte(*byte))
 }
 
-fn is_text_byte(byte: u8) -> bool
+pub(crate) fn is_text_byte(byte: u8) -> bool
     ensures { result ≡ is_text_byte byte }
 {
     !matches!(byte, b'\r' | b'\n')
