@@ -1,5 +1,5 @@
 //! A conversation's way to a node: a cell behind a lock.
-ghost use Rattle.std.specs.Prelude.{IfSome};
+ghost use Rattle.std.specs.Prelude.{◌≡◌, IfSome};
 ghost use Rattle.cluster.specs.Answers.{MayGive};
 
 use crate::shared::SharedNode;
@@ -28,6 +28,16 @@ impl<'n, K: Deployment, L: Log, R: Wait> Gate<'n, K, L, R> {
             asks: Asks::new(),
         }
     }
+
+    // The node with its lock, which is taken where this conversation doesn't hold it yet.
+    fn take_or_lock(&mut self) -> MutexGuard<'n, NodeCell<K, L>>
+        ensures { self.new.asks ≡ self.old.asks }
+    {
+        match self.held.take() {
+            Some(cell) => cell,
+            None => self.node.lock(&self.rt),
+        }
+    }
 }
 
 impl<'n, K: Deployment, L: Log, R: Wait> NodeGate for Gate<'n, K, L, R> {
@@ -44,10 +54,7 @@ impl<'n, K: Deployment, L: Log, R: Wait> NodeGate for Gate<'n, K, L, R> {
     ghost may_give = { MayGive K.config };
 
     fn step(&mut self, event: Event) -> Result<Entered<K>, StepFault> {
-        let mut cell = match self.held.take() {
-            Some(cell) => cell,
-            None => self.node.lock(&self.rt),
-        };
+        let mut cell = self.take_or_lock();
         let answer = self.asks.ask(&mut cell, event);
         self.node.ring(&cell);
         self.held = Some(cell);
@@ -55,10 +62,7 @@ impl<'n, K: Deployment, L: Log, R: Wait> NodeGate for Gate<'n, K, L, R> {
     }
 
     fn wait(&mut self, conn: Conn) -> Option<Reply> {
-        let cell = match self.held.take() {
-            Some(cell) => cell,
-            None => self.node.lock(&self.rt),
-        };
+        let cell = self.take_or_lock();
         let reply = wait_at(&self.rt, self.node, cell, conn);
         self.asks.note_wait(conn, &reply);
         reply

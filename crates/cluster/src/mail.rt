@@ -92,7 +92,12 @@ impl<K: Deployment, L: Log + Drop> Carrier<K, L> {
 
     // Takes the messages out of the node's outbox. Those for which there is no memory are lost.
     fn collect<R: Wait>(&mut self, rt: &R, alloc: Global) {
-        let sent = self.node.shared.lock(rt).take_sent(alloc);
+        let mut cell = self.node.shared.lock(rt);
+        if !cell.has_sent() {
+            return;
+        }
+        let sent = cell.take_sent(alloc);
+        drop(cell);
         for messages in sent {
             for message in messages.into_vec(alloc) {
                 if let Some(unsent) = self.unsent.get_mut(usize::from(message.to.get())) {

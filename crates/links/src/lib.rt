@@ -5,4 +5,4 @@ mod inbox;
 mod link;
 
 pub use inbox::Inbox;
-pub use link::{Link, MOST_MESSAGES, Received};
+pub use link::{MOST_MESSAGES, Received};

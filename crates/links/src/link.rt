@@ -11,7 +11,7 @@ pub const MOST_MESSAGES: usize = 1024;
 
 /// The messages on their way from one node to another. They arrive in the order in which they were sent, each once.
 #[derive(Drop)]
-pub struct Link {
+pub(crate) struct Link {
     waiting: Mutex<VecDeque<Message>>,
 }
 
@@ -26,21 +26,21 @@ pub struct Received {
 
 impl Link {
     /// A link without a message.
-    pub fn new(alloc: Global) -> Link {
+    pub(crate) fn new(alloc: Global) -> Link {
         Link {
             waiting: Mutex::new(VecDeque::new(alloc)),
         }
     }
 
     /// Sends the message, or gives it back where the link is full or memory is refused.
-    pub fn send<R: Wait>(&self, rt: &R, message: Message) -> Result<(), Message>
+    pub(crate) fn send<R: Wait>(&self, rt: &R, message: Message) -> Result<(), Message>
         ensures { IfErr result (λ back. back ≡ message) }
     {
         put_last(&mut self.waiting.lock(rt), message)
     }
 
     /// Takes the message that was sent first.
-    pub fn receive<R: Wait>(&self, rt: &R) -> Option<Received> {
+    pub(crate) fn receive<R: Wait>(&self, rt: &R) -> Option<Received> {
         let mut waiting = self.waiting.lock(rt);
         let was_full = waiting.len() >= MOST_MESSAGES;
         let message = waiting.pop_front()?;

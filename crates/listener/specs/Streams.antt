@@ -1,5 +1,5 @@
 -- A client's two streams, and what was asked of the node: before a call, and after it.
-use Rattle.std.specs.Prelude.{◌≡◌, ℕ, List, ◌++◌, Option, Result, All, IfSome, MatchResult}
+use Rattle.std.specs.Prelude.{◌≡◌, ℕ, List, ◌++◌, Option, All, IfSome, MatchResult}
 use Rattle.std.specs.Io.KnownBytes.{Appends}
 use Rattle.resp2.specs.Counting.{inner_of, failures_of, HasRisen}
 use Rattle.resp2.specs.Writing.{AppendsBeginning}

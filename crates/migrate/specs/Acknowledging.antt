@@ -1,5 +1,5 @@
 -- Acknowledgements of copies (ours).
-use Rattle.std.specs.Prelude.{ℕ, ◌==◌, ◌&&◌, Bool, if◌then◌else◌, List, Option, Some, None}
+use Rattle.std.specs.Prelude.{ℕ, ◌==◌, ◌&&◌, if◌then◌else◌, List, Option, Some, None}
 use Rattle.slot_moves.specs.Moves.{Moves, move_of}
 use Rattle.slot_moves.specs.declared.running.Move.{Move}
 use Rattle.slot_moves.specs.declared.running.Move.TheVariants.{Leaves, Comes}

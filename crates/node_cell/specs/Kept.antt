@@ -4,7 +4,7 @@ use Rattle.std.specs.List.{flat_map, list_any}
 use Rattle.connections.specs.declared.conn.Conn.{Conn}
 use Rattle.node_step.specs.Kept.{is_for, of_others}
 use Rattle.node_step.specs.declared.event.Event.{Event}
-use Rattle.node_step.specs.declared.event.Event.TheVariants.{Open, Close, Request, Deliver, Tick}
+use Rattle.node_step.specs.declared.event.Event.TheVariants.{Close}
 use Rattle.node_step.specs.declared.outputs.Release.{Release}
 
 -- those of all steps, one step after another
@@ -17,8 +17,5 @@ has_for conn releases = list_any (is_for conn) releases
 
 -- what is kept after a step: a connection that is closed gets nothing any more
 abbrev pub kept_after : Event → List Release → List Release → List Release
-kept_after Open kept released = kept ++ released
 kept_after (Close conn) kept released = of_others conn kept ++ released
-kept_after (Request conn words) kept released = kept ++ released
-kept_after (Deliver message) kept released = kept ++ released
-kept_after Tick kept released = kept ++ released
+kept_after _ kept released = kept ++ released

@@ -1,9 +1,9 @@
 -- Answers of the parts of a node are answers of the whole node.
-use Rattle.std.proofs.Common.{◌≡◌, ℕ, true, false, true≢false, List, [], Option, Some, None, ℤ, refl, sym, ap, subst, ◌∙◌, Bool}
+use Rattle.std.proofs.Common.{◌≡◌, ℕ, true, false, List, [], Option, Some, None, ℤ, refl, sym, ap, subst, ◌∙◌, Bool}
 use Rattle.std.specs.List.{position}
 use Rattle.std.specs.Str.{bytes_eq}
 use Rattle.cluster_config.specs.declared.config.NodeConfig.{NodeConfig}
-use Rattle.std.specs.Prelude.{MatchBool, Result, Ok, Err, is_none, is_some}
+use Rattle.std.specs.Prelude.{MatchBool, Ok, Err, is_none, is_some}
 use Rattle.resp2.specs.declared.reply.Reply.{Reply}
 use Rattle.command.specs.Table.{command_of}
 use Rattle.command.specs.declared.command.ClusterCommand.{ClusterCommand}
@@ -36,7 +36,7 @@ use Rattle.node_step.specs.declared.response.Response.TheVariants.{Opened}
 use Rattle.node_step.specs.declared.response.Why.TheVariants.{NotACommand, Reported, Told}
 use Rattle.node_core.specs.Comes.{AnswersSo, ComesTo}
 use Rattle.node_core.specs.Orders.{Gives, Obeys}
-use Rattle.node_core.specs.Questions.{IsReport, ListsOwners, is_question}
+use Rattle.node_core.specs.Questions.{IsReport, is_question}
 
 -- no listing is needed
 none : Listing

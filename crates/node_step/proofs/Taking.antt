@@ -1,5 +1,5 @@
 -- The first reply to a connection, by its place.
-use Rattle.std.proofs.Common.{◌≡◌, ◌<◌, ℕ, Bool, true, false, cond, not, ltb, List, [], ◌∷◌, ◌++◌, Option, Some, None, length, take, drop, get_or, refl, sym, ap, ◌∙◌, arith}
+use Rattle.std.proofs.Common.{◌≡◌, ◌<◌, ℕ, Bool, true, false, cond, not, ltb, List, [], ◌∷◌, ◌++◌, Some, None, length, take, drop, get_or, refl, sym, ap, ◌∙◌, arith}
 use Rattle.std.specs.Prelude.{position, zero, suc}
 use Rattle.std.specs.List.{position_or_len}
 use Rattle.std.proofs.lemmas.Bool.{ltb-false}
@@ -8,7 +8,6 @@ use Rattle.std.proofs.lemmas.List.Sums.{prefix_len_passes}
 use Rattle.connections.specs.declared.conn.Conn.{Conn}
 use Rattle.node_step.specs.Kept.{is_for, reply_to, without_reply_to}
 use Rattle.node_step.specs.declared.outputs.Release.{Release}
-use Rattle.resp2.specs.declared.reply.Reply.{Reply}
 
 -- what is taken, and what is left
 pub record Takes (conn : Conn) (releases : List Release) (place : ℕ) (default : Release) : Type 0 where

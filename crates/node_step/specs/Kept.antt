@@ -1,5 +1,5 @@
 -- Replies to connections that waited, as long as they are kept.
-use Rattle.std.specs.Prelude.{◌∷◌, ◌&&◌, ◌==◌, ℕ, Bool, not, List, [], Option, Some, None, if◌then◌else◌}
+use Rattle.std.specs.Prelude.{◌∷◌, ◌&&◌, ◌==◌, Bool, not, List, [], Option, Some, None, if◌then◌else◌}
 use Rattle.std.specs.List.{filter}
 use Rattle.resp2.specs.declared.reply.Reply.{Reply}
 use Rattle.connections.specs.declared.conn.Conn.{Conn}

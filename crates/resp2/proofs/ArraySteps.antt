@@ -1,30 +1,29 @@
 -- What a step leaves of an array that is read.
-use Rattle.std.proofs.Common.{◌≡◌, ◌≢◌, ℕ, zero, suc, ◌+◌, ◌-◌, ◌<◌, ◌≤◌, ◌==◌, Bool, true, false, List, [], ◌∷◌, ◌++◌, length, drop, take, Option, None, Some, Result, Ok, Err, refl, sym, ap, subst, ◌∙◌, append_assoc, append-nil, arith}
-use Rattle.std.specs.Prelude.{IsTrue, IfSome, decimal}
+use Rattle.std.proofs.Common.{◌≡◌, ◌≢◌, ℕ, ◌+◌, ◌-◌, ◌<◌, ◌≤◌, true, false, List, [], ◌∷◌, ◌++◌, length, drop, take, Option, None, Some, Ok, refl, sym, ap, subst, ◌∙◌, append_assoc, append-nil, arith}
+use Rattle.std.specs.Prelude.{IsTrue, IfSome}
 use Rattle.std.specs.List.{flat_map}
-use Rattle.std.proofs.lemmas.Bool.{ne_eqb, eqb-true}
+use Rattle.std.proofs.lemmas.Bool.{ne_eqb}
 use Rattle.std.proofs.lemmas.Grind.{flat_map-append}
 use Rattle.std.proofs.lemmas.List.{length-append}
 use Rattle.resp2.specs.Array.{is_array}
 use Rattle.resp2.specs.Header.{Gives}
 use Rattle.resp2.specs.Progress.{Refuses, word_front}
-use Rattle.resp2.specs.Reading.{Seen, Wants, Bad, Found, and_then, header_at, header_onto}
+use Rattle.resp2.specs.Reading.{Seen, Wants, Bad, Found, and_then, header_at}
 use Rattle.resp2.specs.Reply.{element_spelling}
 use Rattle.resp2.specs.ReplyProgress.{ArePart, HasHeader, IsBegun, IsReading, TakesElement, array_front, begins_array, element_front, reading_on, to_come}
-use Rattle.resp2.specs.ReplyReading.{as_found, leaf_at, most_number, reply_at}
-use Rattle.resp2.specs.Request.{crlf}
+use Rattle.resp2.specs.ReplyReading.{leaf_at, most_number, reply_at}
 use Rattle.resp2.specs.Line.{is_one_line}
 use Rattle.resp2.specs.declared.array.Element.{Element}
 use Rattle.resp2.specs.declared.array.Element.TheVariants as element
 use Rattle.resp2.specs.declared.array_part.ArrayPart.{ArrayPart}
 use Rattle.resp2.specs.declared.fault.Fault.{Fault}
-use Rattle.resp2.specs.declared.fault.Fault.TheVariants.{Protocol, Memory}
+use Rattle.resp2.specs.declared.fault.Fault.TheVariants.{Protocol}
 use Rattle.resp2.specs.declared.header.Header.{Header}
 use Rattle.resp2.specs.declared.leaf.Begun.{Begun}
 use Rattle.resp2.specs.declared.reply_reader.TheConstants.{MOST_DEPTH, MOST_COUNT}
 use Rattle.resp2.proofs.HeaderReading.{header_is}
 use Rattle.resp2.proofs.HeaderRoundTrip.{header_again}
-use Rattle.resp2.proofs.Readers.{IsReader, Means}
+use Rattle.resp2.proofs.Readers.{Means}
 use Rattle.resp2.proofs.ReplyLimits.{headed_array}
 use Rattle.resp2.proofs.ReplyReaders.{IsLeaf, IsReplyAt, all_spelled, leaf_elsewhere, leaf_reader, reply_reader}
 use Rattle.resp2.proofs.ReplySteps.{all_over, array_begins, array_next, array_over, behind, behind_both, deep_next, leaf_next}

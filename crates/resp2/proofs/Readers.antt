@@ -1,5 +1,5 @@
 -- Readings of values from the front of bytes, and how they are put together.
-use Rattle.std.proofs.Common.{◌≡◌, ◌≢◌, ◌⊎◌, inl, inr, ℕ, zero, suc, ◌<◌, ◌==◌, Bool, true, false, cond, List, [], ◌∷◌, ◌++◌, length, refl, sym, ap, subst, ◌∙◌, append_assoc, append-nil, arith}
+use Rattle.std.proofs.Common.{◌≡◌, ◌≢◌, ◌⊎◌, inl, inr, ℕ, zero, suc, ◌<◌, ◌==◌, true, false, cond, List, [], ◌∷◌, ◌++◌, length, refl, sym, ap, subst, ◌∙◌, append_assoc, append-nil, arith}
 use Rattle.std.specs.List.{AllByRecursion, flat_map}
 use Rattle.std.proofs.lemmas.Bool.{eqb-true, eq-eqb, ne_eqb}
 use Rattle.std.proofs.lemmas.List.{length-append}

@@ -1,6 +1,6 @@
 -- What the reading of bytes says of replies, and of the bytes that may come.
-use Rattle.std.proofs.Common.{◌≡◌, ◌≢◌, ℕ, ℤ, zero, suc, pos, negsuc, ◌+◌, ◌*◌, ◌-◌, ◌^◌, ◌<◌, ◌≤◌, ◌==◌, Bool, true, false, if◌then◌else◌, cond, ltb, eqb, ◌||◌, List, [], ◌∷◌, ◌++◌, length, map, take, drop, refl, sym, ap, subst, ◌∙◌, append-nil, arith}
-use Rattle.std.specs.Prelude.{All, IsTrue, IfSome, IfNone, Option, None, Some, Result, Ok}
+use Rattle.std.proofs.Common.{◌≡◌, ℕ, zero, suc, pos, negsuc, ◌+◌, ◌*◌, ◌-◌, ◌^◌, ◌≤◌, ◌==◌, Bool, if◌then◌else◌, ltb, eqb, ◌||◌, List, [], ◌∷◌, ◌++◌, length, map, take, drop, refl, sym, ap, subst, ◌∙◌, append-nil, arith}
+use Rattle.std.specs.Prelude.{All, IsTrue, IfSome, IfNone, Option, None, Some, Ok}
 use Rattle.std.specs.List.{AllByRecursion, flat_map}
 use Rattle.resp2.specs.Array.{depth_of}
 use Rattle.resp2.specs.Reading.{Seen, Wants, Bad, Found, MatchSeen, and_then, after_cr, line_end_at, body_at, digits_at, number_at}
@@ -18,10 +18,10 @@ use Rattle.resp2.specs.declared.reply.Reply.{Reply}
 use Rattle.resp2.specs.declared.reply.Reply.TheVariants as replies
 use Rattle.resp2.specs.declared.reply_reader.TheConstants.{MOST_DEPTH}
 use Rattle.resp2.proofs.HeaderReading.{by_test}
-use Rattle.resp2.proofs.Readers.{IsReader, EndsIn, Means, IsBeginningOf, bad_begins_nothing, found_again}
-use Rattle.resp2.proofs.ReplyLimits.{IsOf, limits_read, reads_limits, spelled_reply}
+use Rattle.resp2.proofs.Readers.{IsReader, EndsIn, Means, bad_begins_nothing, found_again}
+use Rattle.resp2.proofs.ReplyLimits.{limits_read, reads_limits, spelled_reply}
 use Rattle.resp2.proofs.ReplyReaders.{IsReplyAt, all_spelled, reply_reader}
-use Rattle.resp2.proofs.ShortestBad.{Stays, ShortestBad, shortest_bad}
+use Rattle.resp2.proofs.ShortestBad.{Stays, shortest_bad}
 use Rattle.resp2.proofs.Spellings.{each_by_recursion, each_by_index}
 
 -- ---- the one fault

@@ -2,7 +2,7 @@
 use Rattle.std.proofs.Common.{◌≡◌, ℕ, ◌<◌, ◌++◌, List, [], ◌∷◌, length, refl, sym, ap, subst, ◌∙◌, append_assoc, append-nil, arith}
 use Rattle.std.specs.List.{AllByRecursion}
 use Rattle.std.proofs.lemmas.List.{length-append}
-use Rattle.resp2.specs.Law.{NoReplyBeginsAnother, AreReplies, RepliesAreReadInOneWay, HasReply, ReplyFront, WholeReply, PartOfReply, NoneOfReply, HasReplyFront, HasOneReplyFront, BytesHaveOneReplyFront}
+use Rattle.resp2.specs.Law.{NoReplyBeginsAnother, RepliesAreReadInOneWay, HasReply, ReplyFront, WholeReply, PartOfReply, NoneOfReply, HasReplyFront, HasOneReplyFront, BytesHaveOneReplyFront}
 use Rattle.resp2.specs.Reading.{Seen, Wants, Bad, Found}
 use Rattle.resp2.specs.Reply.{elements_of, reply_spelling}
 use Rattle.resp2.specs.ReplyReader.{ReplyKeepsLimits, replies_spelling, IsReplyBeginning, HasFirstBadReplyByte, HasNoReply, IsUnfinishedReply}

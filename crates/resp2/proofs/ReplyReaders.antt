@@ -1,9 +1,9 @@
 -- Replies are found where they are spelled, and nowhere else.
-use Rattle.std.proofs.Common.{◌≡◌, ◌≢◌, ◌⊎◌, inl, inr, ℕ, ℤ, pos, negsuc, zero, suc, ◌+◌, ◌-◌, ◌*◌, ◌/◌, ◌%◌, ◌^◌, ◌<◌, ◌≤◌, ◌==◌, ◌&&◌, Bool, true, false, cond, List, [], ◌∷◌, ◌++◌, length, drop, refl, sym, ap, subst, ◌∙◌, append_assoc, append-nil, arith}
+use Rattle.std.proofs.Common.{◌≡◌, ◌≢◌, ◌⊎◌, inl, inr, ℕ, ℤ, pos, negsuc, zero, suc, ◌+◌, ◌-◌, ◌%◌, ◌^◌, ◌<◌, ◌≤◌, ◌==◌, ◌&&◌, Bool, true, false, cond, List, [], ◌∷◌, ◌++◌, length, drop, refl, sym, ap, subst, ◌∙◌, append_assoc, append-nil, arith}
 use Rattle.std.specs.Prelude.{IsTrue, decimal}
 use Rattle.std.specs.Fmt.{signed_decimal}
 use Rattle.std.specs.List.{AllByRecursion, flat_map}
-use Rattle.std.proofs.lemmas.Bool.{eqb-true, eqb-false, eq-eqb, ne_eqb}
+use Rattle.std.proofs.lemmas.Bool.{eqb-true, eq-eqb}
 use Rattle.std.proofs.lemmas.Fmt.{decimal_by_steps_wide}
 use Rattle.std.proofs.lemmas.Grind.{flat_map-append}
 use Rattle.resp2.specs.declared.array.Element.{Element}
@@ -11,14 +11,14 @@ use Rattle.resp2.specs.declared.array.Element.TheVariants as element
 use Rattle.resp2.specs.declared.fault.Fault.{Fault}
 use Rattle.resp2.specs.declared.fault.Fault.TheVariants.{Protocol}
 use Rattle.resp2.specs.Line.{is_one_line, is_text_byte}
-use Rattle.resp2.specs.Reading.{Seen, Wants, Bad, Found, MatchSeen, and_then, after_cr, number_at, header_at, body_at}
+use Rattle.resp2.specs.Reading.{Seen, Wants, Bad, Found, after_cr, number_at, body_at}
 use Rattle.resp2.specs.ReplyReading.{as_found, marked, or_else, times, most_number, text_at, integer_at, simple_at, error_at, number_element_at, bytes_at, line_feed_at, null_at, bulk_or_null_at, leaf_at, array_by, reply_at}
 use Rattle.resp2.specs.Request.{crlf}
 use Rattle.resp2.specs.Reply.{element_spelling}
 use Rattle.resp2.proofs.HeaderReading.{NumberMeans, number_means}
 use Rattle.resp2.proofs.HeaderRoundTrip.{header_again}
 use Rattle.resp2.proofs.MoreBytes.{Goes, number_goes, body_goes}
-use Rattle.resp2.proofs.Readers.{AreSoMany, EndsIn, IsReader, Means, as_reader, both, both_reader, made_of_both, same_reading, marked_reader, one_reader, times_reader}
+use Rattle.resp2.proofs.Readers.{AreSoMany, IsReader, Means, as_reader, both, both_reader, made_of_both, same_reading, marked_reader, one_reader, times_reader}
 use Rattle.resp2.proofs.RequestReading.{BodyMeans, body_means}
 use Rattle.resp2.proofs.RequestRoundTrip.{body_again}
 

@@ -1,18 +1,15 @@
 -- The steps of a reader of replies: what the elements that were taken say of those to come.
-use Rattle.std.proofs.Common.{◌≡◌, ℕ, zero, suc, ◌+◌, ◌-◌, ◌<◌, ◌≤◌, ◌==◌, Bool, true, false, cond, List, [], ◌∷◌, ◌++◌, length, refl, sym, ap, subst, ◌∙◌, append_assoc, append-nil, arith}
+use Rattle.std.proofs.Common.{◌≡◌, ℕ, zero, suc, ◌+◌, ◌-◌, ◌<◌, ◌==◌, true, false, List, [], ◌∷◌, ◌++◌, length, refl, sym, ap, subst, ◌∙◌, append_assoc, append-nil, arith}
 use Rattle.std.specs.List.{flat_map}
 use Rattle.std.proofs.lemmas.Bool.{eqb-true}
 use Rattle.std.proofs.lemmas.List.{length-append}
-use Rattle.std.proofs.lemmas.Grind.{flat_map-append}
 use Rattle.resp2.specs.declared.array.Element.{Element}
 use Rattle.resp2.specs.declared.array.Element.TheVariants as element
-use Rattle.resp2.specs.declared.fault.Fault.{Fault}
 use Rattle.resp2.specs.declared.fault.Fault.TheVariants.{Protocol}
-use Rattle.resp2.specs.declared.reply_reader.TheConstants.{MOST_DEPTH, MOST_COUNT}
+use Rattle.resp2.specs.declared.reply_reader.TheConstants.{MOST_DEPTH}
 use Rattle.resp2.specs.Reading.{Seen, Wants, Bad, Found, and_then, number_at, header_at}
-use Rattle.resp2.specs.Reply.{element_spelling}
-use Rattle.resp2.specs.ReplyReading.{as_found, times, leaf_at, reply_at, array_by, most_number}
-use Rattle.resp2.specs.ReplyProgress.{begins_array, backwards, rest_in, to_come, reading_on, array_front}
+use Rattle.resp2.specs.ReplyReading.{as_found, times, leaf_at, reply_at, most_number}
+use Rattle.resp2.specs.ReplyProgress.{begins_array, backwards, rest_in, to_come}
 
 -- ---- one reading behind another
 

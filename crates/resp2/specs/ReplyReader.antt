@@ -1,5 +1,5 @@
 -- What a reader of replies holds, which replies it takes, and what its answers say of the bytes.
-use Rattle.std.specs.Prelude.{◌≡◌, ◌≢◌, ◌<◌, ◌≤◌, ◌-◌, ◌^◌, ℕ, ℤ, pos, negsuc, suc, List, ◌++◌, length, All, IsTrue, Option, None, Some}
+use Rattle.std.specs.Prelude.{◌≡◌, ◌≢◌, ◌<◌, ◌≤◌, ◌-◌, ◌^◌, ℕ, ℤ, pos, negsuc, suc, List, ◌++◌, length, All, IsTrue, None, Some}
 use Rattle.std.specs.List.{flat_map}
 use Rattle.resp2.specs.Array.{depth_of}
 use Rattle.resp2.specs.Line.{is_one_line}

@@ -1,11 +1,11 @@
 -- The limits of a request are kept exactly where the test says so.
-use Rattle.std.proofs.Common.{◌≡◌, ◌≤◌, ◌<◌, ◌&&◌, ℕ, Bool, true, false, List, [], ◌∷◌, length, All, arith, leb, ltb, refl}
+use Rattle.std.proofs.Common.{◌≡◌, ◌≤◌, ◌&&◌, ℕ, Bool, true, false, List, [], ◌∷◌, length, All, arith, leb, ltb, refl}
 use Rattle.std.specs.Prelude.{suc}
 use Rattle.std.specs.List.{list_all}
 use Rattle.std.proofs.lemmas.List.Elements.{All-cons, All-nil}
 use Rattle.std.proofs.lemmas.Bool.{leb-true, ltb-true, le-leb, lt-ltb}
-use Rattle.resp2.specs.Request.{IsRequest, request_spelling}
-use Rattle.resp2.specs.declared.words.TheConstants.{MOST_WORDS, MOST_WORD_BYTES, MOST_REQUEST_BYTES}
+use Rattle.resp2.specs.Request.{IsRequest}
+use Rattle.resp2.specs.declared.words.TheConstants.{MOST_WORD_BYTES}
 use Rattle.simulator.specs.Script.{is_request}
 
 both : (a b : Bool) → (a && b) ≡ true → (a ≡ true) × (b ≡ true)

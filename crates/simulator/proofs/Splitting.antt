@@ -1,7 +1,7 @@
 -- The first part of a text that is split at a byte.
-use Rattle.std.proofs.Common.{◌≡◌, ℕ, ◌+◌, ◌<◌, ◌==◌, Bool, true, false, cond, not, ltb, List, [], ◌∷◌, Option, Some, None, All, length, take, drop, get_or, refl, sym, ap, subst, ◌∙◌, arith}
+use Rattle.std.proofs.Common.{◌≡◌, ℕ, ◌+◌, ◌<◌, ◌==◌, Bool, true, false, cond, not, ltb, List, [], ◌∷◌, Option, Some, None, length, take, drop, get_or, refl, ap, subst, ◌∙◌, arith}
 use Rattle.std.specs.Borrow.{Bor}
-use Rattle.std.specs.Prelude.{position, zero, suc}
+use Rattle.std.specs.Prelude.{position}
 use Rattle.std.specs.List.{slice_split, position_or_len}
 use Rattle.std.proofs.lemmas.List.Splits.{slice_split_first, slice_split_none, length-slice_split}
 use Rattle.std.proofs.lemmas.Bool.{ltb-true, ltb-false, ne_eqb}

@@ -1,5 +1,5 @@
 -- Scripts, in the simulator's own format: a step a line.
-use Rattle.std.specs.Prelude.{◌≡◌, ◌+◌, ◌++◌, ◌∷◌, ◌&&◌, ◌==◌, ℕ, nat_lt, nat_le, Bool, List, [], length, All, IsSome, Option, Some, None, option_map, option_and_then, codes, if◌then◌else◌}
+use Rattle.std.specs.Prelude.{◌≡◌, ◌+◌, ◌++◌, ◌∷◌, ◌&&◌, ℕ, nat_lt, nat_le, Bool, List, [], length, All, IsSome, Option, Some, None, option_map, option_and_then, codes, if◌then◌else◌}
 use Rattle.std.specs.List.{list_all}
 use Rattle.std.specs.Str.{bytes_eq}
 use Rattle.command.specs.Numbers.{count_of, positive_of}

@@ -26,21 +26,20 @@ use Rattle.slot_decision.specs.declared.asked.Asking.TheVariants.{No}
 use Rattle.slot_decision.specs.declared.decision.Decision.{Decision}
 use Rattle.slot_decision.specs.declared.decision.Decision.TheVariants.{Serve, Ask, TryAgain}
 use Rattle.slot_decision.specs.declared.decision.Reason.TheVariants.{Frozen}
-use Rattle.connections.specs.Connections.{ConnectionTable, connection_at, open_at, with_change, updated, with_generation, may_ask, fresh, Opens}
+use Rattle.connections.specs.Connections.{ConnectionTable, connection_at, open_at, updated, with_generation, may_ask, fresh}
 use Rattle.connections.specs.declared.conn.Conn.{Conn}
 use Rattle.connections.specs.declared.conn.Connection.{Connection}
 use Rattle.node_step.specs.Commands.{command_outcome, decision_on, served as served_by, executed}
 use Rattle.node_step.specs.Outcome.{Outcome, outputs_of}
 use Rattle.node_step.specs.Requests.{asking_of, is_numbered, request_outcome, using_up}
 use Rattle.node_step.specs.State.{NodeState}
-use Rattle.node_step.specs.Step.{NodeStep, IsAnswering, IsOpening}
+use Rattle.node_step.specs.Step.{NodeStep}
 use Rattle.node_step.specs.declared.event.Event.{Event}
 use Rattle.node_step.specs.declared.event.Event.TheVariants.{Open, Request}
 use Rattle.node_step.specs.declared.outputs.Outputs.{Outputs}
-use Rattle.node_step.specs.declared.response.Response.{Response}
-use Rattle.node_step.specs.declared.response.Response.TheVariants.{Opened, Replied}
+use Rattle.node_step.specs.declared.response.Response.TheVariants.{Opened}
 use Rattle.node_cell.specs.Journal.{CellView, EnteredView, Enters}
-use Rattle.uses.specs.Serving.{IsServedBy, asked_at, served}
+use Rattle.uses.specs.Serving.{IsServedBy, served}
 use Rattle.uses.proofs.KeyLemmas.{get_set}
 
 -- ---- the connection

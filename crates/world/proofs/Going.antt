@@ -13,7 +13,7 @@ use Rattle.node_step.specs.declared.event.Event.{Event}
 use Rattle.node_step.specs.declared.event.Event.TheVariants.{Open, Close, Request, Deliver, Tick}
 use Rattle.node_step.specs.declared.outputs.Outputs.{Outputs}
 use Rattle.node_step.specs.declared.outputs.Release.{Release}
-use Rattle.world_run.specs.Run.{Deed, Entry, Goes, MayHappen, WorldStep, first_nodes, sent_by, sent_in}
+use Rattle.world_run.specs.Run.{Deed, Entry, Goes, MayHappen, first_nodes, sent_by, sent_in}
 use Rattle.world_run.specs.Run.Deed.{Made, Skipped}
 use Rattle.world.specs.Entered.{EntersAt, NeedsNumber, Steps}
 use Rattle.world.specs.Plays.{Closes, Enters, Makes, Plays, PlaysAll, message_at, released_conns, served_conns}

@@ -1,9 +1,8 @@
 -- Messages with their numbers.
-use Rattle.std.proofs.Common.{◌≡◌, ◌+◌, ◌<◌, ℕ, List, [], ◌∷◌, ◌++◌, drop, length, get_or, refl, sym, ap, subst, ◌∙◌, append_assoc}
-use Rattle.std.proofs.lemmas.List.{drop_more, drop_at}
+use Rattle.std.proofs.Common.{◌≡◌, ◌+◌, ◌<◌, ℕ, List, [], ◌∷◌, drop, length, get_or, ap}
+use Rattle.std.proofs.lemmas.List.{drop_more}
 use Rattle.bus.specs.declared.message.Message.{Message}
 use Rattle.world.specs.Outputs.{numbered}
-use Rattle.world.specs.declared.output.Output.{Output}
 use Rattle.world.specs.declared.output.Output.TheVariants.{Sent}
 
 -- one message more

@@ -1,5 +1,5 @@
 -- A world of nodes.
-use Rattle.std.specs.Prelude.{◌≡◌, ◌++◌, ◌&&◌, ℕ, nat_lt, not, Bool, true, false, List, [], map, length, replicate, reverse, slice_index_or}
+use Rattle.std.specs.Prelude.{◌≡◌, ◌++◌, ◌&&◌, ℕ, nat_lt, not, Bool, true, false, List, [], length, replicate, reverse, slice_index_or}
 use Rattle.bus.specs.declared.message.Message.{Message}
 use Rattle.cluster_config.specs.Config.{ClusterConfig}
 use Rattle.node_step.specs.State.{NodeState}

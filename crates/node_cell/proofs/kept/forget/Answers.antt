@@ -1,7 +1,6 @@
-use Rattle.std.proofs.Common.{rules, ◌≡◌, ◌<◌, ◌≤◌, ◌==◌, ◌∙◌, List, length, map, not, ap, sym, get_or, set}
+use Rattle.std.proofs.Common.{rules, ◌≡◌, ◌<◌, ◌≤◌, ◌==◌, ◌∙◌, length, not, ap, get_or, set}
 use Rattle.std.specs.List.{filter}
 use Rattle.std.proofs.lemmas.Fn.{filter_same}
-use Rattle.node_step.specs.declared.outputs.Release.{Release}
 use Rattle.node_step.specs.Kept.{of_others}
 use Rattle.node_cell.specs.Kept.{joined}
 use Rattle.node_cell.proofs.KeptLemmas.{all_done, one_more, others_of_each, without_empty_ones}

@@ -1,4 +1,4 @@
-use Rattle.std.proofs.Common.{◌≡◌, ◌-◌, ◌<◌, ◌≤◌, drop, length, take}
+use Rattle.std.proofs.Common.{◌-◌, ◌<◌, ◌≤◌, drop, length, take}
 use Rattle.std.specs.Prelude.{IsTrue}
 use Rattle.resp2.specs.Line.{is_one_line}
 use Rattle.resp2.proofs.leaf.end_of_text.Given as goal

@@ -1,9 +1,8 @@
-use Rattle.std.proofs.Common.{rules, ◌≡◌, ◌+◌, ◌-◌, ◌^◌, ◌≤◌, ◌∙◌, ℕ, ℤ, List, negsuc, length, drop, sym, ap, subst, refl, arith}
+use Rattle.std.proofs.Common.{◌-◌, ◌^◌, length, drop, refl, arith}
 use Rattle.std.proofs.lemmas.List.{take_all, length-drop}
 use Rattle.resp2.specs.declared.fault.Fault.TheVariants.{Protocol}
-use Rattle.resp2.specs.Reading.{Found, header_at}
 use Rattle.resp2.proofs.HeaderReading.{header_is}
-use Rattle.resp2.proofs.LeafSteps.{negated, negative_is, negative_found}
+use Rattle.resp2.proofs.LeafSteps.{negated, negative_found}
 use Rattle.resp2.proofs.leaf.read_negative.Goals as goal
 
 pub overflow_sub-result : goal.overflow_sub-result

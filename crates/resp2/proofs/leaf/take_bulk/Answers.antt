@@ -1,4 +1,4 @@
-use Rattle.std.proofs.Common.{rules, ◌≡◌, ◌∙◌, sym, ap, refl, arith, ℕ, List, drop}
+use Rattle.std.proofs.Common.{rules, ◌∙◌, sym, ap, refl, arith}
 use Rattle.resp2.specs.declared.fault.Fault.TheVariants.{Protocol}
 use Rattle.resp2.specs.declared.reply_reader.TheConstants.{MOST_COUNT}
 use Rattle.resp2.specs.Reading.{header_onto}

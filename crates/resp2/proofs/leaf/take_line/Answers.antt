@@ -1,4 +1,4 @@
-use Rattle.std.proofs.Common.{rules, subst}
+use Rattle.std.proofs.Common.{rules}
 use Rattle.std.proofs.lemmas.Result.{err_from_is_err_and}
 use Rattle.resp2.proofs.LeafSteps.{line_is, line_fails, line_waits, line_found}
 use Rattle.resp2.proofs.leaf.take_line.Goals as goal

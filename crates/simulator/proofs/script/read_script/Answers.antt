@@ -1,7 +1,6 @@
-use Rattle.std.proofs.Common.{rules, arith, ◌≡◌, ◌∷◌, ◌+◌, ◌<◌, ℕ, List, Some, None, Err, length, ap, sym, subst, ◌∙◌}
+use Rattle.std.proofs.Common.{rules, arith, ◌≡◌, ◌∷◌, ◌+◌, ◌<◌, ℕ, Some, None, length, ap, subst, ◌∙◌}
 use Rattle.simulator.specs.Lines.{lines}
 use Rattle.simulator.specs.Script.{IsFirstUnreadable, step_in}
-use Rattle.simulator.specs.declared.fault.ScriptFault.TheVariants.{Line}
 use Rattle.simulator.proofs.Reading.{goes_on, same_line, stops}
 use Rattle.simulator.proofs.script.read_script.Goals as goal
 

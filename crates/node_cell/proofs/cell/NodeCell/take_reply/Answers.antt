@@ -1,5 +1,4 @@
-use Rattle.std.proofs.Common.{rules, ◌≡◌, subst, sym}
-use Rattle.std.specs.Prelude.{IfSome}
+use Rattle.std.proofs.Common.{rules, ◌≡◌}
 use Rattle.node_cell.specs.Journal.{IsGiven}
 use Rattle.node_cell.specs.Kept.{joined}
 use Rattle.node_cell.proofs.GivenLemmas.{given_left, taken_is_given}

@@ -1,4 +1,4 @@
-use Rattle.std.proofs.Common.{rules, ◌≡◌, ◌≢◌, ◌∙◌, ◌++◌, List, [], ap, subst, sym, append-nil}
+use Rattle.std.proofs.Common.{rules, ◌∙◌, ◌++◌, [], ap, sym}
 use Rattle.std.specs.Prelude.{option_to_list}
 use Rattle.resp2.proofs.ArraySteps.{array_left}
 use Rattle.resp2.proofs.array_part.ArrayPart.end_arrays.Goals as goal

@@ -1,6 +1,4 @@
-use Rattle.std.proofs.Common.{rules, subst}
-use Rattle.std.specs.Prelude.{IsTrue}
-use Rattle.resp2.specs.Array.{is_array}
+use Rattle.std.proofs.Common.{rules}
 use Rattle.resp2.proofs.ArraySteps.{whole_array}
 use Rattle.resp2.proofs.array_part.ArrayPart.hand_out.Goals as goal
 

@@ -1,4 +1,4 @@
-use Rattle.std.proofs.Common.{rules, ◌≡◌, ◌∙◌, ◌++◌, ◌∷◌, [], List, sym, ap, refl}
+use Rattle.std.proofs.Common.{◌∙◌, ◌++◌, ◌∷◌, [], List, sym, ap, refl}
 use Rattle.std.proofs.lemmas.Result.{err_from_is_err_and}
 use Rattle.resp2.specs.ReplyProgress.{element_front}
 use Rattle.resp2.proofs.ArraySteps.{element_found, element_waits, kept_after, leaf_fails, leaf_taken, leaf_waits, next_none, reading_after, shrinks_after}

@@ -1,4 +1,4 @@
-use Rattle.std.proofs.Common.{rules, ◌≡◌, ◌∙◌, ap, None}
+use Rattle.std.proofs.Common.{rules, ◌≡◌, ap, None}
 use Rattle.resp2.specs.ReplyProgress.{part_front}
 use Rattle.resp2.proofs.ReplyDecides.{answers_reply, answers_waits, answers_fault, anyway, none_kept}
 use Rattle.resp2.proofs.reply_reader.ReplyReader.next.Goals as goal

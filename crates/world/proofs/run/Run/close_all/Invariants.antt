@@ -1,4 +1,4 @@
-use Rattle.std.proofs.Common.{◌≡◌, ◌<◌, length, take}
+use Rattle.std.proofs.Common.{◌<◌, length, take}
 use Rattle.world.specs.Plays.{Closes, released_conns}
 use Rattle.world.specs.View.{GoesOn, IsKept}
 use Rattle.world.proofs.run.Run.close_all.Given as goal

@@ -1,8 +1,6 @@
 use Rattle.std.proofs.Common.{◌∷◌, ◌++◌, [], ap, sym, ◌∙◌, subst, take}
 use Rattle.std.proofs.lemmas.List.{take_more}
-use Rattle.world.specs.Plays.{PlaysAll}
-use Rattle.world.specs.View.{GoesOn, RunView, WorldView}
-use Rattle.world.specs.declared.output.Output.{Output}
+use Rattle.world.specs.View.{GoesOn, WorldView}
 use Rattle.world.specs.declared.step.Step.{Step}
 use Rattle.world.proofs.Going.{goes_further, plays_one_more}
 use Rattle.world.proofs.world.World.play_all.Goals as goal

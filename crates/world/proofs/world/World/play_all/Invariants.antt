@@ -1,4 +1,4 @@
-use Rattle.std.proofs.Common.{◌≡◌, true, false, take}
+use Rattle.std.proofs.Common.{◌≡◌, false, take}
 use Rattle.world.specs.Plays.{PlaysAll}
 use Rattle.world.specs.View.{GoesOn}
 use Rattle.world.proofs.world.World.play_all.Given as goal
