@@ -1,0 +1,4 @@
+pub mod Address
+pub mod Law
+pub mod Redirection
+pub mod Splitting

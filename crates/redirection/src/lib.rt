@@ -1,0 +1,11 @@
+//! Where clients reach a node, and the errors by which a node sends a client to another one.
+#![tactic(auto)]
+
+mod address;
+mod law;
+mod redirection;
+mod splitting;
+
+pub use address::Address;
+pub use law::a_text_is_of_one_redirection;
+pub use redirection::{Redirection, read_redirection};
