@@ -2,8 +2,10 @@
 use Rattle.std.specs.Prelude.{ℕ, List, Option, Some, None, codes}
 use Rattle.cluster_config.specs.declared.fault.ConfigFault.{ConfigFault}
 use Rattle.cluster_config.specs.declared.fault.ConfigFault.TheVariants as config
+use Rattle.smart_client.specs.declared.fault.ClientFault.{ClientFault}
+use Rattle.smart_client.specs.declared.fault.ClientFault.TheVariants as client
 use Rattle.rcluster.specs.declared.fault.ProgramFault.{ProgramFault}
-use Rattle.rcluster.specs.declared.fault.ProgramFault.TheVariants.{UnreadableFile, AddressInUse, Memory, Thread, Output, Config, Script}
+use Rattle.rcluster.specs.declared.fault.ProgramFault.TheVariants.{UnreadableFile, AddressInUse, Memory, Thread, Output, Config, Script, Client}
 
 -- of a configuration
 abbrev pub config_code : ConfigFault → List ℕ
@@ -17,6 +19,16 @@ config_code config.Address = codes "K7"
 config_code config.Range = codes "K8"
 config_code config.Memory = codes "F3"
 
+-- of a client
+abbrev pub client_code : ClientFault → List ℕ
+client_code client.Lost = codes "C1"
+client_code client.TooManyRedirects = codes "C2"
+client_code client.StillTryAgain = codes "C3"
+client_code client.Memory = codes "C4"
+client_code client.NotConnected = codes "C5"
+client_code client.BadReply = codes "C6"
+client_code client.NotData = codes "C7"
+
 abbrev pub code_of : ProgramFault → List ℕ
 code_of UnreadableFile = codes "F1"
 code_of AddressInUse = codes "F2"
@@ -25,6 +37,7 @@ code_of Thread = codes "F3"
 code_of Output = codes "F4"
 code_of (Config fault) = config_code fault
 code_of (Script line) = codes "S"
+code_of (Client fault) = client_code fault
 
 -- what stands behind the code: the number of the line
 abbrev pub number_of : ProgramFault → Option ℕ
@@ -35,3 +48,4 @@ number_of Thread = None
 number_of Output = None
 number_of (Config fault) = None
 number_of (Script line) = Some line
+number_of (Client fault) = None

@@ -6,6 +6,10 @@ use std::alloc::Global;
 // Of the program.
 const VERSION: &str = "0.1.0";
 
+// How often a call begins again for TRYAGAIN where nothing is said, and at most.
+const FEW_TRIES: u64 = 100;
+const MOST_TRIES: u64 = 1_000_000;
+
 // After how many ticks the program may be asked to end.
 const MOST_TICKS: u64 = 1_000_000;
 
@@ -20,6 +24,15 @@ pub enum Call<'a> {
         ticks: Option<u64>,
         /// Whether each node keeps its journal in memory.
         keeps_journal: bool,
+    },
+    /// To have a cluster execute one command.
+    Cli {
+        /// The address of the node to begin with.
+        address: &'a str,
+        /// How often the call may begin again for TRYAGAIN.
+        tries: u64,
+        /// The words of the command.
+        words: Vec<&'a str>,
     },
     /// To play a script in a cluster that a file describes.
     Simulate {
@@ -38,12 +51,22 @@ pub fn read_call<'a>(alloc: Global, words: &'a [String]) -> Result<Call<'a>, Err
         .subcommand_required(true)
         .arg_required_else_help(true)
         .subcommand(serve_command(alloc)?)?
-        .subcommand(simulate_command(alloc)?)?;
+        .subcommand(simulate_command(alloc)?)?
+        .subcommand(cli_command(alloc)?)?;
     let matches = command.try_get_matches_from(words)?;
     if let Some(simulate) = matches.subcommand_matches("simulate") {
         return Ok(Call::Simulate {
             config: simulate.get_str("config").unwrap_or(""),
             script: simulate.get_str("script").unwrap_or(""),
+        });
+    }
+    if let Some(cli) = matches.subcommand_matches("cli") {
+        let mut words = Vec::new(alloc);
+        words.extend_from_slice(cli.get_strs("words").unwrap_or(&[]))?;
+        return Ok(Call::Cli {
+            address: cli.get_str("addr").unwrap_or(""),
+            tries: cli.get_one::<u64>("try").unwrap_or(FEW_TRIES),
+            words,
         });
     }
     let serve = matches.subcommand_matches("serve");
@@ -82,6 +105,33 @@ fn simulate_command<'a>(alloc: Global) -> Result<Command<'a>, Error> {
         .arg(config_option(alloc))?
         .arg(script)?;
     Ok(simulate)
+}
+
+fn cli_command<'a>(alloc: Global) -> Result<Command<'a>, Error> {
+    let address = Arg::new(alloc, "addr")
+        .long("addr")
+        .value_name("HOST:PORT")
+        .help("The node to begin with")
+        .required(true)
+        .action(ArgAction::Set);
+    let tries = Arg::new(alloc, "try")
+        .long("try")
+        .value_name("N")
+        .help("How often the call begins again for TRYAGAIN, 0 to 1000000; 100 if missing")
+        .value_parser(ValueParser::unsigned(0, MOST_TRIES))
+        .action(ArgAction::Set);
+    let words = Arg::new(alloc, "words")
+        .value_name("WORDS")
+        .help("The command; words that begin with - stand behind --")
+        .required(true)
+        .num_args(1..)
+        .action(ArgAction::Append);
+    let cli = Command::new(alloc, "cli")
+        .about("Has the node of a command's keys execute the command, and prints the reply")
+        .arg(address)?
+        .arg(tries)?
+        .arg(words)?;
+    Ok(cli)
 }
 
 fn serve_command<'a>(alloc: Global) -> Result<Command<'a>, Error> {

@@ -1,8 +1,9 @@
 //! Why the program stops.
 ghost use Rattle.std.specs.Prelude.{◌≡◌};
-ghost use Rattle.rcluster.specs.Codes.{code_of, config_code, number_of};
+ghost use Rattle.rcluster.specs.Codes.{client_code, code_of, config_code, number_of};
 
 use cluster_config::ConfigFault;
+use smart_client::ClientFault;
 use std::fmt;
 
 /// Why the program stops. It prints the code of the fault, and ends with status 1.
@@ -22,6 +23,8 @@ pub enum ProgramFault {
     Config(ConfigFault),
     /// The line of the script is no step. Lines are counted from 1.
     Script(u64),
+    /// A call of the client got no reply to its command.
+    Client(ClientFault),
 }
 
 impl ProgramFault {
@@ -36,6 +39,7 @@ impl ProgramFault {
             ProgramFault::Output => "F4",
             ProgramFault::Config(fault) => config_code(fault),
             ProgramFault::Script(_) => "S",
+            ProgramFault::Client(fault) => client_code(fault),
         }
     }
 
@@ -68,7 +72,35 @@ impl ProgramFault {
             ProgramFault::Output => "the output can't be written",
             ProgramFault::Config(_) => "the file describes no cluster",
             ProgramFault::Script(_) => "a line of the script is no step",
+            ProgramFault::Client(fault) => client_meaning(fault),
         }
+    }
+}
+
+fn client_code(fault: ClientFault) -> &'static str
+    ensures { result.now ≡ client_code fault }
+{
+    match fault {
+        ClientFault::Lost => "C1",
+        ClientFault::TooManyRedirects => "C2",
+        ClientFault::StillTryAgain => "C3",
+        ClientFault::Memory => "C4",
+        ClientFault::NotConnected => "C5",
+        ClientFault::BadReply => "C6",
+        ClientFault::NotData => "C7",
+    }
+}
+
+fn client_meaning(fault: ClientFault) -> &'static str {
+    match fault {
+        ClientFault::Lost =>
+            "the connection failed, and whether the command was executed is unknown",
+        ClientFault::TooManyRedirects => "the nodes redirected the command too often",
+        ClientFault::StillTryAgain => "the nodes answered TRYAGAIN too often",
+        ClientFault::Memory => "memory was refused, and the command was not executed",
+        ClientFault::NotConnected => "a node can't be reached, and the command was not executed",
+        ClientFault::BadReply => "a reply is none that a node gives",
+        ClientFault::NotData => "CLUSTER, MIGRATE and ASKING are no commands of a client",
     }
 }
 

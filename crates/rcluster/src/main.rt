@@ -2,6 +2,7 @@
 #![tactic(auto)]
 
 mod arguments;
+mod calling;
 mod failure;
 mod fault;
 mod files;
@@ -9,6 +10,7 @@ mod serving;
 mod simulating;
 
 use arguments::{Call, read_call};
+use calling::Request;
 use failure::Failure;
 use fault::ProgramFault;
 use node_cell::{GhostJournal, Journal};
@@ -16,6 +18,9 @@ use serving::serve;
 use simulating::simulate;
 use std::io;
 use std::process::ExitCode;
+
+// The status of a wrong command line.
+const USAGE: u8 = 2;
 
 fn main(rt: HostRuntime) -> io::Result<ExitCode> {
     let alloc = rt.alloc();
@@ -28,6 +33,17 @@ fn main(rt: HostRuntime) -> io::Result<ExitCode> {
         }
     };
     let outcome = match call {
+        Call::Cli {
+            address,
+            tries,
+            words,
+        } => match Request::read(alloc, address, words.as_slice())? {
+            Ok(request) => calling::call(rt, request, tries),
+            Err(wrong) => {
+                eprintln!(rt; "error: {wrong}\n\nFor more information, try '--help'.")?;
+                return Ok(ExitCode::from(USAGE));
+            }
+        },
         // A journal is kept where it is asked for, or where somebody gathers it at the end.
         Call::Serve {
             config,

@@ -9,6 +9,6 @@ mod script;
 mod simulation;
 
 pub use fault::ScriptFault;
-pub use printing::print_outputs;
+pub use printing::{print_outputs, print_reply};
 pub use script::read_script;
 pub use simulation::simulate;

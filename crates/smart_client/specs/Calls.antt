@@ -1,0 +1,116 @@
+-- A client's call as a whole: how it goes on, and when a command is sent again.
+use Rattle.std.specs.Prelude.{◌≡◌, ◌≢◌, ◌+◌, ◌-◌, ◌*◌, ◌<◌, ◌++◌, ◌∷◌, ◌⊎◌, ℕ, Bool, List, [], Option, Some, None, ⊤}
+use Rattle.resp2.specs.declared.reply.Reply.TheVariants.{Error}
+use Rattle.smart_client.specs.ErrorKind.{kind_of}
+use Rattle.smart_client.specs.State.{ClientState}
+use Rattle.smart_client.specs.Step.{Answer, MayCome, MayComeTo, Steps}
+use Rattle.smart_client.specs.declared.action.Action.{Action}
+use Rattle.smart_client.specs.declared.action.Action.TheVariants.{Connect, Send, Done}
+use Rattle.smart_client.specs.declared.action.Event.{Event}
+use Rattle.smart_client.specs.declared.action.Event.TheVariants as happened
+use Rattle.smart_client.specs.declared.call.Call.{Call}
+use Rattle.smart_client.specs.declared.call.Stage.{Stage}
+use Rattle.smart_client.specs.declared.call.Stage.TheVariants.{Connecting, Introducing, Asking, Sent}
+use Rattle.smart_client.specs.declared.client_core.TheConstants.{MOST_REDIRECTIONS}
+use Rattle.smart_client.specs.declared.error_kind.ErrorKind.{ErrorKind}
+use Rattle.smart_client.specs.declared.error_kind.ErrorKind.TheVariants.{Redirection, TryAgain}
+
+-- ---- what a call waits for, and how long
+
+-- a connection is awaited where one was wanted, a reply where words were to be sent, and a call once the last one is over
+abbrev pub IsWaiting : Action → Option Call → Type 0
+IsWaiting (Connect address) None = ⊥
+IsWaiting (Connect address) (Some call) = call.stage ≡ Connecting
+IsWaiting (Send words) None = ⊥
+IsWaiting (Send words) (Some call) = call.stage ≢ Connecting
+IsWaiting (Done answer close) under = under ≡ None
+
+abbrev pub rank : Stage → ℕ
+rank Connecting = 3
+rank Introducing = 2
+rank Asking = 1
+rank Sent = 0
+
+-- so many events may still come before the one that ends the call, at most
+abbrev pub left_of : ℕ → Call → ℕ
+left_of limit call = rank call.stage + 4 * ((MOST_REDIRECTIONS - call.redirections) + (limit - call.repeats))
+
+-- each event brings a call nearer to its end
+abbrev pub Nears : ℕ → Option Call → Option Call → Type 0
+Nears limit (Some call) (Some next) = left_of limit next < left_of limit call
+Nears limit _ _ = ⊤
+
+-- ---- runs
+
+-- an event, and what the client wants done then
+pub record Moment : Type 0 where
+  pub event : Event
+  pub action : Action
+
+-- the client takes one event after another
+abbrev pub IsRun : ClientState → List Moment → ClientState → Type 0
+IsRun old [] new = new ≡ old
+IsRun old (moment ∷ moments) new =
+    (between : ClientState) × MayCome old.call moment.event × Steps old moment.event moment.action between × IsRun between moments new
+
+-- the event begins no call
+abbrev pub IsWithin : Event → Type 0
+IsWithin (happened.Call words) = ⊥
+IsWithin _ = ⊤
+
+abbrev pub AreWithin : List Moment → Type 0
+AreWithin [] = ⊤
+AreWithin (moment ∷ moments) = IsWithin moment.event × AreWithin moments
+
+-- what happens in one call with these words, from its beginning on
+abbrev pub IsCallOf : List (List ℕ) → ClientState → List Moment → ClientState → Type 0
+IsCallOf words old [] new = ⊥
+IsCallOf words old (moment ∷ moments) new = (moment.event ≡ happened.Call words) × AreWithin moments × IsRun old (moment ∷ moments) new
+
+-- what the client wanted done, and what came of it
+pub record Deed : Type 0 where
+  pub action : Action
+  pub event : Event
+
+-- the moments of a call in which these deeds were done before the last thing that it wanted
+abbrev pub moments_of : Event → List Deed → Action → List Moment
+moments_of event [] last = record { event = event; action = last } ∷ []
+moments_of event (deed ∷ deeds) last = record { event = event; action = deed.action } ∷ moments_of deed.event deeds last
+
+-- what may come of it: a connection or none, a reply or none
+abbrev pub MayAnswer : Action → Event → Type 0
+MayAnswer (Connect address) event = MayComeTo Connecting event
+MayAnswer (Send words) event = MayComeTo Sent event
+MayAnswer (Done answer close) event = ⊥
+
+-- a client, and all that it had done
+pub record ClientView : Type 0 where
+  pub state : ClientState
+  pub deeds : List Deed
+
+-- a call with these words: what came of each thing that it wanted led to the next one, and the last of them was this answer
+pub record Calls (words : List (List ℕ)) (old : ClientView) (answer : Answer) (new : ClientView) : Type 0 where
+  pub deeds : List Deed
+  pub close : Bool
+  pub done : new.deeds ≡ old.deeds ++ deeds
+  pub call : IsCallOf words old.state (moments_of (happened.Call words) deeds (Done answer close)) new.state
+
+-- MOVED, ASK or TRYAGAIN: the node did not execute the command
+abbrev pub is_refusing : ErrorKind → Type 0
+is_refusing Redirection = ⊤
+is_refusing TryAgain = ⊤
+is_refusing _ = ⊥
+
+abbrev pub IsRefusal : Event → Type 0
+IsRefusal (happened.Reply (Error text)) = is_refusing (kind_of text)
+IsRefusal _ = ⊥
+
+abbrev pub IsDone : Action → Type 0
+IsDone (Done answer close) = ⊤
+IsDone _ = ⊥
+
+-- once the command was sent, the call ends with the next event, or this tells that the node refused the command: nothing is sent again
+-- that may have been executed
+abbrev pub SendsOnce : Type 0
+SendsOnce = (words : List (List ℕ)) (old new : ClientState) (before after : List Moment) (sending next : Moment)
+    → IsCallOf words old (before ++ sending ∷ next ∷ after) new → sending.action ≡ Send words → IsDone next.action ⊎ IsRefusal next.event

@@ -1,0 +1,6 @@
+pub mod Step
+pub mod State
+pub mod Words
+pub mod ErrorKind
+pub mod Turns
+pub mod Calls

@@ -1,0 +1,29 @@
+//! A client's way to the nodes.
+ghost use Rattle.std.specs.Prelude.{◌≡◌, ◌++◌, ◌∷◌, []};
+ghost use Rattle.smart_client.specs.Calls.{IsDone, MayAnswer};
+
+use crate::action::{Action, Event};
+
+/// A client's way to the nodes: it keeps the connections, one for each address, does what the client's core wants, and says
+/// what came of it.
+///
+/// Clauses see all that was done.
+pub trait Network {
+    ghost use Rattle.std.specs.Prelude.{List};
+    ghost use Rattle.smart_client.specs.Calls.{Deed};
+
+    ghost deeds: { Self → List Deed };
+
+    /// Does what is wanted. For [`Action::Connect`] the connection to the address is in use from now on: the one that is
+    /// kept, or else a new one. For [`Action::Send`] the words are sent there, and one reply is read.
+    ///
+    /// A connection that failed or ended, or on which bytes came that are no reply, isn't kept.
+    fn perform(&mut self, action: Action) -> Event
+        requires { ¬ IsDone action }
+        ensures event { MayAnswer action result }
+        ensures deeds { deeds self.new ≡ deeds self.old ++ record { action = action; event = result } ∷ [] };
+
+    /// Closes the connection in use, if there is one.
+    fn close(&mut self)
+        ensures { deeds self.new ≡ deeds self.old };
+}
