@@ -8,6 +8,7 @@ const VERSION: &str = "0.1.0";
 
 // How often a call begins again for TRYAGAIN where nothing is said, and at most.
 const FEW_TRIES: u64 = 100;
+
 const MOST_TRIES: u64 = 1_000_000;
 
 // After how many ticks the program may be asked to end.

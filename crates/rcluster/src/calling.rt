@@ -76,6 +76,7 @@ where
     R: AllocGlobal + Net<Listener = TcpListener, Stream = TcpStream> + Drop,
 {
     type Reader = TcpStream;
+
     type Writer = TcpStream;
 
     fn connect(

@@ -90,7 +90,11 @@ fn kind(body: &Body) -> &'static [u8]
 
 /// Puts the reply behind the text, as its bytes on the connection are shown. They are spelled in the first list, whose room is
 /// used again.
-pub fn print_reply(reply: &Reply, spelling: &mut Vec<u8>, out: &mut Vec<u8>) -> Result<(), AllocError>
+pub fn print_reply(
+    reply: &Reply,
+    spelling: &mut Vec<u8>,
+    out: &mut Vec<u8>,
+) -> Result<(), AllocError>
     ensures { OnOk result (out.new.items ≡ out.old.items ++ flat_map escaped (reply_spelling reply.now)) }
 {
     spelling.clear();

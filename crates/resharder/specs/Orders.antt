@@ -1,0 +1,42 @@
+-- What a run asks (Redis Cluster specification, "Moving hash slots", "Cluster live reconfiguration"; Redis command reference, "CLUSTER
+-- SETSLOT", "MIGRATE"; SLOTSTATE and the numbers of moves are ours).
+use Rattle.std.specs.Prelude.{ℕ, ◌≤◌, List, [], ◌∷◌, Option, Some, None, codes, decimal, length, ⊤}
+use Rattle.redirection.specs.Address.{Place}
+use Rattle.resp2.specs.declared.words.TheConstants.{MOST_WORD_BYTES}
+use Rattle.resharder.specs.declared.order.SlotOrder.{SlotOrder}
+use Rattle.resharder.specs.declared.order.SlotOrder.TheVariants.{Importing, Migrating, Node}
+
+-- which masters there are
+abbrev pub slots_words : List (List ℕ)
+slots_words = codes "CLUSTER" ∷ codes "SLOTS" ∷ []
+
+-- what a node does with the slot
+abbrev pub state_words : ℕ → List (List ℕ)
+state_words slot = codes "CLUSTER" ∷ codes "SLOTSTATE" ∷ decimal slot ∷ []
+
+-- the first 16 keys of the slot
+abbrev pub keys_words : ℕ → List (List ℕ)
+keys_words slot = codes "CLUSTER" ∷ codes "GETKEYSINSLOT" ∷ decimal slot ∷ codes "16" ∷ []
+
+abbrev pub order_word : SlotOrder → List ℕ
+order_word Importing = codes "IMPORTING"
+order_word Migrating = codes "MIGRATING"
+order_word Node = codes "NODE"
+
+-- the number of the move, where there is one
+abbrev pub number_words : Option ℕ → List (List ℕ)
+number_words None = []
+number_words (Some number) = decimal number ∷ []
+
+-- what the node is to do with the slot, and with which other node
+abbrev pub set_words : SlotOrder → ℕ → List ℕ → Option ℕ → List (List ℕ)
+set_words order slot id number = codes "CLUSTER" ∷ codes "SETSLOT" ∷ decimal slot ∷ order_word order ∷ id ∷ number_words number
+
+-- the key is to be moved to the node there, into the only database, within 100 ticks
+abbrev pub migrate_words : Place → List ℕ → List (List ℕ)
+migrate_words place key = codes "MIGRATE" ∷ place.host ∷ decimal place.port ∷ key ∷ codes "0" ∷ codes "100" ∷ []
+
+-- each word is short enough for a request
+abbrev pub AreShort : List (List ℕ) → Type 0
+AreShort [] = ⊤
+AreShort (word ∷ words) = (length word ≤ MOST_WORD_BYTES) × AreShort words

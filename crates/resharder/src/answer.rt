@@ -1,0 +1,81 @@
+//! The replies that orders to move a slot or a key get.
+ghost use Rattle.std.specs.Prelude.{◌≡◌, ◌≤◌, ◌==◌, length};
+ghost use Rattle.std.specs.List.{position_or_len};
+ghost use Rattle.resharder.specs.Replies.{answer_of, error_kind, first_word, simple_kind};
+
+use command::ErrorLine;
+use resp2::Reply;
+
+/// What a node answers to an order to move a slot or a key.
+#[derive(Clone, Copy, PartialEq, Eq, Debug)]
+pub(crate) enum Answer {
+    /// It is done: `+OK`.
+    Done,
+    /// The key isn't there any more: `+NOKEY`.
+    NoKey,
+    /// The same is to be asked again: TRYAGAIN.
+    TryAgain,
+    /// Whether the key has arrived isn't known: IOERR.
+    NotAcknowledged,
+    /// Keys of the slot may be left at the node that it comes from.
+    NotDrained,
+    /// Anything else.
+    Other,
+}
+
+impl Answer {
+    /// What the reply says.
+    pub(crate) fn of(reply: &Reply) -> Answer
+        ensures { result ≡ answer_of reply.now }
+    {
+        match reply {
+            Reply::Simple(text) => simple(text.as_slice()),
+            Reply::Error(text) => error(text.as_slice()),
+            _ => Answer::Other,
+        }
+    }
+}
+
+fn simple(text: &[u8]) -> Answer
+    ensures { result ≡ simple_kind text.now }
+{
+    if text == b"OK".as_slice() {
+        return Answer::Done;
+    }
+    if text == b"NOKEY".as_slice() {
+        return Answer::NoKey;
+    }
+    Answer::Other
+}
+
+fn error(text: &[u8]) -> Answer
+    ensures { result ≡ error_kind text.now }
+{
+    if text == ErrorLine::NotDrained.text() {
+        return Answer::NotDrained;
+    }
+    let word = first_word(text);
+    if word == b"TRYAGAIN".as_slice() {
+        return Answer::TryAgain;
+    }
+    if word == b"IOERR".as_slice() {
+        return Answer::NotAcknowledged;
+    }
+    Answer::Other
+}
+
+// The bytes before the first blank.
+fn first_word(text: &[u8]) -> &[u8]
+    ensures { result.now ≡ first_word text.now }
+{
+    &text[..end_of_word(text)]
+}
+
+fn end_of_word(text: &[u8]) -> usize
+    ensures end { result ≡ position_or_len (λ byte. byte == 32) text.now }
+    ensures within { result ≤ length text.now }
+{
+    text.iter()
+        .position(|byte| *byte == b' ')
+        .unwrap_or(text.len())
+}

@@ -1,0 +1,138 @@
+//! The words that a run asks.
+ghost use Rattle.std.specs.Prelude.{◌≡◌, ◌≤◌, ◌<◌, ◌^◌, ◌∷◌, ◌++◌, [], length, decimal, IfOk};
+ghost use Rattle.resharder.specs.Orders.{AreShort, keys_words, migrate_words, order_word, set_words, slots_words, state_words};
+
+use crate::key::Key;
+use crate::nodes::word_of;
+use byte_string::ByteString;
+use cluster_config::NodeId;
+use command::Positive;
+use itoa::Buffer;
+use key_slot::Slot;
+use redirection::Address;
+use resp2::Words;
+use std::alloc::{AllocError, Global};
+
+/// What a node is to do with a slot.
+#[derive(Clone, Copy, PartialEq, Eq, Debug)]
+pub(crate) enum SlotOrder {
+    /// It comes to the node.
+    Importing,
+    /// It leaves the node.
+    Migrating,
+    /// It has come to its new owner.
+    Node,
+}
+
+impl SlotOrder {
+    fn word(self) -> ByteString
+        ensures word { result ≡ order_word self }
+        ensures short { length result ≤ 20 }
+    {
+        match self {
+            SlotOrder::Importing => ByteString::from_static(b"IMPORTING"),
+            SlotOrder::Migrating => ByteString::from_static(b"MIGRATING"),
+            SlotOrder::Node => ByteString::from_static(b"NODE"),
+        }
+    }
+}
+
+/// `CLUSTER SLOTS`.
+pub(crate) fn slots_words(alloc: Global) -> Result<Words, AllocError>
+    ensures { IfOk result (λ words. words ≡ slots_words) }
+{
+    let words = vec![in alloc;
+        ByteString::from_static(b"CLUSTER"),
+        ByteString::from_static(b"SLOTS"),
+    ]?;
+    Ok(request(words))
+}
+
+/// `CLUSTER SLOTSTATE slot`.
+pub(crate) fn state_words(alloc: Global, slot: Slot) -> Result<Words, AllocError>
+    ensures { IfOk result (λ words. words ≡ state_words slot) }
+{
+    let slot = decimal(alloc, u64::from(slot.get()))?;
+    let words = vec![in alloc;
+        ByteString::from_static(b"CLUSTER"),
+        ByteString::from_static(b"SLOTSTATE"),
+        slot,
+    ]?;
+    Ok(request(words))
+}
+
+/// `CLUSTER GETKEYSINSLOT slot 16`.
+pub(crate) fn keys_words(alloc: Global, slot: Slot) -> Result<Words, AllocError>
+    ensures { IfOk result (λ words. words ≡ keys_words slot) }
+{
+    let slot = decimal(alloc, u64::from(slot.get()))?;
+    let words = vec![in alloc;
+        ByteString::from_static(b"CLUSTER"),
+        ByteString::from_static(b"GETKEYSINSLOT"),
+        slot,
+        ByteString::from_static(b"16"),
+    ]?;
+    Ok(request(words))
+}
+
+/// `CLUSTER SETSLOT slot`, the order, the id of the other node, and the number of the move where there is one.
+pub(crate) fn set_words(
+    alloc: Global,
+    order: SlotOrder,
+    slot: Slot,
+    id: &NodeId,
+    number: Option<Positive>,
+) -> Result<Words, AllocError>
+    ensures { IfOk result (λ words. words ≡ set_words order slot id.now number) }
+{
+    let slot = decimal(alloc, u64::from(slot.get()))?;
+    let id = word_of(id)?;
+    let cluster = ByteString::from_static(b"CLUSTER");
+    let set_slot = ByteString::from_static(b"SETSLOT");
+    let words = match number {
+        Some(number) => {
+            let number = decimal(alloc, number.get())?;
+            vec![in alloc; cluster, set_slot, slot, order.word(), id, number]?
+        }
+        None => vec![in alloc; cluster, set_slot, slot, order.word(), id]?,
+    };
+    Ok(request(words))
+}
+
+/// `MIGRATE host port key 0 100`.
+pub(crate) fn migrate_words(alloc: Global, to: &Address, key: &Key) -> Result<Words, AllocError>
+    ensures { IfOk result (λ words. words ≡ migrate_words to.now key.now) }
+{
+    let host = ByteString::from(to.host().bytes().clone()?);
+    let port = decimal(alloc, u64::from(to.port()))?;
+    let key = key.word()?;
+    let words = vec![in alloc;
+        ByteString::from_static(b"MIGRATE"),
+        host,
+        port,
+        key,
+        ByteString::from_static(b"0"),
+        ByteString::from_static(b"100"),
+    ]?;
+    Ok(request(words))
+}
+
+// A few short words.
+fn request(words: Vec<ByteString>) -> Words
+    requires some { 1 ≤ length words.items }
+    requires few { length words.items ≤ 6 }
+    requires short { AreShort words.items }
+    ensures { result ≡ words.items }
+{
+    Words::new(words).unwrap()
+}
+
+fn decimal(alloc: Global, number: u64) -> Result<ByteString, AllocError>
+    requires { number < 2 ^ 63 }
+    ensures word { IfOk result (λ word. word ≡ decimal number) }
+    ensures short { length (decimal number) ≤ 20 }
+{
+    let mut buffer = Buffer::new();
+    let text = buffer.format(number);
+    ByteString::copy_from_slice(alloc, text.as_bytes())
+}
