@@ -1,6 +1,7 @@
 pub mod Addresses
 pub mod Numbers
 pub mod Parts
+pub mod PlaceLemmas
 pub mod Redirections
 pub mod Splits
 mod WorkedValues

@@ -1,4 +1,5 @@
 pub mod Address
+pub mod ErrorWord
 pub mod Law
 pub mod Redirection
 pub mod Splitting

@@ -2,10 +2,12 @@
 #![tactic(auto)]
 
 mod address;
+mod error_word;
 mod law;
 mod redirection;
 mod splitting;
 
 pub use address::Address;
+pub use error_word::first_word;
 pub use law::a_text_is_of_one_redirection;
 pub use redirection::{Redirection, read_redirection};

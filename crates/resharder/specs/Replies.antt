@@ -1,11 +1,10 @@
 -- What the replies tell that a run gets (Redis command reference, "CLUSTER SLOTS", "CLUSTER GETKEYSINSLOT", "MIGRATE"; RESP protocol,
 -- "Simple errors": the first word is the kind of error; SLOTSTATE and the errors are ours).
-use Rattle.std.specs.Prelude.{ℕ, ◌+◌, ◌-◌, ◌^◌, ◌==◌, ◌&&◌, nat_le, Bool, true, false, List, [], ◌∷◌, take, length, option_and_then, ◌++◌, Option, Some, None, Result, Ok, Err, codes, if◌then◌else◌, ℤ, pos, negsuc}
+use Rattle.std.specs.Prelude.{ℕ, ◌+◌, ◌-◌, ◌^◌, ◌==◌, ◌&&◌, nat_le, Bool, true, false, List, [], ◌∷◌, length, option_and_then, ◌++◌, Option, Some, None, Result, Ok, Err, codes, if◌then◌else◌, ℤ, pos, negsuc}
 use Rattle.std.specs.BTreeMap.{insert_entry, is_at}
 use Rattle.std.specs.Map.{lookup, remove_entry, values_of}
 use Rattle.std.specs.Ordering.{nat_cmp}
 use Rattle.std.specs.Cmp.Lexicographic.{slice_cmp}
-use Rattle.std.specs.List.{position_or_len}
 use Rattle.std.specs.Str.{bytes_eq}
 use Rattle.resp2.specs.declared.array.Element.{Element}
 use Rattle.resp2.specs.declared.array.Element.TheVariants as element
@@ -17,6 +16,7 @@ use Rattle.command.specs.Numbers.{natural, from_to}
 use Rattle.command.specs.declared.error_line.ErrorLine.TheVariants as line
 use Rattle.cluster_config.specs.Texts.{is_host}
 use Rattle.redirection.specs.Address.{Place}
+use Rattle.redirection.specs.ErrorWord.{first_word}
 use Rattle.resharder.specs.declared.answer.Answer.{Answer}
 use Rattle.resharder.specs.declared.answer.Answer.TheVariants.{Done, NoKey, TryAgain, NotAcknowledged, NotDrained, Other}
 use Rattle.resharder.specs.Nodes.{KnownNodes}
@@ -27,10 +27,6 @@ use Rattle.resharder.specs.declared.report.Standing.{Standing}
 use Rattle.resharder.specs.declared.report.Standing.TheVariants.{Owned, Migrating, Importing, Foreign}
 
 -- ---- replies to orders
-
--- what stands before the first blank
-abbrev pub first_word : List ℕ → List ℕ
-first_word text = take (position_or_len (λ byte. byte == 32) text) text
 
 abbrev pub simple_kind : List ℕ → Answer
 simple_kind text = if bytes_eq text (codes "OK") then Done else (if bytes_eq text (codes "NOKEY") then NoKey else Other)

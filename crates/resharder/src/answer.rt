@@ -1,9 +1,9 @@
 //! The replies that orders to move a slot or a key get.
-ghost use Rattle.std.specs.Prelude.{◌≡◌, ◌≤◌, ◌==◌, length};
-ghost use Rattle.std.specs.List.{position_or_len};
-ghost use Rattle.resharder.specs.Replies.{answer_of, error_kind, first_word, simple_kind};
+ghost use Rattle.std.specs.Prelude.{◌≡◌};
+ghost use Rattle.resharder.specs.Replies.{answer_of, error_kind, simple_kind};
 
 use command::ErrorLine;
+use redirection::first_word;
 use resp2::Reply;
 
 /// What a node answers to an order to move a slot or a key.
@@ -62,20 +62,4 @@ fn error(text: &[u8]) -> Answer
         return Answer::NotAcknowledged;
     }
     Answer::Other
-}
-
-// The bytes before the first blank.
-fn first_word(text: &[u8]) -> &[u8]
-    ensures { result.now ≡ first_word text.now }
-{
-    &text[..end_of_word(text)]
-}
-
-fn end_of_word(text: &[u8]) -> usize
-    ensures end { result ≡ position_or_len (λ byte. byte == 32) text.now }
-    ensures within { result ≤ length text.now }
-{
-    text.iter()
-        .position(|byte| *byte == b' ')
-        .unwrap_or(text.len())
 }

@@ -1,13 +1,9 @@
 -- What the first word of an error tells a client (RESP protocol, "Simple errors": the first word is the kind of error).
-use Rattle.std.specs.Prelude.{ℕ, ◌==◌, ◌||◌, List, take, codes, if◌then◌else◌}
-use Rattle.std.specs.List.{position_or_len}
+use Rattle.std.specs.Prelude.{ℕ, ◌||◌, List, codes, if◌then◌else◌}
 use Rattle.std.specs.Str.{bytes_eq}
+use Rattle.redirection.specs.ErrorWord.{first_word}
 use Rattle.smart_client.specs.declared.error_kind.ErrorKind.{ErrorKind}
 use Rattle.smart_client.specs.declared.error_kind.ErrorKind.TheVariants.{Redirection, TryAgain, LastLine, Other}
-
--- what stands before the first blank
-abbrev pub first_word : List ℕ → List ℕ
-first_word text = take (position_or_len (λ byte. byte == 32) text) text
 
 -- MOVED and ASK name another node, TRYAGAIN has the call begin again, and behind OOM and EXHAUSTED the node closes the connection
 abbrev pub kind_of : List ℕ → ErrorKind

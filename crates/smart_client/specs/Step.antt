@@ -149,12 +149,16 @@ follows client call address number =
 abbrev pub with_owner : ClientState → ℕ → Place → ClientState
 with_owner client slot address = record client { owners = slice_set client.owners slot (Some (place_of client.peers address)) }
 
--- ASK without the number of the move can't be followed, nor can what no node writes
+-- ASK without the number of the move can't be followed
+abbrev pub asked_at : ClientState → Call → Place → Option ℕ → Turn
+asked_at client call to None = Ends (Err BadReply)
+asked_at client call to (Some number) = follows client call to (Some number)
+
+-- nor can what no node writes
 abbrev pub redirected : ClientState → Call → Option Redirection → Turn
 redirected client call None = Ends (Err BadReply)
 redirected client call (Some (Moved slot to)) = follows (with_owner client slot to) call to None
-redirected client call (Some (Ask slot to None)) = Ends (Err BadReply)
-redirected client call (Some (Ask slot to (Some number))) = follows client call to (Some number)
+redirected client call (Some (Ask slot to number)) = asked_at client call to number
 
 -- the error that answers the command
 abbrev pub failed : ErrorKind → ClientState → Call → List ℕ → Turn

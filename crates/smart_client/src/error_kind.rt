@@ -1,7 +1,8 @@
 //! The kinds of errors by which a client goes on.
-ghost use Rattle.std.specs.Prelude.{◌≡◌, ◌≤◌, ◌==◌, length};
-ghost use Rattle.std.specs.List.{position_or_len};
-ghost use Rattle.smart_client.specs.ErrorKind.{first_word, kind_of};
+ghost use Rattle.std.specs.Prelude.{◌≡◌};
+ghost use Rattle.smart_client.specs.ErrorKind.{kind_of};
+
+use redirection::first_word;
 
 /// What the first word of an error tells a client.
 #[derive(Clone, Copy, PartialEq, Eq, Debug)]
@@ -33,20 +34,4 @@ impl ErrorKind {
         }
         ErrorKind::Other
     }
-}
-
-// The bytes before the first blank.
-fn first_word(text: &[u8]) -> &[u8]
-    ensures { result.now ≡ first_word text.now }
-{
-    &text[..end_of_word(text)]
-}
-
-fn end_of_word(text: &[u8]) -> usize
-    ensures end { result ≡ position_or_len (λ byte. byte == 32) text.now }
-    ensures within { result ≤ length text.now }
-{
-    text.iter()
-        .position(|byte| *byte == b' ')
-        .unwrap_or(text.len())
 }

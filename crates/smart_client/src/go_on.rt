@@ -1,6 +1,6 @@
 //! How a call goes on with each event.
 ghost use Rattle.std.specs.Prelude.{◌≡◌, ◌<◌, None, Some, Option, IfSome};
-ghost use Rattle.smart_client.specs.Step.{MayComeTo, allowed, answered, broken, connected, failed, follows, introduced, is_ok, redirected, replied, sends, turn, unwelcome, uses, without_memory};
+ghost use Rattle.smart_client.specs.Step.{MayComeTo, allowed, answered, asked_at, broken, connected, failed, follows, introduced, is_ok, redirected, replied, sends, turn, unwelcome, uses, without_memory};
 ghost use Rattle.smart_client.specs.Turns.{IsCall, Makes};
 
 use crate::action::{Action, Event};
@@ -151,22 +151,21 @@ impl ClientCore {
     {
         match redirection {
             Redirection::Moved { slot, to } => self.moved(call, slot, to),
-            Redirection::Ask { slot, to, number } => self.asked_there(call, slot, to, number),
+            Redirection::Ask { to, number, .. } => self.asked_at(call, to, number),
         }
     }
 
     // The command is to be asked at the address. Without the number of the move it can't be.
-    fn asked_there(
+    fn asked_at(
         &mut self,
         call: Call,
-        _slot: Slot,
         to: Address,
         number: Option<Positive>,
     ) -> Result<Action, Ended>
         requires none { self.old.call ≡ None }
         requires call { IsCall self.old call }
         requires more { call.redirections < MOST_REDIRECTIONS }
-        ensures { Makes (redirected self.old call (Some (Redirection.Ask _slot to number))) self.old result self.new }
+        ensures { Makes (asked_at self.old call to number) self.old result self.new }
     {
         match number {
             Some(number) => self.follow(call, to, Some(number)),

@@ -2,8 +2,8 @@ use Rattle.std.proofs.Common.{◌∙◌, ◌==◌, ap, rules, tests, ℕ, Option
 use Rattle.std.specs.Option.{unwrap_or}
 use Rattle.std.proofs.lemmas.Iterator.{YieldsList-from_slice}
 use Rattle.std.proofs.lemmas.Iterator.Search.{position_from_yields_List}
-use Rattle.smart_client.proofs.PlaceLemmas.{first_place}
-use Rattle.smart_client.proofs.error_kind.end_of_word.Goals as goal
+use Rattle.redirection.proofs.PlaceLemmas.{first_place}
+use Rattle.redirection.proofs.error_word.end_of_word.Goals as goal
 
 pub returns-clause-end : goal.returns-clause-end
 returns-clause-end c =
