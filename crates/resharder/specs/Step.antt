@@ -209,3 +209,18 @@ MayCome (Prints nodes slot) _ = ⊥
 MayCome Over _ = ⊥
 MayCome _ happened.Start = ⊥
 MayCome _ _ = ⊤
+
+-- what the run waits for once it wants this: a reply, or that the line is printed; or it is over
+abbrev pub IsWaiting : Action → Stage → Type 0
+IsWaiting (Ask to words) Begins = ⊥
+IsWaiting (Ask to words) Finds = ⊤
+IsWaiting (Ask to words) (Works work) = ⊤
+IsWaiting (Ask to words) (Prints nodes slot) = ⊥
+IsWaiting (Ask to words) Over = ⊥
+IsWaiting (Line slot number keys) Begins = ⊥
+IsWaiting (Line slot number keys) Finds = ⊥
+IsWaiting (Line slot number keys) (Works work) = ⊥
+IsWaiting (Line slot number keys) (Prints nodes at) = ⊤
+IsWaiting (Line slot number keys) Over = ⊥
+IsWaiting (Fault fault) stage = stage ≡ Over
+IsWaiting End stage = stage ≡ Over

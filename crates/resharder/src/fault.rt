@@ -30,14 +30,14 @@ pub enum ReshardFault {
 
 impl ReshardFault {
     /// The code that a program prints.
-    pub fn code(self) -> &'static [u8]
+    pub fn code(self) -> &'static str
         ensures { result.now ≡ code_of self }
     {
         match self {
-            ReshardFault::TooOften => b"V1",
-            ReshardFault::NotReached | ReshardFault::NotListed => b"V2",
-            ReshardFault::BadReply | ReshardFault::NoNextNumber => b"V3",
-            ReshardFault::Memory => b"F3",
+            ReshardFault::TooOften => "V1",
+            ReshardFault::NotReached | ReshardFault::NotListed => "V2",
+            ReshardFault::BadReply | ReshardFault::NoNextNumber => "V3",
+            ReshardFault::Memory => "F3",
         }
     }
 }

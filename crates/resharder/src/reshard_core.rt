@@ -1,7 +1,7 @@
 //! A run that moves slots from one master to another.
 ghost use Rattle.std.specs.Prelude.{◌≡◌};
 ghost use Rattle.resharder.specs.State.{first_state};
-ghost use Rattle.resharder.specs.Step.{MayCome, Steps};
+ghost use Rattle.resharder.specs.Step.{IsWaiting, MayCome, Steps};
 
 use crate::action::{Action, Event};
 use crate::plan::Plan;
@@ -48,7 +48,8 @@ impl ReshardCore {
     /// Takes an event, and says what is to be done next.
     pub fn on(&mut self, event: Event) -> Action
         requires { MayCome self.old.stage event }
-        ensures { Steps self.old event result self.new }
+        ensures steps { Steps self.old event result self.new }
+        ensures waits { IsWaiting result self.new.stage }
     {
         let stage = mem::replace(&mut self.stage, Stage::Over);
         match self.plan.turn(self.alloc, stage, event) {

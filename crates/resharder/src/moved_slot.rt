@@ -1,0 +1,15 @@
+//! A slot that was moved.
+
+use command::Positive;
+use key_slot::Slot;
+
+/// A slot that is at its new master.
+#[derive(Clone, Copy, PartialEq, Eq, Debug)]
+pub struct MovedSlot {
+    /// The slot.
+    pub slot: Slot,
+    /// The number of the move. There is none where the slot was there before any move of it.
+    pub number: Option<Positive>,
+    /// How many keys were moved in this run.
+    pub keys: u64,
+}
