@@ -2,10 +2,11 @@
 use Rattle.std.specs.Prelude.{ℕ, List, Option, Some, None, codes}
 use Rattle.cluster_config.specs.declared.fault.ConfigFault.{ConfigFault}
 use Rattle.cluster_config.specs.declared.fault.ConfigFault.TheVariants as config
+use Rattle.resharder.specs.Faults.{code_of as reshard_code}
 use Rattle.smart_client.specs.declared.fault.ClientFault.{ClientFault}
 use Rattle.smart_client.specs.declared.fault.ClientFault.TheVariants as client
 use Rattle.rcluster.specs.declared.fault.ProgramFault.{ProgramFault}
-use Rattle.rcluster.specs.declared.fault.ProgramFault.TheVariants.{UnreadableFile, AddressInUse, Memory, Thread, Output, Config, Script, Client}
+use Rattle.rcluster.specs.declared.fault.ProgramFault.TheVariants.{UnreadableFile, AddressInUse, Memory, Thread, Output, Config, Script, Client, Reshard}
 
 -- of a configuration
 abbrev pub config_code : ConfigFault → List ℕ
@@ -38,6 +39,7 @@ code_of Output = codes "F4"
 code_of (Config fault) = config_code fault
 code_of (Script line) = codes "S"
 code_of (Client fault) = client_code fault
+code_of (Reshard fault) = reshard_code fault
 
 -- what stands behind the code: the number of the line
 abbrev pub number_of : ProgramFault → Option ℕ
@@ -49,3 +51,4 @@ number_of Output = None
 number_of (Config fault) = None
 number_of (Script line) = Some line
 number_of (Client fault) = None
+number_of (Reshard fault) = None

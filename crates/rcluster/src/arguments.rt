@@ -11,6 +11,11 @@ const FEW_TRIES: u64 = 100;
 
 const MOST_TRIES: u64 = 1_000_000;
 
+// How often a run that moves slots asks the same again where nothing is said, and at most.
+const FEW_REPETITIONS: u64 = 1000;
+
+const MOST_REPETITIONS: u64 = 1_000_000;
+
 // After how many ticks the program may be asked to end.
 const MOST_TICKS: u64 = 1_000_000;
 
@@ -35,6 +40,19 @@ pub enum Call<'a> {
         /// The words of the command.
         words: Vec<&'a str>,
     },
+    /// To move slots from one master to another.
+    Reshard {
+        /// The address of the node that is asked who the masters are.
+        address: &'a str,
+        /// The id of the master that the slots leave.
+        from: &'a str,
+        /// The id of the master that they come to.
+        to: &'a str,
+        /// The slots, as the first and the last one.
+        slots: &'a str,
+        /// How often a node may be asked the same again.
+        limit: u64,
+    },
     /// To play a script in a cluster that a file describes.
     Simulate {
         /// The path of the cluster's file.
@@ -53,7 +71,8 @@ pub fn read_call<'a>(alloc: Global, words: &'a [String]) -> Result<Call<'a>, Err
         .arg_required_else_help(true)
         .subcommand(serve_command(alloc)?)?
         .subcommand(simulate_command(alloc)?)?
-        .subcommand(cli_command(alloc)?)?;
+        .subcommand(cli_command(alloc)?)?
+        .subcommand(reshard_command(alloc)?)?;
     let matches = command.try_get_matches_from(words)?;
     if let Some(simulate) = matches.subcommand_matches("simulate") {
         return Ok(Call::Simulate {
@@ -70,6 +89,15 @@ pub fn read_call<'a>(alloc: Global, words: &'a [String]) -> Result<Call<'a>, Err
             words,
         });
     }
+    if let Some(reshard) = matches.subcommand_matches("reshard") {
+        return Ok(Call::Reshard {
+            address: reshard.get_str("addr").unwrap_or(""),
+            from: reshard.get_str("from").unwrap_or(""),
+            to: reshard.get_str("to").unwrap_or(""),
+            slots: reshard.get_str("slots").unwrap_or(""),
+            limit: reshard.get_one::<u64>("limit").unwrap_or(FEW_REPETITIONS),
+        });
+    }
     let serve = matches.subcommand_matches("serve");
     let config = serve
         .and_then(|serve| serve.get_str("config"))
@@ -84,21 +112,21 @@ pub fn read_call<'a>(alloc: Global, words: &'a [String]) -> Result<Call<'a>, Err
 }
 
 fn config_option<'a>(alloc: Global) -> Arg<'a> {
-    Arg::new(alloc, "config")
-        .long("config")
-        .value_name("FILE")
-        .help("The cluster's configuration, a JSON file")
-        .required(true)
-        .action(ArgAction::Set)
+    text_option(
+        alloc,
+        "config",
+        "FILE",
+        "The cluster's configuration, a JSON file",
+    )
 }
 
 fn simulate_command<'a>(alloc: Global) -> Result<Command<'a>, Error> {
-    let script = Arg::new(alloc, "script")
-        .long("script")
-        .value_name("FILE")
-        .help("The script, one step a line: admin N WORDS, tick N, stop N or deliver M")
-        .required(true)
-        .action(ArgAction::Set);
+    let script = text_option(
+        alloc,
+        "script",
+        "FILE",
+        "The script, one step a line: admin N WORDS, tick N, stop N or deliver M",
+    );
     let simulate = Command::new(alloc, "simulate")
         .about(
             "Plays a script in a cluster without sockets, and prints what comes out of each step",
@@ -108,13 +136,11 @@ fn simulate_command<'a>(alloc: Global) -> Result<Command<'a>, Error> {
     Ok(simulate)
 }
 
+fn address_option<'a>(alloc: Global) -> Arg<'a> {
+    text_option(alloc, "addr", "HOST:PORT", "The node to begin with")
+}
+
 fn cli_command<'a>(alloc: Global) -> Result<Command<'a>, Error> {
-    let address = Arg::new(alloc, "addr")
-        .long("addr")
-        .value_name("HOST:PORT")
-        .help("The node to begin with")
-        .required(true)
-        .action(ArgAction::Set);
     let tries = Arg::new(alloc, "try")
         .long("try")
         .value_name("N")
@@ -129,10 +155,42 @@ fn cli_command<'a>(alloc: Global) -> Result<Command<'a>, Error> {
         .action(ArgAction::Append);
     let cli = Command::new(alloc, "cli")
         .about("Has the node of a command's keys execute the command, and prints the reply")
-        .arg(address)?
+        .arg(address_option(alloc))?
         .arg(tries)?
         .arg(words)?;
     Ok(cli)
+}
+
+fn reshard_command<'a>(alloc: Global) -> Result<Command<'a>, Error> {
+    let limit = Arg::new(alloc, "limit")
+        .long("limit")
+        .value_name("N")
+        .help("How often a node is asked the same again, 0 to 1000000; 1000 if missing")
+        .value_parser(ValueParser::unsigned(0, MOST_REPETITIONS))
+        .action(ArgAction::Set);
+    let reshard = Command::new(alloc, "reshard")
+        .about("Moves slots from one master to another, and prints a line for each slot")
+        .arg(address_option(alloc))?
+        .arg(text_option(alloc, "from", "ID", "The master that the slots leave"))?
+        .arg(text_option(alloc, "to", "ID", "The master that they come to"))?
+        .arg(text_option(
+            alloc,
+            "slots",
+            "A-B",
+            "The slots from A to B, each from 0 to 16383",
+        ))?
+        .arg(limit)?;
+    Ok(reshard)
+}
+
+// An option that has to be there, with a text.
+fn text_option<'a>(alloc: Global, name: &'a str, value_name: &'a str, help: &'a str) -> Arg<'a> {
+    Arg::new(alloc, name)
+        .long(name)
+        .value_name(value_name)
+        .help(help)
+        .required(true)
+        .action(ArgAction::Set)
 }
 
 fn serve_command<'a>(alloc: Global) -> Result<Command<'a>, Error> {

@@ -2,11 +2,12 @@
 
 use crate::failure::Failure;
 use crate::fault::ProgramFault;
+use crate::sockets::{ADDRESS_TEXT, Sockets};
 use byte_string::ByteString;
 use redirection::Address;
-use resp2::{Counting, Reply, Words};
+use resp2::{Reply, Words};
 use simulator::print_reply;
-use smart_client::{Client, Connect, ConnectFault, Connections};
+use smart_client::{Client, Connections};
 use std::alloc::{AllocError, Global};
 use std::net::{Net, TcpListener, TcpStream};
 
@@ -25,7 +26,7 @@ impl Request {
         words: &[&str],
     ) -> Result<Result<Request, &'static str>, AllocError> {
         let Some(start) = Address::read(alloc, address.as_bytes())? else {
-            return Ok(Err("--addr takes HOST:PORT, with a port from 1 to 65535"));
+            return Ok(Err(ADDRESS_TEXT));
         };
         let mut items = Vec::with_capacity(alloc, words.len())?;
         for word in words {
@@ -46,7 +47,7 @@ where
 {
     let alloc = rt.alloc();
     let Request { start, words } = request;
-    let connections = Connections::new(alloc, Sockets { rt });
+    let connections = Connections::new(alloc, Sockets::new(rt));
     let mut client = Client::new(alloc, connections, start, limit)?;
     match client.call(words) {
         Ok(reply) => print(&rt, &reply),
@@ -63,41 +64,4 @@ fn print<R: AllocGlobal + Print>(rt: &R, reply: &Reply) -> Result<(), Failure> {
         Ok(()) => Ok(()),
         Err(_) => Err(Failure::from(ProgramFault::Output)),
     }
-}
-
-// Connections on sockets.
-#[derive(Drop)]
-struct Sockets<R: Drop> {
-    rt: R,
-}
-
-impl<R> Connect for Sockets<R>
-where
-    R: AllocGlobal + Net<Listener = TcpListener, Stream = TcpStream> + Drop,
-{
-    type Reader = TcpStream;
-
-    type Writer = TcpStream;
-
-    fn connect(
-        &mut self,
-        address: &Address,
-    ) -> Result<(Counting<TcpStream>, Counting<TcpStream>), ConnectFault> {
-        let text = text_of(self.rt.alloc(), address)?;
-        let Ok(stream) = TcpStream::connect(&self.rt, text.as_str()) else {
-            return Err(ConnectFault::NotReached);
-        };
-        // A request is one write, so nothing is gained by waiting for more.
-        let _nodelay = stream.set_nodelay(true);
-        let Ok(reader) = stream.try_clone() else {
-            return Err(ConnectFault::NotReached);
-        };
-        Ok((Counting::new(reader), Counting::new(stream)))
-    }
-}
-
-// `host:port`
-fn text_of(alloc: Global, address: &Address) -> Result<String, AllocError> {
-    let host = str::from_utf8(address.host().as_slice()).unwrap_or("");
-    format!(in alloc; "{host}:{}", address.port())
 }

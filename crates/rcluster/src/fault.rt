@@ -3,6 +3,7 @@ ghost use Rattle.std.specs.Prelude.{◌≡◌};
 ghost use Rattle.rcluster.specs.Codes.{client_code, code_of, config_code, number_of};
 
 use cluster_config::ConfigFault;
+use resharder::ReshardFault;
 use smart_client::ClientFault;
 use std::fmt;
 
@@ -25,6 +26,8 @@ pub enum ProgramFault {
     Script(u64),
     /// A call of the client got no reply to its command.
     Client(ClientFault),
+    /// A run that moves slots could not go on.
+    Reshard(ReshardFault),
 }
 
 impl ProgramFault {
@@ -40,6 +43,7 @@ impl ProgramFault {
             ProgramFault::Config(fault) => config_code(fault),
             ProgramFault::Script(_) => "S",
             ProgramFault::Client(fault) => client_code(fault),
+            ProgramFault::Reshard(fault) => fault.code(),
         }
     }
 
@@ -73,6 +77,7 @@ impl ProgramFault {
             ProgramFault::Config(_) => "the file describes no cluster",
             ProgramFault::Script(_) => "a line of the script is no step",
             ProgramFault::Client(fault) => client_meaning(fault),
+            ProgramFault::Reshard(fault) => reshard_meaning(fault),
         }
     }
 }
@@ -101,6 +106,17 @@ fn client_meaning(fault: ClientFault) -> &'static str {
         ClientFault::NotConnected => "a node can't be reached, and the command was not executed",
         ClientFault::BadReply => "a reply is none that a node gives",
         ClientFault::NotData => "CLUSTER, MIGRATE and ASKING are no commands of a client",
+    }
+}
+
+fn reshard_meaning(fault: ReshardFault) -> &'static str {
+    match fault {
+        ReshardFault::TooOften => "a node asked for the same again too often",
+        ReshardFault::NotReached => "a node can't be reached, or the connection to it failed",
+        ReshardFault::NotListed => "no master has this id",
+        ReshardFault::BadReply => "a node refused, or its reply is none that a node gives there",
+        ReshardFault::NoNextNumber => "no next number of a move is left",
+        ReshardFault::Memory => "memory was refused",
     }
 }
 

@@ -6,14 +6,17 @@ mod calling;
 mod failure;
 mod fault;
 mod files;
+mod resharding;
 mod serving;
 mod simulating;
+mod sockets;
 
 use arguments::{Call, read_call};
 use calling::Request;
 use failure::Failure;
 use fault::ProgramFault;
 use node_cell::{GhostJournal, Journal};
+use resharding::Move;
 use serving::serve;
 use simulating::simulate;
 use std::io;
@@ -39,10 +42,17 @@ fn main(rt: HostRuntime) -> io::Result<ExitCode> {
             words,
         } => match Request::read(alloc, address, words.as_slice())? {
             Ok(request) => calling::call(rt, request, tries),
-            Err(wrong) => {
-                eprintln!(rt; "error: {wrong}\n\nFor more information, try '--help'.")?;
-                return Ok(ExitCode::from(USAGE));
-            }
+            Err(wrong) => return refuse(&rt, wrong),
+        },
+        Call::Reshard {
+            address,
+            from,
+            to,
+            slots,
+            limit,
+        } => match Move::read(alloc, address, from, to, slots)? {
+            Ok(wanted) => resharding::reshard(rt, wanted, limit),
+            Err(wrong) => return refuse(&rt, wrong),
         },
         // A journal is kept where it is asked for, or where somebody gathers it at the end.
         Call::Serve {
@@ -60,6 +70,12 @@ fn main(rt: HostRuntime) -> io::Result<ExitCode> {
             Ok(ExitCode::FAILURE)
         }
     }
+}
+
+// The command line is wrong, as the sentence says.
+fn refuse(rt: &impl Eprint, wrong: &str) -> io::Result<ExitCode> {
+    eprintln!(rt; "error: {wrong}\n\nFor more information, try '--help'.")?;
+    Ok(ExitCode::from(USAGE))
 }
 
 // The code goes to the output, and a sentence for people to standard error.
