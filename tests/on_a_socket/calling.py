@@ -107,13 +107,16 @@ class Node:
             words = []
             for _ in range(int(header[1:])):
                 words.append(stream.read(int(stream.readline()[1:]) + 2)[:-2])
-            self.asked.append(words)
+            self.hear(words)
             answer = self.numbered if words == NUMBERED else self.answers.pop(0) if self.answers else None
             if answer is None:
                 return
             client.sendall(answer)
             if self.ends and not self.answers:
                 return
+
+    def hear(self, words):
+        self.asked.append(words)
 
     def close(self):
         self.listener.close()
