@@ -1,0 +1,8 @@
+pub mod Executions
+pub mod Words
+pub mod Steps
+pub mod Laws
+pub mod Decimals
+pub mod Asks
+pub mod Clients
+mod WorkedValues
