@@ -1,12 +1,12 @@
 -- The limits of a request are kept exactly where the test says so.
-use Rattle.std.proofs.Common.{◌≡◌, ◌≤◌, ◌&&◌, ℕ, Bool, true, false, List, [], ◌∷◌, length, All, arith, leb, ltb, refl}
-use Rattle.std.specs.Prelude.{suc}
+use Rattle.std.proofs.Common.{◌≡◌, ◌≤◌, ◌&&◌, ◌∙◌, ℕ, Bool, true, false, cond, List, [], ◌∷◌, length, All, Option, Some, None, ap, sym, arith, leb, ltb, refl}
+use Rattle.std.specs.Prelude.{suc, IfSome, IsSome}
 use Rattle.std.specs.List.{list_all}
 use Rattle.std.proofs.lemmas.List.Elements.{All-cons, All-nil}
 use Rattle.std.proofs.lemmas.Bool.{leb-true, ltb-true, le-leb, lt-ltb}
 use Rattle.resp2.specs.Request.{IsRequest}
 use Rattle.resp2.specs.declared.words.TheConstants.{MOST_WORD_BYTES}
-use Rattle.simulator.specs.Script.{is_request}
+use Rattle.simulator.specs.Script.{is_request, request_of}
 
 both : (a b : Bool) → (a && b) ≡ true → (a ≡ true) × (b ≡ true)
 both true true is = (refl, refl)
@@ -46,3 +46,18 @@ pub is_request_if : (request : List (List ℕ)) → IsRequest request → is_req
 is_request_if request keeps =
     both_are _ _ (both_are _ _ (both_are _ _ (lt-ltb _ _ keeps.some) (le-leb _ _ keeps.limits.each.few)) (are_short MOST_WORD_BYTES request keeps.limits.each.short))
     (le-leb _ _ keeps.limits.all)
+
+-- ---- requests that are read
+
+nothing_there : IsSome {T = List (List ℕ)} None → ⊥
+nothing_there some = cc
+
+unmade : (request : List (List ℕ)) (test : Bool) → is_request request ≡ test → (IsRequest request → IsSome {T = List (List ℕ)} None) → None ≡ request_of request
+unmade request true is whole = absurd (nothing_there (whole (keeps_limits request is)))
+unmade request false is whole = sym (ap (λ (found : Bool). cond found (Some request) None) is)
+
+pub request_read : (request : List (List ℕ)) (made : Option (List (List ℕ))) → IfSome made (λ words. words ≡ request) → IfSome made (λ words. IsRequest request)
+    → (IsRequest request → IsSome made) → made ≡ request_of request
+request_read request (Some words) is keeps whole =
+    ap Some is ∙ sym (ap (λ (test : Bool). cond test (Some request) None) (is_request_if request keeps))
+request_read request None is keeps whole = unmade request (is_request request) refl whole

@@ -1,17 +1,13 @@
 -- The step that a line is, by its words.
 use Rattle.std.proofs.Common.{◌≡◌, ◌<◌, ◌==◌, ℕ, Bool, true, false, cond, List, [], ◌∷◌, length, Option, Some, None, option_map, refl, sym, ap, subst, ◌∙◌, arith}
-use Rattle.std.specs.Prelude.{IsSome}
+use Rattle.std.specs.Prelude.{option_and_then}
 use Rattle.std.specs.Borrow.{Bor}
 use Rattle.std.specs.List.{list_all, slice_split}
 use Rattle.std.proofs.lemmas.List.Splits.{length-slice_split}
-use Rattle.command.specs.Numbers.{count_of}
-use Rattle.resp2.specs.Request.{IsRequest}
 use Rattle.world.specs.declared.step.Step.{Step}
-use Rattle.world.specs.declared.step.Step.TheVariants.{Admin}
 use Rattle.simulator.specs.Lines.{is_plain, words}
-use Rattle.simulator.specs.Script.{admin_of, is_request, only, step_in, step_of}
+use Rattle.simulator.specs.Script.{asked_of, only, request_of, step_in, step_of}
 use Rattle.simulator.specs.Splitting.{words_behind}
-use Rattle.simulator.proofs.Requests.{is_request_if, keeps_limits}
 
 -- the words are the first one and those behind its blank
 words_are : (line word : List ℕ) (behind : Option (Bor (List ℕ))) (rest : Bor (List ℕ)) → words line ≡ word ∷ words_behind behind
@@ -34,27 +30,20 @@ pub step_read : (line name : List ℕ) (behind : Option (Bor (List ℕ))) (rest 
 step_read line name behind rest plain is some =
     sym (ap (λ (b : Bool). cond b (step_of (words line)) None) plain ∙ ap step_of (words_are line name behind rest is some))
 
--- what stands behind the node is a request
-pub admin_read : (line node : List ℕ) (behind : Option (Bor (List ℕ))) (rest : Bor (List ℕ)) (request asked : List (List ℕ)) (number : ℕ)
-    → words line ≡ node ∷ words_behind behind → behind ≡ Some rest → request ≡ words rest.now → asked ≡ request → Some number ≡ count_of node
-    → IsRequest request → Some (Admin number asked) ≡ admin_of (words line)
-admin_read line node behind rest request asked number is some request_is asked_is count keeps =
-    let are : words line ≡ node ∷ request = words_are line node behind rest is some ∙ ap (λ (others : List (List ℕ)). node ∷ others) (sym request_is) in
-    let made : List (List ℕ) → Option ℕ → Option Step = λ others of. option_map (λ n. Admin n others) of in
-    sym (ap admin_of are ∙ ap (λ (b : Bool). cond b (made request (count_of node)) None) (is_request_if request keeps)
-    ∙ ap (made request) (sym count) ∙ ap (λ (others : List (List ℕ)). made others (Some number)) (sym asked_is))
+-- ---- a number, and a request
 
-nothing_there : (X : Type 0) → IsSome {T = X} None → ⊥
-nothing_there X some = cc
+-- the parts are both there
+pub asked_read : (numbered : List ℕ → Option ℕ) (step : ℕ → List (List ℕ) → Step) (line word : List ℕ) (behind : Option (Bor (List ℕ))) (rest : Bor (List ℕ)) (number : ℕ) (asked : List (List ℕ))
+    → words line ≡ word ∷ words_behind behind → behind ≡ Some rest → Some number ≡ numbered word → Some asked ≡ request_of (words rest.now)
+    → Some (step number asked) ≡ asked_of numbered step (words line)
+asked_read numbered step line word behind rest number asked is some count request =
+    sym (ap (asked_of numbered step) (words_are line word behind rest is some)
+    ∙ ap (λ (found : Option ℕ). option_and_then (λ n. option_map (step n) (request_of (words rest.now))) found) (sym count) ∙ ap (option_map (step number)) (sym request))
 
-no_request : (node : List ℕ) (request : List (List ℕ)) (of : Bool) → is_request request ≡ of → (IsRequest request → ⊥) → None ≡ admin_of (node ∷ request)
-no_request node request true is refused = absurd (refused (keeps_limits request is))
-no_request node request false is refused = sym (ap (λ (b : Bool). cond b (option_map (λ n. Admin n request) (count_of node)) None) is)
-
--- it is none
-pub no_admin : {X : Type 0} (line node : List ℕ) (behind : Option (Bor (List ℕ))) (rest : Bor (List ℕ)) (request : List (List ℕ)) (made : Option X)
-    → words line ≡ node ∷ words_behind behind → behind ≡ Some rest → request ≡ words rest.now → made ≡ None → (IsRequest request → IsSome made)
-    → None ≡ admin_of (words line)
-no_admin {X} line node behind rest request made is some request_is none whole =
-    let are : words line ≡ node ∷ request = words_are line node behind rest is some ∙ ap (λ (others : List (List ℕ)). node ∷ others) (sym request_is) in
-    no_request node request (is_request request) refl (λ keeps. nothing_there X (subst IsSome none (whole keeps))) ∙ sym (ap admin_of are)
+-- the words are none of a request
+pub none_asked : (numbered : List ℕ → Option ℕ) (step : ℕ → List (List ℕ) → Step) (line word : List ℕ) (behind : Option (Bor (List ℕ))) (rest : Bor (List ℕ)) (number : ℕ)
+    → words line ≡ word ∷ words_behind behind → behind ≡ Some rest → Some number ≡ numbered word → None ≡ request_of (words rest.now)
+    → None ≡ asked_of numbered step (words line)
+none_asked numbered step line word behind rest number is some count request =
+    sym (ap (asked_of numbered step) (words_are line word behind rest is some)
+    ∙ ap (λ (found : Option ℕ). option_and_then (λ n. option_map (step n) (request_of (words rest.now))) found) (sym count) ∙ ap (option_map (step number)) (sym request))

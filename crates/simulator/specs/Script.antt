@@ -6,7 +6,7 @@ use Rattle.command.specs.Numbers.{count_of, positive_of}
 use Rattle.resp2.specs.Request.{request_spelling}
 use Rattle.resp2.specs.declared.words.TheConstants.{MOST_WORDS, MOST_WORD_BYTES, MOST_REQUEST_BYTES}
 use Rattle.world.specs.declared.step.Step.{Step}
-use Rattle.world.specs.declared.step.Step.TheVariants.{Admin, Tick, Stop, Deliver}
+use Rattle.world.specs.declared.step.Step.TheVariants.{Call, Carry, Return, Cut, Late, Admin, Tick, Stop, Deliver}
 use Rattle.simulator.specs.Lines.{is_plain, lines, words}
 
 -- ---- steps
@@ -18,10 +18,21 @@ is_request request =
     && list_all (λ word. nat_le (length word) MOST_WORD_BYTES) request
     && nat_le (length (request_spelling request)) MOST_REQUEST_BYTES
 
+abbrev pub request_of : List (List ℕ) → Option (List (List ℕ))
+request_of request = if is_request request then Some request else None
+
+-- a number, and a request
+abbrev pub asked_of : (List ℕ → Option ℕ) → (ℕ → List (List ℕ) → Step) → List (List ℕ) → Option Step
+asked_of numbered step [] = None
+asked_of numbered step (number ∷ request) = option_and_then (λ n. option_map (step n) (request_of request)) (numbered number)
+
+-- `call <client> <request>`
+abbrev pub call_of : List (List ℕ) → Option Step
+call_of arguments = asked_of positive_of Call arguments
+
 -- `admin <node> <request>`
 abbrev pub admin_of : List (List ℕ) → Option Step
-admin_of [] = None
-admin_of (node ∷ request) = if is_request request then option_map (λ number. Admin number request) (count_of node) else None
+admin_of arguments = asked_of count_of Admin arguments
 
 -- the only word
 abbrev pub only : List (List ℕ) → Option (List ℕ)
@@ -33,19 +44,25 @@ only (word ∷ next ∷ others) = None
 abbrev pub node_of : List (List ℕ) → Option ℕ
 node_of arguments = option_and_then count_of (only arguments)
 
--- the number of a message
-abbrev pub message_of : List (List ℕ) → Option ℕ
-message_of arguments = option_and_then positive_of (only arguments)
+-- the number of a client or a message
+abbrev pub number_of : List (List ℕ) → Option ℕ
+number_of arguments = option_and_then positive_of (only arguments)
 
--- the first word names the kind of step: `admin`, `tick <node>`, `stop <node>`, `deliver <message>`
+-- the first word names the kind of step: `call`, `carry <client>`, `return <client>`, `cut <client>`, `late <client>`, `admin`,
+-- `tick <node>`, `stop <node>`, `deliver <message>`
 abbrev pub step_of : List (List ℕ) → Option Step
 step_of [] = None
 step_of (name ∷ arguments) =
-    if bytes_eq name (codes "admin") then admin_of arguments
+    if bytes_eq name (codes "call") then call_of arguments
+    else (if bytes_eq name (codes "carry") then option_map Carry (number_of arguments)
+    else (if bytes_eq name (codes "return") then option_map Return (number_of arguments)
+    else (if bytes_eq name (codes "cut") then option_map Cut (number_of arguments)
+    else (if bytes_eq name (codes "late") then option_map Late (number_of arguments)
+    else (if bytes_eq name (codes "admin") then admin_of arguments
     else (if bytes_eq name (codes "tick") then option_map Tick (node_of arguments)
     else (if bytes_eq name (codes "stop") then option_map Stop (node_of arguments)
-    else (if bytes_eq name (codes "deliver") then option_map Deliver (message_of arguments)
-    else None)))
+    else (if bytes_eq name (codes "deliver") then option_map Deliver (number_of arguments)
+    else None))))))))
 
 -- the step that a line is
 abbrev pub step_in : List ℕ → Option Step

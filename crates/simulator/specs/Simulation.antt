@@ -3,7 +3,7 @@ use Rattle.std.specs.Prelude.{◌≡◌, ℕ, List}
 use Rattle.std.specs.List.{flat_map}
 use Rattle.cluster_config.specs.Config.{ClusterConfig}
 use Rattle.world.specs.Plays.{PlaysAll}
-use Rattle.world.specs.View.{RunView, IsOneKeyspace, first_run}
+use Rattle.world.specs.View.{IsOneKeyspace, SceneView, first_scene}
 use Rattle.world.specs.declared.output.Output.{Output}
 use Rattle.world.specs.declared.step.Step.{Step}
 use Rattle.simulator.specs.Printing.{printed}
@@ -11,8 +11,8 @@ use Rattle.simulator.specs.Printing.{printed}
 -- the cluster begins, the steps are played, and what came out of them is printed; if clients kept to the asking rule, the
 -- replies are those of one keyspace
 pub record Simulates (config : ClusterConfig) (steps : List Step) (text : List ℕ) : Type 0 where
-  pub run : RunView
+  pub scene : SceneView
   pub outputs : List Output
-  pub plays : PlaysAll (first_run config) steps outputs run
+  pub plays : PlaysAll (first_scene config) steps outputs scene
   pub prints : text ≡ flat_map printed outputs
-  pub one_keyspace : IsOneKeyspace run.entries
+  pub one_keyspace : IsOneKeyspace scene.run.entries

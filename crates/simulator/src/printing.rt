@@ -3,17 +3,19 @@ ghost use Rattle.std.specs.Prelude.{◌≡◌, ◌++◌, decimal, OnOk, codes};
 ghost use Rattle.std.specs.List.{flat_map};
 ghost use Rattle.resp2.specs.Reply.{reply_spelling};
 ghost use Rattle.simulator.specs.Escaping.{escaped};
-ghost use Rattle.simulator.specs.Printing.{kind, printed, shown};
+ghost use Rattle.simulator.specs.Printing.{code, kind, printed, shown};
 ghost use Rattle.world.specs.declared.output.Output.TheVariants as output;
 
 use crate::escaping::print_bytes;
 use bus::{Body, Message};
 use itoa::Buffer;
 use resp2::{Reply, append_reply};
+use smart_client::ClientFault;
 use std::alloc::AllocError;
 use world::Output;
 
-/// Puts the outputs behind the text, a line each: `admin NODE REPLY`, `sent MESSAGE FROM TO KIND` or `none`.
+/// Puts the outputs behind the text, a line each: `answer CLIENT REPLY`, `fault CLIENT CODE`, `admin NODE REPLY`,
+/// `sent MESSAGE FROM TO KIND` or `none`.
 ///
 /// A reply is shown as its bytes on the connection: CR as `\r`, LF as `\n`, a backslash as `\\`, and other bytes outside of
 /// 32 to 126 as `\x` and two hexadecimal digits.
@@ -36,11 +38,51 @@ fn print_output(
     ensures { OnOk result (out.new.items ≡ out.old.items ++ printed output.now) }
 {
     match output {
+        Output::Answer { client, answer } => print_answer(*client, answer, spelling, out)?,
         Output::Admin { node, reply } => print_admin(*node, reply, spelling, out)?,
         Output::Sent { number, message } => print_sent(*number, message, out)?,
         Output::Nothing => out.extend_from_slice(b"none")?,
     }
     out.extend_from_slice(b"\n")
+}
+
+fn print_answer(
+    client: u64,
+    answer: &Result<Reply, ClientFault>,
+    spelling: &mut Vec<u8>,
+    out: &mut Vec<u8>,
+) -> Result<(), AllocError>
+    ensures { OnOk result (out.new.items ≡ out.old.items ++ shown (output.Answer client answer.now)) }
+{
+    match answer {
+        Ok(reply) => {
+            out.extend_from_slice(b"answer ")?;
+            print_number(client, out)?;
+            out.extend_from_slice(b" ")?;
+            print_reply(reply, spelling, out)
+        }
+        Err(fault) => {
+            out.extend_from_slice(b"fault ")?;
+            print_number(client, out)?;
+            out.extend_from_slice(b" ")?;
+            out.extend_from_slice(code(*fault))
+        }
+    }
+}
+
+// How a client's fault is shown.
+fn code(fault: ClientFault) -> &'static [u8]
+    ensures { result.now ≡ code fault }
+{
+    match fault {
+        ClientFault::Lost => b"C1",
+        ClientFault::TooManyRedirects => b"C2",
+        ClientFault::StillTryAgain => b"C3",
+        ClientFault::Memory => b"C4",
+        ClientFault::NotConnected => b"C5",
+        ClientFault::BadReply => b"C6",
+        ClientFault::NotData => b"C7",
+    }
 }
 
 fn print_admin(

@@ -1,9 +1,10 @@
-//! Scripts, in the simulator's own format: a step a line, `admin N WORD..`, `tick N`, `stop N` or `deliver M`.
+//! Scripts, in the simulator's own format: a step a line, `call K WORD..`, `carry K`, `return K`, `cut K`, `late K`,
+//! `admin N WORD..`, `tick N`, `stop N` or `deliver M`.
 ghost use Rattle.std.specs.Prelude.{◌≡◌, ◌+◌, ◌++◌, ◌∷◌, [], ℕ, vec_len, map, option_map, Some, Err, IfOk};
 ghost use Rattle.std.specs.List.{list_all};
 ghost use Rattle.command.specs.Numbers.{count_of};
 ghost use Rattle.simulator.specs.Lines.{is_plain, lines, words};
-ghost use Rattle.simulator.specs.Script.{IsFirstUnreadable, admin_of, message_of, node_of, only, step_in, step_of};
+ghost use Rattle.simulator.specs.Script.{IsFirstUnreadable, admin_of, call_of, node_of, number_of, only, request_of, step_in, step_of};
 ghost use Rattle.simulator.specs.Splitting.{words_behind};
 ghost use Rattle.simulator.specs.declared.fault.ScriptFault.TheVariants.{Line};
 ghost use Rattle.world.specs.declared.step.Step.TheVariants as step;
@@ -19,7 +20,7 @@ use world::Step;
 /// Reads a script, a step a line.
 ///
 /// Words are parted by one blank and have bytes from 33 to 126; only those of a request may be empty. Numbers are decimal
-/// texts without a plus and without a leading zero; that of a message is at least 1. A newline ends each line, and the last
+/// texts without a plus and without a leading zero; that of a client or a message is at least 1. A newline ends each line, and the last
 /// one may go without. The fault Line names the first line that is no step.
 pub fn read_script(alloc: Global, text: &[u8]) -> Result<Vec<Step>, ScriptFault>
     ensures steps { IfOk result (λ steps. map Some steps.items ≡ map step_in (lines text.now)) }
@@ -69,6 +70,21 @@ fn is_plain(line: &[u8]) -> bool
 fn step_of(alloc: Global, name: &[u8], arguments: &[u8]) -> Result<Option<Step>, AllocError>
     ensures { IfOk result (λ step. step ≡ step_of (name.now ∷ words arguments.now)) }
 {
+    if name == b"call".as_slice() {
+        return call_of(alloc, arguments);
+    }
+    if name == b"carry".as_slice() {
+        return Ok(carry_of(arguments));
+    }
+    if name == b"return".as_slice() {
+        return Ok(return_of(arguments));
+    }
+    if name == b"cut".as_slice() {
+        return Ok(cut_of(arguments));
+    }
+    if name == b"late".as_slice() {
+        return Ok(late_of(arguments));
+    }
     if name == b"admin".as_slice() {
         return admin_of(alloc, arguments);
     }
@@ -84,6 +100,22 @@ fn step_of(alloc: Global, name: &[u8], arguments: &[u8]) -> Result<Option<Step>,
     Ok(None)
 }
 
+fn call_of(alloc: Global, arguments: &[u8]) -> Result<Option<Step>, AllocError>
+    ensures { IfOk result (λ step. step ≡ call_of (words arguments.now)) }
+{
+    let (client, Some(request)) = split_word(arguments) else {
+        return Ok(None);
+    };
+    let Some(client) = Positive::of(client) else {
+        return Ok(None);
+    };
+    let client = client.get();
+    match request_of(alloc, request)? {
+        Some(words) => Ok(Some(Step::Call { client, words })),
+        None => Ok(None),
+    }
+}
+
 fn admin_of(alloc: Global, arguments: &[u8]) -> Result<Option<Step>, AllocError>
     ensures { IfOk result (λ step. step ≡ admin_of (words arguments.now)) }
 {
@@ -93,10 +125,17 @@ fn admin_of(alloc: Global, arguments: &[u8]) -> Result<Option<Step>, AllocError>
     let Some(node) = count_in(node) else {
         return Ok(None);
     };
-    match Words::new(words_in(alloc, request)?) {
+    match request_of(alloc, request)? {
         Some(words) => Ok(Some(Step::Admin { node, words })),
         None => Ok(None),
     }
+}
+
+// The request that the words are, or None where they are more than a request may have.
+fn request_of(alloc: Global, request: &[u8]) -> Result<Option<Words>, AllocError>
+    ensures { IfOk result (λ request_words. request_words ≡ request_of (words request.now)) }
+{
+    Ok(Words::new(words_in(alloc, request)?))
 }
 
 // The words of a request.
@@ -128,12 +167,45 @@ fn stop_of(arguments: &[u8]) -> Option<Step>
 }
 
 fn delivery_of(arguments: &[u8]) -> Option<Step>
-    ensures { result ≡ option_map step.Deliver (message_of (words arguments.now)) }
+    ensures { result ≡ option_map step.Deliver (number_of (words arguments.now)) }
 {
-    let number = Positive::of(only_word(arguments)?)?;
-    Some(Step::Deliver {
-        message: number.get(),
-    })
+    let message = number_of(arguments)?;
+    Some(Step::Deliver { message })
+}
+
+fn carry_of(arguments: &[u8]) -> Option<Step>
+    ensures { result ≡ option_map step.Carry (number_of (words arguments.now)) }
+{
+    let client = number_of(arguments)?;
+    Some(Step::Carry { client })
+}
+
+fn return_of(arguments: &[u8]) -> Option<Step>
+    ensures { result ≡ option_map step.Return (number_of (words arguments.now)) }
+{
+    let client = number_of(arguments)?;
+    Some(Step::Return { client })
+}
+
+fn cut_of(arguments: &[u8]) -> Option<Step>
+    ensures { result ≡ option_map step.Cut (number_of (words arguments.now)) }
+{
+    let client = number_of(arguments)?;
+    Some(Step::Cut { client })
+}
+
+fn late_of(arguments: &[u8]) -> Option<Step>
+    ensures { result ≡ option_map step.Late (number_of (words arguments.now)) }
+{
+    let client = number_of(arguments)?;
+    Some(Step::Late { client })
+}
+
+// The number of a client or a message, which is at least 1.
+fn number_of(arguments: &[u8]) -> Option<u64>
+    ensures { result ≡ number_of (words arguments.now) }
+{
+    Some(Positive::of(only_word(arguments)?)?.get())
 }
 
 // The word, where it is the only one.

@@ -2,7 +2,7 @@
 use Rattle.std.proofs.Common.{◌≡◌, ℕ, Bool, List, drop, length, [], ◌∷◌, ◌++◌, Contains, refl, sym, ap, subst, ◌∙◌, inl, inr, append-nil, append_assoc}
 use Rattle.std.specs.Prelude.{false, reverse, slice_get, slice_set, Some, zero, suc}
 use Rattle.std.specs.List.{flat_map}
-use Rattle.std.proofs.lemmas.List.{reverse-append}
+use Rattle.std.proofs.lemmas.List.{length-set, reverse-append}
 use Rattle.std.proofs.lemmas.List.Elements.{Contains-append_cases, Contains-append_left, Contains-append_right}
 use Rattle.std.proofs.lemmas.Grind.{flat_map-append}
 use Rattle.std.proofs.lemmas.Option.{slice_get_within, get_or_from_slice_get}
@@ -16,12 +16,11 @@ use Rattle.node_step.specs.declared.outputs.Release.{Release}
 use Rattle.world_run.specs.Run.{Deed, Entry, Goes, MayHappen, first_nodes, sent_by, sent_in}
 use Rattle.world_run.specs.Run.Deed.{Made, Skipped}
 use Rattle.world.specs.Entered.{EntersAt, NeedsNumber, Steps}
-use Rattle.world.specs.Plays.{Closes, Enters, Makes, Plays, PlaysAll, message_at, released_conns, served_conns}
+use Rattle.world.specs.NodeSteps.{Closes, Enters, Makes, message_at, released_conns, served_conns}
 use Rattle.world.specs.Outputs.{shown, shown_from}
 use Rattle.std.proofs.Math.Seq.{drop-append_seam}
 use Rattle.world.specs.declared.output.Output.{Output}
-use Rattle.world.specs.declared.step.Step.{Step}
-use Rattle.world.specs.View.{GoesOn, IsKept, IsReached, RunView, WorldView}
+use Rattle.world.specs.View.{GoesOn, IsKept, RunView}
 
 -- ---- runs in two parts
 
@@ -49,6 +48,15 @@ goes_further old mid new first others =
       goes = goes-append (reverse old.entries) old.nodes mid.nodes new.nodes first.entries others.entries first.goes
           (subst (λ (entries : List Entry). Goes entries mid.nodes others.entries new.nodes) behind others.goes);
     }
+
+-- the nodes stay as many as they are
+goes_length : (past : List Entry) (old new : List NodeState) (entries : List Entry) → Goes past old entries new → length new ≡ length old
+goes_length past old new [] same = ap length same
+goes_length past old new (entry ∷ entries) goes =
+    goes_length (entry ∷ past) goes.0 new entries goes.2 ∙ ap length goes.1.is ∙ length-set old entry.node goes.1.after
+
+pub goes_on_length : (old new : RunView) → GoesOn old new → length new.nodes ≡ length old.nodes
+goes_on_length old new on = goes_length (reverse old.entries) old.nodes new.nodes on.entries on.goes
 
 -- ---- one entry
 
@@ -143,39 +151,3 @@ shown_since old after node event made first outputs makes is gives =
     gives ∙ ap (λ (n : ℕ). shown_from node n (drop n after.sent) made) is
     ∙ ap (λ (messages : List Message). shown_from node (length old.sent) messages made)
     (ap (λ (run : RunView). drop (length old.sent) run.sent) makes.is ∙ drop-append_seam old.sent made.sent)
-
--- ---- worlds
-
--- a world that goes on is reached, if it keeps its messages as long as memory isn't refused
-pub reaches_on : (old new : WorldView) → IsReached old → new.config ≡ old.config → GoesOn old.run new.run → (new.refused ≡ false → IsKept new.run) → IsReached new
-reaches_on old new reached same on kept =
-    let behind : Goes (reverse old.run.entries ++ []) old.run.nodes on.entries new.run.nodes =
-    subst (λ (past : List Entry). Goes past old.run.nodes on.entries new.run.nodes) (sym (append-nil (reverse old.run.entries))) on.goes in
-    let whole : Goes [] (first_nodes old.config) (old.run.entries ++ on.entries) new.run.nodes =
-    goes-append [] (first_nodes old.config) old.run.nodes new.run.nodes old.run.entries on.entries reached.goes behind in
-    record {
-      goes = rw (same, on.added) whole;
-      kept = kept;
-    }
-
--- ---- steps one after another
-
--- one step more
-pub plays_one_more : (old mid new : RunView) (steps : List Step) (step : Step) (outputs shown : List Output) → PlaysAll old steps outputs mid → Plays mid step shown new
-    → PlaysAll old (steps ++ step ∷ []) (outputs ++ shown) new
-plays_one_more old mid new [] step outputs shown before plays = (
-  new,
-  shown,
-  [],
-  subst (λ (run : RunView). Plays run step shown new) before.1 plays,
-  (refl, refl),
-  ap (λ (others : List Output). others ++ shown) before.0 ∙ sym (append-nil shown),
-)
-plays_one_more old mid new (first ∷ steps) step outputs shown before plays = (
-  before.0,
-  before.1,
-  before.2 ++ shown,
-  before.3,
-  plays_one_more before.0 mid new steps step before.2 shown before.4 plays,
-  ap (λ (others : List Output). others ++ shown) before.5 ∙ append_assoc before.1 before.2 shown,
-)

@@ -24,11 +24,17 @@ abbrev pub numbered : ℕ → List Message → List Output
 numbered before [] = []
 numbered before (message ∷ messages) = Sent (before + 1) message ∷ numbered (before + 1) messages
 
+-- what comes out beside the reply to the request: replies to those that waited, then messages
+abbrev pub beside_from : ℕ → ℕ → List Message → NodeOutputs → List Output
+beside_from node before messages outputs = map (released_reply node) outputs.released ++ numbered before messages
+
 -- replies first, then messages
 abbrev pub shown_from : ℕ → ℕ → List Message → NodeOutputs → List Output
-shown_from node before messages outputs =
-    own_reply node outputs.response ++ map (released_reply node) outputs.released ++ numbered before messages
+shown_from node before messages outputs = own_reply node outputs.response ++ beside_from node before messages outputs
 
 -- those of a step, where these messages were sent before
 abbrev pub shown : ℕ → List Message → NodeOutputs → List Output
 shown node before outputs = shown_from node (length before) outputs.sent outputs
+
+abbrev pub beside : ℕ → List Message → NodeOutputs → List Output
+beside node before outputs = beside_from node (length before) outputs.sent outputs

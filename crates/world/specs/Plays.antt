@@ -1,144 +1,77 @@
 -- What comes of a step of a world.
-use Rattle.std.specs.Prelude.{◌≡◌, ◌⊎◌, ◌++◌, ◌&&◌, ◌||◌, ◌∷◌, ℕ, zero, suc, Bool, true, false, List, [], map, Option, Some, None, MatchBool, slice_get, slice_set, codes}
-use Rattle.std.specs.Str.{str_eq_ignore_ascii_case}
-use Rattle.bus.specs.declared.message.Message.{Message}
-use Rattle.command.specs.declared.error_line.ErrorLine.TheVariants.{Exhausted}
-use Rattle.connections.specs.declared.conn.Conn.{Conn}
-use Rattle.node_step.specs.Outcome.{error}
-use Rattle.node_step.specs.declared.event.Event.{Event}
-use Rattle.node_step.specs.declared.event.Event.TheVariants.{Open, Close, Request, Deliver, Tick}
-use Rattle.node_step.specs.declared.outputs.Outputs.{Outputs}
-use Rattle.node_step.specs.declared.outputs.Release.{Release}
-use Rattle.node_step.specs.declared.response.Response.{Response}
-use Rattle.node_step.specs.declared.response.Response.TheVariants.{Nothing, Opened, Replied, Parked}
-use Rattle.world_run.specs.Run.{Deed, sent_in}
-use Rattle.world_run.specs.Run.Deed.{Made, Skipped}
-use Rattle.world.specs.Entered.{EntersAt}
-use Rattle.world.specs.Outputs.{shown}
-use Rattle.world.specs.View.{RunView, is_up}
+use Rattle.std.specs.Prelude.{◌≡◌, ◌++◌, ◌∷◌, ℕ, true, List, [], map, Option, Some, None, MatchBool, slice_get, slice_set}
+use Rattle.std.specs.List.{flat_map}
+use Rattle.world.specs.Calls.{Begins, Carries, Cuts, Lingers, Returns}
+use Rattle.world.specs.Clients.{ClientView, client_at, lost_at, place_of, stopped_at, with_client}
+use Rattle.world.specs.NodeSteps.{Administers, Delivers, Ticks}
+use Rattle.world.specs.View.{RunView, SceneView, is_up}
 use Rattle.world.specs.declared.output.Output.{Output}
 use Rattle.world.specs.declared.output.Output.TheVariants as output
 use Rattle.world.specs.declared.step.Step.{Step}
 use Rattle.world.specs.declared.step.Step.TheVariants as step
 
--- ---- steps of nodes
+-- ---- there was nothing to do
 
--- a node did so, which was entered, and its messages were kept
-pub record Enters (old : RunView) (node : ℕ) (deed : Deed) (new : RunView) : Type 0 where
-  pub enters : EntersAt old.entries old.nodes node deed new.entries new.nodes
-  pub is : new ≡ record old { nodes = new.nodes; sent = old.sent ++ sent_in deed; entries = new.entries }
-
--- a node made a step for the event, of which this came out
-abbrev pub Makes : RunView → ℕ → Event → Outputs → RunView → Type 0
-Makes old node event outputs new = Enters old node (Made event outputs) new
-
--- a node closed these connections, one after another
-abbrev pub Closes : RunView → ℕ → List Conn → RunView → Type 0
-Closes old node [] new = new ≡ old
-Closes old node (conn ∷ conns) new = (next : RunView) × (outputs : Outputs) × Makes old node (Close conn) outputs next × Closes next node conns new
-
--- ---- connections that got their replies
-
--- the connection of the request that the step was made for, if its reply came
-abbrev pub answered_conn : Conn → Response → List Conn
-answered_conn conn (Replied answer) = conn ∷ []
-answered_conn conn Nothing = []
-answered_conn conn (Opened other) = []
-answered_conn conn Parked = []
-
-abbrev pub released_conns : List Release → List Conn
-released_conns releases = map (λ (release : Release). release.conn) releases
-
--- all those that got their replies by a step
-abbrev pub served_conns : Event → Outputs → List Conn
-served_conns (Request conn words) outputs = answered_conn conn outputs.response ++ released_conns outputs.released
-served_conns Open outputs = released_conns outputs.released
-served_conns (Close conn) outputs = released_conns outputs.released
-served_conns (Deliver message) outputs = released_conns outputs.released
-served_conns Tick outputs = released_conns outputs.released
-
--- a node made a step for the event, and closed the connections that got their replies by it
-pub record Turns (old : RunView) (node : ℕ) (event : Event) (outputs : List Output) (new : RunView) : Type 0 where
-  pub made : Outputs
-  pub after : RunView
-  pub makes : Makes old node event made after
-  pub closes : Closes after node (served_conns event made) new
-  pub shows : outputs ≡ shown node old.sent made
-
--- ---- requests of an administrator
-
--- the first word is CLUSTER or MIGRATE, in letters of any case
-abbrev pub is_admin_name : List ℕ → Bool
-is_admin_name name = str_eq_ignore_ascii_case name (codes "cluster") || str_eq_ignore_ascii_case name (codes "migrate")
-
-abbrev pub is_admin : List (List ℕ) → Bool
-is_admin [] = false
-is_admin (name ∷ words) = is_admin_name name
-
--- the node needs a number that has no next one, and says so
-abbrev pub exhausted : ℕ → List Output
-exhausted node = output.Admin node (error Exhausted) ∷ []
-
--- no connection was opened
-pub record IsTurnedAway (old : RunView) (node : ℕ) (outputs : List Output) (new : RunView) : Type 0 where
-  pub skips : Enters old node Skipped new
-  pub shows : outputs ≡ exhausted node
-
--- the request was skipped, and its connection closed
-pub record IsRefused (old : RunView) (node : ℕ) (conn : Conn) (outputs : List Output) (new : RunView) : Type 0 where
-  pub after : RunView
-  pub skips : Enters old node Skipped after
-  pub closes : Closes after node (conn ∷ []) new
-  pub shows : outputs ≡ exhausted node
-
-abbrev pub IsHeard : RunView → ℕ → Conn → List (List ℕ) → List Output → RunView → Type 0
-IsHeard old node conn words outputs new = Turns old node (Request conn words) outputs new ⊎ IsRefused old node conn outputs new
-
--- the node was asked on a connection of its own
-pub record IsAsked (old : RunView) (node : ℕ) (words : List (List ℕ)) (outputs : List Output) (new : RunView) : Type 0 where
-  pub conn : Conn
-  pub opening : Outputs
-  pub opened : RunView
-  pub opens : Makes old node Open opening opened
-  pub named : opening.response ≡ Opened conn
-  pub hears : IsHeard opened node conn words outputs new
-
-abbrev pub IsAdministered : RunView → ℕ → List (List ℕ) → List Output → RunView → Type 0
-IsAdministered old node words outputs new = IsAsked old node words outputs new ⊎ IsTurnedAway old node outputs new
-
--- ---- steps of a world
-
--- there was nothing to do
-pub record IsIdle (old : RunView) (outputs : List Output) (new : RunView) : Type 0 where
+pub record IsNothing (old : SceneView) (outputs : List Output) (new : SceneView) : Type 0 where
   pub unchanged : new ≡ old
   pub shows : outputs ≡ output.Nothing ∷ []
 
--- the node makes no step from then on
-pub record IsStopping (old : RunView) (node : ℕ) (outputs : List Output) (new : RunView) : Type 0 where
-  pub stops : new ≡ record old { stopped = slice_set old.stopped node true }
-  pub shows : outputs ≡ []
+-- ---- steps of nodes
 
--- the message of that number, from 1 on in the order of sending
-abbrev pub message_at : List Message → ℕ → Option Message
-message_at sent zero = None
-message_at sent (suc before) = slice_get sent before
+-- no client has a part in it
+pub record IsOfNodes (does : RunView → List Output → RunView → Type 0) (old : SceneView) (outputs : List Output) (new : SceneView) : Type 0 where
+  pub run : RunView
+  pub steps : does old.run outputs run
+  pub is : new ≡ record old { run = run }
 
--- the message reaches the node that it is for
-abbrev pub IsDelivered : RunView → Option Message → List Output → RunView → Type 0
-IsDelivered old None outputs new = IsIdle old outputs new
-IsDelivered old (Some message) outputs new =
-    MatchBool (is_up old message.to) (Turns old message.to (Deliver message) outputs new) (IsIdle old outputs new)
+-- the node makes no step from then on: its connections break, with what was under way on them
+pub record IsStopping (old : SceneView) (node : ℕ) (outputs : List Output) (new : SceneView) : Type 0 where
+  pub stops : new ≡ record old {
+    run = record old.run { stopped = slice_set old.run.stopped node true };
+    clients = map (stopped_at node) old.clients;
+  }
+  pub shows : outputs ≡ flat_map (lost_at node) old.clients
+
+-- ---- steps of a client
+
+abbrev pub ClientStep : Type 1
+ClientStep = RunView → ClientView → List Output → RunView → ClientView → Type 0
+
+-- the client at the place among these has its part in it
+pub record IsOfClient (does : ClientStep) (clients : List ClientView) (place : ℕ) (old : SceneView) (outputs : List Output) (new : SceneView) : Type 0 where
+  pub client : ClientView
+  pub was : slice_get clients place ≡ Some client
+  pub run : RunView
+  pub after : ClientView
+  pub steps : does old.run client outputs run after
+  pub is : new ≡ record old { run = run; clients = slice_set clients place after }
+
+-- the client with the number, if it began
+abbrev pub IsOfSome : ClientStep → ℕ → Option ClientView → SceneView → List Output → SceneView → Type 0
+IsOfSome does number None old outputs new = IsNothing old outputs new
+IsOfSome does number (Some client) old outputs new = IsOfClient does old.clients (place_of number old.clients) old outputs new
+
+abbrev pub IsOf : ClientStep → ℕ → SceneView → List Output → SceneView → Type 0
+IsOf does number old outputs new = IsOfSome does number (client_at number old.clients) old outputs new
+
+-- ---- steps of a world
 
 -- by the step
-abbrev pub Plays : RunView → Step → List Output → RunView → Type 0
+abbrev pub Plays : SceneView → Step → List Output → SceneView → Type 0
+Plays old (step.Call number words) outputs new =
+    IsOfClient (Begins old.config.nodes words) (with_client old.config number old.clients) (place_of number old.clients) old outputs new
+Plays old (step.Carry number) outputs new = IsOf Carries number old outputs new
+Plays old (step.Return number) outputs new = IsOf (Returns old.config.nodes) number old outputs new
+Plays old (step.Cut number) outputs new = IsOf Cuts number old outputs new
+Plays old (step.Late number) outputs new = IsOf Lingers number old outputs new
 Plays old (step.Admin node words) outputs new =
-    MatchBool (is_up old node && is_admin words) (IsAdministered old node words outputs new) (IsIdle old outputs new)
-Plays old (step.Tick node) outputs new = MatchBool (is_up old node) (Turns old node Tick outputs new) (IsIdle old outputs new)
-Plays old (step.Stop node) outputs new = MatchBool (is_up old node) (IsStopping old node outputs new) (IsIdle old outputs new)
-Plays old (step.Deliver number) outputs new = IsDelivered old (message_at old.sent number) outputs new
+    IsOfNodes (λ (run : RunView) (shown : List Output) (after : RunView). Administers run node words shown after) old outputs new
+Plays old (step.Tick node) outputs new = IsOfNodes (λ (run : RunView) (shown : List Output) (after : RunView). Ticks run node shown after) old outputs new
+Plays old (step.Stop node) outputs new = MatchBool (is_up old.run node) (IsStopping old node outputs new) (IsNothing old outputs new)
+Plays old (step.Deliver number) outputs new = IsOfNodes (λ (run : RunView) (shown : List Output) (after : RunView). Delivers run number shown after) old outputs new
 
 -- steps one after another, with the outputs of them all
-abbrev pub PlaysAll : RunView → List Step → List Output → RunView → Type 0
+abbrev pub PlaysAll : SceneView → List Step → List Output → SceneView → Type 0
 PlaysAll old [] outputs new = (outputs ≡ []) × (new ≡ old)
 PlaysAll old (first ∷ steps) outputs new =
-    (next : RunView) × (shown : List Output) × (others : List Output) × Plays old first shown next × PlaysAll next steps others new × (outputs ≡ shown ++ others)
+    (next : SceneView) × (shown : List Output) × (others : List Output) × Plays old first shown next × PlaysAll next steps others new × (outputs ≡ shown ++ others)

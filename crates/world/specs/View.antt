@@ -1,10 +1,11 @@
 -- A world of nodes.
-use Rattle.std.specs.Prelude.{◌≡◌, ◌++◌, ◌&&◌, ℕ, nat_lt, not, Bool, true, false, List, [], length, replicate, reverse, slice_index_or}
+use Rattle.std.specs.Prelude.{◌≡◌, ◌++◌, ◌&&◌, ℕ, nat_lt, not, Bool, true, false, List, [], length, replicate, reverse, slice_index_or, All}
 use Rattle.bus.specs.declared.message.Message.{Message}
 use Rattle.cluster_config.specs.Config.{ClusterConfig}
 use Rattle.node_step.specs.State.{NodeState}
 use Rattle.world_run.specs.Executed.{AreOfOneKeyspace, KeepsAsking, executed}
 use Rattle.world_run.specs.Run.{Entry, Goes, first_nodes, sent_by}
+use Rattle.world.specs.Clients.{ClientView, IsSettled}
 
 -- the nodes by their numbers, and which of them were stopped; all messages that were sent, and what the nodes did, in order
 pub record RunView : Type 0 where
@@ -13,10 +14,15 @@ pub record RunView : Type 0 where
   pub sent : List Message
   pub entries : List Entry
 
--- a cluster's nodes, and whether memory was refused
-pub record WorldView : Type 0 where
+-- a cluster's nodes, and its clients by rising number
+pub record SceneView : Type 0 where
   pub config : ClusterConfig
   pub run : RunView
+  pub clients : List ClientView
+
+-- whether memory was refused
+pub record WorldView : Type 0 where
+  pub scene : SceneView
   pub refused : Bool
 
 -- ---- the start
@@ -29,8 +35,11 @@ first_run config = record {
   entries = [];
 }
 
+abbrev pub first_scene : ClusterConfig → SceneView
+first_scene config = record { config = config; run = first_run config; clients = [] }
+
 abbrev pub first_world : ClusterConfig → WorldView
-first_world config = record { config = config; run = first_run config; refused = false }
+first_world config = record { scene = first_scene config; refused = false }
 
 -- ---- nodes that stopped
 
@@ -50,10 +59,15 @@ pub record GoesOn (old new : RunView) : Type 0 where
 abbrev pub IsKept : RunView → Type 0
 IsKept run = run.sent ≡ sent_by run.entries
 
--- the entries lead from the cluster's start to the nodes, and as long as memory wasn't refused all messages are kept
+-- and each client waits for what is under way
+pub record IsWhole (scene : SceneView) : Type 0 where
+  pub kept : IsKept scene.run
+  pub settled : All IsSettled scene.clients
+
+-- the entries lead from the cluster's start to the nodes, and nothing was lost as long as memory wasn't refused
 pub record IsReached (world : WorldView) : Type 0 where
-  pub goes : Goes [] (first_nodes world.config) world.run.entries world.run.nodes
-  pub kept : world.refused ≡ false → IsKept world.run
+  pub goes : Goes [] (first_nodes world.scene.config) world.scene.run.entries world.scene.run.nodes
+  pub whole : world.refused ≡ false → IsWhole world.scene
 
 -- if clients kept to the asking rule, the replies are those of one keyspace
 abbrev pub IsOneKeyspace : List Entry → Type 0

@@ -1,11 +1,14 @@
-//! A world of nodes in one process, driven step by step: what a cluster does, with each choice of the network in the hands of
-//! the caller.
+//! A world of nodes and clients in one process, driven step by step: what a cluster does, with each choice of the network in the
+//! hands of the caller.
 #![tactic(auto)]
 
+mod client;
 mod entries;
 mod fault;
 mod output;
 mod run;
+mod scene;
+mod serving;
 mod step;
 mod world;
 

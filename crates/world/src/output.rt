@@ -9,11 +9,19 @@ use bus::Message;
 use command::ErrorLine;
 use node_core::{Release, Response};
 use resp2::Reply;
+use smart_client::ClientFault;
 use std::alloc::{AllocError, Global};
 
 /// What comes out of a step of a world.
 #[derive(Debug, Drop)]
 pub enum Output {
+    /// A client's call is over.
+    Answer {
+        /// The client.
+        client: u64,
+        /// The reply to its command, or the reason why there is none.
+        answer: Result<Reply, ClientFault>,
+    },
     /// A request of an administrator is answered.
     Admin {
         /// The node that answers.
@@ -32,25 +40,28 @@ pub enum Output {
     Nothing,
 }
 
+/// That output alone.
+pub(crate) fn one(alloc: Global, output: Output) -> Result<Vec<Output>, AllocError>
+    ensures { IfOk result (λ outputs. outputs.items ≡ output ∷ []) }
+{
+    let mut outputs = Vec::new(alloc);
+    outputs.push(output)?;
+    Ok(outputs)
+}
+
 /// There was nothing to do.
 pub(crate) fn nothing(alloc: Global) -> Result<Vec<Output>, AllocError>
     ensures { IfOk result (λ outputs. outputs.items ≡ Nothing ∷ []) }
 {
-    let mut outputs = Vec::new(alloc);
-    outputs.push(Output::Nothing)?;
-    Ok(outputs)
+    one(alloc, Output::Nothing)
 }
 
 /// The node needs a number that has no next one.
 pub(crate) fn exhausted(alloc: Global, node: u64) -> Result<Vec<Output>, AllocError>
     ensures { IfOk result (λ outputs. outputs.items ≡ Admin node (error Exhausted) ∷ []) }
 {
-    let mut outputs = Vec::new(alloc);
-    outputs.push(Output::Admin {
-        node,
-        reply: ErrorLine::Exhausted.reply(),
-    })?;
-    Ok(outputs)
+    let reply = ErrorLine::Exhausted.reply();
+    one(alloc, Output::Admin { node, reply })
 }
 
 /// Adds the reply to the request that the node was asked, if it came.

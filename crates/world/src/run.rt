@@ -8,14 +8,12 @@ ghost use Rattle.node_step.specs.State.{first_state};
 ghost use Rattle.world_run.specs.Run.{MayHappen, WorldStep, first_nodes, sent_by};
 ghost use Rattle.world_run.specs.Run.Deed.{Made, Skipped};
 ghost use Rattle.world.specs.Entered.{EntersAt, NeedsNumber};
-ghost use Rattle.world.specs.Outputs.{shown_from};
-ghost use Rattle.world.specs.Plays.{Closes, Enters, IsAdministered, IsAsked, IsDelivered, IsHeard, IsIdle, IsRefused, IsStopping, Makes, Plays, Turns, answered_conn, is_admin, is_admin_name, message_at, released_conns};
-ghost use Rattle.world.specs.declared.step.Step.TheVariants as step;
+ghost use Rattle.world.specs.NodeSteps.{Administers, Closes, Delivers, Enters, IsAdministered, IsAsked, IsDelivered, IsHeard, IsIdle, IsRefused, Makes, Ticks, Turns, answered_conn, is_admin, is_admin_name, message_at, released_conns};
+ghost use Rattle.world.specs.Outputs.{beside_from, shown_from};
 ghost use Rattle.world.specs.View.{GoesOn, IsKept, first_run, is_up};
 
 use crate::entries::Entries;
 use crate::output::{Output, add_own, add_released, add_sent, exhausted, nothing};
-use crate::step::Step;
 use bus::Message;
 use cluster_config::Config;
 use connections::Conn;
@@ -66,26 +64,12 @@ impl Run {
         })
     }
 
-    /// Plays a step. Where memory is refused, steps of nodes may have been made for it.
-    pub fn play(&mut self, step: &Step) -> Result<Vec<Output>, AllocError>
+    /// An administrator asks this of a node, on a connection of its own.
+    pub fn admin(&mut self, node: u64, words: &Words) -> Result<Vec<Output>, AllocError>
         requires { IsKept self.old }
         ensures goes_on { GoesOn self.old self.new }
         ensures kept { OnOk result (IsKept self.new) }
-        ensures plays { IfOk result (λ outputs. Plays self.old step.now outputs.items self.new) }
-    {
-        match step {
-            Step::Admin { node, words } => self.admin(*node, words),
-            Step::Tick { node } => self.tick(*node),
-            Step::Stop { node } => self.stop(*node),
-            Step::Deliver { message } => self.deliver(*message),
-        }
-    }
-
-    fn admin(&mut self, node: u64, words: &Words) -> Result<Vec<Output>, AllocError>
-        requires { IsKept self.old }
-        ensures goes_on { GoesOn self.old self.new }
-        ensures kept { OnOk result (IsKept self.new) }
-        ensures plays { IfOk result (λ outputs. Plays self.old (step.Admin node words.now) outputs.items self.new) }
+        ensures administers { IfOk result (λ outputs. Administers self.old node words.now outputs.items self.new) }
     {
         if self.is_up(node) && is_admin(words) {
             self.ask(node, words)
@@ -94,11 +78,12 @@ impl Run {
         }
     }
 
-    fn tick(&mut self, node: u64) -> Result<Vec<Output>, AllocError>
+    /// Time passes at a node.
+    pub fn tick(&mut self, node: u64) -> Result<Vec<Output>, AllocError>
         requires { IsKept self.old }
         ensures goes_on { GoesOn self.old self.new }
         ensures kept { OnOk result (IsKept self.new) }
-        ensures plays { IfOk result (λ outputs. Plays self.old (step.Tick node) outputs.items self.new) }
+        ensures ticks { IfOk result (λ outputs. Ticks self.old node outputs.items self.new) }
     {
         if self.is_up(node) {
             self.turn(node, Event::Tick)
@@ -107,25 +92,21 @@ impl Run {
         }
     }
 
-    fn stop(&mut self, node: u64) -> Result<Vec<Output>, AllocError>
-        requires { IsKept self.old }
-        ensures goes_on { GoesOn self.old self.new }
-        ensures kept { OnOk result (IsKept self.new) }
-        ensures plays { IfOk result (λ outputs. Plays self.old (step.Stop node) outputs.items self.new) }
+    /// A node stops for good.
+    pub fn stop(&mut self, node: u64)
+        requires { is_up self.old node ≡ true }
+        ensures stops { self.new ≡ record self.old { stopped = slice_set self.old.stopped node true } }
     {
-        if !self.is_up(node) {
-            return nothing(self.alloc);
-        }
         self.stopped[node as usize] = true;
-        Ok(Vec::new(self.alloc))
     }
 
+    /// A message reaches the node that it is for.
     #[tactic(auto, using(crate::proofs::Going::may_arrive))]
-    fn deliver(&mut self, number: u64) -> Result<Vec<Output>, AllocError>
+    pub fn deliver(&mut self, number: u64) -> Result<Vec<Output>, AllocError>
         requires { IsKept self.old }
         ensures goes_on { GoesOn self.old self.new }
         ensures kept { OnOk result (IsKept self.new) }
-        ensures plays { IfOk result (λ outputs. Plays self.old (step.Deliver number) outputs.items self.new) }
+        ensures delivers { IfOk result (λ outputs. Delivers self.old number outputs.items self.new) }
     {
         let Some(message) = self.message(number)? else {
             return nothing(self.alloc);
@@ -138,8 +119,8 @@ impl Run {
         }
     }
 
-    // The node is there, and wasn't stopped.
-    fn is_up(&self, node: u64) -> bool
+    /// The node is there, and wasn't stopped.
+    pub fn is_up(&self, node: u64) -> bool
         ensures { result ≡ is_up self.now node }
     {
         node < self.nodes.len() as u64 && !self.stopped.get(node as usize).copied().unwrap_or(true)
@@ -226,8 +207,8 @@ impl Run {
         self.close_all(node, made.released.as_slice())
     }
 
-    // Closes the connections that got these replies.
-    fn close_all(&mut self, node: u64, releases: &[Release]) -> Result<(), AllocError>
+    /// Closes the connections that got these replies.
+    pub fn close_all(&mut self, node: u64, releases: &[Release]) -> Result<(), AllocError>
         requires there { node < length self.old.nodes }
         ensures goes_on { GoesOn self.old self.new }
         ensures kept { OnOk result (IsKept self.old → IsKept self.new) }
@@ -239,7 +220,8 @@ impl Run {
         Ok(())
     }
 
-    fn close(&mut self, node: u64, conn: Conn) -> Result<(), AllocError>
+    /// Closes a connection at the node.
+    pub fn close(&mut self, node: u64, conn: Conn) -> Result<(), AllocError>
         requires there { node < length self.old.nodes }
         ensures goes_on { GoesOn self.old self.new }
         ensures there { length self.new.nodes ≡ length self.old.nodes }
@@ -252,8 +234,8 @@ impl Run {
         Ok(())
     }
 
-    // Has the node make its step for the event. None says that it needs a number that has no next one, and made no step.
-    fn make(&mut self, node: u64, event: Event) -> Result<Option<Outputs>, AllocError>
+    /// Has the node make its step for the event. None says that it needs a number that has no next one, and made no step.
+    pub fn make(&mut self, node: u64, event: Event) -> Result<Option<Outputs>, AllocError>
         requires there { node < length self.old.nodes }
         requires may { MayHappen (reverse self.old.entries) event }
         ensures goes_on { GoesOn self.old self.new }
@@ -280,6 +262,30 @@ impl Run {
         add_released(&mut outputs, node, made.released.as_slice())?;
         add_sent(&mut outputs, self.sent.as_slice(), first)?;
         Ok(outputs)
+    }
+
+    /// What comes out of a step of the node beside the reply to its request, where the messages from that place on are those
+    /// of the step.
+    pub fn beside(&self, node: u64, first: usize, made: &Outputs) -> Result<Vec<Output>, AllocError>
+        requires { first ≤ length self.now.sent }
+        ensures { IfOk result (λ outputs. outputs.items ≡ beside_from node first (drop first self.now.sent) made.now) }
+    {
+        let mut outputs = Vec::new(self.alloc);
+        add_released(&mut outputs, node, made.released.as_slice())?;
+        add_sent(&mut outputs, self.sent.as_slice(), first)?;
+        Ok(outputs)
+    }
+
+    /// What memory is taken from.
+    pub fn allocator(&self) -> Global {
+        self.alloc
+    }
+
+    /// How many messages were sent.
+    pub fn count_sent(&self) -> usize
+        ensures { result ≡ length self.now.sent }
+    {
+        self.sent.len()
     }
 }
 

@@ -5,21 +5,21 @@ ghost use Rattle.world.specs.View.{GoesOn, IsOneKeyspace, first_world};
 
 use crate::fault::OutOfMemory;
 use crate::output::Output;
-use crate::run::Run;
+use crate::scene::Scene;
 use crate::step::Step;
 use cluster_config::Config;
 use single_keyspace::replies_are_those_of_one_keyspace;
 use std::alloc::{AllocError, Global};
 use std::marker::Model;
 
-/// The nodes of a cluster in one process, each message that they ever sent, and, for proofs alone, all that they did.
+/// The nodes of a cluster in one process with its clients, each message that nodes ever sent, and, for proofs alone, all that
+/// they did.
 ///
 /// Once memory is refused, what was done before stays done, and each later call is refused.
 #[derive(Drop)]
 pub struct World {
     alloc: Global,
-    config: Config,
-    run: Run,
+    scene: Scene,
     is_refused: bool,
 }
 
@@ -36,9 +36,9 @@ impl Model for World {
 
     ghost coded = { Prim.hlevel (codes, let stored : Coded Stored = Prim.hlevel codes in map.code {R = slice_cmp nat_cmp} (coded_list coded_ℕ) stored, let move : Coded Move = Prim.hlevel codes in map.code {R = nat_cmp} coded_ℕ move, map.code {R = nat_cmp} coded_ℕ coded_ℕ) };
 
-    ghost view = { λ world. record { config = world.config; run = world.run; refused = world.is_refused } };
+    ghost view = { λ world. record { scene = world.scene; refused = world.is_refused } };
 
-    ghost invariant = { λ world. IsReached (record { config = world.config; run = world.run; refused = world.is_refused }) };
+    ghost invariant = { λ world. IsReached (record { scene = world.scene; refused = world.is_refused }) };
 }
 
 impl World {
@@ -46,21 +46,19 @@ impl World {
     pub fn new(alloc: Global, config: &Config) -> Result<World, OutOfMemory>
         ensures { IfOk result (λ world. world ≡ first_world config.now) }
     {
-        let run = Run::new(alloc, config)?;
         Ok(World {
             alloc,
-            config: config.clone()?,
-            run,
+            scene: Scene::new(alloc, config)?,
             is_refused: false,
         })
     }
 
     /// Makes a step.
     pub fn step(&mut self, step: Step) -> Result<Vec<Output>, OutOfMemory>
-        ensures config { self.new.config ≡ self.old.config }
-        ensures goes_on { GoesOn self.old.run self.new.run }
-        ensures one_keyspace { IsOneKeyspace self.new.run.entries }
-        ensures plays { IfOk result (λ outputs. Plays self.old.run step outputs.items self.new.run) }
+        ensures config { self.new.scene.config ≡ self.old.scene.config }
+        ensures goes_on { GoesOn self.old.scene.run self.new.scene.run }
+        ensures one_keyspace { IsOneKeyspace self.new.scene.run.entries }
+        ensures plays { IfOk result (λ outputs. Plays self.old.scene step outputs.items self.new.scene) }
         ensures ok { OnOk result ((self.old.refused ≡ false) × (self.new.refused ≡ false)) }
         ensures err { OnErr result (self.new.refused ≡ true) }
         ensures refused { self.old.refused ≡ true → self.new ≡ self.old }
@@ -72,10 +70,10 @@ impl World {
 
     /// Makes steps, one after another.
     pub fn run(&mut self, steps: &[Step]) -> Result<Vec<Output>, OutOfMemory>
-        ensures config { self.new.config ≡ self.old.config }
-        ensures goes_on { GoesOn self.old.run self.new.run }
-        ensures one_keyspace { IsOneKeyspace self.new.run.entries }
-        ensures plays { IfOk result (λ outputs. PlaysAll self.old.run steps.now outputs.items self.new.run) }
+        ensures config { self.new.scene.config ≡ self.old.scene.config }
+        ensures goes_on { GoesOn self.old.scene.run self.new.scene.run }
+        ensures one_keyspace { IsOneKeyspace self.new.scene.run.entries }
+        ensures plays { IfOk result (λ outputs. PlaysAll self.old.scene steps.now outputs.items self.new.scene) }
         ensures err { OnErr result (self.new.refused ≡ true) }
         ensures refused { self.old.refused ≡ true → self.new ≡ self.old }
     {
@@ -85,9 +83,9 @@ impl World {
     }
 
     fn play_all(&mut self, steps: &[Step]) -> Result<Vec<Output>, OutOfMemory>
-        ensures config { self.new.config ≡ self.old.config }
-        ensures goes_on { GoesOn self.old.run self.new.run }
-        ensures plays { IfOk result (λ outputs. PlaysAll self.old.run steps.now outputs.items self.new.run) }
+        ensures config { self.new.scene.config ≡ self.old.scene.config }
+        ensures goes_on { GoesOn self.old.scene.run self.new.scene.run }
+        ensures plays { IfOk result (λ outputs. PlaysAll self.old.scene steps.now outputs.items self.new.scene) }
         ensures err { OnErr result (self.new.refused ≡ true) }
         ensures refused { self.old.refused ≡ true → self.new ≡ self.old }
     {
@@ -105,9 +103,9 @@ impl World {
     }
 
     fn play(&mut self, step: &Step) -> Result<Vec<Output>, OutOfMemory>
-        ensures config { self.new.config ≡ self.old.config }
-        ensures goes_on { GoesOn self.old.run self.new.run }
-        ensures plays { IfOk result (λ outputs. Plays self.old.run step.now outputs.items self.new.run) }
+        ensures config { self.new.scene.config ≡ self.old.scene.config }
+        ensures goes_on { GoesOn self.old.scene.run self.new.scene.run }
+        ensures plays { IfOk result (λ outputs. Plays self.old.scene step.now outputs.items self.new.scene) }
         ensures ok { OnOk result ((self.old.refused ≡ false) × (self.new.refused ≡ false)) }
         ensures err { OnErr result (self.new.refused ≡ true) }
         ensures refused { self.old.refused ≡ true → self.new ≡ self.old }
@@ -115,7 +113,7 @@ impl World {
         if self.is_refused {
             return Err(OutOfMemory);
         }
-        match self.run.play(step) {
+        match self.scene.play(step) {
             Ok(outputs) => Ok(outputs),
             Err(_) => {
                 self.is_refused = true;
@@ -133,10 +131,9 @@ impl World {
     }
 
     fn is_of_one_keyspace(&self)
-        ensures { IsOneKeyspace self.now.run.entries }
+        ensures { IsOneKeyspace self.now.scene.run.entries }
     {
         replies_are_those_of_one_keyspace();
-        let _run = &self.run;
-        let _nodes = self.config.nodes();
+        let _nodes = self.scene.config().nodes();
     }
 }

@@ -1,7 +1,7 @@
 use Rattle.std.proofs.Common.{◌<◌, ◌∷◌, ◌++◌, [], ℕ, List, ap, sym, ◌∙◌, subst, take}
 use Rattle.std.proofs.lemmas.List.{take_more}
 use Rattle.node_step.specs.declared.outputs.Release.{Release}
-use Rattle.world.specs.Plays.{Closes, released_conns}
+use Rattle.world.specs.NodeSteps.{Closes, released_conns}
 use Rattle.world.proofs.Going.{closes_one_more, goes_further}
 use Rattle.world.proofs.run.Run.close_all.Goals as goal
 

@@ -1,5 +1,5 @@
 use Rattle.std.proofs.Common.{◌<◌, length, take}
-use Rattle.world.specs.Plays.{Closes, released_conns}
+use Rattle.world.specs.NodeSteps.{Closes, released_conns}
 use Rattle.world.specs.View.{GoesOn, IsKept}
 use Rattle.world.proofs.run.Run.close_all.Given as goal
 

@@ -2,7 +2,8 @@ use Rattle.std.proofs.Common.{◌∷◌, ◌++◌, [], ap, sym, ◌∙◌, subst
 use Rattle.std.proofs.lemmas.List.{take_more}
 use Rattle.world.specs.View.{GoesOn, WorldView}
 use Rattle.world.specs.declared.step.Step.{Step}
-use Rattle.world.proofs.Going.{goes_further, plays_one_more}
+use Rattle.world.proofs.Going.{goes_further}
+use Rattle.world.proofs.Worlds.{plays_one_more}
 use Rattle.world.proofs.world.World.play_all.Goals as goal
 
 pub returns-in_err-shown-clause-goes_on : goal.returns-in_err-shown-clause-goes_on
@@ -10,7 +11,7 @@ returns-in_err-shown-clause-goes_on c = goes_further _ _ _ c.loop-step.invariant
 
 pub returns-in_default-clause-goes_on : goal.returns-in_default-clause-goes_on
 returns-in_default-clause-goes_on c =
-    subst (λ (world : WorldView). GoesOn c.args.self.now.run world.run) (sym c.refuse.ensures) (goes_further _ _ _ c.loop-step.invariant.goes_on c.play.ensures.goes_on)
+    subst (λ (world : WorldView). GoesOn c.args.self.now.scene.run world.scene.run) (sym c.refuse.ensures) (goes_further _ _ _ c.loop-step.invariant.goes_on c.play.ensures.goes_on)
 
 pub loop-step-preserved : goal.loop-step-preserved
 loop-step-preserved c =
@@ -19,7 +20,7 @@ loop-step-preserved c =
     take_more c.args.steps.now c.loop-step.step-index c.step-item.result c.loop-step-test.true
     ∙ ap (λ (step : Step). take c.loop-step.step-index c.args.steps.now ++ step ∷ []) (sym c.step-item.is) in
     let plays =
-    plays_one_more c.args.self.now.run c.loop-step.self.run c.play.new.self.run (take c.loop-step.step-index c.args.steps.now) c.step-item.result c.loop-step.outputs.items c.in_ok-shown.shown.items so_far.plays c.in_ok-shown.ensures.plays in
+    plays_one_more c.args.self.now.scene c.loop-step.self.scene c.play.new.self.scene (take c.loop-step.step-index c.args.steps.now) c.step-item.result c.loop-step.outputs.items c.in_ok-shown.shown.items so_far.plays c.in_ok-shown.ensures.plays in
     record {
       config = c.play.ensures.config ∙ so_far.config;
       goes_on = goes_further _ _ _ so_far.goes_on c.play.ensures.goes_on;

@@ -1,0 +1,493 @@
+//! A client of a world: what it knows, and what is under way between it and the nodes.
+ghost use Rattle.std.specs.Prelude.{◌≡◌, ◌∷◌, ◌++◌, [], true, slice_get, replicate, None, IfOk, OnOk};
+ghost use Rattle.smart_client.specs.Calls.{IsWaiting};
+ghost use Rattle.world.specs.Calls.{Acts, Arrives, Begins, CanDo, Carries, Connects, Cuts, GivesUp, IsConnected, IsShut, Lingers, MayUse, Returns, Tells, Uses, told_of};
+ghost use Rattle.world.specs.Clients.{AwaitsConnection, AwaitsReply, IsSettled, broken_off, is_at, kept_to, leads_to, lost_at, lost_by, new_client, node_at, place_at, stopped_at, used_by, with_kept, without_late};
+ghost use Rattle.world.specs.View.{GoesOn, IsKept, is_up};
+ghost use Rattle.world.specs.declared.client.Traffic.TheVariants.{Quiet};
+
+use crate::output::{Output, nothing, one};
+use crate::run::Run;
+use crate::serving::Served;
+use cluster_config::{Config, NodeConfig};
+use connections::Conn;
+use redirection::Address;
+use resp2::{Reply, Words};
+use smart_client::{Action, ClientCore, Event};
+use std::alloc::{AllocError, Global};
+use std::marker::Model;
+use std::mem;
+
+/// How often a client's call begins again for TRYAGAIN.
+pub(crate) const MOST_REPEATS: u64 = 16;
+
+/// A connection of a client to a node.
+#[derive(Clone, Copy, Debug)]
+pub(crate) struct Link {
+    /// The node.
+    pub node: u64,
+    /// The connection there.
+    pub conn: Conn,
+}
+
+/// What is under way between a client and a node.
+#[derive(Debug, Drop)]
+pub(crate) enum Traffic {
+    /// Nothing: no call is under way.
+    Quiet,
+    /// A request, which didn't reach its node yet.
+    Asked(Link, Words),
+    /// A reply, which didn't reach the client yet.
+    Answered(Link, Reply),
+}
+
+/// A request that is still under way on a connection that was cut.
+#[derive(Debug, Drop)]
+pub(crate) struct Late {
+    pub link: Link,
+    pub words: Words,
+}
+
+/// A client of a world.
+#[derive(Drop)]
+pub(crate) struct Client {
+    number: u64,
+    core: ClientCore,
+    // For each node the connection that is kept to it.
+    kept: Vec<Option<Conn>>,
+    traffic: Traffic,
+    // The oldest stands first.
+    late: Vec<Late>,
+}
+
+impl Model for Client {
+    ghost use Rattle.world.specs.Clients.{ClientView};
+
+    ghost Value = { ClientView };
+
+    ghost view = { λ client. record {
+      number = client.number;
+      core = client.core;
+      kept = client.kept.items;
+      traffic = client.traffic;
+      late = client.late.items;
+    } };
+}
+
+impl Client {
+    /// A client that begins at the node with the number 0.
+    pub(crate) fn new(alloc: Global, config: &Config, number: u64) -> Result<Client, AllocError>
+        ensures { IfOk result (λ client. client ≡ new_client config.now number) }
+    {
+        let start = first_address(config)?;
+        Ok(Client {
+            number,
+            core: ClientCore::new(alloc, start, MOST_REPEATS)?,
+            kept: none_kept(alloc, config.nodes().len())?,
+            traffic: Traffic::Quiet,
+            late: Vec::new(alloc),
+        })
+    }
+
+    /// The number of the client.
+    pub(crate) fn number(&self) -> u64
+        ensures { result ≡ self.now.number }
+    {
+        self.number
+    }
+
+    /// Begins a call, if none is under way.
+    #[tactic(auto, using(crate::proofs::Wanted::may_begin, crate::proofs::Wanted::may_call))]
+    pub(crate) fn call(
+        &mut self,
+        run: &mut Run,
+        config: &Config,
+        words: &Words,
+    ) -> Result<Vec<Output>, AllocError>
+        requires settled { IsSettled self.old }
+        requires kept { IsKept run.old }
+        ensures goes_on { GoesOn run.old run.new }
+        ensures kept { OnOk result (IsKept run.new) }
+        ensures settled { OnOk result (IsSettled self.new) }
+        ensures begins { IfOk result (λ outputs. Begins config.now.nodes words.now run.old self.old outputs.items run.new self.new) }
+    {
+        if !matches!(self.traffic, Traffic::Quiet) {
+            return nothing(run.allocator());
+        }
+        let words = words.clone()?;
+        let action = self.core.on(Event::Call(words));
+        self.act(run, config, None, action)
+    }
+
+    /// What the client sent reaches its node.
+    pub(crate) fn carry(&mut self, run: &mut Run) -> Result<Vec<Output>, AllocError>
+        requires settled { IsSettled self.old }
+        requires kept { IsKept run.old }
+        ensures goes_on { GoesOn run.old run.new }
+        ensures kept { OnOk result (IsKept run.new) }
+        ensures settled { OnOk result (IsSettled self.new) }
+        ensures carries { IfOk result (λ outputs. Carries run.old self.old outputs.items run.new self.new) }
+    {
+        match mem::replace(&mut self.traffic, Traffic::Quiet) {
+            Traffic::Asked(link, words) => {
+                if run.is_up(link.node) {
+                    return self.arrive(run, link, words);
+                }
+                self.traffic = Traffic::Asked(link, words);
+                nothing(run.allocator())
+            }
+            traffic => {
+                self.traffic = traffic;
+                nothing(run.allocator())
+            }
+        }
+    }
+
+    /// The reply that waits reaches the client, which acts.
+    #[tactic(auto, using(crate::proofs::Wanted::may_be_replied))]
+    pub(crate) fn take_reply(
+        &mut self,
+        run: &mut Run,
+        config: &Config,
+    ) -> Result<Vec<Output>, AllocError>
+        requires settled { IsSettled self.old }
+        requires kept { IsKept run.old }
+        ensures goes_on { GoesOn run.old run.new }
+        ensures kept { OnOk result (IsKept run.new) }
+        ensures settled { OnOk result (IsSettled self.new) }
+        ensures returns { IfOk result (λ outputs. Returns config.now.nodes run.old self.old outputs.items run.new self.new) }
+    {
+        match mem::replace(&mut self.traffic, Traffic::Quiet) {
+            Traffic::Answered(link, reply) => {
+                let action = self.core.on(Event::Reply(reply));
+                self.act(run, config, Some(link), action)
+            }
+            traffic => {
+                self.traffic = traffic;
+                nothing(run.allocator())
+            }
+        }
+    }
+
+    /// The connection in use is cut.
+    pub(crate) fn cut(&mut self, run: &mut Run) -> Result<Vec<Output>, AllocError>
+        requires settled { IsSettled self.old }
+        requires kept { IsKept run.old }
+        ensures goes_on { GoesOn run.old run.new }
+        ensures kept { OnOk result (IsKept run.new) }
+        ensures settled { OnOk result (IsSettled self.new) }
+        ensures cuts { IfOk result (λ outputs. Cuts run.old self.old outputs.items run.new self.new) }
+    {
+        match mem::replace(&mut self.traffic, Traffic::Quiet) {
+            Traffic::Quiet => nothing(run.allocator()),
+            Traffic::Asked(link, words) => {
+                self.late.push(Late { link, words })?;
+                one(run.allocator(), self.break_off(link.node))
+            }
+            Traffic::Answered(link, _) => {
+                shut(run, link)?;
+                one(run.allocator(), self.break_off(link.node))
+            }
+        }
+    }
+
+    /// The oldest request on a connection that was cut reaches its node.
+    pub(crate) fn come_late(&mut self, run: &mut Run) -> Result<Vec<Output>, AllocError>
+        requires settled { IsSettled self.old }
+        requires kept { IsKept run.old }
+        ensures goes_on { GoesOn run.old run.new }
+        ensures kept { OnOk result (IsKept run.new) }
+        ensures settled { OnOk result (IsSettled self.new) }
+        ensures lingers { IfOk result (λ outputs. Lingers run.old self.old outputs.items run.new self.new) }
+    {
+        if self.late.is_empty() || !run.is_up(self.late[0].link.node) {
+            return nothing(run.allocator());
+        }
+        let Late { link, words } = self.late.remove(0);
+        run.serve_last(link.node, link.conn, words)
+    }
+
+    /// The node stopped: the connections to it break, with what was under way on them.
+    pub(crate) fn stop(&mut self, node: u64, outputs: &mut Vec<Output>) -> Result<(), AllocError>
+        requires settled { IsSettled self.old }
+        ensures settled { IsSettled self.new }
+        ensures stopped { self.new ≡ stopped_at node self.old }
+        ensures outputs { OnOk result (outputs.new.items ≡ outputs.old.items ++ lost_at node self.old) }
+    {
+        self.forget_late(node);
+        if !self.uses(node) {
+            return Ok(());
+        }
+        outputs.push(self.break_off(node))?;
+        Ok(())
+    }
+
+    // No late request reaches the node any more.
+    fn forget_late(&mut self, node: u64)
+        ensures { self.new ≡ without_late node self.old }
+    {
+        self.late.retain(|late| late.link.node != node);
+    }
+
+    // Whether the connection in use leads to the node.
+    fn uses(&self, node: u64) -> bool
+        ensures { result ≡ leads_to node (used_by self.now.traffic) }
+    {
+        match &self.traffic {
+            Traffic::Quiet => false,
+            Traffic::Asked(link, _) | Traffic::Answered(link, _) => link.node == node,
+        }
+    }
+
+    // The request reaches its node.
+    fn arrive(&mut self, run: &mut Run, link: Link, words: Words) -> Result<Vec<Output>, AllocError>
+        requires quiet { self.old.traffic ≡ Quiet }
+        requires awaits { AwaitsReply self.old.core.call }
+        requires kept { IsKept run.old }
+        requires up { is_up run.old link.node ≡ true }
+        ensures goes_on { GoesOn run.old run.new }
+        ensures kept { OnOk result (IsKept run.new) }
+        ensures settled { OnOk result (IsSettled self.new) }
+        ensures arrives { IfOk result (λ outputs. Arrives run.old self.old link words outputs.items run.new self.new) }
+    {
+        let Served { reply, outputs } = run.serve(link.node, link.conn, words)?;
+        let Some(reply) = reply else {
+            return self.go_without_reply(run.allocator(), link.node, outputs);
+        };
+        self.traffic = Traffic::Answered(link, reply);
+        Ok(outputs)
+    }
+
+    // No reply comes: the connection is lost.
+    fn go_without_reply(
+        &mut self,
+        alloc: Global,
+        node: u64,
+        shown: Vec<Output>,
+    ) -> Result<Vec<Output>, AllocError>
+        requires awaits { AwaitsReply self.old.core.call }
+        ensures settled { IsSettled self.new }
+        ensures broken { self.new ≡ broken_off node self.old }
+        ensures outputs { IfOk result (λ outputs. outputs.items ≡ lost_by self.old ++ shown.items) }
+    {
+        let mut shown = shown;
+        let mut outputs = one(alloc, self.break_off(node))?;
+        outputs.append(&mut shown)?;
+        Ok(outputs)
+    }
+
+    // The connection in use, to that node, breaks.
+    #[tactic(auto, using(crate::proofs::Wanted::may_break, crate::proofs::Wanted::is_lost))]
+    fn break_off(&mut self, node: u64) -> Output
+        requires awaits { AwaitsReply self.old.core.call }
+        ensures broken { self.new ≡ broken_off node self.old }
+        ensures settled { IsSettled self.new }
+        ensures lost { result ∷ [] ≡ lost_by self.old }
+    {
+        self.traffic = Traffic::Quiet;
+        self.keep(node, None);
+        match self.core.on(Event::Broken { handed: true }) {
+            Action::Done { answer, .. } => Output::Answer {
+                client: self.number,
+                answer,
+            },
+            _ => unreachable!(),
+        }
+    }
+
+    // Does what the core wants, with the connection in use, if there is one.
+    fn act(
+        &mut self,
+        run: &mut Run,
+        config: &Config,
+        link: Option<Link>,
+        action: Action,
+    ) -> Result<Vec<Output>, AllocError>
+        requires quiet { self.old.traffic ≡ Quiet }
+        requires kept { IsKept run.old }
+        requires waits { IsWaiting action self.old.core.call }
+        requires can { CanDo link action }
+        ensures goes_on { GoesOn run.old run.new }
+        ensures kept { OnOk result (IsKept run.new) }
+        ensures settled { OnOk result (IsSettled self.new) }
+        ensures acts { IfOk result (λ outputs. Acts config.now.nodes run.old self.old link action outputs.items run.new self.new) }
+    {
+        match action {
+            Action::Connect(address) => self.connect(run, config, &address),
+            action => self.use_connection(run, link, action),
+        }
+    }
+
+    // Uses the connection to the address, the one that is kept or else a new one.
+    fn connect(
+        &mut self,
+        run: &mut Run,
+        config: &Config,
+        address: &Address,
+    ) -> Result<Vec<Output>, AllocError>
+        requires quiet { self.old.traffic ≡ Quiet }
+        requires kept { IsKept run.old }
+        requires awaits { AwaitsConnection self.old.core.call }
+        ensures goes_on { GoesOn run.old run.new }
+        ensures kept { OnOk result (IsKept run.new) }
+        ensures settled { OnOk result (IsSettled self.new) }
+        ensures connects { IfOk result (λ outputs. Connects config.now.nodes run.old self.old address.now outputs.items run.new self.new) }
+    {
+        let node = node_at(config, address);
+        let conn = self.connection_to(run, node)?;
+        self.keep(node, conn);
+        match conn {
+            Some(conn) => self.tell(run, Some(Link { node, conn }), Event::Connected),
+            None => self.tell(run, None, Event::NotConnected),
+        }
+    }
+
+    // The connection to the node, if there can be one.
+    fn connection_to(&self, run: &mut Run, node: u64) -> Result<Option<Conn>, AllocError>
+        requires kept { IsKept run.old }
+        ensures goes_on { GoesOn run.old run.new }
+        ensures kept { OnOk result (IsKept run.new) }
+        ensures connected { IfOk result (λ conn. IsConnected run.old node (kept_to self.now node) conn run.new) }
+    {
+        if !run.is_up(node) {
+            return Ok(None);
+        }
+        match self.kept_to(node) {
+            Some(conn) => Ok(Some(conn)),
+            None => run.open(node),
+        }
+    }
+
+    // The connection that is kept to the node.
+    fn kept_to(&self, node: u64) -> Option<Conn>
+        ensures { result ≡ kept_to self.now node }
+    {
+        self.kept.get(node as usize).copied().unwrap_or(None)
+    }
+
+    // From now on this connection is kept to the node.
+    fn keep(&mut self, node: u64, conn: Option<Conn>)
+        ensures { self.new ≡ with_kept self.old node conn }
+    {
+        if let Some(kept) = self.kept.get_mut(node as usize) {
+            *kept = conn;
+        }
+    }
+
+    // Tells the core whether there is a connection, and does what it then wants of it.
+    #[tactic(auto, using(crate::proofs::Wanted::may_use, crate::proofs::Wanted::may_be_told))]
+    fn tell(
+        &mut self,
+        run: &mut Run,
+        link: Option<Link>,
+        event: Event,
+    ) -> Result<Vec<Output>, AllocError>
+        requires quiet { self.old.traffic ≡ Quiet }
+        requires kept { IsKept run.old }
+        requires awaits { AwaitsConnection self.old.core.call }
+        requires event { event ≡ told_of link }
+        ensures goes_on { GoesOn run.old run.new }
+        ensures kept { OnOk result (IsKept run.new) }
+        ensures settled { OnOk result (IsSettled self.new) }
+        ensures tells { IfOk result (λ outputs. Tells run.old self.old link event outputs.items run.new self.new) }
+    {
+        let action = self.core.on(event);
+        self.use_connection(run, link, action)
+    }
+
+    // Sends words on the connection in use, or ends the call.
+    fn use_connection(
+        &mut self,
+        run: &mut Run,
+        link: Option<Link>,
+        action: Action,
+    ) -> Result<Vec<Output>, AllocError>
+        requires quiet { self.old.traffic ≡ Quiet }
+        requires kept { IsKept run.old }
+        requires waits { IsWaiting action self.old.core.call }
+        requires may { MayUse link action }
+        ensures goes_on { GoesOn run.old run.new }
+        ensures kept { OnOk result (IsKept run.new) }
+        ensures settled { OnOk result (IsSettled self.new) }
+        ensures uses { IfOk result (λ outputs. Uses run.old self.old link action outputs.items run.new self.new) }
+    {
+        match action {
+            Action::Connect(_) => unreachable!(),
+            Action::Send(words) => {
+                let Some(link) = link else {
+                    unreachable!();
+                };
+                self.traffic = Traffic::Asked(link, words);
+                Ok(Vec::new(run.allocator()))
+            }
+            Action::Done { answer, close } => {
+                self.end(run, link, close)?;
+                let client = self.number;
+                one(run.allocator(), Output::Answer { client, answer })
+            }
+        }
+    }
+
+    // The call is over, and its connection is closed where that is wanted.
+    fn end(&mut self, run: &mut Run, link: Option<Link>, close: bool) -> Result<(), AllocError>
+        requires kept { IsKept run.old }
+        ensures goes_on { GoesOn run.old run.new }
+        ensures kept { OnOk result (IsKept run.new) }
+        ensures gives_up { OnOk result (GivesUp run.old self.old link close run.new self.new) }
+    {
+        let Some(link) = link else {
+            return Ok(());
+        };
+        if close {
+            shut(run, link)?;
+            self.keep(link.node, None);
+        }
+        Ok(())
+    }
+}
+
+// The node finds the connection closed, if it wasn't stopped.
+fn shut(run: &mut Run, link: Link) -> Result<(), AllocError>
+    requires { IsKept run.old }
+    ensures goes_on { GoesOn run.old run.new }
+    ensures kept { OnOk result (IsKept run.new) }
+    ensures shut { OnOk result (IsShut run.old link run.new) }
+{
+    if run.is_up(link.node) {
+        run.close(link.node, link.conn)?;
+    }
+    Ok(())
+}
+
+// No connection to any of so many nodes.
+fn none_kept(alloc: Global, count: usize) -> Result<Vec<Option<Conn>>, AllocError>
+    ensures kept { IfOk result (λ kept. kept.items ≡ replicate count None) }
+{
+    Ok(Vec::from_elem(alloc, None, count)?)
+}
+
+// The address of the node with the number 0.
+fn first_address(config: &Config) -> Result<Address, AllocError>
+    ensures { IfOk result (λ address. address ≡ place_at (slice_get config.now.nodes 0)) }
+{
+    let node = &config.nodes()[0];
+    match Address::new(node.host.clone()?, node.port) {
+        Some(address) => Ok(address),
+        None => unreachable!(),
+    }
+}
+
+// The number of the node at the address; where there is none, that behind the last one.
+fn node_at(config: &Config, address: &Address) -> u64
+    ensures { result ≡ node_at config.now.nodes address.now }
+{
+    let nodes = config.nodes();
+    let found = nodes.iter().position(|node| is_at(node, address));
+    found.unwrap_or(nodes.len()) as u64
+}
+
+fn is_at(node: &NodeConfig, address: &Address) -> bool
+    ensures { result ≡ is_at address.now node.now }
+{
+    node.host.as_slice() == address.host().as_slice() && node.port == address.port()
+}

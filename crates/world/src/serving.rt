@@ -1,0 +1,105 @@
+//! Requests of clients, on connections that stay open.
+ghost use Rattle.std.specs.Prelude.{◌≡◌, ◌<◌, [], Some, length, IfOk, OnOk};
+ghost use Rattle.command.specs.declared.error_line.ErrorLine.TheVariants.{Exhausted};
+ghost use Rattle.node_step.specs.Outcome.{error};
+ghost use Rattle.world.specs.Calls.{IsOpened, IsServed, IsSkipped, Serves, ServesLast, reply_in};
+ghost use Rattle.world.specs.View.{GoesOn, IsKept};
+
+use crate::output::Output;
+use crate::run::Run;
+use command::ErrorLine;
+use connections::Conn;
+use node_core::{Event, Response};
+use resp2::{Reply, Words};
+use std::alloc::AllocError;
+
+/// What comes of a request.
+#[derive(Debug, Drop)]
+pub(crate) struct Served {
+    /// The reply, if one comes.
+    pub reply: Option<Reply>,
+    /// What comes out beside it.
+    pub outputs: Vec<Output>,
+}
+
+impl Run {
+    /// Opens a connection at the node. None says that a number has no next one.
+    pub(crate) fn open(&mut self, node: u64) -> Result<Option<Conn>, AllocError>
+        requires kept { IsKept self.old }
+        requires there { node < length self.old.nodes }
+        ensures goes_on { GoesOn self.old self.new }
+        ensures kept { OnOk result (IsKept self.new) }
+        ensures opens { IfOk result (λ conn. IsOpened self.old node conn self.new) }
+    {
+        let Some(opening) = self.make(node, Event::Open)? else {
+            return Ok(None);
+        };
+        let Response::Opened(conn) = opening.response else {
+            unreachable!();
+        };
+        Ok(Some(conn))
+    }
+
+    /// The request reaches the node on this connection.
+    pub(crate) fn serve(
+        &mut self,
+        node: u64,
+        conn: Conn,
+        words: Words,
+    ) -> Result<Served, AllocError>
+        requires kept { IsKept self.old }
+        requires there { node < length self.old.nodes }
+        ensures goes_on { GoesOn self.old self.new }
+        ensures kept { OnOk result (IsKept self.new) }
+        ensures serves { IfOk result (λ served. Serves self.old node conn words served.reply served.outputs.items self.new) }
+    {
+        let first = self.count_sent();
+        let Some(made) = self.make(node, Event::Request(conn, words))? else {
+            return Ok(self.skipped());
+        };
+        let outputs = self.beside(node, first, &made)?;
+        self.close_all(node, made.released.as_slice())?;
+        Ok(Served {
+            reply: reply_in(made.response),
+            outputs,
+        })
+    }
+
+    /// The request reaches the node on a connection that was cut, which the node then finds closed.
+    pub(crate) fn serve_last(
+        &mut self,
+        node: u64,
+        conn: Conn,
+        words: Words,
+    ) -> Result<Vec<Output>, AllocError>
+        requires kept { IsKept self.old }
+        requires there { node < length self.old.nodes }
+        ensures goes_on { GoesOn self.old self.new }
+        ensures kept { OnOk result (IsKept self.new) }
+        ensures serves { IfOk result (λ outputs. ServesLast self.old node conn words outputs.items self.new) }
+    {
+        let served = self.serve(node, conn, words)?;
+        self.close(node, conn)?;
+        Ok(served.outputs)
+    }
+
+    // A number has no next one.
+    fn skipped(&self) -> Served
+        ensures { (result.reply ≡ Some (error Exhausted)) × (result.outputs.items ≡ []) }
+    {
+        Served {
+            reply: Some(ErrorLine::Exhausted.reply()),
+            outputs: Vec::new(self.allocator()),
+        }
+    }
+}
+
+// The reply that comes on the connection of the request.
+fn reply_in(response: Response) -> Option<Reply>
+    ensures { result ≡ reply_in response }
+{
+    match response {
+        Response::Replied(answer) => Some(answer.reply),
+        _ => None,
+    }
+}
