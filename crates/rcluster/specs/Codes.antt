@@ -3,8 +3,7 @@ use Rattle.std.specs.Prelude.{ℕ, List, Option, Some, None, codes}
 use Rattle.cluster_config.specs.declared.fault.ConfigFault.{ConfigFault}
 use Rattle.cluster_config.specs.declared.fault.ConfigFault.TheVariants as config
 use Rattle.resharder.specs.Faults.{code_of as reshard_code}
-use Rattle.smart_client.specs.declared.fault.ClientFault.{ClientFault}
-use Rattle.smart_client.specs.declared.fault.ClientFault.TheVariants as client
+use Rattle.smart_client.specs.Faults.{code_of as client_code}
 use Rattle.rcluster.specs.declared.fault.ProgramFault.{ProgramFault}
 use Rattle.rcluster.specs.declared.fault.ProgramFault.TheVariants.{UnreadableFile, AddressInUse, Memory, Thread, Output, Config, Script, Client, Reshard}
 
@@ -19,16 +18,6 @@ config_code config.TooManyNodes = codes "K6"
 config_code config.Address = codes "K7"
 config_code config.Range = codes "K8"
 config_code config.Memory = codes "F3"
-
--- of a client
-abbrev pub client_code : ClientFault → List ℕ
-client_code client.Lost = codes "C1"
-client_code client.TooManyRedirects = codes "C2"
-client_code client.StillTryAgain = codes "C3"
-client_code client.Memory = codes "C4"
-client_code client.NotConnected = codes "C5"
-client_code client.BadReply = codes "C6"
-client_code client.NotData = codes "C7"
 
 abbrev pub code_of : ProgramFault → List ℕ
 code_of UnreadableFile = codes "F1"

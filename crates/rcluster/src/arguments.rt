@@ -125,7 +125,7 @@ fn simulate_command<'a>(alloc: Global) -> Result<Command<'a>, Error> {
         alloc,
         "script",
         "FILE",
-        "The script, one step a line: admin N WORDS, tick N, stop N or deliver M",
+        "The script, one step a line: admin N WORDS, tick N, deliver M, stop N, call C N WORDS, carry C, return C, cut C or late C",
     );
     let simulate = Command::new(alloc, "simulate")
         .about(

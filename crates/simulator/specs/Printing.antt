@@ -4,8 +4,7 @@ use Rattle.std.specs.List.{flat_map}
 use Rattle.bus.specs.declared.message.Body.{Body}
 use Rattle.bus.specs.declared.message.Body.TheVariants.{Copy, Ack, Drained, Claim}
 use Rattle.resp2.specs.Reply.{reply_spelling}
-use Rattle.smart_client.specs.declared.fault.ClientFault.{ClientFault}
-use Rattle.smart_client.specs.declared.fault.ClientFault.TheVariants.{Lost, TooManyRedirects, StillTryAgain, Memory, NotConnected, BadReply, NotData}
+use Rattle.smart_client.specs.Faults.{code_of}
 use Rattle.world.specs.declared.output.Output.{Output}
 use Rattle.world.specs.declared.output.Output.TheVariants.{Answer, Admin, Sent, Nothing}
 use Rattle.simulator.specs.Escaping.{escaped}
@@ -19,20 +18,10 @@ kind (Ack slot number copy) = codes "Ack"
 kind (Drained slot number epoch) = codes "Drained"
 kind (Claim claim) = codes "Claim"
 
--- why a client's call got no reply
-abbrev pub code : ClientFault → List ℕ
-code Lost = codes "C1"
-code TooManyRedirects = codes "C2"
-code StillTryAgain = codes "C3"
-code Memory = codes "C4"
-code NotConnected = codes "C5"
-code BadReply = codes "C6"
-code NotData = codes "C7"
-
 -- `answer <client> <reply>`, `fault <client> <code>`, `admin <node> <reply>`, `sent <message> <from> <to> <kind>` or `none`
 abbrev pub shown : Output → List ℕ
 shown (Answer client (Ok reply)) = codes "answer " ++ decimal client ++ codes " " ++ flat_map escaped (reply_spelling reply)
-shown (Answer client (Err fault)) = codes "fault " ++ decimal client ++ codes " " ++ code fault
+shown (Answer client (Err fault)) = codes "fault " ++ decimal client ++ codes " " ++ code_of fault
 shown (Admin node reply) = codes "admin " ++ decimal node ++ codes " " ++ flat_map escaped (reply_spelling reply)
 shown (Sent number message) =
     codes "sent " ++ decimal number ++ codes " " ++ decimal message.from ++ codes " " ++ decimal message.to ++ codes " " ++ kind message.body

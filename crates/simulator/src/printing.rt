@@ -3,7 +3,7 @@ ghost use Rattle.std.specs.Prelude.{◌≡◌, ◌++◌, decimal, OnOk, codes};
 ghost use Rattle.std.specs.List.{flat_map};
 ghost use Rattle.resp2.specs.Reply.{reply_spelling};
 ghost use Rattle.simulator.specs.Escaping.{escaped};
-ghost use Rattle.simulator.specs.Printing.{code, kind, printed, shown};
+ghost use Rattle.simulator.specs.Printing.{kind, printed, shown};
 ghost use Rattle.world.specs.declared.output.Output.TheVariants as output;
 
 use crate::escaping::print_bytes;
@@ -65,23 +65,8 @@ fn print_answer(
             out.extend_from_slice(b"fault ")?;
             print_number(client, out)?;
             out.extend_from_slice(b" ")?;
-            out.extend_from_slice(code(*fault))
+            out.extend_from_slice(fault.code().as_bytes())
         }
-    }
-}
-
-// How a client's fault is shown.
-fn code(fault: ClientFault) -> &'static [u8]
-    ensures { result.now ≡ code fault }
-{
-    match fault {
-        ClientFault::Lost => b"C1",
-        ClientFault::TooManyRedirects => b"C2",
-        ClientFault::StillTryAgain => b"C3",
-        ClientFault::Memory => b"C4",
-        ClientFault::NotConnected => b"C5",
-        ClientFault::BadReply => b"C6",
-        ClientFault::NotData => b"C7",
     }
 }
 

@@ -4,3 +4,4 @@ pub mod Words
 pub mod ErrorKind
 pub mod Turns
 pub mod Calls
+pub mod Faults

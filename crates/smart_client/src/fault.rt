@@ -1,4 +1,6 @@
 //! Why a call got no reply.
+ghost use Rattle.std.specs.Prelude.{◌≡◌};
+ghost use Rattle.smart_client.specs.Faults.{code_of};
 
 /// Why a call got no reply to its command. It says what is known of the command's execution.
 #[derive(Clone, Copy, PartialEq, Eq, Debug, thiserror::Error)]
@@ -26,4 +28,21 @@ pub enum ClientFault {
     /// The words are a command about the cluster, not about data: CLUSTER, MIGRATE or ASKING. Nothing was sent.
     #[error("not a command about data")]
     NotData,
+}
+
+impl ClientFault {
+    /// The code that a program prints.
+    pub fn code(self) -> &'static str
+        ensures { result.now ≡ code_of self }
+    {
+        match self {
+            ClientFault::Lost => "C1",
+            ClientFault::TooManyRedirects => "C2",
+            ClientFault::StillTryAgain => "C3",
+            ClientFault::Memory => "C4",
+            ClientFault::NotConnected => "C5",
+            ClientFault::BadReply => "C6",
+            ClientFault::NotData => "C7",
+        }
+    }
 }
