@@ -14,10 +14,13 @@ from memory import Memory, sum_of_paths
 
 ROOT = os.path.dirname(os.path.dirname(os.path.abspath(__file__)))
 REFUSING = ("tests/each_allocation.sh", "tests/refuse.c")
+# What a script takes from the tests on sockets, to run a server and to talk to it.
+TALKING = tuple(f"tests/on_a_socket/{it}.py" for it in ("calling", "clusters", "moving", "program", "resharding", "wire"))
 # The test scripts: the program that each runs, and what else it depends on.
 SCRIPTS = {
     "tests/refused_memory": ("refused_memory", ("tests/refused_memory", *REFUSING)),
     "tests/refused_moves": ("node_cases", ("tests/refused_moves", *REFUSING)),
+    "tests/refused_calls": ("rcluster", ("tests/refused_calls", *REFUSING, *TALKING, "examples")),
     "tests/on_a_socket/run": ("rcluster", ("tests/on_a_socket", "examples")),
     "tests/simulated/run": ("rcluster", ("tests/simulated", "examples")),
 }

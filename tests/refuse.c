@@ -3,6 +3,7 @@
 #include <fcntl.h>
 #include <stdio.h>
 #include <stdlib.h>
+#include <sys/syscall.h>
 #include <unistd.h>
 
 extern void *__libc_malloc(size_t size);
@@ -32,5 +33,13 @@ __attribute__((destructor)) static void tell(void) {
     int len = snprintf(text, sizeof text, "%lu\n", asked);
     if (file >= 0 && write(file, text, (size_t)len) == len) {
         close(file);
+    }
+}
+
+/* A program may end so, and then no destructor is run. */
+void _exit(int status) {
+    tell();
+    for (;;) {
+        syscall(SYS_exit_group, status);
     }
 }

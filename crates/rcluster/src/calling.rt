@@ -7,7 +7,7 @@ use byte_string::ByteString;
 use redirection::Address;
 use resp2::{Reply, Words};
 use simulator::print_reply;
-use smart_client::{Client, Connections};
+use smart_client::{Client, ClientFault, Connections};
 use std::alloc::{AllocError, Global};
 use std::net::{Net, TcpListener, TcpStream};
 
@@ -58,8 +58,13 @@ where
 fn print<R: AllocGlobal + Print>(rt: &R, reply: &Reply) -> Result<(), Failure> {
     let mut spelling = Vec::new(rt.alloc());
     let mut line = Vec::new(rt.alloc());
-    print_reply(reply, &mut spelling, &mut line)?;
-    line.extend_from_slice(b"\n")?;
+    let lost = || Failure::from(ProgramFault::Client(ClientFault::Lost));
+    if print_reply(reply, &mut spelling, &mut line).is_err() {
+        return Err(lost());
+    }
+    if line.extend_from_slice(b"\n").is_err() {
+        return Err(lost());
+    }
     match rt.write_all(line.as_slice()) {
         Ok(()) => Ok(()),
         Err(_) => Err(Failure::from(ProgramFault::Output)),
