@@ -86,7 +86,7 @@ address_in_parts address = append_assoc address.host (codes ":") (decimal addres
 
 -- ---- which texts are that of an ASK with a number
 
-abbrev IsAsk : List ℕ → ℕ → Place → ℕ → Type 0
+abbrev pub IsAsk : List ℕ → ℕ → Place → ℕ → Type 0
 IsAsk text slot place number = IsRedirection text (redirection.Ask slot place (Some number))
 
 -- the places are the same
@@ -137,7 +137,7 @@ no_numberless slot here text other there number is ask =
 
 -- ---- which replies are none
 
-abbrev IsNoAsk : Reply → Type 0
+abbrev pub IsNoAsk : Reply → Type 0
 IsNoAsk reply = (text : List ℕ) (slot : ℕ) (place : Place) (number : ℕ) → reply ≡ Error text → IsAsk text slot place number → ⊥
 
 same_text : (one other : List ℕ) → Error one ≡ Error other → one ≡ other
@@ -183,7 +183,7 @@ line_begins line.WrongTarget is = omega (arith, is)
 line_begins line.NotAcknowledged is = omega (arith, is)
 line_begins (line.WrongArity name) is = omega (arith, is)
 
-line_is_none : (which : ErrorLine) → IsNoAsk (error which)
+pub line_is_none : (which : ErrorLine) → IsNoAsk (error which)
 line_is_none which = begins_other (error_text which) (line_begins which)
 
 moved_is_none : (slot : ℕ) (node : Option NodeConfig) → IsNoAsk (moved_reply slot node)

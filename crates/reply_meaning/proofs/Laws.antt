@@ -111,7 +111,7 @@ done_by node conn words answer which says is answers =
     says_so IsDone node conn words answer answers
     (λ listing. subst (λ (c : Result Command CommandFault). Says IsDone (request_outcome node conn c listing).response) (sym is) (says listing))
 
-asking_is : (number : ℕ) → IsMove (Some number) → command_of (asking_words number) ≡ Ok (Cluster (cluster.Asking (Some number)))
+pub asking_is : (number : ℕ) → IsMove (Some number) → command_of (asking_words number) ≡ Ok (Cluster (cluster.Asking (Some number)))
 asking_is number is =
     ap (λ (n : Option ℕ). asking (number_or_fault n)) (positive_is_read (decimal number) number refl is.0 is.1)
 

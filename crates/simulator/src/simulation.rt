@@ -4,6 +4,7 @@ ghost use Rattle.simulator.specs.Simulation.{Simulates};
 
 use crate::printing::print_outputs;
 use cluster_config::Config;
+use final_answers::answers_tell_what_became_of_commands;
 use std::alloc::Global;
 use world::{OutOfMemory, Step, World};
 
@@ -11,6 +12,9 @@ use world::{OutOfMemory, Step, World};
 pub fn simulate(alloc: Global, config: &Config, steps: &[Step]) -> Result<Vec<u8>, OutOfMemory>
     ensures { IfOk result (λ printed. Simulates config.now steps.now printed.items) }
 {
+    // Both are for the proof alone: the law of answers, and that the configuration is a cluster's.
+    answers_tell_what_became_of_commands();
+    let _nodes = config.nodes();
     let mut world = World::new(alloc, config)?;
     let outputs = world.run(steps)?;
     let mut printed = Vec::new(alloc);

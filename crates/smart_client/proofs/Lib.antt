@@ -6,3 +6,4 @@ pub mod ClientLemmas
 pub mod StepLemmas
 pub mod TurnLemmas
 pub mod WaitLemmas
+pub mod TurnCases

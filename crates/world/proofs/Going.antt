@@ -1,7 +1,6 @@
 -- Further entries of a world.
 use Rattle.std.proofs.Common.{◌≡◌, ℕ, Bool, List, drop, length, [], ◌∷◌, ◌++◌, Contains, refl, sym, ap, subst, ◌∙◌, inl, inr, append-nil, append_assoc}
-use Rattle.std.specs.Prelude.{false, reverse, slice_get, slice_set, Some, zero, suc}
-use Rattle.std.specs.List.{flat_map}
+use Rattle.std.specs.Prelude.{reverse, slice_get, slice_set, Some, zero, suc}
 use Rattle.std.proofs.lemmas.List.{length-set, reverse-append}
 use Rattle.std.proofs.lemmas.List.Elements.{Contains-append_cases, Contains-append_left, Contains-append_right}
 use Rattle.std.proofs.lemmas.Grind.{flat_map-append}
@@ -13,14 +12,17 @@ use Rattle.node_step.specs.declared.event.Event.{Event}
 use Rattle.node_step.specs.declared.event.Event.TheVariants.{Open, Close, Request, Deliver, Tick}
 use Rattle.node_step.specs.declared.outputs.Outputs.{Outputs}
 use Rattle.node_step.specs.declared.outputs.Release.{Release}
-use Rattle.world_run.specs.Run.{Deed, Entry, Goes, MayHappen, first_nodes, sent_by, sent_in}
+use Rattle.world_run.specs.Executed.{KeepsAsking, MayAsk, answered}
+use Rattle.world_run.specs.Run.{Deed, Entry, Goes, MayHappen, sent_by, sent_in}
 use Rattle.world_run.specs.Run.Deed.{Made, Skipped}
+use Rattle.world.specs.Asking.{MayTake}
 use Rattle.world.specs.Entered.{EntersAt, NeedsNumber, Steps}
 use Rattle.world.specs.NodeSteps.{Closes, Enters, Makes, message_at, released_conns, served_conns}
 use Rattle.world.specs.Outputs.{shown, shown_from}
 use Rattle.std.proofs.Math.Seq.{drop-append_seam}
 use Rattle.world.specs.declared.output.Output.{Output}
 use Rattle.world.specs.View.{GoesOn, IsKept, RunView}
+use Rattle.world.proofs.Allowing.{taken_may_ask}
 
 -- ---- runs in two parts
 
@@ -35,8 +37,17 @@ goes-append past old mid new (entry ∷ first) others goes more =
       goes-append (entry ∷ past) goes.0 mid new first others goes.2 (subst (λ (entries : List Entry). Goes entries mid others new) behind more),
     )
 
+pub keeps-append : (past : List Entry) (first others : List Entry) → KeepsAsking past first → KeepsAsking (reverse first ++ past) others → KeepsAsking past (first ++ others)
+keeps-append past [] others keeps more = more
+keeps-append past (entry ∷ first) others keeps more =
+    let behind : reverse (entry ∷ first) ++ past ≡ reverse first ++ (entry ∷ past) =
+    ap (λ (entries : List Entry). entries ++ past) (reverse-append (entry ∷ []) first) ∙ append_assoc (reverse first) (entry ∷ []) past in (
+      keeps.0,
+      keeps-append (entry ∷ past) first others keeps.1 (subst (λ (entries : List Entry). KeepsAsking entries others) behind more),
+    )
+
 pub goes_on_refl : (run : RunView) → GoesOn run run
-goes_on_refl run = record { entries = []; added = sym (append-nil run.entries); goes = refl }
+goes_on_refl run = record { entries = []; added = sym (append-nil run.entries); goes = refl; keeps = tt }
 
 pub goes_further : (old mid new : RunView) → GoesOn old mid → GoesOn mid new → GoesOn old new
 goes_further old mid new first others =
@@ -47,6 +58,7 @@ goes_further old mid new first others =
       added = others.added ∙ ap (λ (entries : List Entry). entries ++ others.entries) first.added ∙ append_assoc old.entries first.entries others.entries;
       goes = goes-append (reverse old.entries) old.nodes mid.nodes new.nodes first.entries others.entries first.goes
           (subst (λ (entries : List Entry). Goes entries mid.nodes others.entries new.nodes) behind others.goes);
+      keeps = keeps-append (reverse old.entries) first.entries others.entries first.keeps (subst (λ (entries : List Entry). KeepsAsking entries others.entries) behind others.keeps);
     }
 
 -- the nodes stay as many as they are
@@ -60,18 +72,28 @@ goes_on_length old new on = goes_length (reverse old.entries) old.nodes new.node
 
 -- ---- one entry
 
-pub enters_goes_on : (old new : RunView) (node : ℕ) (deed : Deed) → EntersAt old.entries old.nodes node deed new.entries new.nodes → GoesOn old new
-enters_goes_on old new node deed enters = record {
+pub enters_goes_on : (old new : RunView) (node : ℕ) (deed : Deed) → EntersAt old.entries old.nodes node deed new.entries new.nodes → MayAsk (reverse old.entries) node (answered deed) → GoesOn old new
+enters_goes_on old new node deed enters asks = record {
   entries = (record { node = node; ticket = enters.ticket; deed = deed }) ∷ [];
   added = enters.entered;
   goes = (new.nodes, enters.step, refl);
+  keeps = (asks, tt);
 }
 
--- a run whose parts are these goes on from one that was seen as it was
-pub seen_goes_on : (old inside : RunView) (nodes : List NodeState) (stopped : List Bool) (sent : List Message) (entries : List Entry) (node : ℕ) (deed : Deed) → inside ≡ old
-    → EntersAt inside.entries inside.nodes node deed entries nodes → GoesOn old (record { nodes = nodes; stopped = stopped; sent = sent; entries = entries })
-seen_goes_on old inside nodes stopped sent entries node deed is enters =
-    subst (λ (run : RunView). GoesOn run (record { nodes = nodes; stopped = stopped; sent = sent; entries = entries })) is (enters_goes_on inside (record { nodes = nodes; stopped = stopped; sent = sent; entries = entries }) node deed enters)
+-- what a run that was seen as it was goes on with
+abbrev seen : List NodeState → List Bool → List Message → List Entry → RunView
+seen nodes stopped sent entries = record { nodes = nodes; stopped = stopped; sent = sent; entries = entries }
+
+pub skipped_goes_on : (old inside : RunView) (nodes : List NodeState) (stopped : List Bool) (sent : List Message) (entries : List Entry) (node : ℕ) → inside ≡ old
+    → EntersAt inside.entries inside.nodes node Skipped entries nodes → GoesOn old (record { nodes = nodes; stopped = stopped; sent = sent; entries = entries })
+skipped_goes_on old inside nodes stopped sent entries node is enters =
+    subst (λ (run : RunView). GoesOn run (seen nodes stopped sent entries)) is (enters_goes_on inside (seen nodes stopped sent entries) node Skipped enters tt)
+
+pub made_goes_on : (old inside : RunView) (nodes : List NodeState) (stopped : List Bool) (sent : List Message) (entries : List Entry) (node : ℕ) (event : Event) (outputs : Outputs) → inside ≡ old
+    → MayTake old node event → EntersAt inside.entries inside.nodes node (Made event outputs) entries nodes → GoesOn old (record { nodes = nodes; stopped = stopped; sent = sent; entries = entries })
+made_goes_on old inside nodes stopped sent entries node event outputs is may enters =
+    let entered : EntersAt old.entries old.nodes node (Made event outputs) entries nodes = subst (λ (run : RunView). EntersAt run.entries run.nodes node (Made event outputs) entries nodes) is enters in
+    enters_goes_on old (seen nodes stopped sent entries) node (Made event outputs) entered (taken_may_ask old node event outputs entries nodes may entered)
 
 -- a step of one node, among the others
 pub made_at : (past : List Entry) (old : List NodeState) (node : ℕ) (event : Event) (outputs : Outputs) (entries : List Entry) (new : List NodeState) (before after : NodeState)

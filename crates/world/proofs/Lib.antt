@@ -4,3 +4,13 @@ pub mod Scenes
 pub mod Stopping
 pub mod Wanted
 pub mod Worlds
+pub mod Allowing
+pub mod Connected
+pub mod Kept
+pub mod Leaving
+pub mod Parts
+pub mod Playing
+pub mod Requests
+pub mod Rule
+pub mod Stays
+pub mod Told

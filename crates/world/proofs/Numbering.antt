@@ -1,5 +1,5 @@
 -- Messages with their numbers.
-use Rattle.std.proofs.Common.{◌≡◌, ◌+◌, ◌<◌, ℕ, List, [], ◌∷◌, drop, length, get_or, ap}
+use Rattle.std.proofs.Common.{◌≡◌, ◌+◌, ◌<◌, ℕ, List, ◌∷◌, drop, length, get_or, ap}
 use Rattle.std.proofs.lemmas.List.{drop_more}
 use Rattle.bus.specs.declared.message.Message.{Message}
 use Rattle.world.specs.Outputs.{numbered}

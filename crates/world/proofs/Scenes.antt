@@ -1,5 +1,5 @@
 -- A client's part in a step of a world.
-use Rattle.std.proofs.Common.{◌≡◌, ◌≤◌, ◌∙◌, ℕ, List, [], ◌∷◌, All, Option, Some, None, Result, Ok, Err, ap, sym, subst, refl, arith, insert}
+use Rattle.std.proofs.Common.{◌≡◌, ◌∙◌, ℕ, List, [], ◌∷◌, All, Option, Some, None, Result, Ok, Err, ap, sym, subst, arith, insert}
 use Rattle.std.specs.Prelude.{IfOk, OnOk, slice_get, slice_set, zero, suc}
 use Rattle.std.proofs.lemmas.List.Elements.{All-cons}
 use Rattle.world.specs.Calls.{Begins}

@@ -1,14 +1,14 @@
 -- What a client wants once it was told something.
-use Rattle.std.proofs.Common.{◌≡◌, ◌⊎◌, Bool, true, false, true≢false, cond, inl, inr, Option, None, Some, Result, Err, List, ℕ, refl, ap, sym, subst, ◌∙◌}
+use Rattle.std.proofs.Common.{◌≡◌, ◌⊎◌, Bool, true, false, true≢false, cond, inl, inr, Option, None, Some, Err, List, ℕ, refl, ap, sym, subst, ◌∙◌}
 use Rattle.std.specs.Prelude.{IsTrue, ⊤}
 use Rattle.redirection.specs.declared.redirection.Redirection.{Redirection}
 use Rattle.resp2.specs.declared.reply.Reply.{Reply}
 use Rattle.smart_client.specs.State.{ClientState}
-use Rattle.smart_client.specs.Step.{Answer, Follows, MayCome, Steps, Turn, broken, closes, connected, connects, ended, loses, next, peer_at, takes_memory, uses_for, without_call}
+use Rattle.smart_client.specs.Step.{Answer, Follows, MayCome, Steps, Turn, broken, closes, connected, ended, loses, next, peer_at, takes_memory, uses_for, without_call}
 use Rattle.smart_client.specs.Step.Turn.{Goes, Ends, Reads}
-use Rattle.smart_client.specs.Words.{is_refused, place_for}
+use Rattle.smart_client.specs.Words.{is_refused}
 use Rattle.smart_client.specs.declared.action.Action.{Action}
-use Rattle.smart_client.specs.declared.action.Action.TheVariants.{Connect, Send, Done}
+use Rattle.smart_client.specs.declared.action.Action.TheVariants.{Done}
 use Rattle.smart_client.specs.declared.action.Event.{Event}
 use Rattle.smart_client.specs.declared.action.Event.TheVariants as happened
 use Rattle.smart_client.specs.declared.call.Call.{Call}

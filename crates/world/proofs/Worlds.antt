@@ -1,28 +1,52 @@
 -- Steps of a world.
-use Rattle.std.proofs.Common.{◌≡◌, List, [], ◌∷◌, ◌++◌, refl, sym, ap, subst, ◌∙◌, append-nil, append_assoc}
+use Rattle.std.proofs.Common.{◌≡◌, arith, List, [], ◌∷◌, ◌++◌, refl, sym, ap, subst, ◌∙◌, append-nil, append_assoc}
 use Rattle.std.specs.Prelude.{false, reverse}
-use Rattle.node_step.specs.State.{NodeState}
+use Rattle.cluster_config.specs.Config.{ClusterConfig, IsCluster}
+use Rattle.world_run.specs.Executed.{KeepsAsking}
 use Rattle.world_run.specs.Run.{Entry, Goes, first_nodes}
 use Rattle.world.specs.Plays.{Plays, PlaysAll}
-use Rattle.world.specs.View.{GoesOn, IsReached, IsWhole, SceneView, WorldView}
+use Rattle.world.specs.Asking.{KeepsRule}
+use Rattle.world.specs.Reached.{IsReached}
+use Rattle.world.specs.View.{GoesOn, IsWhole, SceneView, WorldView, first_world}
 use Rattle.world.specs.declared.output.Output.{Output}
 use Rattle.world.specs.declared.step.Step.{Step}
-use Rattle.world.proofs.Going.{goes-append}
+use Rattle.world.proofs.Going.{goes-append, keeps-append}
+use Rattle.world.proofs.Rule.{first_rule, plays_well}
 
 -- ---- worlds
 
+-- the cluster as it begins
+pub first_reached : (config : ClusterConfig) → IsCluster config → IsReached (first_world config)
+first_reached config cluster_is = record {
+  cluster = cluster_is;
+  goes = refl;
+  keeps = tt;
+  whole = λ ample. record { kept = refl; settled = λ place client below. absurd (omega (arith, below)) };
+  rule = λ ample. first_rule config;
+}
+
 -- a world that goes on is reached, if nothing is lost as long as memory isn't refused
 pub reaches_on : (old new : WorldView) → IsReached old → new.scene.config ≡ old.scene.config → GoesOn old.scene.run new.scene.run
-    → (new.refused ≡ false → IsWhole new.scene) → IsReached new
-reaches_on old new reached same on whole =
-    let behind : Goes (reverse old.scene.run.entries ++ []) old.scene.run.nodes on.entries new.scene.run.nodes =
-    subst (λ (past : List Entry). Goes past old.scene.run.nodes on.entries new.scene.run.nodes) (sym (append-nil (reverse old.scene.run.entries))) on.goes in
+    → (new.refused ≡ false → IsWhole new.scene) → (new.refused ≡ false → KeepsRule new.scene) → IsReached new
+reaches_on old new reached same on whole rule =
+    let first = reverse old.scene.run.entries in
+    let behind : Goes (first ++ []) old.scene.run.nodes on.entries new.scene.run.nodes =
+    subst (λ (past : List Entry). Goes past old.scene.run.nodes on.entries new.scene.run.nodes) (sym (append-nil first)) on.goes in
     let all : Goes [] (first_nodes old.scene.config) (old.scene.run.entries ++ on.entries) new.scene.run.nodes =
     goes-append [] (first_nodes old.scene.config) old.scene.run.nodes new.scene.run.nodes old.scene.run.entries on.entries reached.goes behind in
+    let asked : KeepsAsking (first ++ []) on.entries = subst (λ (past : List Entry). KeepsAsking past on.entries) (sym (append-nil first)) on.keeps in
+    let keeps : KeepsAsking [] (old.scene.run.entries ++ on.entries) = keeps-append [] old.scene.run.entries on.entries reached.keeps asked in
     record {
+      cluster = subst IsCluster (sym same) reached.cluster;
       goes = rw (same, on.added) all;
+      keeps = subst (KeepsAsking []) (sym on.added) keeps;
       whole = whole;
+      rule = rule;
     }
+
+-- one step further
+pub rule_on : (old new : WorldView) (step : Step) (outputs : List Output) → IsReached old → old.refused ≡ false → Plays old.scene step outputs new.scene → KeepsRule new.scene
+rule_on old new step outputs reached ample plays = plays_well old.scene reached.cluster (reached.rule ample) step outputs new.scene plays
 
 -- ---- steps one after another
 

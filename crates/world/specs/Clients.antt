@@ -1,5 +1,5 @@
 -- Clients of a world (Redis Cluster specification, "Clients first connection and handling of redirections").
-use Rattle.std.specs.Prelude.{◌≡◌, ◌≢◌, ◌==◌, ◌&&◌, ◌∷◌, not, ℕ, nat_le, Bool, true, false, List, [], map, length, replicate, filter, insert, Option, Some, None, Err, slice_get, slice_index_or, slice_set, if◌then◌else◌}
+use Rattle.std.specs.Prelude.{◌≡◌, ◌≢◌, ◌==◌, ◌&&◌, ◌∷◌, not, ℕ, nat_le, Bool, true, false, List, [], length, replicate, filter, insert, Option, Some, None, Err, slice_get, slice_index_or, slice_set, if◌then◌else◌}
 use Rattle.std.specs.List.{position_or_len}
 use Rattle.std.specs.Str.{bytes_eq}
 use Rattle.cluster_config.specs.Config.{ClusterConfig}

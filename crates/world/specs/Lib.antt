@@ -6,3 +6,5 @@ pub mod Outputs
 pub mod NodeSteps
 pub mod Calls
 pub mod Plays
+pub mod Asking
+pub mod Reached

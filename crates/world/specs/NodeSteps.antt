@@ -1,5 +1,5 @@
 -- What comes of the steps of nodes.
-use Rattle.std.specs.Prelude.{◌≡◌, ◌⊎◌, ◌++◌, ◌&&◌, ◌||◌, ◌∷◌, ℕ, zero, suc, Bool, true, false, List, [], map, Option, Some, None, MatchBool, slice_get, codes}
+use Rattle.std.specs.Prelude.{◌≡◌, ◌⊎◌, ◌++◌, ◌&&◌, ◌||◌, ◌∷◌, ℕ, zero, suc, Bool, false, List, [], map, Option, Some, None, MatchBool, slice_get, codes}
 use Rattle.std.specs.Str.{str_eq_ignore_ascii_case}
 use Rattle.bus.specs.declared.message.Message.{Message}
 use Rattle.command.specs.declared.error_line.ErrorLine.TheVariants.{Exhausted}

@@ -3,7 +3,7 @@ use Rattle.std.specs.Prelude.{◌≡◌, ◌++◌, ◌&&◌, ℕ, nat_lt, not, B
 use Rattle.bus.specs.declared.message.Message.{Message}
 use Rattle.cluster_config.specs.Config.{ClusterConfig}
 use Rattle.node_step.specs.State.{NodeState}
-use Rattle.world_run.specs.Executed.{AreOfOneKeyspace, KeepsAsking, executed}
+use Rattle.world_run.specs.Executed.{KeepsAsking}
 use Rattle.world_run.specs.Run.{Entry, Goes, first_nodes, sent_by}
 use Rattle.world.specs.Clients.{ClientView, IsSettled}
 
@@ -47,13 +47,14 @@ first_world config = record { scene = first_scene config; refused = false }
 abbrev pub is_up : RunView → ℕ → Bool
 is_up run node = nat_lt node (length run.nodes) && not (slice_index_or run.stopped node true)
 
--- ---- what holds of each world
+-- ---- how runs go on
 
--- further entries lead from the old nodes to the new ones
+-- further entries lead from the old nodes to the new ones, and clients keep to the asking rule in them
 pub record GoesOn (old new : RunView) : Type 0 where
   pub entries : List Entry
   pub added : new.entries ≡ old.entries ++ entries
   pub goes : Goes (reverse old.entries) old.nodes entries new.nodes
+  pub keeps : KeepsAsking (reverse old.entries) entries
 
 -- the messages are those that the nodes sent
 abbrev pub IsKept : RunView → Type 0
@@ -63,12 +64,3 @@ IsKept run = run.sent ≡ sent_by run.entries
 pub record IsWhole (scene : SceneView) : Type 0 where
   pub kept : IsKept scene.run
   pub settled : All IsSettled scene.clients
-
--- the entries lead from the cluster's start to the nodes, and nothing was lost as long as memory wasn't refused
-pub record IsReached (world : WorldView) : Type 0 where
-  pub goes : Goes [] (first_nodes world.scene.config) world.scene.run.entries world.scene.run.nodes
-  pub whole : world.refused ≡ false → IsWhole world.scene
-
--- if clients kept to the asking rule, the replies are those of one keyspace
-abbrev pub IsOneKeyspace : List Entry → Type 0
-IsOneKeyspace entries = KeepsAsking [] entries → AreOfOneKeyspace (executed entries)

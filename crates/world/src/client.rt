@@ -1,6 +1,8 @@
 //! A client of a world: what it knows, and what is under way between it and the nodes.
 ghost use Rattle.std.specs.Prelude.{◌≡◌, ◌∷◌, ◌++◌, [], true, slice_get, replicate, None, IfOk, OnOk};
 ghost use Rattle.smart_client.specs.Calls.{IsWaiting};
+ghost use Rattle.node_step.specs.declared.event.Event.TheVariants.{Request};
+ghost use Rattle.world.specs.Asking.{MayBeCarried, MayLinger, MayTake};
 ghost use Rattle.world.specs.Calls.{Acts, Arrives, Begins, CanDo, Carries, Connects, Cuts, GivesUp, IsConnected, IsShut, Lingers, MayUse, Returns, Tells, Uses, told_of};
 ghost use Rattle.world.specs.Clients.{AwaitsConnection, AwaitsReply, IsSettled, broken_off, is_at, kept_to, leads_to, lost_at, lost_by, new_client, node_at, place_at, stopped_at, used_by, with_kept, without_late};
 ghost use Rattle.world.specs.View.{GoesOn, IsKept, is_up};
@@ -123,6 +125,7 @@ impl Client {
     pub(crate) fn carry(&mut self, run: &mut Run) -> Result<Vec<Output>, AllocError>
         requires settled { IsSettled self.old }
         requires kept { IsKept run.old }
+        requires asks { MayBeCarried run.old self.old.traffic }
         ensures goes_on { GoesOn run.old run.new }
         ensures kept { OnOk result (IsKept run.new) }
         ensures settled { OnOk result (IsSettled self.new) }
@@ -195,6 +198,7 @@ impl Client {
     pub(crate) fn come_late(&mut self, run: &mut Run) -> Result<Vec<Output>, AllocError>
         requires settled { IsSettled self.old }
         requires kept { IsKept run.old }
+        requires asks { MayLinger run.old self.old.late }
         ensures goes_on { GoesOn run.old run.new }
         ensures kept { OnOk result (IsKept run.new) }
         ensures settled { OnOk result (IsSettled self.new) }
@@ -245,6 +249,7 @@ impl Client {
         requires awaits { AwaitsReply self.old.core.call }
         requires kept { IsKept run.old }
         requires up { is_up run.old link.node ≡ true }
+        requires asks { MayTake run.old link.node (Request link.conn words) }
         ensures goes_on { GoesOn run.old run.new }
         ensures kept { OnOk result (IsKept run.new) }
         ensures settled { OnOk result (IsSettled self.new) }

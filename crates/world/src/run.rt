@@ -7,6 +7,7 @@ ghost use Rattle.node_step.specs.Numbers.{NoNumberLeft};
 ghost use Rattle.node_step.specs.State.{first_state};
 ghost use Rattle.world_run.specs.Run.{MayHappen, WorldStep, first_nodes, sent_by};
 ghost use Rattle.world_run.specs.Run.Deed.{Made, Skipped};
+ghost use Rattle.world.specs.Asking.{MayTake};
 ghost use Rattle.world.specs.Entered.{EntersAt, NeedsNumber};
 ghost use Rattle.world.specs.NodeSteps.{Administers, Closes, Delivers, Enters, IsAdministered, IsAsked, IsDelivered, IsHeard, IsIdle, IsRefused, Makes, Ticks, Turns, answered_conn, is_admin, is_admin_name, message_at, released_conns};
 ghost use Rattle.world.specs.Outputs.{beside_from, shown_from};
@@ -140,6 +141,7 @@ impl Run {
     }
 
     // A step of a node that needs no number of its own, and what comes out of it.
+    #[tactic(auto, using(crate::proofs::Allowing::needless_may_come))]
     fn turn(&mut self, node: u64, event: Event) -> Result<Vec<Output>, AllocError>
         requires kept { IsKept self.old }
         requires there { node < length self.old.nodes }
@@ -159,6 +161,7 @@ impl Run {
     }
 
     // A request on a connection of its own, and what comes out of it.
+    #[tactic(auto, using(crate::proofs::Allowing::opened_may_ask))]
     fn ask(&mut self, node: u64, words: &Words) -> Result<Vec<Output>, AllocError>
         requires kept { IsKept self.old }
         requires there { node < length self.old.nodes }
@@ -179,6 +182,7 @@ impl Run {
     fn request(&mut self, node: u64, conn: Conn, words: &Words) -> Result<Vec<Output>, AllocError>
         requires kept { IsKept self.old }
         requires there { node < length self.old.nodes }
+        requires asks { MayTake self.old node (Request conn words.now) }
         ensures goes_on { GoesOn self.old self.new }
         ensures kept { OnOk result (IsKept self.new) }
         ensures asks { IfOk result (λ outputs. IsHeard self.old node conn words.now outputs.items self.new) }
@@ -238,6 +242,7 @@ impl Run {
     pub fn make(&mut self, node: u64, event: Event) -> Result<Option<Outputs>, AllocError>
         requires there { node < length self.old.nodes }
         requires may { MayHappen (reverse self.old.entries) event }
+        requires asks { MayTake self.old node event }
         ensures goes_on { GoesOn self.old self.new }
         ensures there { length self.new.nodes ≡ length self.old.nodes }
         ensures kept { OnOk result (IsKept self.old → IsKept self.new) }

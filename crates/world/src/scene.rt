@@ -1,6 +1,7 @@
 //! The nodes of a world and its clients, and what is done to them.
 ghost use Rattle.std.specs.Prelude.{◌≡◌, ◌<◌, ◌≤◌, ◌++◌, map, true, length, slice_get, insert, IfOk, IfSome, IfNone, OnOk, None, Some, All};
 ghost use Rattle.std.specs.List.{flat_map};
+ghost use Rattle.world.specs.Asking.{KeepsRule};
 ghost use Rattle.world.specs.Clients.{IsSettled, client_at, lost_at, new_client, place_of, stopped_at, with_client};
 ghost use Rattle.world.specs.Plays.{Plays};
 ghost use Rattle.world.specs.View.{GoesOn, IsWhole, first_scene, is_up};
@@ -62,7 +63,8 @@ impl Scene {
 
     /// Makes a step. Where memory is refused, steps of nodes may have been made for it.
     pub(crate) fn play(&mut self, step: &Step) -> Result<Vec<Output>, AllocError>
-        requires { IsWhole self.old }
+        requires whole { IsWhole self.old }
+        requires rule { KeepsRule self.old }
         ensures config { self.new.config ≡ self.old.config }
         ensures goes_on { GoesOn self.old.run self.new.run }
         ensures whole { OnOk result (IsWhole self.new) }
@@ -93,7 +95,8 @@ impl Scene {
     }
 
     fn carry(&mut self, number: u64) -> Result<Vec<Output>, AllocError>
-        requires { IsWhole self.old }
+        requires whole { IsWhole self.old }
+        requires rule { KeepsRule self.old }
         ensures config { self.new.config ≡ self.old.config }
         ensures goes_on { GoesOn self.old.run self.new.run }
         ensures whole { OnOk result (IsWhole self.new) }
@@ -132,7 +135,8 @@ impl Scene {
     }
 
     fn come_late(&mut self, number: u64) -> Result<Vec<Output>, AllocError>
-        requires { IsWhole self.old }
+        requires whole { IsWhole self.old }
+        requires rule { KeepsRule self.old }
         ensures config { self.new.config ≡ self.old.config }
         ensures goes_on { GoesOn self.old.run self.new.run }
         ensures whole { OnOk result (IsWhole self.new) }

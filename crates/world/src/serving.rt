@@ -2,6 +2,8 @@
 ghost use Rattle.std.specs.Prelude.{◌≡◌, ◌<◌, [], Some, length, IfOk, OnOk};
 ghost use Rattle.command.specs.declared.error_line.ErrorLine.TheVariants.{Exhausted};
 ghost use Rattle.node_step.specs.Outcome.{error};
+ghost use Rattle.node_step.specs.declared.event.Event.TheVariants.{Request};
+ghost use Rattle.world.specs.Asking.{MayTake};
 ghost use Rattle.world.specs.Calls.{IsOpened, IsServed, IsSkipped, Serves, ServesLast, reply_in};
 ghost use Rattle.world.specs.View.{GoesOn, IsKept};
 
@@ -49,6 +51,7 @@ impl Run {
     ) -> Result<Served, AllocError>
         requires kept { IsKept self.old }
         requires there { node < length self.old.nodes }
+        requires asks { MayTake self.old node (Request conn words) }
         ensures goes_on { GoesOn self.old self.new }
         ensures kept { OnOk result (IsKept self.new) }
         ensures serves { IfOk result (λ served. Serves self.old node conn words served.reply served.outputs.items self.new) }
@@ -74,6 +77,7 @@ impl Run {
     ) -> Result<Vec<Output>, AllocError>
         requires kept { IsKept self.old }
         requires there { node < length self.old.nodes }
+        requires asks { MayTake self.old node (Request conn words) }
         ensures goes_on { GoesOn self.old self.new }
         ensures kept { OnOk result (IsKept self.new) }
         ensures serves { IfOk result (λ outputs. ServesLast self.old node conn words outputs.items self.new) }

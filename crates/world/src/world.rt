@@ -1,7 +1,8 @@
 //! A world of nodes.
 ghost use Rattle.std.specs.Prelude.{◌≡◌, true, false, IfOk, IfErr, OnOk, OnErr, IsErr};
+ghost use Rattle.world_run.specs.Executed.{AreOfOneKeyspace, executed};
 ghost use Rattle.world.specs.Plays.{Plays, PlaysAll};
-ghost use Rattle.world.specs.View.{GoesOn, IsOneKeyspace, first_world};
+ghost use Rattle.world.specs.View.{GoesOn, first_world};
 
 use crate::fault::OutOfMemory;
 use crate::output::Output;
@@ -30,7 +31,8 @@ impl Model for World {
     ghost use Rattle.std.specs.FinMap as map;
     ghost use Rattle.keyspace.specs.declared.value.Value.{Value as Stored};
     ghost use Rattle.slot_moves.specs.declared.running.Move.{Move};
-    ghost use Rattle.world.specs.View.{WorldView, IsReached};
+    ghost use Rattle.world.specs.Reached.{IsReached};
+    ghost use Rattle.world.specs.View.{WorldView};
 
     ghost Value = { WorldView };
 
@@ -43,9 +45,11 @@ impl Model for World {
 
 impl World {
     /// The cluster as it begins.
+    #[tactic(auto, using(crate::proofs::Worlds::first_reached))]
     pub fn new(alloc: Global, config: &Config) -> Result<World, OutOfMemory>
         ensures { IfOk result (λ world. world ≡ first_world config.now) }
     {
+        let _nodes = config.nodes();
         Ok(World {
             alloc,
             scene: Scene::new(alloc, config)?,
@@ -57,7 +61,7 @@ impl World {
     pub fn step(&mut self, step: Step) -> Result<Vec<Output>, OutOfMemory>
         ensures config { self.new.scene.config ≡ self.old.scene.config }
         ensures goes_on { GoesOn self.old.scene.run self.new.scene.run }
-        ensures one_keyspace { IsOneKeyspace self.new.scene.run.entries }
+        ensures one_keyspace { AreOfOneKeyspace (executed self.new.scene.run.entries) }
         ensures plays { IfOk result (λ outputs. Plays self.old.scene step outputs.items self.new.scene) }
         ensures ok { OnOk result ((self.old.refused ≡ false) × (self.new.refused ≡ false)) }
         ensures err { OnErr result (self.new.refused ≡ true) }
@@ -72,7 +76,7 @@ impl World {
     pub fn run(&mut self, steps: &[Step]) -> Result<Vec<Output>, OutOfMemory>
         ensures config { self.new.scene.config ≡ self.old.scene.config }
         ensures goes_on { GoesOn self.old.scene.run self.new.scene.run }
-        ensures one_keyspace { IsOneKeyspace self.new.scene.run.entries }
+        ensures one_keyspace { AreOfOneKeyspace (executed self.new.scene.run.entries) }
         ensures plays { IfOk result (λ outputs. PlaysAll self.old.scene steps.now outputs.items self.new.scene) }
         ensures err { OnErr result (self.new.refused ≡ true) }
         ensures refused { self.old.refused ≡ true → self.new ≡ self.old }
@@ -131,9 +135,9 @@ impl World {
     }
 
     fn is_of_one_keyspace(&self)
-        ensures { IsOneKeyspace self.now.scene.run.entries }
+        ensures { AreOfOneKeyspace (executed self.now.scene.run.entries) }
     {
+        let _config = self.scene.config();
         replies_are_those_of_one_keyspace();
-        let _nodes = self.scene.config().nodes();
     }
 }

@@ -1,9 +1,9 @@
-use Rattle.std.proofs.Common.{rules, ◌≡◌, ◌<◌, length, Some, List, All, sym, subst, refl, set}
+use Rattle.std.proofs.Common.{rules, ◌≡◌, ◌<◌, length, Some, All, sym, subst, refl, set}
 use Rattle.std.specs.Prelude.{IfOk, slice_get}
 use Rattle.std.proofs.lemmas.List.Elements.{All-set}
 use Rattle.std.proofs.lemmas.Option.{slice_get_read}
 use Rattle.world.specs.Calls.{Returns}
-use Rattle.world.specs.Clients.{ClientView, IsSettled, client_at, place_of}
+use Rattle.world.specs.Clients.{IsSettled, client_at, place_of}
 use Rattle.world.specs.Plays.{Plays}
 use Rattle.world.specs.View.{SceneView}
 use Rattle.world.specs.declared.step.Step.TheVariants as step

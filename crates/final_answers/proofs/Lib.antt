@@ -1,0 +1,12 @@
+pub mod Tallies
+pub mod Wanted
+pub mod Doing
+pub mod Adding
+pub mod Booking
+pub mod Stepping
+pub mod Losing
+pub mod Carrying
+pub mod Scenes
+pub mod Playing
+pub mod Ending
+pub mod WorkedValues

@@ -1,0 +1,6 @@
+//! What a client of a world is told in the end says what became of its command.
+#![tactic(auto)]
+
+mod law;
+
+pub use law::answers_tell_what_became_of_commands;

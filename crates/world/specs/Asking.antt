@@ -1,0 +1,202 @@
+-- Which clients keep to the asking rule (Redis Cluster specification, "ASK redirection": the next request alone is to be sent to
+-- the node that ASK names, behind ASKING).
+use Rattle.std.specs.Prelude.{◌≡◌, ◌<◌, ◌⊎◌, ◌∷◌, ℕ, false, List, [], length, reverse, slice_index_or, Contains, Option, Some, None, IfSome, slice_get, ⊤}
+use Rattle.std.specs.List.{AllByRecursion}
+use Rattle.cluster_config.specs.Config.{ClusterConfig}
+use Rattle.cluster_config.specs.declared.config.NodeConfig.{NodeConfig}
+use Rattle.command.specs.declared.error_line.ErrorLine.TheVariants.{Exhausted}
+use Rattle.connections.specs.Connections.{connection_at, opens_at}
+use Rattle.connections.specs.declared.conn.Conn.{Conn}
+use Rattle.node_step.specs.Outcome.{error}
+use Rattle.node_step.specs.Requests.{asking_of}
+use Rattle.node_step.specs.State.{NodeState}
+use Rattle.node_step.specs.declared.event.Event.{Event}
+use Rattle.node_step.specs.declared.event.Event.TheVariants.{Open, Close, Request, Deliver, Tick}
+use Rattle.redirection.specs.Address.{Place}
+use Rattle.redirection.specs.Redirection.{IsMove, IsRedirection}
+use Rattle.redirection.specs.declared.redirection.Redirection.TheVariants as redirection
+use Rattle.resp2.specs.declared.reply.Reply.{Reply}
+use Rattle.resp2.specs.declared.reply.Reply.TheVariants.{Error}
+use Rattle.slot_decision.specs.declared.asked.Asking.{Asking}
+use Rattle.slot_decision.specs.declared.asked.Asking.TheVariants.{No, Any, Of}
+use Rattle.smart_client.specs.State.{ClientState}
+use Rattle.smart_client.specs.Step.{peer_at}
+use Rattle.smart_client.specs.Words.{asking_words, is_refused, numbered_words}
+use Rattle.smart_client.specs.declared.call.Call.{Call}
+use Rattle.smart_client.specs.declared.call.Stage.{Stage}
+use Rattle.smart_client.specs.declared.call.Stage.TheVariants as stage
+use Rattle.world_run.specs.Executed.{redirections}
+use Rattle.world_run.specs.Run.{Entry}
+use Rattle.world.specs.Clients.{ClientView, leads_to, node_at, used_by}
+use Rattle.world.specs.View.{RunView, SceneView}
+use Rattle.world.specs.declared.client.Late.{Late}
+use Rattle.world.specs.declared.client.Link.{Link}
+use Rattle.world.specs.declared.client.Traffic.{Traffic}
+use Rattle.world.specs.declared.client.Traffic.TheVariants.{Quiet, Asked, Answered}
+
+-- ---- connections
+
+-- what a connection allows its next request
+abbrev pub asking_in : Option NodeState → Conn → Asking
+asking_in None conn = No
+asking_in (Some node) conn = asking_of (connection_at node.connections conn)
+
+abbrev pub asking_at : RunView → Link → Asking
+asking_at run link = asking_in (slice_get run.nodes link.node) link.conn
+
+-- how often the key was opened
+abbrev pub opens_in : Option NodeState → ℕ → ℕ
+opens_in None key = 0
+opens_in (Some node) key = opens_at node.connections key
+
+-- the connection was opened at its node
+abbrev pub IsKnown : RunView → Link → Type 0
+IsKnown run link = link.conn.generation < opens_in (slice_get run.nodes link.node) link.conn.key
+
+-- ---- what was told
+
+-- a request with these words was answered ASK, with this node and the move of this number
+abbrev pub IsTold : List Entry → List (List ℕ) → ℕ → ℕ → Type 0
+IsTold past words node number = Contains (redirections past) (record { words = words; to = node; number = number })
+
+-- such a request may come to the node on a connection that allows this
+abbrev pub IsAllowed : List Entry → List (List ℕ) → ℕ → Asking → Type 0
+IsAllowed past words node No = ⊤
+IsAllowed past words node Any = ⊥
+IsAllowed past words node (Of number) = IsTold past words node number
+
+-- an ASK that names a move was decided so
+abbrev pub TellsTruth : List NodeConfig → List Entry → List (List ℕ) → Reply → Type 0
+TellsTruth nodes past words reply =
+    (text : List ℕ) (slot : ℕ) (place : Place) (number : ℕ) → reply ≡ Error text → IsRedirection text (redirection.Ask slot place (Some number)) → IsTold past words (node_at nodes place) number
+
+-- ---- calls
+
+-- the node that the call goes to
+abbrev pub target : List NodeConfig → ClientState → Call → ℕ
+target nodes core call = node_at nodes (peer_at core.peers call.to).address
+
+-- the words are about data, and where ASK sent the call, it goes to the node that ASK named
+pub record IsCalled (nodes : List NodeConfig) (past : List Entry) (core : ClientState) (call : Call) : Type 0 where
+  pub plain : is_refused call.words ≡ false
+  pub number : IsMove call.asking
+  pub told : IfSome call.asking (IsTold past call.words (target nodes core call))
+
+-- the connection allows no more than the ASK that the call follows
+abbrev pub Follows : Option ℕ → Asking → Type 0
+Follows asked No = ⊤
+Follows asked Any = ⊥
+Follows asked (Of number) = asked ≡ Some number
+
+-- ASKING, with the number of the move
+abbrev pub IsAsking : Option ℕ → List (List ℕ) → Type 0
+IsAsking None words = ⊥
+IsAsking (Some number) words = words ≡ asking_words number
+
+-- what the call sent, on a connection that allows this
+abbrev pub IsSent : Call → Stage → List (List ℕ) → Asking → Type 0
+IsSent call stage.Connecting words asking = ⊥
+IsSent call stage.Introducing words asking = (words ≡ numbered_words) × (asking ≡ No)
+IsSent call stage.Asking words asking = IsAsking call.asking words × (asking ≡ No)
+IsSent call stage.Sent words asking = (words ≡ call.words) × Follows call.asking asking
+
+-- the reply to it; a node that had no number for the request made no step
+abbrev pub IsReplied : List NodeConfig → List Entry → Call → Stage → Reply → Asking → Type 0
+IsReplied nodes past call stage.Connecting reply asking = ⊥
+IsReplied nodes past call stage.Introducing reply asking = asking ≡ No
+IsReplied nodes past call stage.Asking reply asking = Follows call.asking asking
+IsReplied nodes past call stage.Sent reply asking = ((asking ≡ No) ⊎ (reply ≡ error Exhausted)) × TellsTruth nodes past call.words reply
+
+-- ---- clients
+
+abbrev pub past_of : RunView → List Entry
+past_of run = reverse run.entries
+
+-- the connection is the one that is kept to its node
+abbrev pub IsKeptIn : List (Option Conn) → Link → Type 0
+IsKeptIn kept link = slice_index_or kept link.node None ≡ Some link.conn
+
+-- the connection was cut under a request
+abbrev pub IsCutOff : List Late → Link → Type 0
+IsCutOff late link = (request : Late) × Contains late request × (request.link ≡ link)
+
+-- a connection that is kept allows nothing, where it isn't in use
+pub record IsIdle (run : RunView) (used : Option Link) (link : Link) : Type 0 where
+  pub known : IsKnown run link
+  pub calm : leads_to link.node used ≡ false → asking_at run link ≡ No
+
+-- a request on a connection that was cut may still come to its node
+pub record MayComeLate (run : RunView) (request : Late) : Type 0 where
+  pub known : IsKnown run request.link
+  pub allowed : IsAllowed (past_of run) request.words request.link.node (asking_at run request.link)
+
+-- a client's connections
+pub record AreConnected (run : RunView) (kept : List (Option Conn)) (late : List Late) (used : Option Link) : Type 0 where
+  pub places : length kept ≡ length run.nodes
+  pub idle : (link : Link) → IsKeptIn kept link → IsIdle run used link
+  pub left : (request : Late) → Contains late request → MayComeLate run request
+  pub apart : (link : Link) → IsKeptIn kept link → IsCutOff late link → ⊥
+
+-- the connection in use is that to the node of the call
+pub record IsUnderWay (nodes : List NodeConfig) (past : List Entry) (core : ClientState) (kept : List (Option Conn)) (link : Link) (call : Call) : Type 0 where
+  pub called : IsCalled nodes past core call
+  pub there : link.node ≡ target nodes core call
+  pub in_use : IsKeptIn kept link
+
+abbrev pub IsOfCall : List NodeConfig → RunView → ClientState → List (Option Conn) → Traffic → Option Call → Type 0
+IsOfCall nodes run core kept Quiet call = call ≡ None
+IsOfCall nodes run core kept (Asked link words) None = ⊥
+IsOfCall nodes run core kept (Asked link words) (Some call) =
+    IsUnderWay nodes (past_of run) core kept link call × IsSent call call.stage words (asking_at run link)
+IsOfCall nodes run core kept (Answered link reply) None = ⊥
+IsOfCall nodes run core kept (Answered link reply) (Some call) =
+    IsUnderWay nodes (past_of run) core kept link call × IsReplied nodes (past_of run) call call.stage reply (asking_at run link)
+
+-- a client asks only what it was told to ask
+pub record AsksWell (nodes : List NodeConfig) (run : RunView) (client : ClientView) : Type 0 where
+  pub connected : AreConnected run client.kept client.late (used_by client.traffic)
+  pub call : IsOfCall nodes run client.core client.kept client.traffic client.core.call
+
+-- ---- all clients
+
+-- the connection is one of the client's
+abbrev pub Holds : ClientView → Link → Type 0
+Holds client link = IsKeptIn client.kept link ⊎ IsCutOff client.late link
+
+-- no connection is that of both
+abbrev pub AreApart : ClientView → ClientView → Type 0
+AreApart client other = (link : Link) → Holds client link → Holds other link → ⊥
+
+-- of these clients, each asks only what it was told to ask, on connections of its own
+abbrev pub AllAskWell : List NodeConfig → RunView → List ClientView → Type 0
+AllAskWell nodes run [] = ⊤
+AllAskWell nodes run (client ∷ clients) = AsksWell nodes run client × AllByRecursion (AreApart client) clients × AllAskWell nodes run clients
+
+-- the nodes have the configuration of the cluster
+abbrev pub HaveConfig : ClusterConfig → List NodeState → Type 0
+HaveConfig config nodes = (number : ℕ) (node : NodeState) → slice_get nodes number ≡ Some node → node.config ≡ config
+
+pub record KeepsRule (scene : SceneView) : Type 0 where
+  pub nodes : length scene.run.nodes ≡ length scene.config.nodes
+  pub configs : HaveConfig scene.config scene.run.nodes
+  pub clients : AllAskWell scene.config.nodes scene.run scene.clients
+
+-- ---- requests
+
+-- the request that is under way to its node may come there
+abbrev pub MayBeCarried : RunView → Traffic → Type 0
+MayBeCarried run Quiet = ⊤
+MayBeCarried run (Asked link words) = IsAllowed (past_of run) words link.node (asking_at run link)
+MayBeCarried run (Answered link reply) = ⊤
+
+abbrev pub MayLinger : RunView → List Late → Type 0
+MayLinger run [] = ⊤
+MayLinger run (request ∷ others) = IsAllowed (past_of run) request.words request.link.node (asking_at run request.link)
+
+-- a request that a node takes is one that may come there
+abbrev pub MayTake : RunView → ℕ → Event → Type 0
+MayTake run node (Request conn words) = IsAllowed (past_of run) words node (asking_at run (record { node = node; conn = conn }))
+MayTake run node Open = ⊤
+MayTake run node (Close conn) = ⊤
+MayTake run node (Deliver message) = ⊤
+MayTake run node Tick = ⊤
