@@ -1,0 +1,5 @@
+pub mod Verdicts
+pub mod Given
+pub mod Orders
+pub mod Copies
+pub mod Laws

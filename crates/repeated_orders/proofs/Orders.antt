@@ -1,0 +1,199 @@
+-- What an order to move a slot does once it was done.
+use Rattle.std.proofs.Common.{◌≡◌, ◌≢◌, ◌<◌, ℕ, List, true, cond, Option, Some, None, length, refl, sym, ap, ◌∙◌}
+use Rattle.std.proofs.lemmas.Cmp.{nat_cmp_total, eq_by_cmp_equiv}
+use Rattle.std.proofs.lemmas.List.{get_or-set_same}
+use Rattle.std.specs.FinMap as map
+use Rattle.std.specs.Ordering.{nat_cmp, eq_by_cmp}
+use Rattle.command.specs.declared.command.SlotOrder.{SlotOrder}
+use Rattle.command.specs.declared.command.SlotOrder.TheVariants.{Importing, Migrating, Node}
+use Rattle.connections.specs.Connections.{ConnectionTable}
+use Rattle.resp2.specs.declared.reply.Reply.{Reply}
+use Rattle.slot_table.specs.Table.{owner_at, owner_in}
+use Rattle.slot_table.specs.declared.runs.Run.{Run}
+use Rattle.slot_moves.specs.Ending.{node_verdict}
+use Rattle.slot_moves.specs.Importing.{import_verdict}
+use Rattle.slot_moves.specs.Migrating.{migrate_verdict}
+use Rattle.slot_moves.specs.Moves.{move_of, last_move_of}
+use Rattle.slot_moves.specs.declared.ending.NodeVerdict.{NodeVerdict}
+use Rattle.slot_moves.specs.declared.ending.NodeVerdict.TheVariants as ending
+use Rattle.slot_moves.specs.declared.importing.ImportVerdict.{ImportVerdict}
+use Rattle.slot_moves.specs.declared.importing.ImportVerdict.TheVariants as import
+use Rattle.slot_moves.specs.declared.migrating.MigrateVerdict.{MigrateVerdict}
+use Rattle.slot_moves.specs.declared.migrating.MigrateVerdict.TheVariants as migrate
+use Rattle.slot_moves.specs.declared.running.Move.{Move}
+use Rattle.slot_moves.specs.declared.running.Move.TheVariants.{Leaves, Comes}
+use Rattle.node_step.specs.Orders.{ending_outcome, ending_reply, ending_verdict, import_outcome, import_reply, importing, migrate_outcome, migrate_reply, migrating, new_epoch}
+use Rattle.node_step.specs.Outcome.{Outcome, replied}
+use Rattle.node_step.specs.Requests.{Listing, node_with_id, order_outcome}
+use Rattle.node_step.specs.State.{NodeState, standing}
+use Rattle.node_step.specs.declared.response.Response.{Response}
+use Rattle.node_step.specs.declared.response.Response.TheVariants.{Replied}
+use Rattle.node_step.specs.declared.response.Why.{Why}
+use Rattle.node_step.specs.declared.response.Why.TheVariants.{Imports, Migrates, Ends}
+use Rattle.repeated_orders.proofs.Verdicts.{import_again, migration_again, none_ends, ending_again}
+
+-- ---- maps from slots
+
+one_slot : (slot : ℕ) → eq_by_cmp nat_cmp slot slot ≡ true
+one_slot slot = (eq_by_cmp_equiv nat_cmp_total).refl slot
+
+module _ {V : Type 0} (m : map.FinMap nat_cmp V) (slot : ℕ) where
+  pub put_here : (v : V) → map.get (map.insert m slot v) slot ≡ Some v
+  put_here v = map.get-insert nat_cmp_total m slot v slot ∙ ap (λ b. cond b (Some v) (map.get m slot)) (one_slot slot)
+
+  gone_here : map.get (map.remove m slot) slot ≡ None
+  gone_here = map.get-remove nat_cmp_total m slot slot ∙ ap (λ b. cond b None (map.get m slot)) (one_slot slot)
+
+-- ---- an order that only has a reply, which is the first one where the table has the slot
+
+pub record OnlyReplies (has_slot : Type 0) (first : Response) (node : NodeState) (outcome : Outcome) : Type 0 where
+  pub why : Why
+  pub before : Why
+  pub reply : Reply
+  pub is : outcome ≡ replied node why reply
+  pub same : has_slot → first ≡ Replied (record { why = before; reply = reply })
+
+-- the state behind an outcome, with other connections
+abbrev pub behind : Outcome → ConnectionTable → NodeState
+behind outcome connections = record (outcome.state) { connections = connections }
+
+module _ (node : NodeState) (connections : ConnectionTable) (slot : ℕ) where
+  -- the node, where the order only had a reply
+  abbrev still : NodeState
+  still = record node { connections = connections }
+
+  abbrev has_slot : Type 0
+  has_slot = slot < length node.table
+
+  -- ---- IMPORTING
+
+  abbrev import_on : NodeState → Option ℕ → Option ℕ → ImportVerdict
+  import_on at other number = import_verdict (standing at slot) (move_of at.moves slot) (last_move_of at.moves slot) other number
+
+  import_refused : (other number : Option ℕ) (verdict : ImportVerdict) → import_on node other number ≡ verdict
+      → import_outcome still slot verdict ≡ replied still (Imports verdict) (import_reply verdict)
+      → OnlyReplies has_slot (import_outcome node slot verdict).response still (importing still slot other number)
+  import_refused other number verdict is changes_nothing = record {
+    why = Imports verdict;
+    before = Imports verdict;
+    reply = import_reply verdict;
+    is = ap (import_outcome still slot) is ∙ changes_nothing;
+    same = λ has. refl;
+  }
+
+  import_repeats : (other number : Option ℕ) (verdict : ImportVerdict) → import_on node other number ≡ verdict
+      → (let first = import_outcome node slot verdict in OnlyReplies has_slot first.response (behind first connections) (importing (behind first connections) slot other number))
+  import_repeats other number import.UnknownNode is = import_refused other number import.UnknownNode is refl
+  import_repeats other number import.Already is = import_refused other number import.Already is refl
+  import_repeats other number import.Busy is = import_refused other number import.Busy is refl
+  import_repeats other number import.AlreadyOwner is = import_refused other number import.AlreadyOwner is refl
+  import_repeats other number import.NotOwner is = import_refused other number import.NotOwner is refl
+  import_repeats other number import.OldMove is = import_refused other number import.OldMove is refl
+  import_repeats other number (import.Begins from begun) is =
+      let after : NodeState = behind (import_outcome node slot (import.Begins from begun)) connections in
+      let comes : move_of after.moves slot ≡ Some (Comes from begun 0 None) = put_here node.moves.running slot (Comes from begun 0 None) in
+      let verdict : import_on after other number ≡ import.Already =
+      ap (λ (m : Option Move). import_verdict (standing after slot) m (last_move_of after.moves slot) other number) comes
+      ∙ import_again (standing node slot) (move_of node.moves slot) (last_move_of node.moves slot) (last_move_of after.moves slot) other number from begun is in
+      record {
+        why = Imports import.Already;
+        before = Imports (import.Begins from begun);
+        reply = import_reply import.Already;
+        is = ap (import_outcome after slot) verdict;
+        same = λ has. refl;
+      }
+
+  -- ---- MIGRATING
+
+  abbrev migration_on : NodeState → Option ℕ → Option ℕ → MigrateVerdict
+  migration_on at other number = migrate_verdict (standing at slot) (move_of at.moves slot) (last_move_of at.moves slot) other number
+
+  migration_refused : (other number : Option ℕ) (verdict : MigrateVerdict) → migration_on node other number ≡ verdict
+      → migrate_outcome still slot verdict ≡ replied still (Migrates verdict) (migrate_reply verdict)
+      → OnlyReplies has_slot (migrate_outcome node slot verdict).response still (migrating still slot other number)
+  migration_refused other number verdict is changes_nothing = record {
+    why = Migrates verdict;
+    before = Migrates verdict;
+    reply = migrate_reply verdict;
+    is = ap (migrate_outcome still slot) is ∙ changes_nothing;
+    same = λ has. refl;
+  }
+
+  migration_repeats : (other number : Option ℕ) (verdict : MigrateVerdict) → migration_on node other number ≡ verdict
+      → (let first = migrate_outcome node slot verdict in OnlyReplies has_slot first.response (behind first connections) (migrating (behind first connections) slot other number))
+  migration_repeats other number migrate.UnknownNode is = migration_refused other number migrate.UnknownNode is refl
+  migration_repeats other number migrate.Already is = migration_refused other number migrate.Already is refl
+  migration_repeats other number migrate.Busy is = migration_refused other number migrate.Busy is refl
+  migration_repeats other number migrate.NotOwner is = migration_refused other number migrate.NotOwner is refl
+  migration_repeats other number migrate.OldMove is = migration_refused other number migrate.OldMove is refl
+  migration_repeats other number (migrate.Begins to begun) is =
+      let after : NodeState = behind (migrate_outcome node slot (migrate.Begins to begun)) connections in
+      let leaves : move_of after.moves slot ≡ Some (Leaves to begun 0 None) = put_here node.moves.running slot (Leaves to begun 0 None) in
+      let verdict : migration_on after other number ≡ migrate.Already =
+      ap (λ (m : Option Move). migrate_verdict (standing after slot) m (last_move_of after.moves slot) other number) leaves
+      ∙ migration_again (standing node slot) (move_of node.moves slot) (last_move_of node.moves slot) (last_move_of after.moves slot) other number to begun is in
+      record {
+        why = Migrates migrate.Already;
+        before = Migrates (migrate.Begins to begun);
+        reply = migrate_reply migrate.Already;
+        is = ap (migrate_outcome after slot) verdict;
+        same = λ has. refl;
+      }
+
+  -- ---- NODE
+
+  -- what ends no import changes nothing
+  ends_nothing : (at : NodeState) (claim : List (Run ℕ)) (verdict : NodeVerdict) → ((epoch : ℕ) → verdict ≢ ending.Ends epoch)
+      → ending_outcome at slot claim verdict ≡ replied at (Ends verdict) (ending_reply verdict)
+  ends_nothing at claim ending.UnknownNode never = refl
+  ends_nothing at claim ending.OldMove never = refl
+  ends_nothing at claim ending.NotDrained never = refl
+  ends_nothing at claim ending.IsOwner never = refl
+  ends_nothing at claim ending.NotYetOwner never = refl
+  ends_nothing at claim (ending.Ends epoch) never = absurd (never epoch refl)
+
+  module _ (claim later : List (Run ℕ)) (id : List ℕ) (number : Option ℕ) where
+    ending_refused : (verdict : NodeVerdict) → ending_verdict node slot (node_with_id node id) number ≡ verdict → ((epoch : ℕ) → verdict ≢ ending.Ends epoch)
+        → OnlyReplies has_slot (replied node (Ends verdict) (ending_reply verdict)).response still (ending_outcome still slot later (ending_verdict still slot (node_with_id still id) number))
+    ending_refused verdict is never = record {
+      why = Ends verdict;
+      before = Ends verdict;
+      reply = ending_reply verdict;
+      is = ap (ending_outcome still slot later) is ∙ ends_nothing still later verdict never;
+      same = λ has. refl;
+    }
+
+    ending_repeats : (verdict : NodeVerdict) → ending_verdict node slot (node_with_id node id) number ≡ verdict
+        → (let first = ending_outcome node slot claim verdict in let after = behind first connections in
+        OnlyReplies has_slot first.response after (ending_outcome after slot later (ending_verdict after slot (node_with_id after id) number)))
+    ending_repeats ending.UnknownNode is = ending_refused ending.UnknownNode is (λ epoch same. cc)
+    ending_repeats ending.OldMove is = ending_refused ending.OldMove is (λ epoch same. cc)
+    ending_repeats ending.NotDrained is = ending_refused ending.NotDrained is (λ epoch same. cc)
+    ending_repeats ending.IsOwner is = ending_refused ending.IsOwner is (λ epoch same. cc)
+    ending_repeats ending.NotYetOwner is = ending_refused ending.NotYetOwner is (λ epoch same. cc)
+    ending_repeats (ending.Ends drained) is =
+        let other : Option ℕ = node_with_id node id in
+        let after : NodeState = behind (ending_outcome node slot claim (ending.Ends drained)) connections in
+        let second : NodeVerdict = ending_verdict after slot other number in
+        let no_move : second ≡ node_verdict (standing after slot) None other number =
+        ap (λ (m : Option Move). node_verdict (standing after slot) m other number) (gone_here node.moves.running slot) in
+        let owned : has_slot → owner_at after.table slot ≡ Some node.number =
+        λ has. ap owner_in (get_or-set_same node.table slot (Some (record { epoch = new_epoch node slot drained; owner = node.number })) None has) in
+        let is_owner : has_slot → second ≡ ending.IsOwner =
+        λ has. no_move ∙ ending_again (standing node slot) (standing after slot) (move_of node.moves slot) other number drained is refl (owned has) in
+        record {
+          why = Ends second;
+          before = Ends (ending.Ends drained);
+          reply = ending_reply second;
+          is = ends_nothing after later second (λ epoch ends. none_ends (standing after slot) other number epoch (sym no_move ∙ ends));
+          same = λ has. ap (λ (v : NodeVerdict). Replied (record { why = Ends (ending.Ends drained); reply = ending_reply v })) (sym (is_owner has));
+        }
+
+  -- ---- any order
+
+  pub order_repeats : (order : SlotOrder) (id : List ℕ) (number : Option ℕ) (listing later : Listing)
+      → (let first = order_outcome node slot order (node_with_id node id) number listing in let after = behind first connections in
+      OnlyReplies has_slot first.response after (order_outcome after slot order (node_with_id after id) number later))
+  order_repeats Importing id number listing later = import_repeats (node_with_id node id) number (import_on node (node_with_id node id) number) refl
+  order_repeats Migrating id number listing later = migration_repeats (node_with_id node id) number (migration_on node (node_with_id node id) number) refl
+  order_repeats Node id number listing later = ending_repeats listing.claim later.claim id number (ending_verdict node slot (node_with_id node id) number) refl
