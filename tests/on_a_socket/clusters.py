@@ -5,6 +5,8 @@ import os
 import random
 import socket
 
+import program
+
 EXAMPLES = os.path.join(os.path.dirname(os.path.abspath(__file__)), "..", "..", "examples")
 # The ports that were given out, which nobody gets again.
 _given = set(range(7000, 7006))
@@ -27,7 +29,7 @@ def free_ports(count):
 
 
 def is_free(port):
-    with socket.socket() as probe:
+    with program.BEGINNING, socket.socket() as probe:
         try:
             probe.bind(("127.0.0.1", port))
         except OSError:

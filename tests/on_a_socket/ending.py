@@ -17,7 +17,7 @@ from concurrent.futures import ThreadPoolExecutor
 import clusters
 from clusters import lines_of, node_id, ports_of
 from deaf import NEVER_FULL, DeafClient
-from program import Server
+from program import BEGINNING, Server
 from wire import OK, PING, PONG, ask, connect, playing, rest_of, spelled
 
 TICKS = 20
@@ -141,7 +141,9 @@ def storming_clients(judge, what, ports):
 def storm(begin, ports):
     """The process of storm.py, which connects to these ports from that time on."""
     words = [sys.executable, os.path.join(os.path.dirname(os.path.abspath(__file__)), "storm.py"), str(begin), *map(str, ports)]
-    with subprocess.Popen(words, stdin=subprocess.PIPE, stdout=subprocess.PIPE) as process:
+    with BEGINNING:
+        begun = subprocess.Popen(words, stdin=subprocess.PIPE, stdout=subprocess.PIPE)
+    with begun as process:
         try:
             yield process
         finally:

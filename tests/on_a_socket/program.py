@@ -10,6 +10,9 @@ import time
 PATH = os.path.abspath(os.path.join(os.path.dirname(os.path.abspath(__file__)), "..", "..", "crates/rcluster/out/rcluster"))
 # How long the program may take to begin or to end, in seconds.
 PATIENCE = 20
+# Held while a process begins, and while a port is probed: a process that begins has the probe open until it runs its program, and
+# so that port is taken for a moment.
+BEGINNING = threading.Lock()
 # The name of the configuration in the folder where the program runs.
 FILE = "cluster.json"
 
@@ -39,10 +42,11 @@ class Server:
         write(self.folder.name, json.dumps(self.cluster))
         self.errors = tempfile.TemporaryFile()
         self.begun = time.monotonic()
-        self.process = subprocess.Popen(
-            [PATH, "serve", "--config", FILE, *self.options],
-            cwd=self.folder.name, stdin=subprocess.DEVNULL, stdout=subprocess.PIPE, stderr=self.errors,
-        )
+        with BEGINNING:
+            self.process = subprocess.Popen(
+                [PATH, "serve", "--config", FILE, *self.options],
+                cwd=self.folder.name, stdin=subprocess.DEVNULL, stdout=subprocess.PIPE, stderr=self.errors,
+            )
         # A line for each node. Where one is missing, the row that compares them says so.
         patience = threading.Timer(PATIENCE, self.process.kill)
         patience.start()
