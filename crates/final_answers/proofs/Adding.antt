@@ -54,15 +54,12 @@ closes_adds old new node [] same = adds_nothing old new same
 closes_adds old new node (conn ∷ conns) closes =
     adds_more old closes.0 new [] [] (enters_adds old closes.0 node (Made (Close conn) closes.1) closes.2) (closes_adds closes.0 new node conns closes.3)
 
-shut_adds : (old new : RunView) (link : Link) → IsShut old link new → Adds old new []
+pub shut_adds : (old new : RunView) (link : Link) → IsShut old link new → Adds old new []
 shut_adds old new link = by_up (is_up old link.node)
   where
     by_up : (up : Bool) → MatchBool up (Closes old link.node (link.conn ∷ []) new) (new ≡ old) → Adds old new []
     by_up true closes = closes_adds old new link.node (link.conn ∷ []) closes
     by_up false same = adds_nothing old new same
-
-pub is_shut_adds : (old new : RunView) (link : Link) → IsShut old link new → Adds old new []
-is_shut_adds = shut_adds
 
 -- ---- what a client wants executes nothing
 

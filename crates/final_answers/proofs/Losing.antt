@@ -22,7 +22,7 @@ use Rattle.world.specs.declared.client.Traffic.TheVariants.{Quiet, Asked, Answer
 use Rattle.world.specs.declared.output.Output.{Output}
 use Rattle.world.specs.declared.step.Step.TheVariants as step
 use Rattle.final_answers.specs.Book.{Answers, Book, Tells}
-use Rattle.final_answers.proofs.Adding.{Adds, adds_nothing, is_shut_adds}
+use Rattle.final_answers.proofs.Adding.{Adds, adds_nothing, shut_adds}
 use Rattle.final_answers.proofs.Booking.{Booked, HasLine, HaveLines, IsBooked, Waits, answer_touches, answered_line, is_for, late_then, none_waits, opens_more, right_set, with_answer}
 use Rattle.final_answers.proofs.Doing.{executed_by}
 use Rattle.final_answers.proofs.Stepping.{Told, of_call_so, rests_booked, told_booked}
@@ -152,7 +152,7 @@ module _ (nodes : List NodeConfig) (old new : RunView) (client after : ClientVie
   answered_cut link reply is None called cut = absurd (of_call_so nodes old client (Answered link reply) is asks None called)
   answered_cut link reply is (Some call) called cut =
       let told : Told (lost_by client ++ []) book client.number (broken_off link.node client) = breaks book client call called (has_line call called) link.node [] booked.late refl in (
-        is_shut_adds old new link cut.0,
+        shut_adds old new link cut.0,
         subst (λ (shown : List Output). Booked (step.Cut number) shown [] book client after) (sym cut.2)
             (subst (λ (c : ClientView). Booked (step.Cut number) (lost_by client) [] book client c) (sym cut.1)
             (told_booked (step.Cut number) (lost_by client) book client (broken_off link.node client) refl refl told)),

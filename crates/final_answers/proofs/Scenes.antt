@@ -8,7 +8,7 @@ use Rattle.final_answers.specs.Book.{Book, IsRight, Line}
 use Rattle.final_answers.proofs.Booking.{IsBooked}
 use Rattle.final_answers.proofs.Tallies.{Touches, is_waiting, tally}
 use Rattle.final_answers.proofs.Booking.{booked_elsewhere}
-use Rattle.std.proofs.lemmas.Bool.{and_parts, eqb-true, leb-true, leb-false, ne_eqb}
+use Rattle.std.proofs.lemmas.Bool.{and_parts, leb-true, leb-false, ne_eqb}
 use Rattle.std.specs.List.{position_or_len}
 use Rattle.std.specs.Prelude.{nat_le}
 use Rattle.cluster_config.specs.Config.{ClusterConfig}
@@ -190,18 +190,3 @@ module _ (config : ClusterConfig) (number : ℕ) where
             booked = all_inserted book clients (place_of number clients) (new_booked book (none number at.0)) booked;
             none = λ other missing. none other (none_missing other clients (place_of number clients) missing);
           }
-
--- the client at the place has the number
-pub number_at : (number : ℕ) (clients : List ClientView) (client : ClientView) → client_at number clients ≡ Some client → client.number ≡ number
-number_at number clients client = by_place (slice_get clients (place_of number clients))
-  where
-    same_client : {one two : ClientView} → Some one ≡ Some two → one ≡ two
-    same_client is = cc
-
-    by_same : (other : ClientView) (same : Bool) → (other.number == number) ≡ same → cond same (Some other) None ≡ Some client → client.number ≡ number
-    by_same other true is found = ap (λ (c : ClientView). c.number) (sym (same_client found)) ∙ eqb-true other.number number is
-    by_same other false is found = absurd (no_some refl found)
-
-    by_place : (there : Option ClientView) → if_numbered number there ≡ Some client → client.number ≡ number
-    by_place None is = absurd (no_some refl is)
-    by_place (Some other) is = by_same other (other.number == number) refl is

@@ -1,9 +1,9 @@
 -- The law of calls: what a client is told in the end says what became of its command.
-use Rattle.std.specs.Prelude.{◌≡◌, List, [], map}
+use Rattle.std.specs.Prelude.{◌≡◌, false, List, [], map}
 use Rattle.std.specs.List.{AllByRecursion, flat_map}
 use Rattle.cluster_config.specs.Config.{ClusterConfig, IsCluster}
 use Rattle.world.specs.Plays.{PlaysAll}
-use Rattle.world.specs.View.{SceneView, first_scene}
+use Rattle.world.specs.View.{SceneView, WorldView, first_scene}
 use Rattle.world.specs.declared.output.Output.{Output}
 use Rattle.world.specs.declared.step.Step.{Step}
 use Rattle.final_answers.specs.Book.{Book, IsBook, IsRight}
@@ -24,3 +24,15 @@ pub record AreAnswered (config : ClusterConfig) (steps : List Step) (outputs : L
 abbrev pub FinalAnswers : Type 0
 FinalAnswers = (config : ClusterConfig) (steps : List Step) (outputs : List Output) (scene : SceneView) → IsCluster config → PlaysAll (first_scene config) steps outputs scene
     → AreAnswered config steps outputs scene
+
+-- ---- worlds
+
+-- some steps lead from the cluster's start to the scene, and their calls were answered so
+pub record AreAnsweredIn (scene : SceneView) : Type 0 where
+  pub steps : List Step
+  pub outputs : List Output
+  pub answered : AreAnswered scene.config steps outputs scene
+
+-- as long as memory wasn't refused
+abbrev pub AreFinalIn : WorldView → Type 0
+AreFinalIn world = world.refused ≡ false → AreAnsweredIn world.scene

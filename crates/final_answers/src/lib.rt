@@ -3,4 +3,4 @@
 
 mod law;
 
-pub use law::answers_tell_what_became_of_commands;
+pub use law::{answers_in_a_world_are_final, answers_tell_what_became_of_commands};

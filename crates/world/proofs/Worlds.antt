@@ -6,47 +6,12 @@ use Rattle.world_run.specs.Executed.{KeepsAsking}
 use Rattle.world_run.specs.Run.{Entry, Goes, first_nodes}
 use Rattle.world.specs.Plays.{Plays, PlaysAll}
 use Rattle.world.specs.Asking.{KeepsRule}
-use Rattle.world.specs.Reached.{IsReached}
-use Rattle.world.specs.View.{GoesOn, IsWhole, SceneView, WorldView, first_world}
+use Rattle.world.specs.Reached.{IsPlayed, IsReached}
+use Rattle.world.specs.View.{GoesOn, IsWhole, SceneView, WorldView, first_scene, first_world}
 use Rattle.world.specs.declared.output.Output.{Output}
 use Rattle.world.specs.declared.step.Step.{Step}
 use Rattle.world.proofs.Going.{goes-append, keeps-append}
 use Rattle.world.proofs.Rule.{first_rule, plays_well}
-
--- ---- worlds
-
--- the cluster as it begins
-pub first_reached : (config : ClusterConfig) → IsCluster config → IsReached (first_world config)
-first_reached config cluster_is = record {
-  cluster = cluster_is;
-  goes = refl;
-  keeps = tt;
-  whole = λ ample. record { kept = refl; settled = λ place client below. absurd (omega (arith, below)) };
-  rule = λ ample. first_rule config;
-}
-
--- a world that goes on is reached, if nothing is lost as long as memory isn't refused
-pub reaches_on : (old new : WorldView) → IsReached old → new.scene.config ≡ old.scene.config → GoesOn old.scene.run new.scene.run
-    → (new.refused ≡ false → IsWhole new.scene) → (new.refused ≡ false → KeepsRule new.scene) → IsReached new
-reaches_on old new reached same on whole rule =
-    let first = reverse old.scene.run.entries in
-    let behind : Goes (first ++ []) old.scene.run.nodes on.entries new.scene.run.nodes =
-    subst (λ (past : List Entry). Goes past old.scene.run.nodes on.entries new.scene.run.nodes) (sym (append-nil first)) on.goes in
-    let all : Goes [] (first_nodes old.scene.config) (old.scene.run.entries ++ on.entries) new.scene.run.nodes =
-    goes-append [] (first_nodes old.scene.config) old.scene.run.nodes new.scene.run.nodes old.scene.run.entries on.entries reached.goes behind in
-    let asked : KeepsAsking (first ++ []) on.entries = subst (λ (past : List Entry). KeepsAsking past on.entries) (sym (append-nil first)) on.keeps in
-    let keeps : KeepsAsking [] (old.scene.run.entries ++ on.entries) = keeps-append [] old.scene.run.entries on.entries reached.keeps asked in
-    record {
-      cluster = subst IsCluster (sym same) reached.cluster;
-      goes = rw (same, on.added) all;
-      keeps = subst (KeepsAsking []) (sym on.added) keeps;
-      whole = whole;
-      rule = rule;
-    }
-
--- one step further
-pub rule_on : (old new : WorldView) (step : Step) (outputs : List Output) → IsReached old → old.refused ≡ false → Plays old.scene step outputs new.scene → KeepsRule new.scene
-rule_on old new step outputs reached ample plays = plays_well old.scene reached.cluster (reached.rule ample) step outputs new.scene plays
 
 -- ---- steps one after another
 
@@ -69,3 +34,51 @@ plays_one_more old mid new (first ∷ steps) step outputs shown before plays = (
   plays_one_more before.0 mid new steps step before.2 shown before.4 plays,
   ap (λ (others : List Output). others ++ shown) before.5 ∙ append_assoc before.1 before.2 shown,
 )
+
+-- ---- worlds
+
+-- the cluster as it begins
+pub first_reached : (config : ClusterConfig) → IsCluster config → IsReached (first_world config)
+first_reached config cluster_is = record {
+  cluster = cluster_is;
+  goes = refl;
+  keeps = tt;
+  whole = λ ample. record { kept = refl; settled = λ place client below. absurd (omega (arith, below)) };
+  rule = λ ample. first_rule config;
+  played = λ ample. record { steps = []; outputs = []; plays = (refl, refl) };
+}
+
+-- a world that goes on is reached, if nothing is lost as long as memory isn't refused
+pub reaches_on : (old new : WorldView) → IsReached old → new.scene.config ≡ old.scene.config → GoesOn old.scene.run new.scene.run
+    → (new.refused ≡ false → IsWhole new.scene) → (new.refused ≡ false → KeepsRule new.scene) → (new.refused ≡ false → IsPlayed new.scene) → IsReached new
+reaches_on old new reached same on whole rule played =
+    let first = reverse old.scene.run.entries in
+    let behind : Goes (first ++ []) old.scene.run.nodes on.entries new.scene.run.nodes =
+    subst (λ (past : List Entry). Goes past old.scene.run.nodes on.entries new.scene.run.nodes) (sym (append-nil first)) on.goes in
+    let all : Goes [] (first_nodes old.scene.config) (old.scene.run.entries ++ on.entries) new.scene.run.nodes =
+    goes-append [] (first_nodes old.scene.config) old.scene.run.nodes new.scene.run.nodes old.scene.run.entries on.entries reached.goes behind in
+    let asked : KeepsAsking (first ++ []) on.entries = subst (λ (past : List Entry). KeepsAsking past on.entries) (sym (append-nil first)) on.keeps in
+    let keeps : KeepsAsking [] (old.scene.run.entries ++ on.entries) = keeps-append [] old.scene.run.entries on.entries reached.keeps asked in
+    record {
+      cluster = subst IsCluster (sym same) reached.cluster;
+      goes = rw (same, on.added) all;
+      keeps = subst (KeepsAsking []) (sym on.added) keeps;
+      whole = whole;
+      rule = rule;
+      played = played;
+    }
+
+-- one step further
+pub rule_on : (old new : WorldView) (step : Step) (outputs : List Output) → IsReached old → old.refused ≡ false → Plays old.scene step outputs new.scene → KeepsRule new.scene
+rule_on old new step outputs reached ample plays = plays_well old.scene reached.cluster (reached.rule ample) step outputs new.scene plays
+
+pub played_on : (old new : WorldView) (step : Step) (outputs : List Output) → IsReached old → old.refused ≡ false → new.scene.config ≡ old.scene.config
+    → Plays old.scene step outputs new.scene → IsPlayed new.scene
+played_on old new step outputs reached ample same plays =
+    let before = reached.played ample in
+    record {
+      steps = before.steps ++ step ∷ [];
+      outputs = before.outputs ++ outputs;
+      plays = subst (λ (config : ClusterConfig). PlaysAll (first_scene config) (before.steps ++ step ∷ []) (before.outputs ++ outputs) new.scene) (sym same)
+          (plays_one_more (first_scene old.scene.config) old.scene new.scene before.steps step before.outputs outputs before.plays plays);
+    }

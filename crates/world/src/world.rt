@@ -2,6 +2,7 @@
 ghost use Rattle.std.specs.Prelude.{◌≡◌, true, false, IfOk, IfErr, OnOk, OnErr, IsErr};
 ghost use Rattle.world_run.specs.Executed.{AreOfOneKeyspace, executed};
 ghost use Rattle.world.specs.Plays.{Plays, PlaysAll};
+ghost use Rattle.world.specs.Reached.{IsReached};
 ghost use Rattle.world.specs.View.{GoesOn, first_world};
 
 use crate::fault::OutOfMemory;
@@ -55,6 +56,14 @@ impl World {
             scene: Scene::new(alloc, config)?,
             is_refused: false,
         })
+    }
+
+    /// The configuration of the cluster.
+    pub fn config(&self) -> &Config
+        ensures config { result.now ≡ self.now.scene.config }
+        ensures reached { IsReached self.now }
+    {
+        self.scene.config()
     }
 
     /// Makes a step.
