@@ -3,7 +3,6 @@
 use crate::node::Node;
 use bus::Message;
 use node_cell::{Deployment, Log};
-use node_core::Event;
 use slot_table::NodeNo;
 use std::alloc::{AllocError, Global};
 use std::collections::VecDeque;
@@ -84,7 +83,7 @@ impl<K: Deployment, L: Log + Drop> Carrier<K, L> {
             }
             let mut cell = self.node.shared.lock(rt);
             // A message for which there is no memory is lost, as it may be on any network.
-            let _lost = cell.apply(Event::Deliver(received.message));
+            let _lost = cell.deliver(received.message);
             self.node.shared.ring(&cell);
         }
         came

@@ -5,6 +5,7 @@ ghost use Rattle.resp2.specs.Reply.{reply_spelling};
 ghost use Rattle.resp2.specs.Request.{IsRequest, request_spelling};
 ghost use Rattle.node_cell.specs.Asks.{outcome_of};
 ghost use Rattle.node_cell.specs.Asks.Asked.{asking, waiting};
+ghost use Rattle.node_cell.specs.Journal.{IsOwn};
 ghost use Rattle.listener.specs.Conversation.{IsRest};
 ghost use Rattle.listener.specs.Progress.{Answers, Halts, IsOfAnswering, Puts, Stops, desk};
 ghost use Rattle.listener.specs.Streams.{Adds, Fails, IsAllowed, Sends, change, stream_of, streams};
@@ -176,6 +177,7 @@ fn write_out<W: Write, G: NodeGate>(
 
 /// Asks the node once, and lets others ask it.
 pub fn ask_alone<G: NodeGate>(gate: &mut G, event: Event) -> Result<G::Answer, StepFault>
+    requires { IsOwn event }
     ensures { Adds (IsAllowed G.may G.may_refuse G.may_give) (change (G.asked gate.old) (G.asked gate.new))
         (asking event (outcome_of G.Answer.gave result) ∷ []) }
 {
@@ -186,6 +188,7 @@ pub fn ask_alone<G: NodeGate>(gate: &mut G, event: Event) -> Result<G::Answer, S
 
 // Asks the node once. Others wait until they are let in.
 fn ask<G: NodeGate>(gate: &mut G, event: Event) -> Result<G::Answer, StepFault>
+    requires { IsOwn event }
     ensures { Adds (IsAllowed G.may G.may_refuse G.may_give) (change (G.asked gate.old) (G.asked gate.new))
         (asking event (outcome_of G.Answer.gave result) ∷ []) }
 {

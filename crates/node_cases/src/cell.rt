@@ -5,11 +5,14 @@ ghost use Rattle.tickets.specs.Tickets.{IsFresh};
 use crate::clusters::node_of;
 use crate::events::{conn_of, event_of, push_event, push_message, push_outputs, push_response};
 use anyhow::{Context, Result};
+use bus::{Body, Message};
 use case_files::{push_reply, verb_of};
 use cluster_config::Config;
-use node_cell::{Deployment, Entry, Journal, NodeCell};
+use key_slot::Slot;
+use node_cell::{DeliveryFault, Deployment, Entry, Journal, NodeCell};
 use node_core::{Conn, Event};
-use slot_table::NodeNo;
+use slot_moves::MoveNo;
+use slot_table::{Epoch, NodeNo};
 use std::alloc::Global;
 use std::marker::Brand;
 use std::rt::Files;
@@ -19,14 +22,15 @@ use tickets::{Seat, open};
 #[derive(Drop)]
 enum Call {
     Apply(Event),
+    Deliver(u64),
     TakeReply(Conn),
     TakeSent,
 }
 
 /// The first line, `node CLUSTER NUMBER`, names the node. Each further line is an event, and gives the ticket of its step and
-/// what the node answers; or `take_reply KEY GENERATION`, which gives the reply that is kept for that connection, or
-/// `take_sent`, which gives the messages in the outbox. Then come the journal, what else is left of the node, and what its seat
-/// draws next.
+/// what the node answers; or `deliver TICKET`, a message that node 0 sent in the step of that ticket, which gives the same or
+/// `early`; or `take_reply KEY GENERATION`, which gives the reply that is kept for that connection, or `take_sent`, which gives
+/// the messages in the outbox. Then come the journal, what else is left of the node, and what its seat draws next.
 pub fn play<R: Files + AllocGlobal>(rt: &R, script: &str) -> Result<String> {
     let alloc = rt.alloc();
     let script = script.strip_prefix("node ").context("no node")?;
@@ -42,6 +46,7 @@ fn calls_of(alloc: Global, commands: &str) -> Result<Vec<Call>> {
     let mut calls = Vec::new(alloc);
     for command in commands.lines() {
         let call = match verb_of(command) {
+            ("deliver", ticket) => Call::Deliver(ticket.parse::<u64>()?),
             ("take_reply", conn) => Call::TakeReply(conn_of(conn)?.0),
             ("take_sent", "") => Call::TakeSent,
             _ => Call::Apply(event_of(alloc, command)?),
@@ -66,6 +71,12 @@ fn hold<K: Deployment>(
     for call in calls {
         match call {
             Call::Apply(event) => apply(alloc, &mut cell, &mut given, event)?,
+            Call::Deliver(ticket) => deliver(
+                alloc,
+                &mut cell,
+                &mut given,
+                message_to(node, ticket)?,
+            )?,
             Call::TakeReply(conn) => take_reply(alloc, &mut cell, &mut given, conn)?,
             Call::TakeSent => take_sent(alloc, &mut cell, &mut given)?,
         }
@@ -88,9 +99,47 @@ fn apply<K: Deployment>(
     given: &mut String,
     event: Event,
 ) -> Result<()> {
-    let entered = cell.apply(event)?;
+    let entered = match event {
+        Event::Open => cell.apply(Event::Open)?,
+        Event::Close(conn) => cell.apply(Event::Close(conn))?,
+        Event::Request(conn, words) => cell.apply(Event::Request(conn, words))?,
+        Event::Tick => cell.apply(Event::Tick)?,
+        Event::Deliver(message) => cell.deliver(message)?,
+    };
     push_ticket(given, entered.ticket())?;
     push_response(alloc, given, entered.response())
+}
+
+// Delivers the message, and tells the ticket of its step, or that it isn't older.
+fn deliver<K: Deployment>(
+    alloc: Global,
+    cell: &mut NodeCell<K, Journal>,
+    given: &mut String,
+    message: Message,
+) -> Result<()> {
+    match cell.deliver(message) {
+        Ok(entered) => {
+            push_ticket(given, entered.ticket())?;
+            push_response(alloc, given, entered.response())
+        }
+        Err(DeliveryFault::Early) => Ok(given.push_str("early\n")?),
+        Err(fault) => Err(fault.into()),
+    }
+}
+
+// A message that the first node sent in the step of that ticket: an acknowledgement that nobody waits for.
+fn message_to(to: NodeNo, ticket: u64) -> Result<Message> {
+    Ok(Message {
+        from: NodeNo::new(0).context("no node 0")?,
+        to,
+        ticket,
+        epoch: Epoch::FIRST,
+        body: Body::Ack {
+            slot: Slot::new(0).context("no slot 0")?,
+            number: MoveNo::new(1).context("no move 1")?,
+            copy: 1,
+        },
+    })
 }
 
 fn take_reply<K: Deployment>(

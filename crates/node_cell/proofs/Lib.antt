@@ -1,3 +1,4 @@
+pub mod DeliveryLemmas
 pub mod GivenLemmas
 pub mod JournalLemmas
 pub mod KeptLemmas

@@ -1,17 +1,20 @@
 -- The journal of a node: what it did, in order, each step under the ticket that was drawn for it.
-use Rattle.std.specs.Prelude.{◌≡◌, ◌<◌, ◌≤◌, ◌^◌, ◌⊎◌, ℕ, List, [], ◌∷◌, ◌++◌, map, length, All}
+use Rattle.std.specs.Prelude.{◌≡◌, ◌<◌, ◌≤◌, ◌^◌, ◌⊎◌, ℕ, nat_lt, Bool, true, false, List, [], ◌∷◌, ◌++◌, map, length, All, ⊤}
 use Rattle.std.specs.List.{Contains, flat_map}
 use Rattle.cluster_config.specs.Config.{ClusterConfig}
 use Rattle.node_step.specs.Numbers.{NoNumberLeft}
 use Rattle.node_step.specs.State.{NodeState}
 use Rattle.node_step.specs.Step.{NodeStep}
 use Rattle.node_step.specs.declared.event.Event.{Event}
+use Rattle.node_step.specs.declared.event.Event.TheVariants.{Deliver}
 use Rattle.node_core.specs.declared.fault.StepFault.{StepFault}
 use Rattle.node_core.specs.declared.fault.StepFault.TheVariants.{Memory, Exhausted}
 use Rattle.node_step.specs.declared.outputs.Outputs.{Outputs}
 use Rattle.node_step.specs.declared.outputs.Release.{Release}
 use Rattle.bus.specs.declared.message.Message.{Message}
 use Rattle.node_cell.specs.Kept.{kept_after}
+use Rattle.node_cell.specs.declared.delivery.DeliveryFault.{DeliveryFault}
+use Rattle.node_cell.specs.declared.delivery.DeliveryFault.TheVariants as delivery
 use Rattle.node_cell.specs.declared.entry.Entry.{Entry}
 use Rattle.node_cell.specs.declared.entry.Entry.TheVariants.{Step, Skipped}
 
@@ -51,9 +54,19 @@ released_by (Skipped ticket) = []
 abbrev pub IsGiven : List Entry → Release → Type 0
 IsGiven journal release = Contains (flat_map released_by journal) release
 
+-- the event is the node's own: no message that arrives
+abbrev pub IsOwn : Event → Type 0
+IsOwn (Deliver message) = ⊥
+IsOwn event = ⊤
+
+-- the event may take place under the ticket: a message comes under a greater one than that of the step that sent it
+abbrev pub comes_in_time : ℕ → Event → Bool
+comes_in_time ticket (Deliver message) = nat_lt message.ticket ticket
+comes_in_time ticket event = true
+
 -- an entry leads from a state to the next: by a step under its ticket, or to the same state
 abbrev pub Leads : NodeState → Entry → NodeState → Type 0
-Leads old (Step event outputs) new = NodeStep outputs.ticket old event outputs new
+Leads old (Step event outputs) new = (comes_in_time outputs.ticket event ≡ true) × NodeStep outputs.ticket old event outputs new
 Leads old (Skipped ticket) new = new ≡ old
 
 -- the entries lead from the first state to the last
@@ -88,6 +101,7 @@ entry_of entered = Step entered.event entered.outputs
 pub record Makes (old : NodeState) (before : List Entry) (ticket : ℕ) (event : Event) (entered : EnteredView)
     (new : NodeState) (after : List Entry) : Type 0 where
   pub of : entered.event ≡ event
+  pub in_time : comes_in_time ticket event ≡ true
   pub step : NodeStep ticket old event entered.outputs new
   pub entry : after ≡ before ++ entry_of entered ∷ []
 
@@ -123,3 +137,16 @@ pub record IsSkipped (old : CellView) (event : Event) (fault : StepFault) (new :
 -- why no step was made
 abbrev pub IsRefused : CellView → Event → StepFault → CellView → Type 0
 IsRefused old event fault new = IsTurnedAway old fault new ⊎ IsSkipped old event fault new
+
+-- the event came under a ticket that isn't greater than its own: that ticket is entered as skipped, and nothing else changed
+pub record IsTooEarly (old : CellView) (event : Event) (new : CellView) : Type 0 where
+  pub ticket : ℕ
+  pub early : comes_in_time ticket event ≡ false
+  pub entry : new.journal ≡ old.journal ++ Skipped ticket ∷ []
+  pub rest : new ≡ record old { journal = new.journal }
+
+-- why no step was made for an event that may be a message
+abbrev pub IsNotTaken : CellView → Event → DeliveryFault → CellView → Type 0
+IsNotTaken old event delivery.Memory new = IsRefused old event Memory new
+IsNotTaken old event delivery.Exhausted new = IsRefused old event Exhausted new
+IsNotTaken old event delivery.Early new = IsTooEarly old event new

@@ -3,7 +3,7 @@ ghost use Rattle.std.specs.Prelude.{◌≡◌, ◌++◌, ◌∷◌, [], IfOk, If
 ghost use Rattle.node_cell.specs.Asks.{noted, outcome_of};
 ghost use Rattle.node_cell.specs.Asks.Asked.{asking, waiting};
 ghost use Rattle.node_step.specs.State.{first_state};
-ghost use Rattle.node_cell.specs.Journal.{Enters, IsHistory, IsRefused};
+ghost use Rattle.node_cell.specs.Journal.{Enters, IsHistory, IsOwn, IsRefused};
 
 use crate::cell::NodeCell;
 use crate::deployment::Deployment;
@@ -62,12 +62,13 @@ impl Asks {
         }
     }
 
-    /// Has the node make its step for the event, as [`NodeCell::apply`] does, and notes what came of it.
+    /// Has the node make its step for an event that is no message, as [`NodeCell::apply`] does, and notes what came of it.
     pub fn ask<K: Deployment, L: Log>(
         &mut self,
         cell: &mut NodeCell<K, L>,
         event: Event,
     ) -> Result<Entered<K>, StepFault>
+        requires own { IsOwn event }
         ensures asked { self.new ≡ self.old ++ asking event (outcome_of (λ entered. entered.outputs) result) ∷ [] }
         ensures cluster { cell.old.config ≡ K.config }
         ensures history { IsHistory (first_state cell.old.config cell.old.node) cell.old.journal cell.old.state }

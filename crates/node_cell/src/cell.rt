@@ -1,5 +1,5 @@
 //! A node with its journal and its seat at the tickets.
-ghost use Rattle.std.specs.Prelude.{◌≡◌, ◌<◌, ◌==◌, ◌++◌, ◌∷◌, [], All, length, not, Err, IfOk, IfErr, IfSome, OnErr, OnOk, vec_len, vec_capacity};
+ghost use Rattle.std.specs.Prelude.{◌≡◌, ◌<◌, ◌==◌, ◌++◌, ◌∷◌, [], All, length, not, true, Err, IfOk, IfErr, IfSome, OnErr, OnOk, vec_len, vec_capacity};
 ghost use Rattle.std.specs.List.{list_any};
 ghost use Rattle.tickets.specs.Tickets.{drawn, table_of, seats_of, IsFresh};
 ghost use Rattle.node_step.specs.State.{first_state};
@@ -7,12 +7,15 @@ ghost use Rattle.node_step.specs.Step.{NodeStep};
 ghost use Rattle.node_core.specs.declared.fault.StepFault.TheVariants.{Exhausted};
 ghost use Rattle.node_step.specs.Kept.{reply_to, without_reply_to};
 ghost use Rattle.node_cell.specs.Kept.{joined, kept_after};
-ghost use Rattle.node_cell.specs.Journal.{Advances, Enters, IsGiven, IsRefused, IsHistory, Makes, Rises, Skips, tickets_of};
+ghost use Rattle.node_step.specs.declared.event.Event.TheVariants.{Deliver};
+ghost use Rattle.node_cell.specs.Journal.{Advances, Enters, IsGiven, IsHistory, IsNotTaken, IsOwn, IsRefused, Makes, Rises, Skips, comes_in_time, tickets_of};
 
+use crate::delivery::DeliveryFault;
 use crate::deployment::Deployment;
 use crate::entered::Entered;
 use crate::kept::{has_some, keep, take};
 use crate::log::Log;
+use bus::Message;
 use cluster_config::Config;
 use node_core::{Conn, Core, Event, Messages, Outputs, Releases, StepFault};
 use resp2::Reply;
@@ -87,29 +90,62 @@ impl<K: Deployment, L: Log> NodeCell<K, L> {
         })
     }
 
-    /// Makes the node's step for the event: one ticket, one step, one entry.
+    /// Makes the node's step for an event that is no message: one ticket, one step, one entry.
     ///
     /// Memory and Exhausted leave the node as it was. A refusal before a ticket was drawn leaves no entry; a refusal after
     /// that leaves the ticket as skipped.
     pub fn apply(&mut self, event: Event) -> Result<Entered<K>, StepFault>
+        requires own { IsOwn event }
         ensures cluster { self.old.config ≡ K.config }
         ensures history { IsHistory (first_state self.old.config self.old.node) self.old.journal self.old.state }
         ensures ok { IfOk result (λ entered. Enters self.old event entered self.new) }
         ensures err { IfErr result (λ fault. IsRefused self.old event fault self.new) }
     {
+        match self.take(event) {
+            Ok(entered) => Ok(entered),
+            Err(DeliveryFault::Memory) => Err(StepFault::Memory),
+            Err(DeliveryFault::Exhausted) => Err(StepFault::Exhausted),
+            Err(DeliveryFault::Early) => unreachable!(),
+        }
+    }
+
+    /// Delivers a message to the node: one ticket, one step, one entry, as [`apply`](NodeCell::apply) has it.
+    ///
+    /// A message is older than its delivery. One that isn't, as the tickets tell it, is `Early`, and its ticket is entered as
+    /// skipped.
+    pub fn deliver(&mut self, message: Message) -> Result<Entered<K>, DeliveryFault>
+        ensures ok { IfOk result (λ entered. Enters self.old (Deliver message) entered self.new) }
+        ensures err { IfErr result (λ fault. IsNotTaken self.old (Deliver message) fault self.new) }
+    {
+        self.take(Event::Deliver(message))
+    }
+
+    fn take(&mut self, event: Event) -> Result<Entered<K>, DeliveryFault>
+        ensures cluster { self.old.config ≡ K.config }
+        ensures history { IsHistory (first_state self.old.config self.old.node) self.old.journal self.old.state }
+        ensures ok { IfOk result (λ entered. Enters self.old event entered self.new) }
+        ensures err { IfErr result (λ fault. IsNotTaken self.old event fault self.new) }
+    {
         // Room comes before the ticket: one that is drawn has to be entered.
         make_room(&mut self.log, &mut self.kept, &mut self.outbox)?;
         let Some(ticket) = self.seat.draw() else {
-            return Err(StepFault::Exhausted);
+            return Err(DeliveryFault::Exhausted);
         };
-        advance(
+        if !comes_in_time(ticket, &event) {
+            self.log.enter_skip(ticket);
+            return Err(DeliveryFault::Early);
+        }
+        match advance(
             &mut self.core,
             &mut self.log,
             &mut self.kept,
             &mut self.outbox,
             ticket,
             event,
-        )
+        ) {
+            Ok(entered) => Ok(entered),
+            Err(fault) => Err(DeliveryFault::from(fault)),
+        }
     }
 
     /// Takes the first reply that is kept for the connection.
@@ -184,6 +220,16 @@ fn make_room<L: Log>(
     outbox.reserve(1)
 }
 
+// Whether the event may take place under the ticket: a message comes under a greater one than that of the step that sent it.
+fn comes_in_time(ticket: u64, event: &Event) -> bool
+    ensures { result ≡ comes_in_time ticket event.now }
+{
+    match event {
+        Event::Deliver(message) => message.ticket < ticket,
+        Event::Open | Event::Close(_) | Event::Request(_, _) | Event::Tick => true,
+    }
+}
+
 // Makes the step and enters it, or enters the ticket as skipped.
 fn advance<K: Deployment, L: Log>(
     core: &mut Core,
@@ -193,6 +239,7 @@ fn advance<K: Deployment, L: Log>(
     ticket: u64,
     event: Event,
 ) -> Result<Entered<K>, StepFault>
+    requires in_time { comes_in_time ticket event ≡ true }
     requires log { L.has_room log.old }
     requires kept { vec_len kept.old < vec_capacity kept.old }
     requires outbox { vec_len outbox.old < vec_capacity outbox.old }

@@ -2,6 +2,7 @@
 ghost use Rattle.std.specs.Prelude.{◌≡◌, ◌++◌, ◌∷◌, [], IfOk, IfErr, IfSome};
 ghost use Rattle.node_cell.specs.Asks.{outcome_of};
 ghost use Rattle.node_cell.specs.Asks.Asked.{asking, waiting};
+ghost use Rattle.node_cell.specs.Journal.{IsOwn};
 
 use crate::deployment::Deployment;
 use crate::entered::Entered;
@@ -44,10 +45,11 @@ pub trait NodeGate {
 
     ghost may_give: { Connection → Given → Type 0 };
 
-    /// Makes the node's step for the event: the answer is for this event, and one that the node may give.
+    /// Makes the node's step for an event that is no message: the answer is for this event, and one that the node may give.
     ///
     /// Memory and Exhausted leave the node as it was, and come where the node may refuse the event so.
     fn step(&mut self, event: Event) -> Result<Self::Answer, StepFault>
+        requires own { IsOwn event }
         ensures asked { asked self.new ≡ asked self.old ++ asking event (outcome_of Self.Answer.gave result) ∷ [] }
         ensures event { IfOk result (λ answer. Self.Answer.event answer ≡ event) }
         ensures may { IfOk result (λ answer. may event (Self.Answer.gave answer)) }

@@ -3,6 +3,7 @@
 
 mod asks;
 mod cell;
+mod delivery;
 mod deployment;
 mod entered;
 mod entry;
@@ -12,6 +13,7 @@ mod log;
 
 pub use asks::Asks;
 pub use cell::NodeCell;
+pub use delivery::DeliveryFault;
 pub use deployment::Deployment;
 pub use entered::Entered;
 pub use entry::Entry;
