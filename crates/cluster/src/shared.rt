@@ -3,7 +3,12 @@
 use node_cell::{Deployment, Log, NodeCell};
 use std::sync::atomic::{AtomicBool, Ordering};
 use std::sync::{Condvar, Mutex, MutexGuard, Wait};
+use std::thread;
 use std::time::Duration;
+
+// How often a thread lets others run before it sleeps until the node's lock is free. The lock is held for some microseconds, and
+// to sleep and to be woken takes longer than that.
+const MOST_YIELDS: u32 = 500;
 
 /// A node of the cluster `K` behind its lock, whose journal is an `L`, with the bells that ring for those who wait there.
 #[derive(Drop)]
@@ -38,6 +43,12 @@ impl<K: Deployment, L: Log> SharedNode<K, L> {
 
     /// Locks the node.
     pub(crate) fn lock<R: Wait>(&self, rt: &R) -> MutexGuard<'_, NodeCell<K, L>> {
+        for _ in 0..MOST_YIELDS {
+            if let Some(cell) = self.cell.try_lock() {
+                return cell;
+            }
+            thread::yield_now();
+        }
         self.cell.lock(rt)
     }
 
