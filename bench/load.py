@@ -2,6 +2,7 @@
 
 import csv
 import io
+import resource
 import socket
 import subprocess
 
@@ -22,6 +23,18 @@ def benchmark_all(ports, tests, count, keys, pipeline, connections):
     """Lets a redis-benchmark at each port send so many requests of its test, all at once, and returns the sum of their rates."""
     begun = [start(port, test, count, keys, pipeline, 16, connections) for port, test in zip(ports, tests)]
     return sum(rate_of(process) for process in begun)
+
+
+def costs(server, test, count, keys, pipeline, connections):
+    """Returns the seconds of a processor that a request takes redis-benchmark, and those that it takes the server."""
+    served, sent = server.processor_seconds(), children_seconds()
+    benchmark(server.port, test, count, keys, pipeline, 16, connections)
+    return (children_seconds() - sent) / count, (server.processor_seconds() - served) / count
+
+
+def children_seconds():
+    used = resource.getrusage(resource.RUSAGE_CHILDREN)
+    return used.ru_utime + used.ru_stime
 
 
 def start(port, test, count, keys, pipeline, size, connections):

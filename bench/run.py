@@ -1,7 +1,7 @@
 #!/usr/bin/env python3
 """What a request costs here and in Redis, under the same load in the same run.
 
-usage: bench/run.py [instructions] [throughput] [commands] [connections] [memory] [--quick] [--out FILE]
+usage: bench/run.py [instructions] [throughput] [commands] [connections] [processors] [memory] [--quick] [--out FILE]
 
 Without a word all of them are measured. The report goes to the output, and to FILE. The program is the built one
 (./serve builds it) or that of the variable RCLUSTER. It needs redis-server and redis-tools, and for `instructions`
@@ -194,6 +194,24 @@ def connections(report, scale):
                *[f"{bytes_a_connection(server, count):,.0f}" for server in (servers.rcluster, servers.redis)])
 
 
+# ---- what a request costs on both sides
+
+def processors(report, scale):
+    report.say("\n## Processor time of a request")
+    report.say("\nMicroseconds of a processor for each request of 50 connections over 100,000 keys, the middle of seven rounds: what it takes")
+    report.say("the load, redis-benchmark, which has one thread, and what it takes the server. No server gets more requests a second")
+    report.say("than such a load can send.")
+    report.table("Command", "Pipeline", "load at rcluster", "load at Redis", "rcluster", "Redis", "most that the load sends")
+    with servers.rcluster() as ours, servers.redis() as theirs:
+        for pipeline in (1, 16):
+            for command in ("SET", "GET"):
+                count = int((50000 if pipeline == 1 else 400000) * scale)
+                rounds = [[load.costs(it, TESTS[command], count, 100000, pipeline, 50) for it in (ours, theirs)] for _ in range(7)]
+                middle = lambda server, side: statistics.median(each[server][side] for each in rounds)
+                times = [middle(server, side) for side in (0, 1) for server in (0, 1)]
+                report.row(command, pipeline, *[f"{it * 1e6:.2f}" for it in times], f"{1 / min(times[:2]):,.0f}")
+
+
 # A request for each of three masters: its keys have a tag of a slot that the master has.
 def at_each_master(command):
     value = [VALUE] if command == "SET" else []
@@ -277,6 +295,7 @@ PARTS = {
     "throughput": throughput,
     "commands": commands,
     "connections": connections,
+    "processors": processors,
     "memory": memory,
 }
 
