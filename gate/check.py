@@ -1,29 +1,27 @@
-"""Passes what is not known to pass on this machine: proofs, edits that must be refused, programs, and test scripts.
+"""Passes everything: proofs, edits that must be refused, programs, and test scripts.
 
-usage: ./check [--anew]    with --anew it takes nothing from what is known
+usage: ./check [--anew]    with --anew the kit takes nothing from what it passed on this machine before
 """
 
 import os
+import re
 import subprocess
 import sys
 import time
 
-import kit as kits
-from gate import Gate
-from memory import Memory, sum_of_paths
+from sources import ROOT, note_built, program_of
 
-ROOT = os.path.dirname(os.path.dirname(os.path.abspath(__file__)))
-REFUSING = ("tests/each_allocation.sh", "tests/refuse.c")
-# What a script takes from the tests on sockets, to run a server and to talk to it.
-TALKING = tuple(f"tests/on_a_socket/{it}.py" for it in ("calling", "clusters", "moving", "program", "resharding", "wire"))
-# The test scripts: the program that each runs, and what else it depends on.
+# The test scripts, and the program that each runs.
 SCRIPTS = {
-    "tests/refused_memory": ("refused_memory", ("tests/refused_memory", *REFUSING)),
-    "tests/refused_moves": ("node_cases", ("tests/refused_moves", *REFUSING)),
-    "tests/refused_calls": ("rcluster", ("tests/refused_calls", *REFUSING, *TALKING, "examples")),
-    "tests/on_a_socket/run": ("rcluster", ("tests/on_a_socket", "examples")),
-    "tests/simulated/run": ("rcluster", ("tests/simulated", "examples")),
+    "tests/refused_memory": "refused_memory",
+    "tests/refused_moves": "node_cases",
+    "tests/refused_calls": "rcluster",
+    "tests/simulated/run": "rcluster",
+    "tests/on_a_socket/run": "rcluster",
 }
+# Where the kit's report of the last run is kept whole.
+LOG = os.path.join(ROOT, "check.log")
+COUNTS = re.compile(r"(\d+) passed, (\d+) failed")
 
 
 def main(words):
@@ -32,59 +30,68 @@ def main(words):
         return 2
     begun = time.monotonic()
     os.chdir(ROOT)
-    try:
-        kit = kits.load()
-    except kits.NoKit as error:
-        print(f"{error}. Nothing is known for it, so everything is passed by its own gate.", flush=True)
-        passed, failed = pass_by_another_kit()
-    else:
-        passed, failed = pass_by_known_kit(kit, bool(words))
+    passed, failed = pass_crates(words)
+    if not failed:
+        note_built()
+    for script, program in SCRIPTS.items():
+        is_well = run_script(script, program)
+        passed, failed = passed + is_well, failed + (not is_well)
     print(f"in {time.monotonic() - begun:.0f} s")
     print(f"{passed} passed, {failed} failed")
     return 1 if failed or not passed else 0
 
 
-def pass_by_known_kit(kit, is_anew):
-    crates = crates_of(kit)
-    memory = Memory(kits.contents(kit), " ".join(kit.handles_of(ROOT)), crates)
-    gate = Gate(kit, memory, crates, is_anew)
-    passed, failed = gate.pass_all()
-    lines = []
-    for script, (program, depends) in SCRIPTS.items():
-        begun = time.monotonic()
-        what = f"script {script} {sum_of_paths(ROOT, *depends)}"
-        if not is_anew and memory.has_passed(program, what):
-            is_well, how = True, "known"
-        else:
-            is_well = run_script(script, program)
-            how = f"{time.monotonic() - begun:.0f} s"
-            if is_well:
-                memory.note_passed(program, what)
-        lines.append(f"{script:<22}  {how}{'' if is_well else ', FAILED'}")
-        passed, failed = passed + is_well, failed + (not is_well)
-    gate.report.print()
-    print("\n".join(lines))
-    memory.clear()
-    return passed, failed
-
-
-def pass_by_another_kit():
+def pass_crates(words):
+    """Passes the kit's gate. Returns how much passed and how much failed."""
     try:
-        status = subprocess.run(["rt", "ci"], check=False).returncode
-    except OSError:
+        gate = subprocess.Popen(["rt", "ci", *words], stdout=subprocess.PIPE, stderr=subprocess.STDOUT, text=True, errors="replace")
+    except OSError as error:
+        print(f"The Rattle kit has to be on the PATH: {error}", file=sys.stderr)
         return 0, 1
-    results = [not status, *[run_script(script, program) for script, (program, _) in SCRIPTS.items()]]
-    return results.count(True), results.count(False)
+    report = Report()
+    with gate, open(LOG, "w", encoding="utf-8") as log:
+        for line in gate.stdout:
+            log.write(line)
+            log.flush()
+            report.hear(line.rstrip("\n"))
+    # A gate that failed without a count is one failure.
+    return report.passed, max(report.failed, int(gate.returncode != 0))
+
+
+class Report:
+    """Shows what the kit's gate says of each crate, and all lines of its check only where that failed."""
+
+    def __init__(self):
+        self.lines = []
+        self.passed, self.failed = 0, 0
+        self.begun = time.monotonic()
+
+    def hear(self, line):
+        counts = COUNTS.match(line)
+        if counts:
+            self.passed, self.failed = int(counts[1]), int(counts[2])
+        elif line.startswith("== "):
+            self.lines = [line]
+        elif line.endswith("NOT PROVED") or "NOT PROVED:" in line:
+            self.say("\n".join([*self.lines, line]))
+            self.lines = []
+        elif line.startswith("rt: "):
+            self.say(line[len("rt: "):])
+            self.lines = []
+        elif self.lines:
+            self.lines.append(line)
+        else:
+            self.say(line)
+
+    def say(self, text):
+        print(f"{time.monotonic() - self.begun:6.0f} s  {text}", flush=True)
 
 
 def run_script(script, program):
-    return subprocess.run([script, os.path.join("crates", program, "out", program)], check=False).returncode == 0
-
-
-def crates_of(kit):
-    """Returns the crates that crates.txt names, lowest first, as the kit's gate sees them."""
-    kit.rtlib.Crate = kit.Crate
-    return sorted(kit.rtlib.crates_below(ROOT), key=lambda it: len(it.below()))
+    begun = time.monotonic()
+    is_well = subprocess.run([script, program_of(program)], check=False).returncode == 0
+    print(f"{script}: {'passed' if is_well else 'FAILED'} in {time.monotonic() - begun:.0f} s", flush=True)
+    return is_well
 
 
 if __name__ == "__main__":
