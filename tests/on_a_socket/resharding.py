@@ -409,8 +409,11 @@ def play_cuts(judge):
     judge.equal("an undisturbed run", (first, second), ((0, line(3)), (0, line(0))))
     judge.least("how many requests it takes", count, 13)
     for cut in range(1, count + 1):
-        _, first, second, found = run(cut)
-        judge.equal(f"cut off behind request {cut}", first, (1, b"fault V2\n"))
+        made, first, second, found = run(cut)
+        # A node may have heard sooner that its slot is drained, so that a run repeats less, and ends before the cut.
+        is_cut = made >= cut
+        judge.equal(f"cut off behind request {cut}", first, (1, b"fault V2\n") if is_cut else (0, line(3)))
+        judge.true(f"cut off behind request {cut}: no run makes fewer than 13 requests", is_cut or made >= 13, str(made))
         judge.equal(f"begun again behind request {cut}: status", second[0], 0)
         judge.true(f"begun again behind request {cut}: line", second[1] in [line(it) for it in range(4)], repr(second[1]))
         judge.equal(f"begun again behind request {cut}: tables", found, wanted)
