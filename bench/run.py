@@ -199,9 +199,8 @@ def connections(report, scale):
 def processors(report, scale):
     report.say("\n## Processor time of a request")
     report.say("\nMicroseconds of a processor for each request of 50 connections over 100,000 keys, the middle of seven rounds: what it takes")
-    report.say("the load, redis-benchmark, which has one thread, and what it takes the server. No server gets more requests a second")
-    report.say("than such a load can send.")
-    report.table("Command", "Pipeline", "load at rcluster", "load at Redis", "rcluster", "Redis", "most that the load sends")
+    report.say("the load, redis-benchmark, which has one thread, with its start, and what it takes the server.")
+    report.table("Command", "Pipeline", "load at rcluster", "load at Redis", "rcluster", "Redis")
     with servers.rcluster() as ours, servers.redis() as theirs:
         for pipeline in (1, 16):
             for command in ("SET", "GET"):
@@ -209,7 +208,7 @@ def processors(report, scale):
                 rounds = [[load.costs(it, TESTS[command], count, 100000, pipeline, 50) for it in (ours, theirs)] for _ in range(7)]
                 middle = lambda server, side: statistics.median(each[server][side] for each in rounds)
                 times = [middle(server, side) for side in (0, 1) for server in (0, 1)]
-                report.row(command, pipeline, *[f"{it * 1e6:.2f}" for it in times], f"{1 / min(times[:2]):,.0f}")
+                report.row(command, pipeline, *[f"{it * 1e6:.2f}" for it in times])
 
 
 # A request for each of three masters: its keys have a tag of a slot that the master has.

@@ -43,7 +43,7 @@ def serve_unproved(file):
 
 def build():
     """Proves the program and the libraries below it, and returns whether all are proved."""
-    print("The program is not built yet. Its proofs take an hour or more on 4 cores; the next start takes a second.", flush=True)
+    print("The program is not built yet. Its proofs take long; the next start takes a second.", flush=True)
     begun = time.monotonic()
     try:
         built = subprocess.run(["rt", "run", "--", "--version"], check=False)
