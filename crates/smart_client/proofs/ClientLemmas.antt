@@ -1,8 +1,9 @@
 -- A call that goes on from deed to deed.
-use Rattle.std.proofs.Common.{◌≡◌, ◌≢◌, ◌<◌, ◌+◌, ◌++◌, ◌∷◌, ℕ, List, [], Bool, Option, Some, None, refl, ap, sym, subst, ◌∙◌, append_assoc, append-nil, arith}
-use Rattle.smart_client.specs.Calls.{AreWithin, Calls, ClientView, Deed, IsCallOf, IsRun, IsWaiting, IsWithin, MayAnswer, Nears, left_of, moments_of}
+use Rattle.std.proofs.Common.{◌≡◌, ◌≢◌, ◌<◌, ◌+◌, ◌++◌, ◌∷◌, ℕ, List, [], Option, Some, None, refl, ap, sym, subst, ◌∙◌, append_assoc, arith}
+use Rattle.smart_client.specs.Calls.{AreWithin, ClientView, Deed, IsCallOf, IsRun, IsWaiting, IsWithin, MayAnswer, Nears, kept_behind, left_of, moments_of}
+use Rattle.smart_client.specs.Kept.{Kept, kept_after}
 use Rattle.smart_client.specs.State.{ClientState}
-use Rattle.smart_client.specs.Step.{Answer, MayCome, MayComeTo, Steps}
+use Rattle.smart_client.specs.Step.{MayCome, MayComeTo, Steps}
 use Rattle.smart_client.specs.declared.action.Action.{Action}
 use Rattle.smart_client.specs.declared.action.Action.TheVariants.{Connect, Send, Done}
 use Rattle.smart_client.specs.declared.action.Event.{Event}
@@ -16,6 +17,7 @@ pub record Goes (words : List (List ℕ)) (old : ClientView) (wanted : Action) (
   pub deeds : List Deed
   pub done : now.deeds ≡ old.deeds ++ deeds
   pub call : IsCallOf words old.state (moments_of (happened.Call words) deeds wanted) now.state
+  pub kept : now.kept ≡ kept_behind deeds old.kept
 
 -- how many events may still come
 abbrev pub left_at : ℕ → Option Call → ℕ
@@ -76,15 +78,17 @@ may_come (Send words) event None waits may = absurd waits
 may_come (Send words) event (Some call) waits may = comes_to call.stage event waits may
 may_come (Done answer close) event under waits may = absurd may
 
-pub begins : (words : List (List ℕ)) (old now : ClientView) (wanted : Action) → now.deeds ≡ old.deeds → MayCome old.state.call (happened.Call words) → Steps old.state (happened.Call words) wanted now.state → Goes words old wanted now
-begins words old now wanted same may steps = record { deeds = []; done = same ∙ sym (append-nil old.deeds); call = (refl, tt, (now.state, may, steps, refl)) }
+kept_on : (deeds : List Deed) (deed : Deed) (kept : Kept) → kept_behind (deeds ++ deed ∷ []) kept ≡ kept_after deed.action deed.event (kept_behind deeds kept)
+kept_on [] deed kept = refl
+kept_on (first ∷ deeds) deed kept = kept_on deeds deed (kept_after first.action first.event kept)
 
 pub passes_on : (words : List (List ℕ)) (old middle new : ClientView) (wanted later : Action) (event : Event) → Goes words old wanted middle → new.deeds ≡ middle.deeds ++ record { action = wanted; event = event } ∷ []
-    → MayAnswer wanted event → IsWaiting wanted middle.state.call → Steps middle.state event later new.state → Goes words old later new
-passes_on words old middle new wanted later event goes grown may waits steps = record {
+    → new.kept ≡ kept_after wanted event middle.kept → MayAnswer wanted event → IsWaiting wanted middle.state.call → Steps middle.state event later new.state → Goes words old later new
+passes_on words old middle new wanted later event goes grown kept_then may waits steps = record {
   deeds = goes.deeds ++ record { action = wanted; event = event } ∷ [];
   done = grown ∙ ap (λ (deeds : List Deed). deeds ++ record { action = wanted; event = event } ∷ []) goes.done ∙ append_assoc old.deeds goes.deeds (record { action = wanted; event = event } ∷ []);
   call = goes_on words old.state middle.state new.state event wanted later goes.deeds goes.call (is_within wanted event may) (may_come wanted event middle.state.call waits may) steps;
+  kept = kept_then ∙ ap (λ (kept : Kept). kept_after wanted event kept) goes.kept ∙ sym (kept_on goes.deeds (record { action = wanted; event = event }) old.kept);
 }
 
 -- each event leaves fewer
@@ -96,6 +100,3 @@ fewer limit (Connect address) later event (Some call) None waits may later_waits
 fewer limit (Connect address) later event (Some call) (Some other) waits may later_waits nears = omega (arith, nears)
 fewer limit (Send words) later event (Some call) None waits may later_waits nears = omega arith
 fewer limit (Send words) later event (Some call) (Some other) waits may later_waits nears = omega (arith, nears)
-
-pub ends : (words : List (List ℕ)) (old now : ClientView) (answer : Answer) (close : Bool) → Goes words old (Done answer close) now → Calls words old answer now
-ends words old now answer close goes = record { deeds = goes.deeds; close = close; done = goes.done; call = goes.call }

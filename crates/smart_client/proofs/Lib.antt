@@ -1,5 +1,6 @@
 pub mod LawLemmas
 pub mod PlaceLemmas
+pub mod KeptLemmas
 pub mod RequestLemmas
 pub mod CallLemmas
 pub mod ClientLemmas

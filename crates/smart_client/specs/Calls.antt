@@ -1,7 +1,8 @@
 -- A client's call as a whole: how it goes on, and when a command is sent again.
-use Rattle.std.specs.Prelude.{◌≡◌, ◌≢◌, ◌+◌, ◌-◌, ◌*◌, ◌<◌, ◌++◌, ◌∷◌, ◌⊎◌, ℕ, Bool, List, [], Option, Some, None, ⊤}
+use Rattle.std.specs.Prelude.{◌≡◌, ◌≢◌, ◌+◌, ◌-◌, ◌*◌, ◌<◌, ◌++◌, ◌∷◌, ◌⊎◌, ℕ, Bool, List, [], Option, Some, None, ⊤, if◌then◌else◌}
 use Rattle.resp2.specs.declared.reply.Reply.TheVariants.{Error}
 use Rattle.smart_client.specs.ErrorKind.{kind_of}
+use Rattle.smart_client.specs.Kept.{Kept, closed, kept_after}
 use Rattle.smart_client.specs.State.{ClientState}
 use Rattle.smart_client.specs.Step.{Answer, MayCome, MayComeTo, Steps}
 use Rattle.smart_client.specs.declared.action.Action.{Action}
@@ -83,17 +84,29 @@ MayAnswer (Connect address) event = MayComeTo Connecting event
 MayAnswer (Send words) event = MayComeTo Sent event
 MayAnswer (Done answer close) event = ⊥
 
--- a client, and all that it had done
+-- the connections that these deeds leave
+abbrev pub kept_behind : List Deed → Kept → Kept
+kept_behind [] kept = kept
+kept_behind (deed ∷ deeds) kept = kept_behind deeds (kept_after deed.action deed.event kept)
+
+-- the one in use is closed, or isn't
+abbrev pub closed_if : Bool → Kept → Kept
+closed_if close kept = if close then closed kept else kept
+
+-- a client, all that it had done, and the connections that there are
 pub record ClientView : Type 0 where
   pub state : ClientState
   pub deeds : List Deed
+  pub kept : Kept
 
--- a call with these words: what came of each thing that it wanted led to the next one, and the last of them was this answer
+-- a call with these words: what came of each thing that it wanted led to the next one, and the last of them was this answer; the
+-- connection that is in use then is closed, if the client wants that
 pub record Calls (words : List (List ℕ)) (old : ClientView) (answer : Answer) (new : ClientView) : Type 0 where
   pub deeds : List Deed
   pub close : Bool
   pub done : new.deeds ≡ old.deeds ++ deeds
   pub call : IsCallOf words old.state (moments_of (happened.Call words) deeds (Done answer close)) new.state
+  pub kept : new.kept ≡ closed_if close (kept_behind deeds old.kept)
 
 -- MOVED, ASK or TRYAGAIN: the node did not execute the command
 abbrev pub is_refusing : ErrorKind → Type 0

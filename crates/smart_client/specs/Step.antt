@@ -1,6 +1,6 @@
 -- What a client does with each event (Redis Cluster specification, "MOVED Redirection", "ASK redirection", "Clients first connection
 -- and handling of redirections"). TRYAGAIN, the limits and the numbers of moves are this project's own.
-use Rattle.std.specs.Prelude.{◌≡◌, ◌+◌, ◌==◌, ◌&&◌, ℕ, Bool, true, false, List, [], ◌∷◌, ◌++◌, length, Option, Some, None, Result, Ok, Err, slice_set, slice_index_or, if◌then◌else◌, codes, IsTrue, ◌⊎◌, ⊤}
+use Rattle.std.specs.Prelude.{◌≡◌, ◌+◌, ◌==◌, ℕ, Bool, true, false, List, [], ◌∷◌, ◌++◌, length, Option, Some, None, Result, Ok, Err, slice_set, slice_index_or, if◌then◌else◌, codes, IsTrue, ◌⊎◌, ⊤}
 use Rattle.std.specs.Str.{bytes_eq}
 use Rattle.std.specs.List.{position_or_len}
 use Rattle.resp2.specs.declared.reply.Reply.{Reply}
@@ -10,6 +10,7 @@ use Rattle.redirection.specs.Redirection.{IsNoRedirection, IsRedirection}
 use Rattle.redirection.specs.declared.redirection.Redirection.{Redirection}
 use Rattle.redirection.specs.declared.redirection.Redirection.TheVariants.{Moved, Ask}
 use Rattle.smart_client.specs.ErrorKind.{kind_of}
+use Rattle.smart_client.specs.Kept.{is_same}
 use Rattle.smart_client.specs.State.{ClientState}
 use Rattle.smart_client.specs.Words.{asking_words, is_refused, numbered_words, place_for}
 use Rattle.smart_client.specs.declared.action.Action.{Action}
@@ -68,7 +69,7 @@ with_connection peers place kept = slice_set peers place (record (peer_at peers 
 
 -- the address is this
 abbrev pub is_at : Place → Peer → Bool
-is_at address peer = bytes_eq peer.address.host address.host && (peer.address.port == address.port)
+is_at address peer = is_same address peer.address
 
 -- the place of the first node there, or the one behind all
 abbrev pub place_of : List Peer → Place → ℕ

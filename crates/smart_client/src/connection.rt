@@ -42,7 +42,9 @@ impl<R: Read + Drop, W: Write + Drop> Connection<R, W> {
         address: Address,
         reader: Counting<R>,
         writer: Counting<W>,
-    ) -> Result<Connection<R, W>, AllocError> {
+    ) -> Result<Connection<R, W>, AllocError>
+        ensures { IfOk result (λ connection. connection.address ≡ address) }
+    {
         Ok(Connection {
             address,
             reader,
@@ -55,45 +57,53 @@ impl<R: Read + Drop, W: Write + Drop> Connection<R, W> {
 
     /// Sends the request in one write, and reads the reply.
     pub(crate) fn exchange(&mut self, words: &Words) -> Event
-        ensures { MayComeTo Sent result }
+        ensures event { MayComeTo Sent result }
+        ensures address { self.new.address ≡ self.old.address }
     {
         match self.send(words) {
-            Ok(()) => self.receive(),
+            Ok(()) => receive(
+                &mut self.reader,
+                &mut self.replies,
+                self.input.as_mut_slice(),
+            ),
             Err(Unsent::Memory) => Event::NoMemory,
             Err(Unsent::Broken { handed }) => Event::Broken { handed },
         }
     }
 
-    fn send(&mut self, words: &Words) -> Result<(), Unsent> {
+    fn send(&mut self, words: &Words) -> Result<(), Unsent>
+        ensures { self.new.address ≡ self.old.address }
+    {
         self.output.clear();
         let Ok(()) = write_words(words, &mut self.output) else {
             return Err(Unsent::Memory);
         };
         hand_over(self.output.as_slice(), &mut self.writer)
     }
+}
 
-    fn receive(&mut self) -> Event
-        ensures { MayComeTo Sent result }
-    {
-        // A loop has to end, so this one counts its reads; each gives a byte at least.
-        'reads: for _ in 0..u64::MAX {
-            let count = match self.reader.read(self.input.as_mut_slice()) {
-                Ok(0) => return Event::Broken { handed: true },
-                Ok(count) => count,
-                Err(error) if error.kind() == ErrorKind::Interrupted => continue 'reads,
-                Err(_) => return Event::Broken { handed: true },
-            };
-            let Ok(()) = self.replies.feed(&self.input[..count]) else {
-                return Event::NoMemory;
-            };
-            match self.replies.next() {
-                Ok(Some(reply)) => return Event::Reply(reply),
-                Ok(None) => {}
-                Err(fault) => return event_of(fault),
-            }
+// Reads until there is a reply. The input holds the bytes of one read.
+fn receive<R: Read>(reader: &mut Counting<R>, replies: &mut ReplyReader, input: &mut [u8]) -> Event
+    ensures { MayComeTo Sent result }
+{
+    // A loop has to end, so this one counts its reads; each gives a byte at least.
+    'reads: for _ in 0..u64::MAX {
+        let count = match reader.read(input) {
+            Ok(0) => return Event::Broken { handed: true },
+            Ok(count) => count,
+            Err(error) if error.kind() == ErrorKind::Interrupted => continue 'reads,
+            Err(_) => return Event::Broken { handed: true },
+        };
+        let Ok(()) = replies.feed(&input[..count]) else {
+            return Event::NoMemory;
+        };
+        match replies.next() {
+            Ok(Some(reply)) => return Event::Reply(reply),
+            Ok(None) => {}
+            Err(fault) => return event_of(fault),
         }
-        Event::Broken { handed: true }
     }
+    Event::Broken { handed: true }
 }
 
 // What a fault of the bytes is to the client.

@@ -1,15 +1,17 @@
 //! The connections of a client, one for each address.
-ghost use Rattle.std.specs.Prelude.{◌≡◌};
+ghost use Rattle.std.specs.Prelude.{◌≡◌, OnOk, OnErr};
+ghost use Rattle.smart_client.specs.Kept.{kept_after, with_new};
 ghost use Rattle.smart_client.specs.Step.{MayComeTo};
-ghost use Rattle.smart_client.specs.declared.call.Stage.TheVariants.{Connecting, Sent};
+ghost use Rattle.smart_client.specs.declared.action.Action.TheVariants.{Connect};
+ghost use Rattle.smart_client.specs.declared.call.Stage.TheVariants.{Connecting};
 
 use crate::action::{Action, Event};
 use crate::connect::{Connect, ConnectFault};
 use crate::connection::Connection;
+use crate::kept_connections::KeptConnections;
 use crate::network::Network;
 use history::History;
 use redirection::Address;
-use resp2::Words;
 use std::alloc::Global;
 use std::marker::Model;
 use std::snapshot::Snapshot;
@@ -34,9 +36,7 @@ impl Model for Noted {
 pub struct Connections<C: Connect + Drop> {
     alloc: Global,
     connect: C,
-    kept: Vec<Connection<C::Reader, C::Writer>>,
-    // The place of the one in use.
-    used: Option<usize>,
+    kept: KeptConnections<C::Reader, C::Writer>,
     deeds: History<Noted>,
 }
 
@@ -46,8 +46,7 @@ impl<C: Connect + Drop> Connections<C> {
         Connections {
             alloc,
             connect,
-            kept: Vec::new(alloc),
-            used: None,
+            kept: KeptConnections::new(alloc),
             deeds: History::new(),
         }
     }
@@ -56,9 +55,9 @@ impl<C: Connect + Drop> Connections<C> {
     fn turn_to(&mut self, address: &Address) -> Event
         ensures event { MayComeTo Connecting result }
         ensures deeds { self.new.deeds ≡ self.old.deeds }
+        ensures kept { self.new.kept ≡ kept_after (Connect address.now) result self.old.kept }
     {
-        self.used = self.kept.iter().position(|kept| kept.address == *address);
-        if self.used.is_some() {
+        if self.kept.turn_to(address) {
             return Event::Connected;
         }
         match self.open(address) {
@@ -70,57 +69,28 @@ impl<C: Connect + Drop> Connections<C> {
 
     // Makes a new connection, and uses it.
     fn open(&mut self, address: &Address) -> Result<(), ConnectFault>
-        ensures { self.new.deeds ≡ self.old.deeds }
+        ensures deeds { self.new.deeds ≡ self.old.deeds }
+        ensures ok { OnOk result (self.new.kept ≡ with_new self.old.kept address.now) }
+        ensures err { OnErr result (self.new.kept ≡ self.old.kept) }
     {
-        self.kept.reserve(1)?;
+        self.kept.reserve()?;
         let address = address.clone()?;
         let (reader, writer) = self.connect.connect(&address)?;
         let connection = Connection::new(self.alloc, address, reader, writer)?;
-        let place = self.kept.len();
-        let Ok(()) = self.kept.push(connection) else {
-            return Err(ConnectFault::Memory);
-        };
-        self.used = Some(place);
+        self.kept.add(connection)?;
         Ok(())
-    }
-
-    // Sends the words on the connection in use, and reads the reply. A connection that failed isn't kept.
-    fn exchange(&mut self, words: &Words) -> Event
-        ensures event { MayComeTo Sent result }
-        ensures deeds { self.new.deeds ≡ self.old.deeds }
-    {
-        let Some(place) = self.used else {
-            return Event::Broken { handed: false };
-        };
-        let Some(connection) = self.kept.get_mut(place) else {
-            return Event::Broken { handed: false };
-        };
-        let event = connection.exchange(words);
-        if matches!(&event, Event::Broken { .. } | Event::BadReply) {
-            self.give_up();
-        }
-        event
-    }
-
-    // Closes the connection in use, if there is one.
-    fn give_up(&mut self)
-        ensures { self.new.deeds ≡ self.old.deeds }
-    {
-        if let Some(place) = self.used.take() {
-            if place < self.kept.len() {
-                let _closed = self.kept.swap_remove(place);
-            }
-        }
     }
 }
 
 impl<C: Connect + Drop> Network for Connections<C> {
     ghost deeds = { λ connections. connections.deeds };
 
+    ghost kept = { λ connections. connections.kept };
+
     fn perform(&mut self, action: Action) -> Event {
         let event = match &action {
             Action::Connect(address) => self.turn_to(address),
-            Action::Send(words) => self.exchange(words),
+            Action::Send(words) => self.kept.exchange(words),
             Action::Done { .. } => unreachable!(),
         };
         self.deeds.push(&Noted {
@@ -131,6 +101,6 @@ impl<C: Connect + Drop> Network for Connections<C> {
     }
 
     fn close(&mut self) {
-        self.give_up();
+        self.kept.close();
     }
 }

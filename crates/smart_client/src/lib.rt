@@ -13,6 +13,7 @@ mod ended;
 mod error_kind;
 mod fault;
 mod go_on;
+mod kept_connections;
 mod law;
 mod network;
 mod peers;

@@ -1,18 +1,22 @@
 //! A client's way to the nodes.
 ghost use Rattle.std.specs.Prelude.{◌≡◌, ◌++◌, ◌∷◌, []};
 ghost use Rattle.smart_client.specs.Calls.{IsDone, MayAnswer};
+ghost use Rattle.smart_client.specs.Kept.{closed, kept_after};
 
 use crate::action::{Action, Event};
 
 /// A client's way to the nodes: it keeps the connections, one for each address, does what the client's core wants, and says
 /// what came of it.
 ///
-/// Clauses see all that was done.
+/// Clauses see all that was done, and which connections there are.
 pub trait Network {
     ghost use Rattle.std.specs.Prelude.{List};
     ghost use Rattle.smart_client.specs.Calls.{Deed};
+    ghost use Rattle.smart_client.specs.Kept.{Kept};
 
     ghost deeds: { Self → List Deed };
+
+    ghost kept: { Self → Kept };
 
     /// Does what is wanted. For [`Action::Connect`] the connection to the address is in use from now on: the one that is
     /// kept, or else a new one. For [`Action::Send`] the words are sent there, and one reply is read.
@@ -21,9 +25,11 @@ pub trait Network {
     fn perform(&mut self, action: Action) -> Event
         requires { ¬ IsDone action }
         ensures event { MayAnswer action result }
-        ensures deeds { deeds self.new ≡ deeds self.old ++ record { action = action; event = result } ∷ [] };
+        ensures deeds { deeds self.new ≡ deeds self.old ++ record { action = action; event = result } ∷ [] }
+        ensures kept { kept self.new ≡ kept_after action result (kept self.old) };
 
     /// Closes the connection in use, if there is one.
     fn close(&mut self)
-        ensures { deeds self.new ≡ deeds self.old };
+        ensures deeds { deeds self.new ≡ deeds self.old }
+        ensures kept { kept self.new ≡ closed (kept self.old) };
 }

@@ -1,6 +1,6 @@
 //! The nodes that a client knows.
 ghost use Rattle.std.specs.Prelude.{◌≡◌, ◌<◌, ◌≤◌, ◌∷◌, [], false, length, IfOk};
-ghost use Rattle.smart_client.specs.State.{};
+ghost use Rattle.smart_client.specs.Kept.{is_same};
 ghost use Rattle.smart_client.specs.Step.{is_at, peer_at, place_of, with_address, with_connection};
 ghost use Rattle.smart_client.specs.declared.client_core.TheConstants.{MOST_ADDRESSES};
 
@@ -107,6 +107,12 @@ impl Peers {
 fn is_at(peer: &Peer, address: &Address) -> bool
     ensures { result ≡ is_at address.now peer.now }
 {
-    peer.address.host().as_slice() == address.host().as_slice()
-        && peer.address.port() == address.port()
+    is_same(address, &peer.address)
+}
+
+/// Whether the other address is this one.
+pub(crate) fn is_same(address: &Address, other: &Address) -> bool
+    ensures { result ≡ is_same address.now other.now }
+{
+    other.host().as_slice() == address.host().as_slice() && other.port() == address.port()
 }
