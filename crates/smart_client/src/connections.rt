@@ -1,6 +1,6 @@
 //! The connections of a client, one for each address.
-ghost use Rattle.std.specs.Prelude.{◌≡◌, OnOk, OnErr};
-ghost use Rattle.smart_client.specs.Kept.{kept_after, with_new};
+ghost use Rattle.std.specs.Prelude.{◌≡◌, [], OnOk, OnErr};
+ghost use Rattle.smart_client.specs.Kept.{kept_after, nothing_kept, with_new};
 ghost use Rattle.smart_client.specs.Step.{MayComeTo};
 ghost use Rattle.smart_client.specs.declared.action.Action.TheVariants.{Connect};
 ghost use Rattle.smart_client.specs.declared.call.Stage.TheVariants.{Connecting};
@@ -42,7 +42,10 @@ pub struct Connections<C: Connect + Drop> {
 
 impl<C: Connect + Drop> Connections<C> {
     /// No connection yet.
-    pub fn new(alloc: Global, connect: C) -> Connections<C> {
+    pub fn new(alloc: Global, connect: C) -> Connections<C>
+        ensures deeds { result.deeds ≡ [] }
+        ensures kept { result.kept ≡ nothing_kept }
+    {
         Connections {
             alloc,
             connect,
