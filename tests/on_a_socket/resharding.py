@@ -22,6 +22,9 @@ NOT_ACKNOWLEDGED = b"-IOERR copy not acknowledged\r\n"
 NOT_DRAINED = b"-ERR slot is not drained\r\n"
 REFUSED = b"-ERR no\r\n"
 LAST_MOVE = 9223372036854775807
+# The greatest limit that the program takes. A run repeats a request without a pause, so on a busy machine it may ask a thousand times
+# before a node's thread goes on.
+MOST_REPETITIONS = 1000000
 
 
 def words_of(port, slots=f"{SLOT}-{SLOT}", source=SOURCE, target=TARGET, limit=None):
@@ -35,6 +38,11 @@ def reshard(port, *slots, **more):
     """The status and the output of one run."""
     status, output, _ = program.run(*words_of(port, *slots, **more))
     return status, output
+
+
+def reshard_patiently(port, *slots, **more):
+    """The status and the output of one run that has to wait for nodes."""
+    return reshard(port, *slots, limit=MOST_REPETITIONS, **more)
 
 
 def line(count, slot=SLOT, move=1):
@@ -269,18 +277,18 @@ def play_a_cluster(judge):
     get = spelled(b"GET", b"foo")
     with Server(cluster):
         values = fill(judge, ports)
-        judge.equal("a slot with keys is moved", reshard(ports[4]), (0, line(len(values) + 3)))
+        judge.equal("a slot with keys is moved", reshard_patiently(ports[4]), (0, line(len(values) + 3)))
         compare(judge, "where they come to", ports[TARGET], values)
         judge.equal("by a client", cli(ports[5], "HGET", "{foo}h1", "2"), (0, b"$1\\r\\n3\\r\\n\n"))
         for node in (0, SOURCE, 3, 4, 5):
             judge.equal(f"node {node} knows where", in_time(ports[node], get, moved(SLOT, ports[TARGET])), moved(SLOT, ports[TARGET]))
-        judge.equal("the slot is there", reshard(ports[0]), (0, line(0)))
-        judge.equal("so it is from every other master on", reshard(ports[0], source=0), (0, line(0)))
-        judge.equal("a slot that was there all the time", reshard(ports[0], "6000-6000"), (0, line(0, 6000, 0)))
-        judge.equal("it is moved back", reshard(ports[0], source=TARGET, target=SOURCE), (0, line(len(values) + 3, move=2)))
+        judge.equal("the slot is there", reshard_patiently(ports[0]), (0, line(0)))
+        judge.equal("so it is from every other master on", reshard_patiently(ports[0], source=0), (0, line(0)))
+        judge.equal("a slot that was there all the time", reshard_patiently(ports[0], "6000-6000"), (0, line(0, 6000, 0)))
+        judge.equal("it is moved back", reshard_patiently(ports[0], source=TARGET, target=SOURCE), (0, line(len(values) + 3, move=2)))
         compare(judge, "where they came from", ports[SOURCE], values)
-        judge.equal("a replica can't be the target", reshard(ports[0], target=4), (1, b"fault V2\n"))
-        judge.equal("a source that hasn't got the slot", reshard(ports[0], "100-100"), (1, b"fault V3\n"))
+        judge.equal("a replica can't be the target", reshard_patiently(ports[0], target=4), (1, b"fault V2\n"))
+        judge.equal("a source that hasn't got the slot", reshard_patiently(ports[0], "100-100"), (1, b"fault V3\n"))
         play_a_range(judge, ports)
 
 
@@ -296,7 +304,7 @@ def play_a_range(judge, ports):
         for key in some:
             judge.equal("a key is set", talk(ports[SOURCE], spelled(b"SET", key, key)), OK)
     lines = b"".join(line(len(some), slot) for slot, some in of_slot.items())
-    judge.equal("a range of slots", reshard(ports[3], f"{first}-{last}", target=0), (0, lines))
+    judge.equal("a range of slots", reshard_patiently(ports[3], f"{first}-{last}", target=0), (0, lines))
     for some in of_slot.values():
         for key in some:
             judge.equal("a key of the range", talk(ports[0], spelled(b"GET", key)), bulk(key))
@@ -396,9 +404,9 @@ def play_cuts(judge):
             for key in values:
                 judge.equal("a key is set", talk(ports[SOURCE], spelled(b"SET", key, key)), OK)
             relay = Relay(ports, cut)
-            first = reshard(relay.own[0])
+            first = reshard_patiently(relay.own[0])
             relay.close()
-            second = reshard(ports[0])
+            second = reshard_patiently(ports[0])
             found = tables_in_time(ports, wanted)
             for key in values:
                 judge.equal(f"cut off behind request {cut}: {key}", talk(ports[TARGET], spelled(b"GET", key)), bulk(key))
