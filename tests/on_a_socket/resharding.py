@@ -293,7 +293,7 @@ def play_a_cluster(judge):
 
 
 def play_a_range(judge, ports):
-    """Slots of which some have keys, the last slot of all among them, and a limit that moves that repeat nothing keep."""
+    """Slots of which some have keys, the last slot of all among them."""
     first, last = 16370, 16383
     of_slot = {slot: [] for slot in range(first, last + 1)}
     for count in range(40000):
