@@ -1,0 +1,40 @@
+"""A copy of the repository's crates in a folder of its own, for the kit to work on."""
+
+import os
+import shutil
+
+from sources import PARTS, ROOT, crate_names, libraries
+
+# What the kit runs a program on.
+RUN = ("stdin", "stdout", "args", "status", "data")
+
+
+def copy_crates(to, names=None, edits_of=None):
+    """Copies these crates, or all, to the folder `to`, with a list of just these.
+
+    The wrong bodies of the crates `edits_of` stand where the kit looks for edits. Those of no other crate are copied.
+    """
+    names = crate_names() if names is None else names
+    shutil.copy(os.path.join(ROOT, "HANDLES"), to)
+    with open(os.path.join(ROOT, "crates.txt"), encoding="utf-8") as file, open(os.path.join(to, "crates.txt"), "w", encoding="utf-8") as copy:
+        copy.writelines(line for line in file if is_wanted(line, names))
+    for name in names:
+        crate = os.path.join(ROOT, "crates", name)
+        for part in (*PARTS, *RUN):
+            copy_part(os.path.join(crate, part), os.path.join(to, "crates", name, part))
+        if name in (edits_of or ()):
+            copy_part(os.path.join(crate, "wrong"), os.path.join(to, "crates", name, "must-fail"))
+
+
+def is_wanted(line, names):
+    """Whether this line of crates.txt is of one of these crates."""
+    head = line.partition("#")[0].partition(":")[0].split()
+    return bool(head) and head[0] in names and head[0] in libraries()
+
+
+def copy_part(part, to):
+    if os.path.isdir(part):
+        shutil.copytree(part, to)
+    elif os.path.isfile(part):
+        os.makedirs(os.path.dirname(to), exist_ok=True)
+        shutil.copy(part, to)

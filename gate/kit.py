@@ -1,0 +1,45 @@
+"""The Rattle kit of this machine, and the versions under which everything passed."""
+
+import os
+import shutil
+import subprocess
+
+HERE = os.path.dirname(os.path.abspath(__file__))
+# A line a version, as `rt version` prints it.
+VERSIONS = os.path.join(HERE, "KITS")
+
+
+class NoKit(Exception):
+    """The kit can't be found or asked."""
+
+
+def folder():
+    """Returns the folder of the kit."""
+    command = shutil.which("rt")
+    if command is None:
+        raise NoKit("the Rattle kit has to be on the PATH: there is no command `rt`")
+    return os.path.dirname(os.path.dirname(os.path.realpath(command)))
+
+
+def version():
+    """Returns what `rt version` prints."""
+    folder()
+    try:
+        asked = subprocess.run(["rt", "version"], stdout=subprocess.PIPE, stderr=subprocess.STDOUT, text=True, check=True)
+    except (OSError, subprocess.CalledProcessError) as error:
+        raise NoKit(f"`rt version` failed: {error}") from error
+    return asked.stdout.strip()
+
+
+def known_versions():
+    """Returns the versions under which everything passed."""
+    with open(VERSIONS, encoding="utf-8") as file:
+        return [line.strip() for line in file if line.strip()]
+
+
+def warning(running):
+    """Returns what to say where a proof fails under this version, or None where everything passed under it."""
+    known = known_versions()
+    if running in known:
+        return None
+    return f"This kit is {running}. Everything passed under {', '.join(known)}, so a proof may fail here that nobody changed."
