@@ -12,7 +12,7 @@ use key_slot::Slot;
 use std::alloc::{AllocError, Global};
 
 /// A command with its arguments.
-#[derive(Debug, Drop)]
+#[derive(Drop)]
 pub enum Command<'w> {
     /// It reads or writes keys.
     Data(DataCommand<'w>),
@@ -44,7 +44,7 @@ impl<'w> Command<'w> {
 }
 
 /// A command that a node executes on its keys.
-#[derive(Debug, Drop)]
+#[derive(Drop)]
 pub enum DataCommand<'w> {
     /// Replies `PONG`.
     Ping,
@@ -358,7 +358,7 @@ impl Condition {
 
 /// A subcommand of CLUSTER, or a command that moves keys. The node that receives it replies itself, whichever node owns a
 /// slot.
-#[derive(Debug, Drop)]
+#[derive(Drop)]
 pub enum ClusterCommand<'w> {
     /// Asks for the slot of a key.
     KeySlot {

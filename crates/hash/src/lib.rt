@@ -6,6 +6,7 @@ mod changing;
 mod extent;
 mod hash;
 mod sizes;
+mod words;
 
 pub use boxed::BoxedHash;
 pub use extent::Extent;

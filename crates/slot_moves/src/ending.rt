@@ -1,5 +1,5 @@
 //! What becomes of an order that gives a slot to a node.
-ghost use Rattle.std.specs.Prelude.{◌≡◌};
+ghost use Rattle.std.specs.Prelude.{◌≡◌, ◌+◌, ◌<◌, ◌^◌, SomeIff, max};
 ghost use Rattle.std.specs.Option.{option_copied};
 ghost use Rattle.slot_moves.specs.Ending.{node_verdict, by_owner};
 
@@ -64,4 +64,15 @@ fn by_owner(owner: Option<NodeNo>, node: NodeNo) -> NodeVerdict
     } else {
         NodeVerdict::NotYetOwner
     }
+}
+
+/// The epoch in which a slot is the node's own once its import ends, or None where no number is left for it.
+///
+/// It is above the node's own epoch, above the one that the former owner said with its last word, and above the one in which
+/// the node knows the slot: so the new owner's claim counts above each that was made before.
+pub fn epoch_after_import(current: Epoch, drained: Epoch, known: Epoch) -> Option<Epoch>
+    ensures { SomeIff result (1 + max (max current drained) known < 2 ^ 64) (1 + max (max current drained) known) }
+{
+    let greatest = current.max(drained).max(known);
+    Some(Epoch::new(greatest.get().checked_add(1)?))
 }

@@ -11,7 +11,7 @@ mod running;
 mod slot_moves;
 mod state;
 
-pub use ending::NodeVerdict;
+pub use ending::{NodeVerdict, epoch_after_import};
 pub use importing::ImportVerdict;
 pub use migrating::MigrateVerdict;
 pub use move_no::MoveNo;

@@ -121,6 +121,16 @@ impl SlotTable {
     }
 }
 
+impl Clone for SlotTable {
+    ghost is_clone = { λ table copy. copy ≡ table };
+
+    /// A copy takes memory for all entries.
+    fn clone(&self) -> Result<SlotTable, AllocError> {
+        let entries = self.entries.clone()?;
+        Ok(SlotTable { entries })
+    }
+}
+
 // For each slot its entry at the start.
 fn first_entries(
     alloc: Global,
