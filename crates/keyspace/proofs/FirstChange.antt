@@ -10,7 +10,7 @@ use Rattle.keyspace.specs.Changes.{Changes, changes_of, applied, with_first}
 use Rattle.keyspace.specs.declared.value.Value.{Value}
 
 -- `==` of keys agrees with their order
-key_test : (k q : List ℕ) (b : Bool) → b ≡ pointwise nat_eq k q → is_key q k ≡ b
+pub key_test : (k q : List ℕ) (b : Bool) → b ≡ pointwise nat_eq k q → is_key q k ≡ b
 key_test k q b e = (eq_by_cmp_equiv nat_list_cmp_total).symm q k ∙ sym (texts_ties k q) ∙ sym e
 
 module _ (first : Option (List ℕ × Option Value)) (d m : Changes) (is : with_first first d ≡ m) where
@@ -34,7 +34,12 @@ module _ (first : Option (List ℕ × Option Value)) (d m : Changes) (is : with_
   pub insert_more : (k : List ℕ) (b c : Option Value) (q : List ℕ) → first ≡ Some (k, b) → false ≡ pointwise nat_eq k q → map.insert (map.insert d q c) k b ≡ map.insert m q c
   insert_more k b c q some apart = insert_apart d k q b c ((eq_by_cmp_equiv nat_list_cmp_total).symm k q ∙ key_test k q false apart) ∙ ap (λ n. map.insert n q c) (sym (ap (λ o. with_first o d) some) ∙ is)
 
--- a plan whose first change is its only one
-pub applied_first : (first : Option (List ℕ × Option Value)) (es : List (List ℕ × Option Value)) (d : Changes) → with_first first (changes_of es) ≡ d → (k : List ℕ) (c : Option Value) → first ≡ Some (k, c) → length es ≡ 0 → (m : Keyspace) → changed m k c ≡ applied m d
-applied_first first [] d is k c some none m = sym (ap (applied m) (sym is ∙ ap (λ o. with_first o map.empty) some) ∙ applied_insert m map.empty k c ∙ ap (λ n. changed n k c) (applied_empty m))
-applied_first first (e ∷ es) d is k c some none m = absurd (omega arith)
+-- no change
+pub applied_none : (es : List (List ℕ × Option Value)) (m : Keyspace) → length es ≡ 0 → m ≡ applied m (changes_of es)
+applied_none [] m none = sym (applied_empty m)
+applied_none (e ∷ es) m none = absurd (omega arith)
+
+-- a change beside no others
+pub applied_only : (es : List (List ℕ × Option Value)) (k : List ℕ) (c : Option Value) (m : Keyspace) → length es ≡ 0 → changed m k c ≡ applied m (map.insert (changes_of es) k c)
+applied_only [] k c m none = sym (applied_insert m map.empty k c ∙ ap (λ n. changed n k c) (applied_empty m))
+applied_only (e ∷ es) k c m none = absurd (omega arith)

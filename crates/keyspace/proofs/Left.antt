@@ -1,19 +1,21 @@
 -- What commands leave at their only key.
-use Rattle.std.proofs.Common.{◌≡◌, ◌+◌, ◌++◌, ◌≤◌, ℕ, ℤ, List, [], ◌∷◌, length, true, false, cond, nat_eq, Option, Some, None, Ok, Err, ap, sym, ◌∙◌, arith}
+use Rattle.std.proofs.Common.{◌≡◌, ◌+◌, ◌-◌, ◌++◌, ◌≤◌, ℕ, ℤ, List, [], ◌∷◌, length, true, false, cond, nat_eq, pos, if◌then◌else◌, Option, Some, None, Ok, Err, refl, ap, sym, ◌∙◌, arith}
 use Rattle.std.specs.FinMap as map
 use Rattle.std.specs.Cmp.Lexicographic.{pointwise}
 use Rattle.std.specs.Fmt.{signed_decimal}
 use Rattle.std.specs.Map.{remove_entry}
+use Rattle.std.specs.Prelude.{is_some}
 use Rattle.command.specs.declared.error_line.ErrorLine.{ErrorLine}
 use Rattle.command.specs.declared.error_line.ErrorLine.TheVariants.{HashNotAnInteger, TooLong}
 use Rattle.hash.specs.Pairs.{Pairs, Changes, fields_changed, field_changed, value_of}
 use Rattle.indexmap.specs.IndexMap.{insert_entry}
+use Rattle.resp2.specs.declared.reply.Reply.{Reply}
 use Rattle.resp2.specs.declared.reply.Reply.TheVariants.{Integer}
-use Rattle.keyspace.specs.Effect.{error_reply}
+use Rattle.keyspace.specs.Effect.{error_reply, left, told}
 use Rattle.keyspace.specs.Commands.{taken_at}
-use Rattle.keyspace.specs.Hashes.{field_left, fields_of, hash_left, increased}
-use Rattle.keyspace.specs.Strings.{append_of, fitting, stored_number, string_left, string_of, sum_of}
-use Rattle.keyspace.specs.Keyspace.{Keyspace, appended, fields_left, hash_of}
+use Rattle.keyspace.specs.Hashes.{field_left, fields_of, hash_left, hdel_of, hsetnx_of, increased, on_fields, removals}
+use Rattle.keyspace.specs.Strings.{append_of, fitting, getdel_of, getset_of, is_hash, is_string, stored_number, string_left, string_of, string_reply, sum_of}
+use Rattle.keyspace.specs.Keyspace.{Keyspace, appended, changed, fields_left, hash_of, with_fields}
 use Rattle.keyspace.specs.declared.value.Value.{Value}
 use Rattle.keyspace.specs.declared.value.Value.TheVariants.{Str, Hash}
 
@@ -35,6 +37,48 @@ pub fields_left_of : (value : Option Value) (fields : Pairs) (changes : Changes)
 fields_left_of None fields changes is = ap (λ f. hash_of (fields_changed f changes)) (some_same [] fields is)
 fields_left_of (Some (Hash pairs)) fields changes is = ap (λ f. hash_of (fields_changed f changes)) (some_same pairs fields is)
 fields_left_of (Some (Str bytes)) fields changes is = absurd (cc)
+
+-- GETSET refuses a hash
+pub getset_hash : (value : List ℕ) (old : Option Value) → is_hash old ≡ true → getset_of value old ≡ told (string_reply old)
+getset_hash value None is = absurd (cc)
+getset_hash value (Some (Str bytes)) is = absurd (cc)
+getset_hash value (Some (Hash pairs)) is = refl
+
+-- and replies the string before, or null
+pub getset_other : (value : List ℕ) (old : Option Value) → is_hash old ≡ false → getset_of value old ≡ left (string_reply old) (Some (Str value))
+getset_other value None is = refl
+getset_other value (Some (Str bytes)) is = refl
+getset_other value (Some (Hash pairs)) is = absurd (cc)
+
+-- GETDEL removes a string
+pub getdel_string : (old : Option Value) → is_string old ≡ true → getdel_of old ≡ left (string_reply old) None
+getdel_string None is = absurd (cc)
+getdel_string (Some (Str bytes)) is = refl
+getdel_string (Some (Hash pairs)) is = absurd (cc)
+
+-- and nothing else
+pub getdel_other : (old : Option Value) → is_string old ≡ false → getdel_of old ≡ told (string_reply old)
+getdel_other None is = refl
+getdel_other (Some (Str bytes)) is = absurd (cc)
+getdel_other (Some (Hash pairs)) is = refl
+
+-- a missing field is set
+pub hsetnx_left : (before : Keyspace) (key field value : List ℕ) (fields : Pairs) → fields_of (map.get before key) ≡ Some fields → is_some (value_of fields field) ≡ false
+    → taken_at before (key ∷ []) (hash_left (Integer (pos 1)) key (field_changed fields field (Some value))) ≡ taken_at before (key ∷ []) (on_fields (fields_of (map.get before key)) (hsetnx_of key field value))
+hsetnx_left before key field value fields has missing =
+    sym (ap (λ f. taken_at before (key ∷ []) (on_fields f (hsetnx_of key field value))) has
+    ∙ ap (λ b. taken_at before (key ∷ []) (if b then told (Integer (pos 0)) else hash_left (Integer (pos 1)) key (field_changed fields field (Some value)))) missing)
+
+-- fields are removed, and so many were there
+pub hdel_left : (before : Keyspace) (key : List ℕ) (fields : List (List ℕ)) (pairs : Pairs) (changes : Changes) (count : ℕ) (reply : Reply) (after : Keyspace) → fields_of (map.get before key) ≡ Some pairs
+    → fields_changed pairs changes ≡ fields_changed pairs (removals fields) → count + length (fields_changed pairs changes) ≡ length pairs → after ≡ with_fields before key changes → reply ≡ Integer (pos count)
+    → record { reply = reply; after = after } ≡ taken_at before (key ∷ []) (on_fields (fields_of (map.get before key)) (hdel_of fields))
+hdel_left before key fields pairs changes count reply after has same counted left told =
+    let short = ap length same in
+    let number : count ≡ length pairs - length (fields_changed pairs (removals fields)) = omega arith in
+    let value = fields_left_of (map.get before key) pairs changes has ∙ ap hash_of same in
+    (λ i. record { reply = (told ∙ ap (λ n. Integer (pos n)) number) i; after = (left ∙ ap (changed before key) value) i })
+    ∙ sym (ap (λ f. taken_at before (key ∷ []) (on_fields f (hdel_of fields))) has)
 
 -- a change adds one field at most
 changed_one : (pairs : Pairs) (field : List ℕ) (value : Option (List ℕ)) → length (field_changed pairs field value) ≤ length pairs + 1

@@ -17,3 +17,5 @@ pub mod Rebuilt
 pub mod InPlace
 pub mod Fitting
 pub mod Replayed
+pub mod KeysLeft
+pub mod RemovedFields

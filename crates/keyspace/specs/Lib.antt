@@ -1,13 +1,17 @@
 pub mod Changes
+pub mod CommandGroups
 pub mod Commands
 pub mod Commit
 pub mod Effect
+pub mod HashChanges
 pub mod Hashes
 pub mod Keyspace
+pub mod Leaving
 pub mod Locality
 pub mod Numbers
 pub mod Parts
 pub mod Plan
+pub mod PlannedFields
 pub mod Rebuild
 pub mod Rebuilding
 pub mod Replay

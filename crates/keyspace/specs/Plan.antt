@@ -1,5 +1,6 @@
 -- A plan: changes that are decided and not made yet.
-use Rattle.std.specs.Prelude.{ℕ, List, Option, Some, None}
+use Rattle.std.specs.Prelude.{ℕ, nat_lt, Bool, List, Option, Some, None}
+use Rattle.std.specs.FinMap as map
 use Rattle.command.specs.Keys.{pair_keys}
 use Rattle.keyspace.specs.Commands.{with_values}
 use Rattle.keyspace.specs.Keyspace.{Keyspace, with_appended, with_fields}
@@ -16,7 +17,7 @@ with_strings keyspace pairs = with_values keyspace (pair_keys pairs) (strings_le
 -- a step made
 abbrev pub with_step : Keyspace → LastStep → Keyspace
 with_step keyspace (Append key bytes) = with_appended keyspace key bytes
-with_step keyspace (Fields key changes) = with_fields keyspace key changes.items
+with_step keyspace (Fields key changes) = with_fields keyspace key changes
 with_step keyspace (Strings pairs) = with_strings keyspace pairs.items
 
 -- the last step made, if there is one
@@ -27,3 +28,7 @@ with_last keyspace (Some step) = with_step keyspace step
 -- the keyspace once the plan is committed: first the values, then the last step
 unfoldable pub committed : Keyspace → Plan → Keyspace
 committed keyspace plan = with_last (applied keyspace plan.values) plan.last
+
+-- a key is there once the plan is committed
+abbrev pub leaves_keys : Keyspace → Plan → Bool
+leaves_keys keyspace plan = nat_lt 0 (map.len (committed keyspace plan))

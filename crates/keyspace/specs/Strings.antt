@@ -35,6 +35,18 @@ string_of None = Some []
 string_of (Some (Str bytes)) = Some bytes
 string_of (Some (Hash pairs)) = None
 
+-- the value is a string
+abbrev pub is_string : Option Value → Bool
+is_string None = false
+is_string (Some (Str bytes)) = true
+is_string (Some (Hash pairs)) = false
+
+-- the value is a hash
+abbrev pub is_hash : Option Value → Bool
+is_hash None = false
+is_hash (Some (Str bytes)) = false
+is_hash (Some (Hash pairs)) = true
+
 -- STRLEN
 abbrev pub length_reply : Option (List ℕ) → Reply
 length_reply None = error_reply WrongType

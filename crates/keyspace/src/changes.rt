@@ -1,9 +1,12 @@
 //! New values of any number of keys: decided first, and put later.
-ghost use Rattle.std.specs.Prelude.{◌≡◌, OnOk, OnErr, IfOk, IsOk, IsTrue, []};
+ghost use Rattle.std.specs.Prelude.{◌≡◌, ℕ, List, [], false, OnOk, OnErr, IfOk, IsOk, IsTrue, IsFalse};
+ghost use Rattle.std.specs.List.{list_any};
+ghost use Rattle.std.specs.Map.{keys_of};
 ghost use Rattle.std.specs.Option.{option_copied};
 ghost use Rattle.std.specs.FinMap as map;
 ghost use Rattle.keyspace.specs.Commit.{new_keys, with_placeholders, without, AddsNoKey, AddNoKeys};
-ghost use Rattle.keyspace.specs.Keyspace.{changed};
+ghost use Rattle.keyspace.specs.Keyspace.{Keyspace, changed};
+ghost use Rattle.keyspace.specs.Leaving.{beside, has_keys, is_gone, puts_beside};
 ghost use Rattle.keyspace.specs.Changes.{changes_of, applied};
 
 use crate::store::Store;
@@ -14,7 +17,6 @@ use std::collections::BTreeMap;
 use std::marker::Model;
 
 /// New values of keys that are decided and not put yet: at most one for each key. A single one allocates nothing.
-#[derive(Drop)]
 pub(crate) struct NewValues {
     // The key that was changed first, with its latest change. It stands apart so that a single change needs no tree.
     first: Option<(ByteString, Option<Value>)>,
@@ -37,6 +39,12 @@ impl Model for NewValues {
     ghost view = { λ values. with_first values.first (changes_of values.more.entries) };
 }
 
+impl Drop for NewValues {
+    fn drop(self) {
+        let NewValues { first: _, more: _ } = self;
+    }
+}
+
 impl NewValues {
     // No changes.
     pub(crate) fn new(alloc: Global) -> NewValues
@@ -56,7 +64,7 @@ impl NewValues {
     }
 
     // The change of the key, or None where there is none.
-    fn get(&self, key: &ByteString) -> Option<&Option<Value>>
+    pub(crate) fn get(&self, key: &ByteString) -> Option<&Option<Value>>
         ensures { option_copied result ≡ map.get self.now key.now }
     {
         match &self.first {
@@ -92,27 +100,99 @@ impl NewValues {
             None => store.get(key),
         }
     }
+
+    /// Makes all changes, or none where an allocation fails. A single one walks down the store once.
+    pub(crate) fn put<S: Store>(self, alloc: Global, store: &mut S) -> Result<(), AllocError>
+        ensures ok { OnOk result (S.contents store.new ≡ applied (S.contents store.old) self) }
+        ensures err { OnErr result (S.contents store.new ≡ S.contents store.old) }
+    {
+        let NewValues { first, more } = self;
+        match first {
+            None => put_more(alloc, store, more),
+            Some((key, value)) => put_with(alloc, store, more, key, value),
+        }
+    }
+
+    // Whether a value is put at a key other than the one that is gone.
+    pub(crate) fn put_beside(&self, gone: Option<&ByteString>) -> bool
+        ensures some { IsTrue result → (keyspace : Keyspace) →
+            IsTrue (has_keys (beside (option_copied gone.entry) (applied keyspace self.now))) }
+        ensures none { IsFalse result → (key : List ℕ) →
+            puts_beside self.now (option_copied gone.entry) key ≡ false }
+    {
+        match &self.first {
+            Some((key, _)) if self.puts_beside(gone, key) => true,
+            _ => any_put(self, &self.more, gone),
+        }
+    }
+
+    fn puts_beside(&self, gone: Option<&ByteString>, key: &ByteString) -> bool
+        ensures { result ≡ puts_beside self.now (option_copied gone.entry) key.now }
+    {
+        !is_gone(gone, key) && matches!(self.get(key), Some(Some(_)))
+    }
 }
 
-#[tactic(auto, using(crate::proofs::Applied::applied_empty))]
-/// Makes all changes, or none where an allocation fails. A single one walks down the store once.
-pub(crate) fn put_values<S: Store>(
+// Whether a value is put at one of the keys of the changes.
+fn any_put(
+    values: &NewValues,
+    changes: &BTreeMap<ByteString, Option<Value>>,
+    gone: Option<&ByteString>,
+) -> bool
+    ensures { result ≡ list_any (puts_beside values.now (option_copied gone.entry)) (keys_of changes.now.entries) }
+{
+    for key in changes.keys() {
+        if values.puts_beside(gone, key) {
+            return true;
+        }
+    }
+    false
+}
+
+pub(crate) fn is_gone(gone: Option<&ByteString>, key: &ByteString) -> bool
+    ensures { result ≡ is_gone (option_copied gone.entry) key.now }
+{
+    match gone {
+        Some(gone) => gone == key,
+        None => false,
+    }
+}
+
+// No change stands apart.
+#[tactic(auto, using(crate::proofs::FirstChange::applied_none))]
+fn put_more<S: Store>(
     alloc: Global,
     store: &mut S,
-    values: NewValues,
+    changes: BTreeMap<ByteString, Option<Value>>,
 ) -> Result<(), AllocError>
-    ensures ok { OnOk result (S.contents store.new ≡ applied (S.contents store.old) values) }
+    ensures ok { OnOk result (
+        S.contents store.new ≡ applied (S.contents store.old) (changes_of changes.entries)) }
     ensures err { OnErr result (S.contents store.new ≡ S.contents store.old) }
 {
-    let NewValues { first, mut more } = values;
-    let Some((key, value)) = first else {
-        return change_all(alloc, store, more);
-    };
-    if more.is_empty() {
+    if changes.is_empty() {
+        return Ok(());
+    }
+    change_all(alloc, store, changes)
+}
+
+// One change stands apart.
+#[tactic(auto, using(crate::proofs::FirstChange::applied_only))]
+fn put_with<S: Store>(
+    alloc: Global,
+    store: &mut S,
+    mut changes: BTreeMap<ByteString, Option<Value>>,
+    key: ByteString,
+    value: Option<Value>,
+) -> Result<(), AllocError>
+    ensures ok { OnOk result (
+        S.contents store.new ≡ applied (S.contents store.old) (map.insert (changes_of changes.entries) key value)) }
+    ensures err { OnErr result (S.contents store.new ≡ S.contents store.old) }
+{
+    if changes.is_empty() {
         return change_key(store, key, value);
     }
-    put(&mut more, key, value)?;
-    change_all(alloc, store, more)
+    put(&mut changes, key, value)?;
+    change_all(alloc, store, changes)
 }
 
 fn put(

@@ -1,11 +1,12 @@
 //! The command table in code: what each command replies and changes, over any store.
-ghost use Rattle.std.specs.Prelude.{◌≡◌, OnErr, IfOk};
+ghost use Rattle.std.specs.Prelude.{◌≡◌, ◌∷◌, ◌++◌, [], None, OnOk, OnErr, IfOk, IsTrue};
+ghost use Rattle.keyspace.specs.Changes.{applied};
+ghost use Rattle.keyspace.specs.CommandGroups.{is_on_hash, is_on_string};
 ghost use Rattle.keyspace.specs.Commands.{exec, keyspace_after, replies_of};
 ghost use Rattle.keyspace.specs.Locality.{CommandsAreLocal};
 ghost use Rattle.keyspace.specs.Plan.{committed};
 
 use crate::plans::{Plan, commit};
-use crate::replies::{integer, simple};
 use crate::store::Store;
 use crate::{hashes, strings};
 use command::DataCommand;
@@ -24,13 +25,45 @@ pub fn plan<S: Store>(
     ensures after { IfOk result (λ planned.
         committed (S.contents store.now) planned.1 ≡ keyspace_after (S.contents store.now) commands.now) }
 {
-    let mut replies = Vec::with_capacity(alloc, commands.len())?;
     let mut plan = Plan::new(alloc);
-    for command in commands {
-        let reply = plan_command(alloc, store, &mut plan, command)?;
-        replies.push(reply)?;
-    }
+    let replies = plan_each(alloc, store, &mut plan, commands)?;
     Ok((replies, plan))
+}
+
+// Plans the commands one after another.
+fn plan_each<S: Store>(
+    alloc: Global,
+    store: &S,
+    plan: &mut Plan,
+    commands: &[DataCommand],
+) -> Result<Vec<Reply>, AllocError>
+    ensures replies { IfOk result (λ replies.
+        replies.items ≡ replies_of (committed (S.contents store.now) plan.old) commands.now) }
+    ensures after { OnOk result (committed (S.contents store.now) plan.new
+        ≡ keyspace_after (committed (S.contents store.now) plan.old) commands.now) }
+{
+    let mut replies = Vec::with_capacity(alloc, commands.len())?;
+    for command in commands {
+        plan_next(alloc, store, plan, &mut replies, command)?;
+    }
+    Ok(replies)
+}
+
+fn plan_next<S: Store>(
+    alloc: Global,
+    store: &S,
+    plan: &mut Plan,
+    replies: &mut Vec<Reply>,
+    command: &DataCommand,
+) -> Result<(), AllocError>
+    ensures reply { OnOk result (replies.new.items
+        ≡ replies.old.items ++ (exec (committed (S.contents store.now) plan.old) command.now).reply ∷ []) }
+    ensures after { OnOk result (committed (S.contents store.now) plan.new
+        ≡ (exec (committed (S.contents store.now) plan.old) command.now).after) }
+{
+    let reply = plan_command(alloc, store, plan, command)?;
+    replies.push(reply)?;
+    Ok(())
 }
 
 #[tactic(auto, using(crate::proofs::Applied::applied_empty))]
@@ -46,11 +79,23 @@ pub fn exec<S: Store>(
 {
     let mut plan = Plan::new(alloc);
     let reply = plan_command(alloc, store, &mut plan, command)?;
+    commit_replying(alloc, store, plan, reply)
+}
+
+fn commit_replying<S: Store>(
+    alloc: Global,
+    store: &mut S,
+    plan: Plan,
+    reply: Reply,
+) -> Result<Reply, AllocError>
+    ensures reply { IfOk result (λ told. told ≡ reply) }
+    ensures ok { OnOk result (S.contents store.new ≡ committed (S.contents store.old) plan) }
+    ensures err { OnErr result (S.contents store.new ≡ S.contents store.old) }
+{
     commit(alloc, store, plan)?;
     Ok(reply)
 }
 
-#[tactic(auto, using(crate::proofs::Applied::applied_insert, crate::proofs::Committed::committed_values))]
 /// The reply to the command after those whose changes are in the plan. Its own changes go into the plan, and the store
 /// stays as it is.
 pub fn plan_command<S: Store>(
@@ -64,18 +109,77 @@ pub fn plan_command<S: Store>(
         ≡ exec (committed (S.contents store.now) plan.old) command.now) }
 {
     plan.settle(alloc, store)?;
-    // No command's function is inlined: so the frame of each request stays small.
+    plan_settled(alloc, store, plan, command)
+}
+
+// No last step is planned. No command's function is inlined: so the frame of each request stays small.
+#[tactic(auto, using(crate::proofs::Applied::applied_insert, crate::proofs::Committed::committed_values))]
+fn plan_settled<S: Store>(
+    alloc: Global,
+    store: &S,
+    plan: &mut Plan,
+    command: &DataCommand,
+) -> Result<Reply, AllocError>
+    requires { plan.old.last ≡ None }
+    ensures { IfOk result (λ reply.
+        record { reply = reply; after = committed (S.contents store.now) plan.new }
+        ≡ exec (applied (S.contents store.now) plan.old.values) command.now) }
+{
     use DataCommand::*;
     match command {
-        Ping => Ok(simple(b"PONG")),
+        Ping => strings::ping(),
         Echo { message } => strings::echo(message),
         Get { key } => strings::get(store, &plan.values, key),
+        Mget { keys } => strings::strings_at(alloc, store, &plan.values, keys.as_slice()),
+        Strlen { key } => strings::len_at(store, &plan.values, key),
+        Exists { keys } => strings::exists(store, &plan.values, keys.as_slice()),
+        TypeOf { key } => strings::type_at(store, &plan.values, key),
+        Set { .. }
+        | Mset { .. }
+        | Setnx { .. }
+        | Getset { .. }
+        | Getdel { .. }
+        | Append { .. }
+        | Incr { .. }
+        | Decr { .. }
+        | Incrby { .. }
+        | Del { .. } => plan_on_string(alloc, store, plan, command),
+        Hset { .. }
+        | Hsetnx { .. }
+        | Hget { .. }
+        | Hmget { .. }
+        | Hdel { .. }
+        | Hexists { .. }
+        | Hlen { .. }
+        | Hstrlen { .. }
+        | Hkeys { .. }
+        | Hvals { .. }
+        | Hgetall { .. }
+        | Hincrby { .. } => plan_on_hash(alloc, store, plan, command),
+    }
+}
+
+// A command that puts strings, or removes keys.
+#[tactic(auto, using(crate::proofs::Applied::applied_insert, crate::proofs::Committed::committed_values))]
+fn plan_on_string<S: Store>(
+    alloc: Global,
+    store: &S,
+    plan: &mut Plan,
+    command: &DataCommand,
+) -> Result<Reply, AllocError>
+    requires last { plan.old.last ≡ None }
+    requires on_string { IsTrue (is_on_string command.now) }
+    ensures { IfOk result (λ reply.
+        record { reply = reply; after = committed (S.contents store.now) plan.new }
+        ≡ exec (applied (S.contents store.now) plan.old.values) command.now) }
+{
+    use DataCommand::*;
+    match command {
         Set {
             key,
             value,
             condition,
         } => strings::set(store, &mut plan.values, key, value, *condition),
-        Mget { keys } => strings::strings_at(alloc, store, &plan.values, keys.as_slice()),
         Mset { pairs } => strings::set_each(alloc, plan, pairs),
         Setnx { key, value } => strings::setnx(store, &mut plan.values, key, value),
         Getset { key, value } => strings::getset(store, &mut plan.values, key, value),
@@ -90,30 +194,50 @@ pub fn plan_command<S: Store>(
             key,
             increment,
         ),
-        Strlen { key } => Ok(strings::len_at(store, &plan.values, key)),
         Del { keys } => strings::delete(store, &mut plan.values, keys.as_slice()),
-        Exists { keys } => Ok(integer(strings::count_there(store, &plan.values, keys.as_slice()))),
-        TypeOf { key } => Ok(simple(strings::type_at(store, &plan.values, key))),
+        _ => unreachable!(),
+    }
+}
+
+// A command on a hash.
+#[tactic(auto, using(crate::proofs::Committed::committed_values))]
+fn plan_on_hash<S: Store>(
+    alloc: Global,
+    store: &S,
+    plan: &mut Plan,
+    command: &DataCommand,
+) -> Result<Reply, AllocError>
+    requires last { plan.old.last ≡ None }
+    requires on_hash { IsTrue (is_on_hash command.now) }
+    ensures { IfOk result (λ reply.
+        record { reply = reply; after = committed (S.contents store.now) plan.new }
+        ≡ exec (applied (S.contents store.now) plan.old.values) command.now) }
+{
+    use DataCommand::*;
+    match command {
         Hset { key, pairs } => hashes::set(alloc, store, plan, key, pairs),
         Hsetnx { key, field, value } => hashes::set_new(alloc, store, plan, key, field, value),
-        Hget { key, field } => hashes::get(alloc, plan.values.look(store, key), field),
+        Hget { key, field } => hashes::get(store, &plan.values, key, field),
         Hmget { key, fields } => hashes::get_each(
             alloc,
-            plan.values.look(store, key),
+            store,
+            &plan.values,
+            key,
             fields.as_slice(),
         ),
         Hdel { key, fields } => hashes::delete(alloc, store, plan, key, fields.as_slice()),
-        Hexists { key, field } => Ok(hashes::exists(alloc, plan.values.look(store, key), field)),
-        Hlen { key } => Ok(hashes::len(alloc, plan.values.look(store, key))),
-        Hstrlen { key, field } => Ok(hashes::value_len(alloc, plan.values.look(store, key), field)),
-        Hkeys { key } => hashes::fields(alloc, plan.values.look(store, key)),
-        Hvals { key } => hashes::values(alloc, plan.values.look(store, key)),
-        Hgetall { key } => hashes::pairs(alloc, plan.values.look(store, key)),
+        Hexists { key, field } => hashes::exists(store, &plan.values, key, field),
+        Hlen { key } => hashes::len(store, &plan.values, key),
+        Hstrlen { key, field } => hashes::value_len(store, &plan.values, key, field),
+        Hkeys { key } => hashes::fields(alloc, store, &plan.values, key),
+        Hvals { key } => hashes::values(alloc, store, &plan.values, key),
+        Hgetall { key } => hashes::pairs(alloc, store, &plan.values, key),
         Hincrby {
             key,
             field,
             increment,
         } => hashes::add(alloc, store, plan, key, field, increment),
+        _ => unreachable!(),
     }
 }
 

@@ -4,109 +4,155 @@ ghost use Rattle.std.specs.Prelude.{map as each};
 ghost use Rattle.std.specs.Option.{option_copied};
 ghost use Rattle.std.specs.FinMap as map;
 ghost use Rattle.command.specs.declared.command.DataCommand.{DataCommand};
-ghost use Rattle.hash.specs.Pairs.{Pairs, fields_changed, value_of};
-ghost use Rattle.hash.specs.Size.{size_of, words_of};
+ghost use Rattle.hash.specs.Pairs.{value_of};
+ghost use Rattle.hash.specs.Size.{words_of};
 ghost use Rattle.keyspace.specs.Changes.{applied};
 ghost use Rattle.keyspace.specs.Commands.{exec, taken_at};
-ghost use Rattle.keyspace.specs.Hashes.{bulks_reply, exists_reply, fields_of, from_fields, hash_left, increased, removals, sets, value_length, value_reply, values_reply};
-ghost use Rattle.keyspace.specs.Keyspace.{Keyspace};
+ghost use Rattle.keyspace.specs.Hashes.{bulks_reply, exists_reply, fields_of, from_fields, increased, known, value_length, value_reply, values_reply};
 ghost use Rattle.keyspace.specs.Plan.{committed};
 ghost use Rattle.keyspace.specs.Strings.{stored_number, sum_of};
 
-use crate::fields::FieldChanges;
-use crate::limits::fits;
+use crate::changes::NewValues;
+use crate::hash_at::{hash_in, len_of, value_in};
+use crate::hash_changes::HashChange;
 use crate::number::{sum, text_of};
+use crate::planned_fields::PlannedFields;
 use crate::plans::Plan;
 use crate::replies::integer;
 use crate::store::Store;
-use crate::value::Value;
 use byte_string::ByteString;
-use command::{ErrorLine, PairList, number_in, split_pair};
-use hash::{Extent, Hash};
+use command::{ErrorLine, PairList, number_in};
+use hash::Hash;
 use resp2::{Array, Reply};
 use std::alloc::{AllocError, Global};
 
 #[inline(never)]
-pub(crate) fn get(
-    alloc: Global,
-    value: Option<&Value>,
+pub(crate) fn get<S: Store>(
+    store: &S,
+    values: &NewValues,
+    key: &ByteString,
     field: &ByteString,
 ) -> Result<Reply, AllocError>
     ensures { IfOk result (λ reply.
-        reply ≡ from_fields (fields_of (option_copied value.entry)) (λ fields. value_reply (value_of fields field.now))) }
+        reply ≡ from_fields (fields_of (map.get (applied (S.contents store.now) values.now) key.now)) (λ fields. value_reply (value_of fields field.now))) }
 {
-    let none = Hash::new(alloc);
-    let Some(hash) = hash_of(value, &none) else {
-        return Ok(ErrorLine::WrongType.reply());
-    };
-    value_reply(hash.get(field))
+    match hash_in(values.look(store, key)) {
+        Ok(hash) => value_reply(value_in(hash, field)),
+        Err(fault) => Ok(fault.reply()),
+    }
 }
 
 #[inline(never)]
-pub(crate) fn get_each(
+pub(crate) fn get_each<S: Store>(
     alloc: Global,
-    value: Option<&Value>,
+    store: &S,
+    values: &NewValues,
+    key: &ByteString,
     fields: &[ByteString],
 ) -> Result<Reply, AllocError>
-    ensures { IfOk result (λ reply. reply ≡ from_fields (fields_of (option_copied value.entry)) (values_reply fields.now)) }
+    ensures { IfOk result (λ reply.
+        reply ≡ from_fields (fields_of (map.get (applied (S.contents store.now) values.now) key.now)) (values_reply fields.now)) }
 {
-    let none = Hash::new(alloc);
-    let Some(hash) = hash_of(value, &none) else {
-        return Ok(ErrorLine::WrongType.reply());
-    };
+    match hash_in(values.look(store, key)) {
+        Ok(hash) => values_reply(alloc, hash, fields),
+        Err(fault) => Ok(fault.reply()),
+    }
+}
+
+fn values_reply(
+    alloc: Global,
+    hash: Option<&Hash>,
+    fields: &[ByteString],
+) -> Result<Reply, AllocError>
+    ensures { IfOk result (λ reply. reply ≡ values_reply fields.now (known (option_copied hash.entry))) }
+{
     let mut replies = Vec::with_capacity(alloc, fields.len())?;
     for field in fields {
-        replies.push(value_reply(hash.get(field))?)?;
+        replies.push(value_reply(value_in(hash, field))?)?;
     }
     Ok(Reply::Array(Array::of(alloc, replies)?))
 }
 
 #[inline(never)]
-pub(crate) fn exists(alloc: Global, value: Option<&Value>, field: &ByteString) -> Reply
-    ensures { result ≡ from_fields (fields_of (option_copied value.entry)) (λ fields. exists_reply (value_of fields field.now)) }
+pub(crate) fn exists<S: Store>(
+    store: &S,
+    values: &NewValues,
+    key: &ByteString,
+    field: &ByteString,
+) -> Result<Reply, AllocError>
+    ensures { IfOk result (λ reply.
+        reply ≡ from_fields (fields_of (map.get (applied (S.contents store.now) values.now) key.now)) (λ fields. exists_reply (value_of fields field.now))) }
 {
-    let none = Hash::new(alloc);
-    let Some(hash) = hash_of(value, &none) else {
-        return ErrorLine::WrongType.reply();
-    };
-    integer(if hash.contains(field) { 1 } else { 0 })
+    match hash_in(values.look(store, key)) {
+        Ok(hash) => Ok(exists_reply(value_in(hash, field))),
+        Err(fault) => Ok(fault.reply()),
+    }
+}
+
+fn exists_reply(value: Option<&ByteString>) -> Reply
+    ensures { result ≡ exists_reply (option_copied value.entry) }
+{
+    match value {
+        Some(_) => integer(1),
+        None => integer(0),
+    }
 }
 
 #[inline(never)]
-pub(crate) fn len(alloc: Global, value: Option<&Value>) -> Reply
-    ensures { result ≡ from_fields (fields_of (option_copied value.entry)) (λ fields. Reply.Integer (pos (length fields))) }
+pub(crate) fn len<S: Store>(
+    store: &S,
+    values: &NewValues,
+    key: &ByteString,
+) -> Result<Reply, AllocError>
+    ensures { IfOk result (λ reply.
+        reply ≡ from_fields (fields_of (map.get (applied (S.contents store.now) values.now) key.now)) (λ fields. Reply.Integer (pos (length fields)))) }
 {
-    let none = Hash::new(alloc);
-    let Some(hash) = hash_of(value, &none) else {
-        return ErrorLine::WrongType.reply();
-    };
-    integer(hash.len())
+    match hash_in(values.look(store, key)) {
+        Ok(hash) => Ok(integer(len_of(hash))),
+        Err(fault) => Ok(fault.reply()),
+    }
 }
 
 #[inline(never)]
-pub(crate) fn value_len(alloc: Global, value: Option<&Value>, field: &ByteString) -> Reply
-    ensures { result ≡ from_fields (fields_of (option_copied value.entry)) (λ fields. Reply.Integer (pos (value_length (value_of fields field.now)))) }
+pub(crate) fn value_len<S: Store>(
+    store: &S,
+    values: &NewValues,
+    key: &ByteString,
+    field: &ByteString,
+) -> Result<Reply, AllocError>
+    ensures { IfOk result (λ reply.
+        reply ≡ from_fields (fields_of (map.get (applied (S.contents store.now) values.now) key.now)) (λ fields. Reply.Integer (pos (value_length (value_of fields field.now))))) }
 {
-    let none = Hash::new(alloc);
-    let Some(hash) = hash_of(value, &none) else {
-        return ErrorLine::WrongType.reply();
-    };
-    match hash.get(field) {
+    match hash_in(values.look(store, key)) {
+        Ok(hash) => Ok(length_reply(value_in(hash, field))),
+        Err(fault) => Ok(fault.reply()),
+    }
+}
+
+fn length_reply(value: Option<&ByteString>) -> Reply
+    ensures { result ≡ Reply.Integer (pos (value_length (option_copied value.entry))) }
+{
+    match value {
         Some(value) => integer(value.as_slice().len()),
         None => integer(0),
     }
 }
 
 #[inline(never)]
-pub(crate) fn fields(alloc: Global, value: Option<&Value>) -> Result<Reply, AllocError>
+pub(crate) fn fields<S: Store>(
+    alloc: Global,
+    store: &S,
+    values: &NewValues,
+    key: &ByteString,
+) -> Result<Reply, AllocError>
     ensures { IfOk result (λ reply.
-        reply ≡ from_fields (fields_of (option_copied value.entry)) (λ fields. bulks_reply (each (λ pair. pair.0) fields))) }
+        reply ≡ from_fields (fields_of (map.get (applied (S.contents store.now) values.now) key.now)) (λ fields. bulks_reply (each (λ pair. pair.0) fields))) }
 {
-    let none = Hash::new(alloc);
-    let Some(hash) = hash_of(value, &none) else {
-        return Ok(ErrorLine::WrongType.reply());
-    };
-    each_field(alloc, hash)
+    match hash_in(values.look(store, key)) {
+        Ok(Some(hash)) => each_field(alloc, hash),
+        Ok(None) => no_values(alloc),
+        Err(fault) => Ok(fault.reply()),
+    }
 }
 
 fn each_field(alloc: Global, hash: &Hash) -> Result<Reply, AllocError>
@@ -120,15 +166,20 @@ fn each_field(alloc: Global, hash: &Hash) -> Result<Reply, AllocError>
 }
 
 #[inline(never)]
-pub(crate) fn values(alloc: Global, value: Option<&Value>) -> Result<Reply, AllocError>
+pub(crate) fn values<S: Store>(
+    alloc: Global,
+    store: &S,
+    values: &NewValues,
+    key: &ByteString,
+) -> Result<Reply, AllocError>
     ensures { IfOk result (λ reply.
-        reply ≡ from_fields (fields_of (option_copied value.entry)) (λ fields. bulks_reply (each (λ pair. pair.1) fields))) }
+        reply ≡ from_fields (fields_of (map.get (applied (S.contents store.now) values.now) key.now)) (λ fields. bulks_reply (each (λ pair. pair.1) fields))) }
 {
-    let none = Hash::new(alloc);
-    let Some(hash) = hash_of(value, &none) else {
-        return Ok(ErrorLine::WrongType.reply());
-    };
-    each_value(alloc, hash)
+    match hash_in(values.look(store, key)) {
+        Ok(Some(hash)) => each_value(alloc, hash),
+        Ok(None) => no_values(alloc),
+        Err(fault) => Ok(fault.reply()),
+    }
 }
 
 fn each_value(alloc: Global, hash: &Hash) -> Result<Reply, AllocError>
@@ -142,15 +193,20 @@ fn each_value(alloc: Global, hash: &Hash) -> Result<Reply, AllocError>
 }
 
 #[inline(never)]
-pub(crate) fn pairs(alloc: Global, value: Option<&Value>) -> Result<Reply, AllocError>
+pub(crate) fn pairs<S: Store>(
+    alloc: Global,
+    store: &S,
+    values: &NewValues,
+    key: &ByteString,
+) -> Result<Reply, AllocError>
     ensures { IfOk result (λ reply.
-        reply ≡ from_fields (fields_of (option_copied value.entry)) (λ fields. bulks_reply (words_of fields))) }
+        reply ≡ from_fields (fields_of (map.get (applied (S.contents store.now) values.now) key.now)) (λ fields. bulks_reply (words_of fields))) }
 {
-    let none = Hash::new(alloc);
-    let Some(hash) = hash_of(value, &none) else {
-        return Ok(ErrorLine::WrongType.reply());
-    };
-    each_pair(alloc, hash)
+    match hash_in(values.look(store, key)) {
+        Ok(Some(hash)) => each_pair(alloc, hash),
+        Ok(None) => no_values(alloc),
+        Err(fault) => Ok(fault.reply()),
+    }
 }
 
 fn each_pair(alloc: Global, hash: &Hash) -> Result<Reply, AllocError>
@@ -162,6 +218,12 @@ fn each_pair(alloc: Global, hash: &Hash) -> Result<Reply, AllocError>
         replies.push(Reply::Bulk(value.clone()?))?;
     }
     Ok(Reply::Array(Array::of(alloc, replies)?))
+}
+
+fn no_values(alloc: Global) -> Result<Reply, AllocError>
+    ensures { IfOk result (λ reply. reply ≡ bulks_reply []) }
+{
+    Ok(Reply::Array(Array::of(alloc, Vec::new(alloc))?))
 }
 
 // Sets all fields.
@@ -179,25 +241,12 @@ pub(crate) fn set<S: Store>(
         record { reply = reply; after = committed (S.contents store.now) plan.new }
         ≡ exec (applied (S.contents store.now) plan.old.values) (DataCommand.Hset key.now pairs.now)) }
 {
-    let none = Hash::new(alloc);
-    let Some(hash) = hash_of(plan.values.look(store, key), &none) else {
-        return Ok(ErrorLine::WrongType.reply());
+    let hash = match hash_in(plan.values.look(store, key)) {
+        Ok(hash) => hash,
+        Err(fault) => return Ok(fault.reply()),
     };
-    let changes = sets(alloc, pairs)?;
-    let extent = hash.extent_after(alloc, changes.as_slice())?;
-    let added = fields_added(hash, extent, changes.as_slice());
-    leave(plan, key, changes, extent, integer(added))
-}
-
-// How many fields more the hash has after the changes. Each change adds one at most, and takes memory.
-#[tactic(auto, using(crate::proofs::Left::len_changed))]
-fn fields_added(hash: &Hash, extent: Extent, changes: &[(ByteString, Option<ByteString>)]) -> usize
-    requires { extent.len ≡ length (fields_changed hash.now changes.now) }
-    ensures count { result ≡ length (fields_changed hash.now changes.now) - length hash.now }
-    ensures small { result < 2 ^ 63 }
-{
-    prove!(changes.len() < 1 << 60);
-    extent.len.saturating_sub(hash.len())
+    let change = HashChange::setting_each(alloc, hash, pairs)?;
+    change.leave(plan, key)
 }
 
 // Sets a field that is missing.
@@ -216,16 +265,15 @@ pub(crate) fn set_new<S: Store>(
         record { reply = reply; after = committed (S.contents store.now) plan.new }
         ≡ exec (applied (S.contents store.now) plan.old.values) (DataCommand.Hsetnx key.now field.now value.now)) }
 {
-    let none = Hash::new(alloc);
-    let Some(hash) = hash_of(plan.values.look(store, key), &none) else {
-        return Ok(ErrorLine::WrongType.reply());
+    let hash = match hash_in(plan.values.look(store, key)) {
+        Ok(hash) => hash,
+        Err(fault) => return Ok(fault.reply()),
     };
-    if hash.contains(field) {
+    if value_in(hash, field).is_some() {
         return Ok(integer(0));
     }
-    let changes = one_set(alloc, field, value.clone()?)?;
-    let extent = hash.extent_after(alloc, changes.as_slice())?;
-    leave(plan, key, changes, extent, integer(1))
+    let change = HashChange::setting(alloc, hash, field, value.clone()?, 1)?;
+    change.leave(plan, key)
 }
 
 // Removes all fields that are there.
@@ -243,15 +291,14 @@ pub(crate) fn delete<S: Store>(
         record { reply = reply; after = committed (S.contents store.now) plan.new }
         ≡ exec (applied (S.contents store.now) plan.old.values) (DataCommand.Hdel key.now fields.now)) }
 {
-    let none = Hash::new(alloc);
-    let Some(hash) = hash_of(plan.values.look(store, key), &none) else {
-        return Ok(ErrorLine::WrongType.reply());
+    let hash = match hash_in(plan.values.look(store, key)) {
+        Ok(hash) => hash,
+        Err(fault) => return Ok(fault.reply()),
     };
-    let changes = removals(alloc, fields)?;
-    let extent = hash.extent_after(alloc, changes.as_slice())?;
-    let reply = integer(hash.len().saturating_sub(extent.len));
-    plan.change_fields(key.clone()?, changes);
-    Ok(reply)
+    let removals = PlannedFields::removing(alloc, fields)?;
+    let count = removals.count_removed(hash);
+    plan.change_fields(key, removals)?;
+    Ok(integer(count))
 }
 
 // Adds to the number in a field.
@@ -291,17 +338,16 @@ fn add_number<S: Store>(
         record { reply = reply; after = committed (S.contents store.now) plan.new }
         ≡ taken_at before (key.now ∷ []) (increased key.now field.now (Some increment) (fields_of (map.get before key.now)))) }
 {
-    let none = Hash::new(alloc);
-    let Some(hash) = hash_of(plan.values.look(store, key), &none) else {
-        return Ok(ErrorLine::WrongType.reply());
+    let hash = match hash_in(plan.values.look(store, key)) {
+        Ok(hash) => hash,
+        Err(fault) => return Ok(fault.reply()),
     };
-    let sum = match sum_in(hash.get(field), increment) {
+    let sum = match sum_in(value_in(hash, field), increment) {
         Ok(sum) => sum,
         Err(fault) => return Ok(fault.reply()),
     };
-    let changes = one_set(alloc, field, text_of(alloc, sum)?)?;
-    let extent = hash.extent_after(alloc, changes.as_slice())?;
-    leave(plan, key, changes, extent, Reply::Integer(sum))
+    let change = HashChange::setting(alloc, hash, field, text_of(alloc, sum)?, sum)?;
+    change.leave(plan, key)
 }
 
 // The sum of the increment and the number of a stored value, of which a missing one counts as 0, or the fault that they have.
@@ -315,42 +361,6 @@ fn sum_in(value: Option<&ByteString>, increment: i64) -> Result<i64, ErrorLine>
     sum(stored, increment).ok_or(ErrorLine::Overflow)
 }
 
-// Plans the changes of a hash, where what they leave may stand at the key.
-#[tactic(auto, using(crate::proofs::Committed::committed_values, crate::proofs::Left::fields_left_of))]
-fn leave(
-    plan: &mut Plan,
-    key: &ByteString,
-    changes: FieldChanges,
-    extent: Extent,
-    reply: Reply,
-) -> Result<Reply, AllocError>
-    requires { plan.old.last ≡ None }
-    ensures { (keyspace : Keyspace) (fields : Pairs) →
-        let before = applied keyspace plan.old.values in
-        let after = fields_changed fields changes.items in
-        fields_of (map.get before key.now) ≡ Some fields → extent.len ≡ length after → extent.size ≡ size_of after →
-        IfOk result (λ given. record { reply = given; after = committed keyspace plan.new }
-        ≡ taken_at before (key.now ∷ []) (hash_left reply key.now after)) }
-{
-    if fits(key, extent) {
-        plan.change_fields(key.clone()?, changes);
-        return Ok(reply);
-    }
-    Ok(ErrorLine::TooLong.reply())
-}
-
-// The hash; `none` stands for one that is missing. None where the value is no hash.
-fn hash_of<'a>(value: Option<&'a Value>, none: &'a Hash) -> Option<&'a Hash>
-    requires { none.now ≡ [] }
-    ensures { option_copied result ≡ fields_of (option_copied value.entry) }
-{
-    match value {
-        None => Some(none),
-        Some(Value::Hash(hash)) => Some(hash.get()),
-        Some(Value::Str(_)) => None,
-    }
-}
-
 fn value_reply(value: Option<&ByteString>) -> Result<Reply, AllocError>
     ensures { IfOk result (λ reply. reply ≡ value_reply (option_copied value.entry)) }
 {
@@ -358,37 +368,4 @@ fn value_reply(value: Option<&ByteString>) -> Result<Reply, AllocError>
         Some(value) => Ok(Reply::Bulk(value.clone()?)),
         None => Ok(Reply::Null),
     }
-}
-
-// Each field with its value.
-fn sets(alloc: Global, pairs: &PairList) -> Result<FieldChanges, AllocError>
-    ensures { IfOk result (λ changes. changes.items ≡ sets pairs.now) }
-{
-    let mut rest = pairs.words();
-    let mut changes = Vec::with_capacity(alloc, rest.len() / 2)?;
-    while let Some((field, value, others)) = split_pair(rest) {
-        changes.push((field.clone()?, Some(value.clone()?)))?;
-        rest = others;
-    }
-    Ok(changes)
-}
-
-// Each field without a value.
-fn removals(alloc: Global, fields: &[ByteString]) -> Result<FieldChanges, AllocError>
-    ensures { IfOk result (λ changes. changes.items ≡ removals fields.now) }
-{
-    let mut changes = Vec::with_capacity(alloc, fields.len())?;
-    for field in fields {
-        changes.push((field.clone()?, None))?;
-    }
-    Ok(changes)
-}
-
-// One field with its value.
-fn one_set(alloc: Global, field: &ByteString, value: ByteString) -> Result<FieldChanges, AllocError>
-    ensures { IfOk result (λ changes. changes.items ≡ (field.now, Some value) ∷ []) }
-{
-    let mut changes = Vec::with_capacity(alloc, 1)?;
-    changes.push((field.clone()?, Some(value)))?;
-    Ok(changes)
 }

@@ -5,8 +5,9 @@ ghost use Rattle.keyspace.specs.Keyspace.{Keyspace, with_appended, with_fields};
 ghost use Rattle.keyspace.specs.Plan.{committed, with_step, with_strings};
 
 use crate::appending::appended;
-use crate::changes::{NewValues, put_values};
+use crate::changes::NewValues;
 use crate::fields::{FieldChanges, with_changed_fields};
+use crate::planned_fields::PlannedFields;
 use crate::store::Store;
 use crate::string_pairs::{StringPairs, change_to_strings, put_strings};
 use byte_string::ByteString;
@@ -18,18 +19,23 @@ pub(crate) enum LastStep {
     // Bytes are put behind the string at a key.
     Append(ByteString, ByteString),
     // Fields of the hash at a key are changed.
-    Fields(ByteString, FieldChanges),
+    Fields(ByteString, PlannedFields),
     // Strings are put at keys, from left to right.
     Strings(StringPairs),
 }
 
 /// Changes that are decided and not made yet. A plan with one change allocates nothing for itself.
-#[derive(Drop)]
 pub struct Plan {
     // New values, which are put first.
     pub(crate) values: NewValues,
     // What the latest command changes in a way of its own.
     pub(crate) last: Option<LastStep>,
+}
+
+impl Drop for Plan {
+    fn drop(self) {
+        let Plan { values: _, last: _ } = self;
+    }
 }
 
 impl Plan {
@@ -45,33 +51,43 @@ impl Plan {
     }
 
     /// Puts bytes behind the string at the key. No other step is planned.
-    #[tactic(auto, using(crate::proofs::Committed::committed_step))]
     pub(crate) fn append(&mut self, key: ByteString, bytes: ByteString)
         requires { self.old.last ≡ None }
         ensures { (keyspace : Keyspace) →
             committed keyspace self.new ≡ with_appended (applied keyspace self.old.values) key bytes }
     {
-        self.last = Some(LastStep::Append(key, bytes));
+        self.end_with(LastStep::Append(key, bytes));
     }
 
     /// Changes fields of the hash at the key. No other step is planned.
-    #[tactic(auto, using(crate::proofs::Committed::committed_step))]
-    pub(crate) fn change_fields(&mut self, key: ByteString, changes: FieldChanges)
+    pub(crate) fn change_fields(
+        &mut self,
+        key: &ByteString,
+        changes: PlannedFields,
+    ) -> Result<(), AllocError>
         requires { self.old.last ≡ None }
-        ensures { (keyspace : Keyspace) →
-            committed keyspace self.new ≡ with_fields (applied keyspace self.old.values) key changes.items }
+        ensures { OnOk result ((keyspace : Keyspace) →
+            committed keyspace self.new ≡ with_fields (applied keyspace self.old.values) key.now changes) }
     {
-        self.last = Some(LastStep::Fields(key, changes));
+        self.end_with(LastStep::Fields(key.clone()?, changes));
+        Ok(())
     }
 
     /// Puts strings at keys, from left to right. No other step is planned.
-    #[tactic(auto, using(crate::proofs::Committed::committed_step))]
     pub(crate) fn put_strings(&mut self, pairs: StringPairs)
         requires { self.old.last ≡ None }
         ensures { (keyspace : Keyspace) →
             committed keyspace self.new ≡ with_strings (applied keyspace self.old.values) pairs.items }
     {
-        self.last = Some(LastStep::Strings(pairs));
+        self.end_with(LastStep::Strings(pairs));
+    }
+
+    fn end_with(&mut self, step: LastStep)
+        requires { self.old.last ≡ None }
+        ensures { (keyspace : Keyspace) →
+            committed keyspace self.new ≡ with_step (applied keyspace self.old.values) step }
+    {
+        self.last = Some(step);
     }
 
     /// Makes new values of what the last step changes, so that a later command can read them.
@@ -83,79 +99,95 @@ impl Plan {
     {
         match self.last.take() {
             None => Ok(()),
-            Some(step) => self.settle_step(alloc, store, step),
+            Some(step) => settle_step(alloc, store, &mut self.values, step),
         }
     }
 
-    #[inline(never)]
-    fn settle_step<S: Store>(
-        &mut self,
-        alloc: Global,
-        store: &S,
-        step: LastStep,
-    ) -> Result<(), AllocError>
-        ensures last { OnOk result (self.new.last ≡ self.old.last) }
-        ensures values { OnOk result (
-            applied (S.contents store.now) self.new.values ≡ with_step (applied (S.contents store.now) self.old.values) step) }
+    #[tactic(auto, using(crate::proofs::Committed::committed_values, crate::proofs::Committed::committed_step))]
+    fn make<S: Store>(self, alloc: Global, store: &mut S) -> Result<(), AllocError>
+        ensures ok { OnOk result (S.contents store.new ≡ committed (S.contents store.old) self) }
+        ensures err { OnErr result (S.contents store.new ≡ S.contents store.old) }
     {
-        match step {
-            LastStep::Append(key, bytes) => self.put_appended(alloc, store, key, bytes),
-            LastStep::Fields(key, changes) => self.put_changed(store, key, changes),
-            LastStep::Strings(pairs) => change_to_strings(&mut self.values, pairs),
+        let Plan { values, last } = self;
+        match last {
+            None => values.put(alloc, store),
+            Some(step) => put_and_step(alloc, store, values, step),
         }
     }
+}
 
-    // The longer string goes to the other new values.
-    #[tactic(auto, using(crate::proofs::Applied::applied_insert))]
-    fn put_appended<S: Store>(
-        &mut self,
-        alloc: Global,
-        store: &S,
-        key: ByteString,
-        bytes: ByteString,
-    ) -> Result<(), AllocError>
-        ensures last { OnOk result (self.new.last ≡ self.old.last) }
-        ensures values { OnOk result (applied (S.contents store.now) self.new.values
-            ≡ with_appended (applied (S.contents store.now) self.old.values) key bytes) }
-    {
-        let value = appended(alloc, self.values.look(store, &key), bytes)?;
-        self.values.insert(key, Some(value))
+#[inline(never)]
+fn settle_step<S: Store>(
+    alloc: Global,
+    store: &S,
+    values: &mut NewValues,
+    step: LastStep,
+) -> Result<(), AllocError>
+    ensures { OnOk result (
+        applied (S.contents store.now) values.new ≡ with_step (applied (S.contents store.now) values.old) step) }
+{
+    match step {
+        LastStep::Append(key, bytes) => put_appended(alloc, store, values, key, bytes),
+        LastStep::Fields(key, changes) => put_changed(store, values, key, changes.into_changes()),
+        LastStep::Strings(pairs) => change_to_strings(values, pairs),
     }
+}
 
-    // The changed value goes to the other new values.
-    #[tactic(auto, using(crate::proofs::Applied::applied_insert))]
-    fn put_changed<S: Store>(
-        &mut self,
-        store: &S,
-        key: ByteString,
-        changes: FieldChanges,
-    ) -> Result<(), AllocError>
-        ensures last { OnOk result (self.new.last ≡ self.old.last) }
-        ensures values { OnOk result (applied (S.contents store.now) self.new.values
-            ≡ with_fields (applied (S.contents store.now) self.old.values) key changes.items) }
-    {
-        let value = with_changed_fields(self.values.look(store, &key), changes)?;
-        self.values.insert(key, value)
-    }
+// The longer string goes to the other new values.
+#[tactic(auto, using(crate::proofs::Applied::applied_insert))]
+fn put_appended<S: Store>(
+    alloc: Global,
+    store: &S,
+    values: &mut NewValues,
+    key: ByteString,
+    bytes: ByteString,
+) -> Result<(), AllocError>
+    ensures { OnOk result (applied (S.contents store.now) values.new
+        ≡ with_appended (applied (S.contents store.now) values.old) key bytes) }
+{
+    let value = appended(alloc, values.look(store, &key), bytes)?;
+    values.insert(key, Some(value))
+}
+
+// The changed value goes to the other new values.
+#[tactic(auto, using(crate::proofs::Applied::applied_insert))]
+fn put_changed<S: Store>(
+    store: &S,
+    values: &mut NewValues,
+    key: ByteString,
+    changes: FieldChanges,
+) -> Result<(), AllocError>
+    ensures { OnOk result (applied (S.contents store.now) values.new
+        ≡ with_fields (applied (S.contents store.now) values.old) key changes.items) }
+{
+    let value = with_changed_fields(values.look(store, &key), changes)?;
+    values.insert(key, value)
 }
 
 /// Makes all changes of the plan, or none where an allocation fails.
 ///
 /// A plan with one change walks down the store once, and one that appends to a string or changes fields of a hash does
 /// so in place.
-#[tactic(auto, using(crate::proofs::Committed::committed_nothing, crate::proofs::Committed::committed_alone))]
 pub fn commit<S: Store>(alloc: Global, store: &mut S, plan: Plan) -> Result<(), AllocError>
     ensures ok { OnOk result (S.contents store.new ≡ committed (S.contents store.old) plan) }
     ensures err { OnErr result (S.contents store.new ≡ S.contents store.old) }
 {
-    if !plan.values.is_empty() {
-        return commit_values(alloc, store, plan);
+    plan.make(alloc, store)
+}
+
+fn put_and_step<S: Store>(
+    alloc: Global,
+    store: &mut S,
+    values: NewValues,
+    step: LastStep,
+) -> Result<(), AllocError>
+    ensures ok { OnOk result (S.contents store.new ≡ with_step (applied (S.contents store.old) values) step) }
+    ensures err { OnErr result (S.contents store.new ≡ S.contents store.old) }
+{
+    if values.is_empty() {
+        return make_step(alloc, store, step);
     }
-    let Plan { last, .. } = plan;
-    match last {
-        None => Ok(()),
-        Some(step) => make_step(alloc, store, step),
-    }
+    put_settled(alloc, store, values, step)
 }
 
 fn make_step<S: Store>(alloc: Global, store: &mut S, step: LastStep) -> Result<(), AllocError>
@@ -164,15 +196,21 @@ fn make_step<S: Store>(alloc: Global, store: &mut S, step: LastStep) -> Result<(
 {
     match step {
         LastStep::Append(key, bytes) => store.append(alloc, key, bytes),
-        LastStep::Fields(key, changes) => store.change_fields(key, changes),
+        LastStep::Fields(key, changes) => store.change_fields(key, changes.into_changes()),
         LastStep::Strings(pairs) => put_strings(alloc, store, pairs),
     }
 }
 
-fn commit_values<S: Store>(alloc: Global, store: &mut S, mut plan: Plan) -> Result<(), AllocError>
-    ensures ok { OnOk result (S.contents store.new ≡ committed (S.contents store.old) plan) }
+// The step makes new values, which are put with the others.
+fn put_settled<S: Store>(
+    alloc: Global,
+    store: &mut S,
+    mut values: NewValues,
+    step: LastStep,
+) -> Result<(), AllocError>
+    ensures ok { OnOk result (S.contents store.new ≡ with_step (applied (S.contents store.old) values) step) }
     ensures err { OnErr result (S.contents store.new ≡ S.contents store.old) }
 {
-    plan.settle(alloc, store)?;
-    put_values(alloc, store, plan.values)
+    settle_step(alloc, store, &mut values, step)?;
+    values.put(alloc, store)
 }

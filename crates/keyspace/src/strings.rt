@@ -1,5 +1,5 @@
 //! The commands on strings, and those on keys with values of any type.
-ghost use Rattle.std.specs.Prelude.{◌≡◌, ◌<◌, ◌∷◌, [], ◌^◌, OnOk, IfOk, IsTrue, Some, count_by, is_some, pos, if◌then◌else◌};
+ghost use Rattle.std.specs.Prelude.{◌≡◌, ◌<◌, ◌∷◌, [], ◌^◌, OnOk, IfOk, IsTrue, Some, codes, count_by, is_some, pos, if◌then◌else◌};
 ghost use Rattle.std.specs.Prelude.{map as each};
 ghost use Rattle.std.specs.Option.{option_copied};
 ghost use Rattle.std.specs.FinMap as map;
@@ -9,7 +9,7 @@ ghost use Rattle.keyspace.specs.Changes.{applied};
 ghost use Rattle.keyspace.specs.Commands.{exec, taken_at, values_at, with_values};
 ghost use Rattle.keyspace.specs.Keyspace.{Keyspace};
 ghost use Rattle.keyspace.specs.Plan.{committed};
-ghost use Rattle.keyspace.specs.Strings.{all_removed, bulk_or_null, deleted, holds, length_reply, number_at, number_left, string_of, string_reply, sum_of, type_of};
+ghost use Rattle.keyspace.specs.Strings.{all_removed, bulk_or_null, deleted, holds, is_hash, is_string, length_reply, number_at, number_left, string_of, string_reply, sum_of, type_of};
 ghost use Rattle.resp2.specs.Line.{is_one_line};
 ghost use Rattle.resp2.specs.Reply.{array_of};
 
@@ -24,6 +24,13 @@ use byte_string::ByteString;
 use command::{Condition, ErrorLine, PairList, number_in};
 use resp2::{Array, MOST_WORD_BYTES, Reply};
 use std::alloc::{AllocError, Global};
+
+#[inline(never)]
+pub(crate) fn ping() -> Result<Reply, AllocError>
+    ensures { IfOk result (λ reply. reply ≡ Reply.Simple (codes "PONG")) }
+{
+    Ok(simple(b"PONG"))
+}
 
 #[inline(never)]
 pub(crate) fn echo(message: &ByteString) -> Result<Reply, AllocError>
@@ -81,7 +88,7 @@ pub(crate) fn set<S: Store>(
     if condition != Condition::Always && !holds(condition, values.look(store, key)) {
         return Ok(Reply::Null);
     }
-    put(values, key, value.clone()?)?;
+    put_copy(values, key, value)?;
     Ok(simple(b"OK"))
 }
 
@@ -128,12 +135,12 @@ pub(crate) fn setnx<S: Store>(
     if values.look(store, key).is_some() {
         return Ok(integer(0));
     }
-    put(values, key, value.clone()?)?;
+    put_copy(values, key, value)?;
     Ok(integer(1))
 }
 
 #[inline(never)]
-#[tactic(auto, using(crate::proofs::Applied::applied_insert))]
+#[tactic(auto, using(crate::proofs::Applied::applied_insert, crate::proofs::Left::getset_hash, crate::proofs::Left::getset_other))]
 pub(crate) fn getset<S: Store>(
     store: &S,
     values: &mut NewValues,
@@ -144,17 +151,16 @@ pub(crate) fn getset<S: Store>(
         record { reply = reply; after = applied (S.contents store.now) values.new }
         ≡ exec (applied (S.contents store.now) values.old) (DataCommand.Getset key.now value.now)) }
 {
-    let old = match values.look(store, key) {
-        None => Reply::Null,
-        Some(Value::Str(bytes)) => Reply::Bulk(bytes.clone()?),
-        Some(Value::Hash(_)) => return Ok(ErrorLine::WrongType.reply()),
-    };
-    put(values, key, value.clone()?)?;
-    Ok(old)
+    let old = values.look(store, key);
+    let reply = string_reply(old)?;
+    if is_hash(old) {
+        return Ok(reply);
+    }
+    set_replying(values, key, value, reply)
 }
 
 #[inline(never)]
-#[tactic(auto, using(crate::proofs::Applied::applied_insert))]
+#[tactic(auto, using(crate::proofs::Applied::applied_insert, crate::proofs::Left::getdel_string, crate::proofs::Left::getdel_other))]
 pub(crate) fn getdel<S: Store>(
     store: &S,
     values: &mut NewValues,
@@ -164,13 +170,12 @@ pub(crate) fn getdel<S: Store>(
         record { reply = reply; after = applied (S.contents store.now) values.new }
         ≡ exec (applied (S.contents store.now) values.old) (DataCommand.Getdel key.now)) }
 {
-    let reply = match values.look(store, key) {
-        None => return Ok(Reply::Null),
-        Some(Value::Str(bytes)) => Reply::Bulk(bytes.clone()?),
-        Some(Value::Hash(_)) => return Ok(ErrorLine::WrongType.reply()),
-    };
-    values.insert(key.clone()?, None)?;
-    Ok(reply)
+    let old = values.look(store, key);
+    let reply = string_reply(old)?;
+    if !is_string(old) {
+        return Ok(reply);
+    }
+    remove_replying(values, key, reply)
 }
 
 // Puts the bytes behind the string at the key.
@@ -251,6 +256,45 @@ fn put(values: &mut NewValues, key: &ByteString, value: ByteString) -> Result<()
     values.insert(key.clone()?, Some(Value::Str(value)))
 }
 
+// Puts a copy of the string at the key, and replies.
+fn set_replying(
+    values: &mut NewValues,
+    key: &ByteString,
+    value: &ByteString,
+    reply: Reply,
+) -> Result<Reply, AllocError>
+    ensures reply { IfOk result (λ told. told ≡ reply) }
+    ensures after { OnOk result (values.new ≡ map.insert values.old key.now (Some (Value.Str value.now))) }
+{
+    put_copy(values, key, value)?;
+    Ok(reply)
+}
+
+fn put_copy(values: &mut NewValues, key: &ByteString, value: &ByteString) -> Result<(), AllocError>
+    ensures { OnOk result (values.new ≡ map.insert values.old key.now (Some (Value.Str value.now))) }
+{
+    put(values, key, value.clone()?)
+}
+
+// Removes the key, and replies.
+fn remove_replying(
+    values: &mut NewValues,
+    key: &ByteString,
+    reply: Reply,
+) -> Result<Reply, AllocError>
+    ensures reply { IfOk result (λ told. told ≡ reply) }
+    ensures after { OnOk result (values.new ≡ map.insert values.old key.now None) }
+{
+    remove(values, key)?;
+    Ok(reply)
+}
+
+fn remove(values: &mut NewValues, key: &ByteString) -> Result<(), AllocError>
+    ensures { OnOk result (values.new ≡ map.insert values.old key.now None) }
+{
+    values.insert(key.clone()?, None)
+}
+
 // Puts the text of the number at the key, and replies with the number.
 fn put_number(
     alloc: Global,
@@ -300,13 +344,25 @@ fn delete_key<S: Store>(
     if values.look(store, key).is_none() {
         return Ok(0);
     }
-    values.insert(key.clone()?, None)?;
+    remove(values, key)?;
     Ok(1)
 }
 
 // How many of the keys are there once all changes are made. A repeated one counts again.
 #[inline(never)]
-pub(crate) fn count_there<S: Store>(store: &S, values: &NewValues, keys: &[ByteString]) -> usize
+pub(crate) fn exists<S: Store>(
+    store: &S,
+    values: &NewValues,
+    keys: &[ByteString],
+) -> Result<Reply, AllocError>
+    ensures { IfOk result (λ reply.
+        let found = values_at (applied (S.contents store.now) values.now) keys.now in
+        reply ≡ Reply.Integer (pos (count_by is_some found))) }
+{
+    Ok(integer(count_there(store, values, keys)))
+}
+
+fn count_there<S: Store>(store: &S, values: &NewValues, keys: &[ByteString]) -> usize
     ensures count { result ≡ count_by is_some (values_at (applied (S.contents store.now) values.now) keys.now) }
     ensures small { result < 2 ^ 63 }
 {
@@ -321,22 +377,31 @@ pub(crate) fn count_there<S: Store>(store: &S, values: &NewValues, keys: &[ByteS
 
 // The number of bytes of the string at the key.
 #[inline(never)]
-pub(crate) fn len_at<S: Store>(store: &S, values: &NewValues, key: &ByteString) -> Reply
-    ensures { result ≡ length_reply (string_of (map.get (applied (S.contents store.now) values.now) key.now)) }
+pub(crate) fn len_at<S: Store>(
+    store: &S,
+    values: &NewValues,
+    key: &ByteString,
+) -> Result<Reply, AllocError>
+    ensures { IfOk result (λ reply.
+        reply ≡ length_reply (string_of (map.get (applied (S.contents store.now) values.now) key.now))) }
 {
     match string_of(values.look(store, key)) {
-        Some(bytes) => integer(bytes.len()),
-        None => ErrorLine::WrongType.reply(),
+        Some(bytes) => Ok(integer(bytes.len())),
+        None => Ok(ErrorLine::WrongType.reply()),
     }
 }
 
 // The name of the type of the value at the key.
 #[inline(never)]
-pub(crate) fn type_at<S: Store>(store: &S, values: &NewValues, key: &ByteString) -> &'static [u8]
-    ensures name { result.now ≡ type_of (map.get (applied (S.contents store.now) values.now) key.now) }
-    ensures line { IsTrue (is_one_line result.now) }
+pub(crate) fn type_at<S: Store>(
+    store: &S,
+    values: &NewValues,
+    key: &ByteString,
+) -> Result<Reply, AllocError>
+    ensures { IfOk result (λ reply.
+        reply ≡ Reply.Simple (type_of (map.get (applied (S.contents store.now) values.now) key.now))) }
 {
-    type_of(values.look(store, key))
+    Ok(simple(type_of(values.look(store, key))))
 }
 
 // The string, of which a missing key counts as an empty one; None where the value is none.
@@ -359,6 +424,18 @@ fn number_at(value: Option<&Value>) -> Result<i64, ErrorLine>
         Some(Value::Str(bytes)) => number_in(bytes.as_slice()).ok_or(ErrorLine::NotAnInteger),
         Some(Value::Hash(_)) => Err(ErrorLine::WrongType),
     }
+}
+
+fn is_string(value: Option<&Value>) -> bool
+    ensures { result ≡ is_string (option_copied value.entry) }
+{
+    matches!(value, Some(Value::Str(_)))
+}
+
+fn is_hash(value: Option<&Value>) -> bool
+    ensures { result ≡ is_hash (option_copied value.entry) }
+{
+    matches!(value, Some(Value::Hash(_)))
 }
 
 fn type_of(value: Option<&Value>) -> &'static [u8]

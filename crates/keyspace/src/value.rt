@@ -45,7 +45,7 @@ pub fn rebuild(alloc: Global, key: &ByteString, value: &Value) -> Result<Words, 
     Ok(Words::new(items).unwrap())
 }
 
-// HSET, the key, and each field before its value.
+// HSET, the key, and the pairs.
 fn setting_words(
     alloc: Global,
     key: &ByteString,
@@ -55,10 +55,7 @@ fn setting_words(
 {
     let name = ByteString::from_static(b"HSET");
     let mut words = vec![in alloc; name, key.clone()?]?;
-    for (field, value) in hash.iter() {
-        words.push(field.clone()?)?;
-        words.push(value.clone()?)?;
-    }
+    hash.append_words(&mut words)?;
     Ok(words)
 }
 

@@ -1,7 +1,7 @@
 use Rattle.std.proofs.Common.{◌≡◌, ◌++◌, length}
 use Rattle.command.specs.Pairs.{pairs_in}
 use Rattle.keyspace.specs.Hashes.{sets}
-use Rattle.keyspace.proofs.hashes.sets.Given as goal
+use Rattle.keyspace.proofs.hash_changes.sets.Given as goal
 
 -- the changes of the pairs so far, and those of the rest
 abbrev pub invariant-loop-field : goal.invariant-loop-field

@@ -1,6 +1,0 @@
-use Rattle.std.proofs.Common.{refl}
-use Rattle.keyspace.proofs.Committed.{committed_step}
-use Rattle.keyspace.proofs.plans.Plan.append.Goals as goal
-
-pub returns : goal.returns
-returns c keyspace = committed_step keyspace _ _ refl

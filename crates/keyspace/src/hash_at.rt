@@ -1,0 +1,64 @@
+//! The hash at a key. A missing one has no fields.
+ghost use Rattle.std.specs.Prelude.{◌≡◌, ◌<◌, ◌^◌, Some, None, length, IfOk, IfErr};
+ghost use Rattle.std.specs.Option.{option_copied};
+ghost use Rattle.hash.specs.Pairs.{HasDistinctFields, fields_changed, value_of};
+ghost use Rattle.hash.specs.Size.{size_of};
+ghost use Rattle.keyspace.specs.Hashes.{fields_of, known};
+
+use crate::value::Value;
+use byte_string::ByteString;
+use command::ErrorLine;
+use hash::{Extent, Hash};
+use std::alloc::{AllocError, Global};
+
+/// The hash, or None where it is missing. A string is refused.
+pub(crate) fn hash_in(value: Option<&Value>) -> Result<Option<&Hash>, ErrorLine>
+    ensures ok { IfOk result (λ hash. fields_of (option_copied value.entry) ≡ Some (known (option_copied hash))) }
+    ensures wrong { IfErr result (λ fault. fault ≡ ErrorLine.WrongType) }
+    ensures err { IfErr result (λ fault. fields_of (option_copied value.entry) ≡ None) }
+{
+    match value {
+        None => Ok(None),
+        Some(Value::Hash(hash)) => Ok(Some(hash.get())),
+        Some(Value::Str(_)) => Err(ErrorLine::WrongType),
+    }
+}
+
+/// The value of the field.
+pub(crate) fn value_in<'a>(hash: Option<&'a Hash>, field: &ByteString) -> Option<&'a ByteString>
+    ensures { option_copied result ≡ value_of (known (option_copied hash.entry)) field.now }
+{
+    match hash {
+        Some(hash) => hash.get(field),
+        None => None,
+    }
+}
+
+/// The number of fields.
+pub(crate) fn len_of(hash: Option<&Hash>) -> usize
+    ensures len { result ≡ length (known (option_copied hash.entry)) }
+    ensures small { result < 2 ^ 63 }
+    ensures distinct { HasDistinctFields (known (option_copied hash.entry)) }
+{
+    match hash {
+        Some(hash) => hash.len(),
+        None => 0,
+    }
+}
+
+/// What the hash takes after the changes, which aren't made.
+pub(crate) fn extent_after(
+    alloc: Global,
+    hash: Option<&Hash>,
+    changes: &[(ByteString, Option<ByteString>)],
+) -> Result<Extent, AllocError>
+    ensures len { IfOk result (λ extent.
+        extent.len ≡ length (fields_changed (known (option_copied hash.entry)) changes.now)) }
+    ensures size { IfOk result (λ extent.
+        extent.size ≡ size_of (fields_changed (known (option_copied hash.entry)) changes.now)) }
+{
+    match hash {
+        Some(hash) => hash.extent_after(alloc, changes),
+        None => Hash::new(alloc).extent_after(alloc, changes),
+    }
+}
