@@ -1,11 +1,16 @@
 -- An acknowledgement, as a node takes it.
-use Rattle.std.proofs.Common.{◌≡◌, ◌&&◌, ℕ, not, List, [], Bool, true, false, true≢false, cond, map, Option, eq-eqb, refl, sym, ap, ◌∙◌}
+use Rattle.std.proofs.Common.{◌≡◌, ◌==◌, ◌&&◌, ◌-◌, ℕ, zero, suc, List, [], Bool, true, false, cond, map, Option, eq-eqb, refl, sym, ap, subst, ◌∙◌, arith}
+use Rattle.std.proofs.lemmas.Bool.{lt-ltb, ne_eqb}
+use Rattle.std.proofs.lemmas.Cmp.{nat_list_cmp_total}
 use Rattle.std.specs.Borrow.{Bor}
 use Rattle.std.specs.Cmp.{nat_cmp_total, unsigned_tied}
 use Rattle.std.specs.FinMap as fin_map
 use Rattle.std.specs.Ordering.{nat_cmp}
 use Rattle.std.specs.Option.{option_copied}
-use Rattle.std.specs.Prelude.{Some, None, is_none}
+use Rattle.std.specs.Prelude.{Some, None, is_some, nat_lt}
+use Rattle.keyspace.proofs.Applied.{get_changed, is_key, same}
+use Rattle.keyspace.proofs.Parts.{get_part}
+use Rattle.keyspace.specs.Keyspace.{Keyspace}
 use Rattle.slot_moves.specs.Moves.{Moves, move_of}
 use Rattle.slot_moves.specs.declared.running.Move.{Move}
 use Rattle.slot_moves.specs.declared.running.Move.TheVariants.{Leaves, Comes}
@@ -15,15 +20,16 @@ use Rattle.bus.specs.declared.message.Body.{Body}
 use Rattle.resp2.specs.declared.reply.Reply.{Reply}
 use Rattle.connections.specs.Connections.{waiting}
 use Rattle.connections.specs.Waiting.{is_for}
-use Rattle.node_core.specs.Comes.{ComesTo, at_epoch, bodies_of}
+use Rattle.node_core.specs.Comes.{Drafts, at_epoch}
+use Rattle.node_core.specs.Places.{drained_by_ack, is_last}
+use Rattle.node_core.specs.declared.draft.Draft.{Draft}
 use Rattle.node_step.specs.Copies.{acknowledged, acknowledgement, without_key}
 use Rattle.node_step.specs.Orders.{done}
-use Rattle.node_step.specs.Outcome.{release, stamped}
-use Rattle.node_step.specs.Slots.{drained, drained_by, drained_since, has_keys, slot_epoch}
+use Rattle.node_step.specs.Outcome.{release, silent}
+use Rattle.node_step.specs.Slots.{count_in, drained, drained_by, drained_since, has_keys, slot_epoch}
 use Rattle.node_step.specs.State.{NodeState}
-use Rattle.node_step.specs.declared.outputs.Outputs.{Outputs}
 use Rattle.node_step.specs.declared.outputs.Release.{Release}
-use Rattle.node_step.specs.declared.response.Response.TheVariants.{Nothing}
+use Rattle.slot_store.specs.InSlot.{in_slot, is_in_slot}
 
 -- the slot has what was put there
 get-inserted : (m : fin_map.FinMap nat_cmp Move) (slot : ℕ) (move : Move) → fin_map.get (fin_map.insert m slot move) slot ≡ Some move
@@ -41,66 +47,89 @@ drained-changed slot epoch moves None is = refl
 drained-changed slot epoch moves (Some move) is =
     ap (drained_by slot epoch) (get-inserted moves.running slot (unfrozen move)) ∙ drained-unfrozen slot epoch move ∙ ap (drained_by slot epoch) (sym is)
 
-pub drained-after_ack : (slot epoch : ℕ) (moves : Moves) → drained_by slot epoch (move_of (after_ack moves slot) slot) ≡ drained_by slot epoch (move_of moves slot)
+drained-after_ack : (slot epoch : ℕ) (moves : Moves) → drained_by slot epoch (move_of (after_ack moves slot) slot) ≡ drained_by slot epoch (move_of moves slot)
 drained-after_ack slot epoch moves = drained-changed slot epoch moves (move_of moves slot) refl
 
--- what is said of the slot, by whether it had keys and has one
-told-so : (epoch slot number copy : ℕ) (old : NodeState) (key : List ℕ) (had has : Bool) → has_keys old.keyspace slot ≡ had → has_keys (fin_map.remove old.keyspace key) slot ≡ has
-    → drained_since old.keyspace (without_key (at_epoch old epoch) slot number copy key) slot ≡ cond (had && not has) (drained old slot) []
-told-so epoch slot number copy old key had has before after =
-    ap (λ b. cond b (cond (has_keys (fin_map.remove old.keyspace key) slot) [] says) []) before ∙ ap (λ b. cond had (cond b [] says) []) after
-    ∙ ap (λ bodies. cond had (cond has [] bodies) []) (drained-after_ack slot (slot_epoch old slot) old.moves) ∙ by_tests had has
-  where
-    says : List (ℕ × Body)
-    says = drained (without_key (at_epoch old epoch) slot number copy key) slot
+-- ---- the last key of a slot
 
-    by_tests : (a b : Bool) → cond a (cond b [] (drained old slot)) [] ≡ cond (a && not b) (drained old slot) []
-    by_tests true true = refl
-    by_tests true false = refl
-    by_tests false b = refl
+either_way : {A : Type 0} (a b : Bool) (v : Option A) → cond a (cond b None v) None ≡ cond b None (cond a v None)
+either_way true true v = refl
+either_way true false v = refl
+either_way false true v = refl
+either_way false false v = refl
 
--- what goes out, with these bodies
-abbrev outputs_with : ℕ → ℕ → ℕ → List Release → List (ℕ × Body) → Outputs
-outputs_with ticket epoch number released bodies = record { ticket = ticket; response = Nothing; released = released; sent = map (stamped number ticket epoch) bodies }
+in_slot-remove : (slot : ℕ) (m : Keyspace) (key : List ℕ) → in_slot slot (fin_map.remove m key) ≡ fin_map.remove (in_slot slot m) key
+in_slot-remove slot m key =
+    same _ _
+    (λ q.
+    get_part (is_in_slot slot) (fin_map.remove m key) q ∙ ap (λ v. cond (is_in_slot slot q) v None) (get_changed m key None q) ∙ either_way (is_in_slot slot q) (is_key q key) (fin_map.get m q)
+    ∙ sym (get_changed (in_slot slot m) key None q ∙ ap (λ v. cond (is_key q key) None v) (get_part (is_in_slot slot) m q)))
 
--- one of two outputs, by a test
-chosen : {X : Type 0} (ticket epoch number : ℕ) (released : List Release) (test : Bool) (made telling quiet : Outputs × X) (bodies : List (ℕ × Body)) → made ≡ cond test telling quiet
-    → telling.0 ≡ outputs_with ticket epoch number released bodies → quiet.0 ≡ outputs_with ticket epoch number released [] → made.0 ≡ outputs_with ticket epoch number released (cond test bodies [])
-chosen ticket epoch number released true made telling quiet bodies is tells is_quiet = ap (λ m. m.0) is ∙ tells
-chosen ticket epoch number released false made telling quiet bodies is tells is_quiet = ap (λ m. m.0) is ∙ is_quiet
+-- of so many keys one goes that is there, or none
+never_said : {A : Type 0} (has : Bool) (words : List A) → cond has (cond has [] words) [] ≡ []
+never_said true words = refl
+never_said false words = refl
 
--- a key that is lent is there
-pub is_found : (lent : Option (Bor (List ℕ))) (key : Option (List ℕ)) → option_copied lent ≡ key → is_none lent ≡ false → is_none key ≡ false
-is_found None key is there = absurd (true≢false there)
-is_found (Some lent) key is there = ap is_none (sym is)
+not_both : (b : Bool) → (b && false) ≡ false
+not_both true = refl
+not_both false = refl
 
--- who waits for the copy gets this reply
-abbrev answered : Reply → NodeState → ℕ → ℕ → ℕ → List Release
-answered reply old slot number copy = map (release reply) (waiting old.connections (is_for slot number copy))
+said_once : {A : Type 0} (n : ℕ) (there : Bool) (words : List A) → cond (nat_lt 0 n) (cond (nat_lt 0 (cond there (n - 1) n)) [] words) [] ≡ cond (n == 1 && there) words []
+said_once n false words = never_said (nat_lt 0 n) words ∙ ap (λ b. cond b words []) (sym (not_both (n == 1)))
+said_once zero true words = refl
+said_once (suc zero) true words = refl
+said_once (suc (suc n)) true words =
+    let has : nat_lt 0 (suc (suc n)) ≡ true = lt-ltb 0 (suc (suc n)) (omega arith) in
+    let left : nat_lt 0 (suc (suc n) - 1) ≡ true = lt-ltb 0 (suc (suc n) - 1) (omega arith) in
+    let more : (suc (suc n) == 1) ≡ false = ne_eqb (suc (suc n)) 1 (λ same. absurd (omega (arith, same))) in
+    ap (λ b. cond b (cond (nat_lt 0 (suc (suc n) - 1)) [] words) []) has ∙ ap (λ b. cond b [] words) left ∙ sym (ap (λ b. cond (b && true) words []) more)
 
--- the outputs and the state where a key was found
-by_key : (ticket epoch slot number copy : ℕ) (old new : NodeState) (outputs : Outputs) (had has : Bool) (found : Option (List ℕ)) → is_none found ≡ false
-    → new ≡ at_epoch (acknowledged old slot number copy found).state epoch → has_keys old.keyspace slot ≡ had → has_keys new.keyspace slot ≡ has
-    → outputs ≡ outputs_with ticket epoch old.number (answered done old slot number copy) (cond (had && not has) (drained old slot) [])
-    → ComesTo ticket (acknowledged (at_epoch old epoch) slot number copy found) outputs new
-by_key ticket epoch slot number copy old new outputs had has None is leaves before after gives = absurd (true≢false is)
-by_key ticket epoch slot number copy old new outputs had has (Some key) is leaves before after gives = record {
-  outputs_are =
-      gives
-      ∙ ap (outputs_with ticket epoch old.number (answered done old slot number copy))
-      (sym (told-so epoch slot number copy old key had has before (ap (λ (node : NodeState). has_keys node.keyspace slot) (sym leaves) ∙ after)));
-  state = leaves;
-}
+there_in_slot : {A : Type 0} (test here : Bool) (v : Option A) → (test && is_some (cond here v None)) ≡ (test && here && is_some v)
+there_in_slot true true v = refl
+there_in_slot true false v = refl
+there_in_slot false here v = refl
 
-pub acknowledges : {X : Type 0} (ticket epoch from slot number copy : ℕ) (old new : NodeState) (made telling quiet : Outputs × X) (body : Option (ℕ × Body)) (reply : Reply) (had has : Bool)
-    → is_none (acknowledged_key (move_of old.moves slot) from number copy) ≡ false → new ≡ at_epoch (acknowledgement old from slot number copy).state epoch
-    → had ≡ has_keys old.keyspace slot → has ≡ has_keys new.keyspace slot → made ≡ cond (had && not has) telling quiet
-    → bodies_of body ≡ drained old slot → reply ≡ done
-    → telling.0 ≡ outputs_with ticket epoch old.number (answered reply old slot number copy) (bodies_of body)
-    → quiet.0 ≡ outputs_with ticket epoch old.number (answered reply old slot number copy) []
-    → ComesTo ticket (acknowledgement (at_epoch old epoch) from slot number copy) made.0 new
-acknowledges ticket epoch from slot number copy old new made telling quiet body reply had has found leaves before after is says replies tells is_quiet =
-    by_key ticket epoch slot number copy old new made.0 had has (acknowledged_key (move_of old.moves slot) from number copy) found leaves (sym before) (sym after)
-    (chosen ticket epoch old.number (answered reply old slot number copy) (had && not has) made telling quiet (drained old slot) is
-    (tells ∙ ap (outputs_with ticket epoch old.number (answered reply old slot number copy)) says) is_quiet
-    ∙ ap (λ r. outputs_with ticket epoch old.number (answered r old slot number copy) (cond (had && not has) (drained old slot) [])) replies)
+-- the word is said exactly if the key is the last one
+said_of_last : (slot : ℕ) (m : Keyspace) (key : List ℕ) (words : List (ℕ × Body))
+    → cond (has_keys m slot) (cond (has_keys (fin_map.remove m key) slot) [] words) [] ≡ cond (is_last m slot key) words []
+said_of_last slot m key words =
+    let left : count_in (fin_map.remove m key) slot ≡ cond (fin_map.contains_key (in_slot slot m) key) (count_in m slot - 1) (count_in m slot) =
+    ap fin_map.len (in_slot-remove slot m key) ∙ fin_map.len-remove nat_list_cmp_total (in_slot slot m) key in
+    let there : fin_map.contains_key (in_slot slot m) key ≡ is_some (cond (is_in_slot slot key) (fin_map.get m key) None) = ap is_some (get_part (is_in_slot slot) m key) in
+    ap (λ n. cond (has_keys m slot) (cond (nat_lt 0 n) [] words) []) left
+    ∙ said_once (count_in m slot) (fin_map.contains_key (in_slot slot m) key) words
+    ∙ ap (λ b. cond (count_in m slot == 1 && b) words []) there
+    ∙ ap (λ b. cond b words []) (there_in_slot (count_in m slot == 1) (is_in_slot slot key) (fin_map.get m key))
+
+-- what an acknowledgement says of the slot
+said : (epoch slot number copy : ℕ) (old : NodeState) (key : List ℕ)
+    → drained_since old.keyspace (without_key (at_epoch old epoch) slot number copy key) slot ≡ drained_by_ack old slot key
+said epoch slot number copy old key =
+    ap (λ words. cond (has_keys old.keyspace slot) (cond (has_keys (fin_map.remove old.keyspace key) slot) [] words) []) (drained-after_ack slot (slot_epoch old slot) old.moves)
+    ∙ said_of_last slot old.keyspace key (drained old slot)
+
+-- ---- drafts
+
+-- where no copy is outstanding
+pub nothing_acknowledged : (old : NodeState) (epoch from slot number copy : ℕ) (draft : Draft) (lent : Option (Bor (List ℕ))) → lent ≡ None
+    → option_copied lent ≡ acknowledged_key (move_of old.moves slot) from number copy → Drafts old (silent (at_epoch old epoch)) draft
+    → Drafts old (acknowledgement (at_epoch old epoch) from slot number copy) draft
+nothing_acknowledged old epoch from slot number copy draft lent none is drafts =
+    subst (λ found. Drafts old (acknowledged (at_epoch old epoch) slot number copy found) draft) (ap option_copied (sym none) ∙ is) drafts
+
+-- and where one is
+pub acknowledges : (old : NodeState) (epoch from slot number copy : ℕ) (draft : Draft) (lent : Option (Bor (List ℕ))) (key : Bor (List ℕ)) (reply : Reply) (released : List Release) (bodies : List (ℕ × Body))
+    → lent ≡ Some key → option_copied lent ≡ acknowledged_key (move_of old.moves slot) from number copy → bodies ≡ drained_by_ack old slot key.now
+    → released ≡ map (release reply) (waiting old.connections (is_for slot number copy)) → reply ≡ done
+    → ((after : NodeState) → after ≡ (acknowledgement (at_epoch old epoch) from slot number copy).state → Drafts old (record (silent after) { released = released; sent = bodies }) draft)
+    → Drafts old (acknowledgement (at_epoch old epoch) from slot number copy) draft
+acknowledges old epoch from slot number copy draft lent key reply released bodies some is words gives replies drafts =
+    let node = at_epoch old epoch in
+    let found : Some key.now ≡ acknowledged_key (move_of old.moves slot) from number copy = ap option_copied (sym some) ∙ is in
+    let named : released ≡ map (release done) (waiting old.connections (is_for slot number copy)) = gives ∙ ap (λ r. map (release r) (waiting old.connections (is_for slot number copy))) replies in
+    let after = without_key node slot number copy key.now in
+    subst (λ key. Drafts old (acknowledged node slot number copy key) draft) found
+    (subst (λ (sent : List (ℕ × Body)). Drafts old (record (silent after) { released = map (release done) (waiting old.connections (is_for slot number copy)); sent = sent }) draft)
+    (words ∙ sym (said epoch slot number copy old key.now))
+    (subst (λ (r : List Release). Drafts old (record (silent after) { released = r; sent = bodies }) draft) named
+    (drafts after (ap (λ key. (acknowledged node slot number copy key).state) found))))

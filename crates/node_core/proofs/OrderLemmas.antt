@@ -1,12 +1,13 @@
 -- Orders that move a slot.
-use Rattle.std.proofs.Common.{◌≡◌, ◌==◌, ◌+◌, ◌++◌, ℕ, Bool, true, false, not, cond, List, [], ◌∷◌, Option, Some, None, filter, append-nil, eq-eqb, refl, sym, ap, ◌∙◌, arith}
-use Rattle.std.proofs.lemmas.List.{map-append, set-set, set-get_or}
+use Rattle.std.proofs.Common.{◌≡◌, ◌<◌, ◌^◌, ◌==◌, ◌+◌, ◌++◌, ℕ, Bool, true, false, not, cond, List, [], ◌∷◌, Option, Some, None, filter, append-nil, eq-eqb, refl, sym, ap, subst, ◌∙◌, arith}
+use Rattle.std.proofs.lemmas.Bool.{lt-ltb}
+use Rattle.std.proofs.lemmas.List.{map-append}
+use Rattle.std.specs.Prelude.{slice_set}
 use Rattle.std.specs.Cmp.{nat_cmp_total, unsigned_tied}
 use Rattle.std.specs.FinMap as map
 use Rattle.std.specs.List.{range_with_len}
-use Rattle.std.specs.Prelude.{slice_set}
 use Rattle.bus.specs.declared.message.Body.{Body}
-use Rattle.bus.specs.declared.message.Body.TheVariants.{Drained}
+use Rattle.bus.specs.declared.message.Body.TheVariants.{Claim, Drained}
 use Rattle.connections.specs.declared.conn.Conn.{Conn}
 use Rattle.resp2.specs.declared.reply.Reply.{Reply}
 use Rattle.slot_moves.specs.Importing.{import_verdict}
@@ -15,23 +16,24 @@ use Rattle.slot_moves.specs.Moves.{last_move_of, move_of}
 use Rattle.slot_moves.specs.declared.importing.ImportVerdict.{ImportVerdict}
 use Rattle.slot_moves.specs.declared.migrating.MigrateVerdict.{MigrateVerdict}
 use Rattle.slot_moves.specs.declared.migrating.MigrateVerdict.TheVariants.{Begins}
+use Rattle.slot_moves.specs.declared.ending.NodeVerdict.TheVariants.{Ends as IsOver}
 use Rattle.slot_moves.specs.declared.running.Move.{Move}
 use Rattle.slot_moves.specs.declared.running.Move.TheVariants.{Leaves}
 use Rattle.slot_table.proofs.MergeLemmas.{filter_more_range}
-use Rattle.slot_table.specs.Table.{entry_at}
-use Rattle.slot_table.specs.declared.entry.SlotEntry.{SlotEntry}
-use Rattle.node_core.specs.Comes.{ComesTo, bodies_of}
-use Rattle.node_step.specs.Orders.{drained_at_start, import_reply, importing, migrate_reply, migrating, to_all, with_moves}
-use Rattle.node_step.specs.Outcome.{outputs_of, replied_sending}
+use Rattle.slot_table.specs.Runs.{AreRunsOf}
+use Rattle.slot_table.specs.Table.{claim_at}
+use Rattle.slot_table.specs.declared.runs.Run.{Run}
+use Rattle.slot_moves.specs.declared.order.Order.{Order}
+use Rattle.node_core.specs.Becomes.{ending}
+use Rattle.node_core.specs.Comes.{Drafts, at_epoch}
+use Rattle.node_core.specs.Orders.{Gives}
+use Rattle.node_core.specs.declared.draft.Draft.{Draft}
+use Rattle.node_step.specs.Orders.{done, drained_at_start, import_reply, importing, migrate_reply, migrating, new_epoch, others, to_all, with_moves, with_slot}
+use Rattle.node_step.specs.Outcome.{replied, replied_sending}
 use Rattle.node_step.specs.Requests.{using_up}
 use Rattle.node_step.specs.Slots.{drained_by, has_keys, slot_epoch}
 use Rattle.node_step.specs.State.{NodeState, standing}
-use Rattle.node_step.specs.declared.outputs.Outputs.{Outputs}
-use Rattle.node_step.specs.declared.response.Why.TheVariants.{Imports, Migrates}
-
--- an entry that was changed is put back
-pub put_back : (table : List (Option SlotEntry)) (slot : ℕ) (entry : Option SlotEntry) → slice_set (slice_set table slot entry) slot (entry_at table slot) ≡ table
-put_back table slot entry = set-set table slot entry (entry_at table slot) ∙ set-get_or table slot None
+use Rattle.node_step.specs.declared.response.Why.TheVariants.{Ends, Imports, Migrates}
 
 -- the nodes below a bound, without this one
 abbrev pub others_below : ℕ → ℕ → List ℕ
@@ -78,27 +80,41 @@ to_all-skip number mine place to body before after at own same so_far more =
     ∙ append-nil (to_all (others_below number place) body))
 
 -- an order to import a slot is answered by its verdict
-pub import_comes : (ticket : ℕ) (old : NodeState) (conn : Conn) (slot : ℕ) (other number : Option ℕ) (verdict : ImportVerdict) (reply : Reply) (outputs : Outputs) (new : NodeState)
-    → verdict ≡ import_verdict (standing old slot) (move_of old.moves slot) (last_move_of old.moves slot) other number → reply ≡ import_reply verdict
-    → outputs ≡ outputs_of ticket (replied_sending old (Imports verdict) reply []) → new ≡ using_up (importing old slot other number).state conn
-    → ComesTo ticket (importing (using_up old conn) slot other number) outputs new
-import_comes ticket old conn slot other number verdict reply outputs new is replies gives leaves = record {
-  outputs_are =
-      gives ∙ ap (λ r. outputs_of ticket (replied_sending old (Imports verdict) r [])) replies
-      ∙ ap (λ v. outputs_of ticket (replied_sending old (Imports v) (import_reply v) [])) is;
-  state = leaves;
-}
+pub import_drafted : (old : NodeState) (conn : Conn) (order : Order) (verdict : ImportVerdict) (reply : Reply) (draft : Draft)
+    → verdict ≡ import_verdict (standing old order.slot) (move_of old.moves order.slot) (last_move_of old.moves order.slot) order.node order.number → reply ≡ import_reply verdict
+    → ((after : NodeState) → after ≡ (importing (using_up old conn) order.slot order.node order.number).state → Drafts old (replied after (Imports verdict) reply) draft)
+    → Drafts old (importing (using_up old conn) order.slot order.node order.number) draft
+import_drafted old conn order verdict reply draft is replies drafts =
+    let after = (importing (using_up old conn) order.slot order.node order.number).state in
+    subst (λ v. Drafts old (replied after (Imports v) (import_reply v)) draft) is
+    (subst (λ r. Drafts old (replied after (Imports verdict) r) draft) replies (drafts after refl))
 
 -- an order to migrate a slot is answered by its verdict, and the other node is told if the slot has no key
-pub migrate_comes : (ticket : ℕ) (old : NodeState) (conn : Conn) (slot : ℕ) (other number : Option ℕ) (verdict : MigrateVerdict) (reply : Reply) (body : Option (ℕ × Body)) (outputs : Outputs) (new : NodeState)
-    → verdict ≡ migrate_verdict (standing old slot) (move_of old.moves slot) (last_move_of old.moves slot) other number → reply ≡ migrate_reply verdict
-    → bodies_of body ≡ drained_at_start (with_moves old (after_migrate old.moves slot verdict)) slot verdict
-    → outputs ≡ outputs_of ticket (replied_sending old (Migrates verdict) reply (bodies_of body)) → new ≡ using_up (migrating old slot other number).state conn
-    → ComesTo ticket (migrating (using_up old conn) slot other number) outputs new
-migrate_comes ticket old conn slot other number verdict reply body outputs new is replies says gives leaves = record {
-  outputs_are =
-      gives ∙ ap (λ r. outputs_of ticket (replied_sending old (Migrates verdict) r (bodies_of body))) replies
-      ∙ ap (λ bodies. outputs_of ticket (replied_sending old (Migrates verdict) (migrate_reply verdict) bodies)) says
-      ∙ ap (λ v. outputs_of ticket (replied_sending old (Migrates v) (migrate_reply v) (drained_at_start (with_moves old (after_migrate old.moves slot v)) slot v))) is;
-  state = leaves;
-}
+pub migrate_drafted : (old : NodeState) (conn : Conn) (order : Order) (verdict : MigrateVerdict) (reply : Reply) (bodies : List (ℕ × Body)) (draft : Draft)
+    → verdict ≡ migrate_verdict (standing old order.slot) (move_of old.moves order.slot) (last_move_of old.moves order.slot) order.node order.number → reply ≡ migrate_reply verdict
+    → bodies ≡ drained_at_start (with_moves old (after_migrate old.moves order.slot verdict)) order.slot verdict
+    → ((after : NodeState) → after ≡ (migrating (using_up old conn) order.slot order.node order.number).state → Drafts old (replied_sending after (Migrates verdict) reply bodies) draft)
+    → Drafts old (migrating (using_up old conn) order.slot order.node order.number) draft
+migrate_drafted old conn order verdict reply bodies draft is replies says drafts =
+    let after = (migrating (using_up old conn) order.slot order.node order.number).state in
+    subst (λ v. Drafts old (replied_sending after (Migrates v) (migrate_reply v) (drained_at_start (with_moves old (after_migrate old.moves order.slot v)) order.slot v)) draft) is
+    (subst (λ bodies. Drafts old (replied_sending after (Migrates verdict) (migrate_reply verdict) bodies) draft) says
+    (subst (λ r. Drafts old (replied_sending after (Migrates verdict) r bodies) draft) replies (drafts after refl)))
+
+-- an import that ends in the new epoch is answered with the claim
+pub end_drafted : (old : NodeState) (conn : Conn) (slot drained epoch : ℕ) (claim : List (Run ℕ)) (reply : Reply) (bodies : List (ℕ × Body)) (draft : Draft)
+    → epoch ≡ new_epoch old slot drained → new_epoch old slot drained < 2 ^ 64
+    → AreRunsOf (claim_at (slice_set old.table slot (Some (record { epoch = epoch; owner = old.number }))) old.number) claim → reply ≡ done → bodies ≡ to_all (others old) (Claim claim)
+    → ((after : NodeState) → after ≡ ending (at_epoch old epoch) conn slot epoch → Drafts old (replied_sending after (Ends (IsOver drained)) reply bodies) draft)
+    → Gives old conn slot (IsOver drained) draft
+end_drafted old conn slot drained epoch claim reply bodies draft next below runs replies words drafts =
+    let after = with_slot (using_up old conn) slot epoch in
+    let said : Drafts old (replied_sending after (Ends (IsOver drained)) done (to_all (others old) (Claim claim))) draft =
+    subst (λ (sent : List (ℕ × Body)). Drafts old (replied_sending after (Ends (IsOver drained)) done sent) draft) words
+    (subst (λ r. Drafts old (replied_sending after (Ends (IsOver drained)) r bodies) draft) replies (drafts after refl)) in
+    record {
+      claim = claim;
+      is_claim = subst (λ e. AreRunsOf (claim_at (slice_set old.table slot (Some (record { epoch = e; owner = old.number }))) old.number) claim) next runs;
+      epoch = lt-ltb (new_epoch old slot drained) (2 ^ 64) below;
+      drafts = subst (λ e. Drafts old (replied_sending (with_slot (using_up old conn) slot e) (Ends (IsOver drained)) done (to_all (others old) (Claim claim))) draft) next said;
+    }

@@ -1,8 +1,13 @@
 -- The slot of a command's keys.
-use Rattle.std.specs.Prelude.{◌≡◌, ℕ, List, [], ◌∷◌, Option, Some, None, All, if◌then◌else◌}
+use Rattle.std.specs.Prelude.{◌≡◌, ◌==◌, ◌&&◌, is_some, ℕ, Bool, List, [], ◌∷◌, Option, Some, None, All, if◌then◌else◌}
+use Rattle.std.specs.FinMap as fin_map
+use Rattle.keyspace.specs.Keyspace.{Keyspace}
+use Rattle.keyspace.specs.Plan.{leaves_keys}
+use Rattle.keyspace.specs.declared.plans.Plan.{Plan}
+use Rattle.slot_store.specs.InSlot.{in_slot}
 use Rattle.key_slot.specs.Slot.{hash_slot}
 use Rattle.bus.specs.declared.message.Body.{Body}
-use Rattle.node_step.specs.Slots.{drained, has_keys}
+use Rattle.node_step.specs.Slots.{count_in, drained, has_keys}
 use Rattle.node_step.specs.State.{NodeState}
 
 -- there is a key, and the first is in the slot
@@ -15,7 +20,15 @@ abbrev pub IsPlaceOf : Option ℕ → List (List ℕ) → Type 0
 IsPlaceOf None keys = keys ≡ []
 IsPlaceOf (Some slot) keys = IsFirstIn slot keys × All (λ key. hash_slot key ≡ slot) keys
 
--- what is said once the last key of the slot goes, where it has one now
-abbrev pub drained_at : NodeState → Option ℕ → List (ℕ × Body)
-drained_at node None = []
-drained_at node (Some slot) = if has_keys node.keyspace slot then drained node slot else []
+-- what is said of the slot by a plan that takes its last key
+abbrev pub drained_at : NodeState → Option ℕ → Plan → List (ℕ × Body)
+drained_at node None plan = []
+drained_at node (Some slot) plan = if has_keys node.keyspace slot then (if leaves_keys (in_slot slot node.keyspace) plan then [] else drained node slot) else []
+
+-- the key is the only one of the slot
+abbrev pub is_last : Keyspace → ℕ → List ℕ → Bool
+is_last keyspace slot key = count_in keyspace slot == 1 && hash_slot key == slot && is_some (fin_map.get keyspace key)
+
+-- what is said of the slot once that key goes
+abbrev pub drained_by_ack : NodeState → ℕ → List ℕ → List (ℕ × Body)
+drained_by_ack node slot key = if is_last node.keyspace slot key then drained node slot else []

@@ -1,17 +1,18 @@
 //! Commands about the cluster: reports, orders, and what a connection tells of its next requests.
-ghost use Rattle.std.specs.Prelude.{◌≡◌, IfOk, IsTrue, OnErr, Err, Ok, false};
+ghost use Rattle.std.specs.Prelude.{◌≡◌, IfOk, IsTrue, OnOk, Err, Ok, false};
 ghost use Rattle.command.specs.declared.command.Command.TheVariants.{Cluster};
 ghost use Rattle.connections.specs.declared.conn.Connection.{Connection};
-ghost use Rattle.node_core.specs.Comes.{AnswersSo, ComesTo};
+ghost use Rattle.node_core.specs.Comes.{AnswersSo, Drafts, HasNothing};
 ghost use Rattle.node_core.specs.Orders.{Obeys};
 ghost use Rattle.node_core.specs.Questions.{IsReport, is_question};
 ghost use Rattle.node_core.specs.declared.fault.StepFault.TheVariants.{Exhausted};
 ghost use Rattle.node_step.specs.Orders.{done};
 ghost use Rattle.node_step.specs.Outcome.{replied};
-ghost use Rattle.node_step.specs.Requests.{at_connection, has_number, has_order_number, using_up, with_numbers};
+ghost use Rattle.node_step.specs.Requests.{asking_for, at_connection, has_number, has_order_number, using_up, with_numbers};
 ghost use Rattle.node_step.specs.declared.response.Why.TheVariants.{Told};
 
-use crate::draft::{Draft, stamped};
+use crate::change::Change;
+use crate::draft::Draft;
 use crate::fault::StepFault;
 use crate::node::NodeCore;
 use crate::nodes::{node_at, node_with_id};
@@ -20,7 +21,7 @@ use crate::reports::slots_reply;
 use command::{ClusterCommand, Positive, SlotOrder};
 use connections::Conn;
 use key_slot::{Slot, slot};
-use node_step::{Keep, Outputs, Why};
+use node_step::Why;
 use resp2::Reply;
 use slot_decision::Asking;
 use slot_moves::{MoveNo, Order};
@@ -30,17 +31,16 @@ use std::alloc::AllocError;
 impl<S: SlotParts + SlotKeys> NodeCore<S> {
     /// Answers a command about the cluster.
     #[inline(never)]
-    #[tactic(auto, using(crate::proofs::AnswerLemmas::numbered_answered, crate::proofs::AnswerLemmas::asking_answered))]
-    pub(crate) fn answer_about_cluster<K: Keep>(
-        &mut self,
-        ticket: u64,
+    #[tactic(auto, using(crate::proofs::AnswerLemmas::numbered_answered))]
+    pub(crate) fn answer_about_cluster(
+        &self,
         conn: Conn,
         command: &ClusterCommand,
-    ) -> Result<(Outputs, K::Kept), StepFault>
-        ensures answer { IfOk result (λ made. AnswersSo ticket self.old conn (Ok (Cluster command.now)) made.0 self.new) }
-        ensures kept { IfOk result (λ made. K.kept made.1 ≡ made.0) }
-        ensures err { OnErr result (self.new ≡ self.old) }
-        ensures exhausted { result ≡ Err Exhausted → has_number (using_up self.old conn) (Ok (Cluster command.now)) ≡ false }
+        draft: &mut Draft,
+    ) -> Result<(), StepFault>
+        requires { HasNothing self.now draft.old }
+        ensures answer { OnOk result (AnswersSo self.now conn (Ok (Cluster command.now)) draft.new) }
+        ensures exhausted { result ≡ Err Exhausted → has_number (using_up self.now conn) (Ok (Cluster command.now)) ≡ false }
     {
         match command {
             ClusterCommand::SetSlot {
@@ -54,7 +54,7 @@ impl<S: SlotParts + SlotKeys> NodeCore<S> {
                     node: node_with_id(&self.config, node.as_slice()),
                     number: named_number(*number),
                 };
-                Ok(self.obey::<K>(ticket, conn, *order, named)?)
+                Ok(self.obey(conn, *order, named, draft)?)
             }
             ClusterCommand::Migrate {
                 host,
@@ -63,42 +63,40 @@ impl<S: SlotParts + SlotKeys> NodeCore<S> {
                 timeout,
             } => {
                 let target = node_at(&self.config, host.as_slice(), *port);
-                Ok(self.migrate_key::<K>(ticket, conn, target, key.bytes(), *timeout)?)
+                Ok(self.migrate_key(conn, target, key.bytes(), *timeout, draft)?)
             }
-            ClusterCommand::Numbered => Ok(self.number_asks::<K>(ticket, conn)?),
+            ClusterCommand::Numbered => {
+                self.number_asks(conn, draft);
+                Ok(())
+            }
             ClusterCommand::Asking { number } => {
-                let asking = match number {
-                    None => Asking::Any,
-                    Some(number) => Asking::Of(move_no(*number)),
-                };
-                Ok(self.allow::<K>(ticket, conn, asking)?)
+                self.allow(conn, asking_for(*number), draft);
+                Ok(())
             }
             ClusterCommand::KeySlot { .. }
             | ClusterCommand::MyId
             | ClusterCommand::Slots
             | ClusterCommand::CountKeysInSlot { .. }
             | ClusterCommand::GetKeysInSlot { .. }
-            | ClusterCommand::SlotState { .. } => Ok(self.answer_question::<K>(
-                ticket, conn, command,
-            )?),
+            | ClusterCommand::SlotState { .. } => Ok(self.answer_question(conn, command, draft)?),
         }
     }
 
     // Answers a question about the cluster.
     #[tactic(auto, using(crate::proofs::AnswerLemmas::question_answered))]
-    fn answer_question<K: Keep>(
-        &mut self,
-        ticket: u64,
+    fn answer_question(
+        &self,
         conn: Conn,
         question: &ClusterCommand,
-    ) -> Result<(Outputs, K::Kept), AllocError>
-        requires { IsTrue (is_question question.now) }
-        ensures answer { IfOk result (λ made. AnswersSo ticket self.old conn (Ok (Cluster question.now)) made.0 self.new) }
-        ensures kept { IfOk result (λ made. K.kept made.1 ≡ made.0) }
-        ensures err { OnErr result (self.new ≡ self.old) }
+        draft: &mut Draft,
+    ) -> Result<(), AllocError>
+        requires question { IsTrue (is_question question.now) }
+        requires nothing { HasNothing self.now draft.old }
+        ensures answer { OnOk result (AnswersSo self.now conn (Ok (Cluster question.now)) draft.new) }
     {
         let reply = self.report(question)?;
-        self.tell::<K>(ticket, conn, Why::Reported, reply)
+        self.tell(draft, conn, Why::Reported, reply);
+        Ok(())
     }
 
     // What the node says to a question.
@@ -125,54 +123,41 @@ impl<S: SlotParts + SlotKeys> NodeCore<S> {
 
     // Begins or ends a move of a slot.
     #[tactic(auto, using(crate::proofs::AnswerLemmas::importing_obeys, crate::proofs::AnswerLemmas::migrating_obeys, crate::proofs::AnswerLemmas::giving_obeys))]
-    fn obey<K: Keep>(
-        &mut self,
-        ticket: u64,
+    fn obey(
+        &self,
         conn: Conn,
         order: SlotOrder,
         named: Order,
-    ) -> Result<(Outputs, K::Kept), StepFault>
-        ensures obeys { IfOk result (λ made. Obeys ticket self.old conn named.slot order named.node named.number made.0 self.new) }
-        ensures kept { IfOk result (λ made. K.kept made.1 ≡ made.0) }
-        ensures err { OnErr result (self.new ≡ self.old) }
-        ensures exhausted { result ≡ Err Exhausted → has_order_number self.old named.slot order named.node named.number ≡ false }
+        draft: &mut Draft,
+    ) -> Result<(), StepFault>
+        requires { HasNothing self.now draft.old }
+        ensures obeys { OnOk result (Obeys self.now conn named.slot order named.node named.number draft.new) }
+        ensures exhausted { result ≡ Err Exhausted → has_order_number self.now named.slot order named.node named.number ≡ false }
     {
         match order {
-            SlotOrder::Importing => Ok(self.import::<K>(ticket, conn, named)?),
-            SlotOrder::Migrating => Ok(self.migrate_slot::<K>(ticket, conn, named)?),
-            SlotOrder::Node => self.give_slot::<K>(ticket, conn, named),
+            SlotOrder::Importing => {
+                self.import(conn, named, draft);
+                Ok(())
+            }
+            SlotOrder::Migrating => Ok(self.migrate_slot(conn, named, draft)?),
+            SlotOrder::Node => self.give_slot(conn, named, draft),
         }
     }
 
     // From now on the ASK lines of the connection name the move.
-    fn number_asks<K: Keep>(
-        &mut self,
-        ticket: u64,
-        conn: Conn,
-    ) -> Result<(Outputs, K::Kept), AllocError>
-        ensures comes { IfOk result (λ made. ComesTo ticket (replied (with_numbers (using_up self.old conn) conn) Told done) made.0 self.new) }
-        ensures kept { IfOk result (λ made. K.kept made.1 ≡ made.0) }
-        ensures err { OnErr result (self.new ≡ self.old) }
+    fn number_asks(&self, conn: Conn, draft: &mut Draft)
+        requires { HasNothing self.now draft.old }
+        ensures { Drafts self.now (replied (with_numbers (using_up self.now conn) conn) Told done) draft.new }
     {
-        let made = self.tell::<K>(ticket, conn, Why::Told, done())?;
-        self.connections.number(conn);
-        Ok(made)
+        self.write_reply(draft, Why::Told, done(), Change::Numbers { conn });
     }
 
     // The next request of the connection may be served in a slot that comes to this node.
-    fn allow<K: Keep>(
-        &mut self,
-        ticket: u64,
-        conn: Conn,
-        asking: Asking,
-    ) -> Result<(Outputs, K::Kept), AllocError>
-        ensures comes { IfOk result (λ made. ComesTo ticket (replied (at_connection (using_up self.old conn) conn (λ (connection : Connection). record connection { asking = asking })) Told done) made.0 self.new) }
-        ensures kept { IfOk result (λ made. K.kept made.1 ≡ made.0) }
-        ensures err { OnErr result (self.new ≡ self.old) }
+    fn allow(&self, conn: Conn, asking: Asking, draft: &mut Draft)
+        requires { HasNothing self.now draft.old }
+        ensures { Drafts self.now (replied (at_connection (using_up self.now conn) conn (λ (connection : Connection). record connection { asking = asking })) Told done) draft.new }
     {
-        let made = self.tell::<K>(ticket, conn, Why::Told, done())?;
-        self.connections.allow(conn, asking);
-        Ok(made)
+        self.write_reply(draft, Why::Told, done(), Change::Allows { conn, asking });
     }
 }
 
@@ -182,6 +167,15 @@ fn named_number(number: Option<Positive>) -> Option<MoveNo>
     match number {
         Some(number) => Some(move_no(number)),
         None => None,
+    }
+}
+
+fn asking_for(number: Option<Positive>) -> Asking
+    ensures { result ≡ asking_for number }
+{
+    match number {
+        None => Asking::Any,
+        Some(number) => Asking::Of(move_no(number)),
     }
 }
 

@@ -1,24 +1,20 @@
 //! Copies of keys and their acknowledgements, as they arrive.
-ghost use Rattle.std.specs.Prelude.{◌≡◌, ◌&&◌, IfOk, OnErr, map, not, if◌then◌else◌};
-ghost use Rattle.connections.specs.Connections.{waiting};
-ghost use Rattle.connections.specs.Waiting.{test_of};
-ghost use Rattle.node_core.specs.Comes.{ComesTo, at_epoch, bodies_of};
+ghost use Rattle.std.specs.Prelude.{◌≡◌, IfOk, OnOk};
+ghost use Rattle.node_core.specs.Comes.{Drafts, HasNothing, at_epoch, bodies_of};
+ghost use Rattle.node_core.specs.Places.{drained_by_ack, is_last};
 ghost use Rattle.node_step.specs.Copies.{ack_by, acknowledgement, arrival, noted};
-ghost use Rattle.node_step.specs.Outcome.{release, stamped};
-ghost use Rattle.node_step.specs.Slots.{has_keys};
-ghost use Rattle.node_step.specs.declared.response.Response.TheVariants.{Nothing};
 
-use crate::draft::{Draft, listed, stamped};
+use crate::change::Change;
+use crate::draft::{Draft, listed};
 use crate::node::NodeCore;
 use crate::orders::done;
 use bus::Body;
 use byte_string::ByteString;
 use connections::Waiting;
-use key_slot::Slot;
+use key_slot::{Slot, slot};
 use keyspace::{Store, Value, value_fits};
-use migrate::{ArrivalVerdict, acknowledged_key, arrival_verdict, on_ack, on_copy, on_drained};
-use node_step::{Keep, Outputs, Releases, Response};
-use resp2::Reply;
+use migrate::{ArrivalVerdict, acknowledged_key, arrival_verdict};
+use node_step::Releases;
 use slot_moves::MoveNo;
 use slot_store::{SlotKeys, SlotParts};
 use slot_table::{Epoch, NodeNo};
@@ -29,131 +25,130 @@ pub(crate) type CopyName = (Slot, MoveNo, u64);
 
 impl<S: SlotParts + SlotKeys> NodeCore<S> {
     /// Installs a copy that arrives, or only acknowledges it again.
-    pub(crate) fn take_copy<K: Keep>(
-        &mut self,
-        ticket: u64,
+    pub(crate) fn take_copy(
+        &self,
         epoch: Epoch,
         from: NodeNo,
         name: CopyName,
         key: &ByteString,
         value: &Value,
-    ) -> Result<(Outputs, K::Kept), AllocError>
-        ensures comes { IfOk result (λ made. ComesTo ticket (arrival (at_epoch self.old epoch) from name.0 name.1 name.2 key.now value.now) made.0 self.new) }
-        ensures kept { IfOk result (λ made. K.kept made.1 ≡ made.0) }
-        ensures err { OnErr result (self.new ≡ self.old) }
+        draft: &mut Draft,
+    ) -> Result<(), AllocError>
+        requires { HasNothing self.now draft.old }
+        ensures { OnOk result (Drafts self.now (arrival (at_epoch self.now epoch) from name.0 name.1 name.2 key.now value.now) draft.new) }
     {
         let (slot, number, copy) = name;
         let fits = value_fits(key, value);
         let verdict = arrival_verdict(self.moves.get(slot), from, number, copy, fits);
-        let mut draft = Draft::silent(self.alloc);
-        draft.bodies = listed(self.alloc, acknowledgement(verdict, from, name))?;
-        let made = stamped::<K>(self.alloc, self.stamp_in(ticket, epoch), draft)?;
-        if verdict == ArrivalVerdict::Installs {
-            self.store.insert(key.clone()?, value.clone()?)?;
+        let word = acknowledgement(verdict, from, (slot, number, copy));
+        let bodies = listed(self.alloc, word)?;
+        match verdict {
+            ArrivalVerdict::Installs => {
+                let change = installation(from, (slot, number, copy), fits, key, value)?;
+                self.write_releases(draft, Releases::new(), bodies, epoch, change);
+                Ok(())
+            }
+            ArrivalVerdict::Repeats => {
+                self.write_releases(draft, Releases::new(), bodies, epoch, Change::Nothing);
+                Ok(())
+            }
+            ArrivalVerdict::Ignored => {
+                self.write_releases(draft, Releases::new(), bodies, epoch, Change::Nothing);
+                Ok(())
+            }
         }
-        let _verdict = on_copy(&mut self.moves, slot, from, number, copy, fits);
-        self.current_epoch = epoch;
-        Ok(made)
     }
 
     /// Deletes the key whose copy was installed, and answers those who wait for that.
-    pub(crate) fn take_ack<K: Keep>(
-        &mut self,
-        ticket: u64,
+    pub(crate) fn take_ack(
+        &self,
         epoch: Epoch,
         from: NodeNo,
         name: CopyName,
-    ) -> Result<(Outputs, K::Kept), AllocError>
-        ensures comes { IfOk result (λ made. ComesTo ticket (acknowledgement (at_epoch self.old epoch) from name.0 name.1 name.2) made.0 self.new) }
-        ensures kept { IfOk result (λ made. K.kept made.1 ≡ made.0) }
-        ensures err { OnErr result (self.new ≡ self.old) }
+        draft: &mut Draft,
+    ) -> Result<(), AllocError>
+        requires { HasNothing self.now draft.old }
+        ensures { OnOk result (Drafts self.now (acknowledgement (at_epoch self.now epoch) from name.0 name.1 name.2) draft.new) }
     {
         let (slot, number, copy) = name;
-        if acknowledged_key(self.moves.get(slot), from, number, copy).is_none() {
-            return Ok(self.learn::<K>(ticket, epoch));
-        }
-        let which = Waiting::For { slot, number, copy };
-        let reply = done();
-        let quiet = self.released::<K>(ticket, epoch, &which, &reply, None)?;
-        let telling = self.released::<K>(ticket, epoch, &which, &reply, self.drained(slot))?;
-        let had_keys = self.has_keys(slot);
-        self.forget(from, name);
-        self.current_epoch = epoch;
-        let has_keys = self.has_keys(slot);
-        Ok(if_drained(had_keys, has_keys, telling, quiet))
-    }
-
-    /// Whether the node has a key in the slot.
-    pub(crate) fn has_keys(&self, slot: Slot) -> bool
-        ensures { result ≡ has_keys self.now.keyspace slot }
-    {
-        self.store.count_in_slot(slot) > 0
-    }
-
-    // Deletes the key whose copy was installed. Who waited for that waits no more.
-    fn forget(&mut self, from: NodeNo, name: CopyName)
-        ensures { self.new ≡ (acknowledgement self.old from name.0 name.1 name.2).state }
-    {
-        let (slot, number, copy) = name;
-        if let Some(key) = on_ack(&mut self.moves, slot, from, number, copy) {
-            self.store.remove(&key);
-            self.connections.free(&Waiting::For { slot, number, copy });
-        }
-    }
-
-    /// Replies to connections that wait so, and a message.
-    pub(crate) fn released<K: Keep>(
-        &self,
-        ticket: u64,
-        epoch: Epoch,
-        which: &Waiting,
-        reply: &Reply,
-        body: Option<(NodeNo, Body)>,
-    ) -> Result<(Outputs, K::Kept), AllocError>
-        ensures outputs { IfOk result (λ made. made.0 ≡ record {
-          ticket = ticket;
-          response = Nothing;
-          released = map (release reply.now) (waiting self.now.connections (test_of which.now));
-          sent = map (stamped self.now.number ticket epoch) (bodies_of body);
-        }) }
-        ensures kept { IfOk result (λ made. K.kept made.1 ≡ made.0) }
-    {
-        let waiting = self.connections.waiting(self.alloc, which)?;
-        let draft = Draft {
-            response: Response::Nothing,
-            released: Releases::to_all(self.alloc, waiting.as_slice(), reply)?,
-            bodies: listed(self.alloc, body)?,
+        let Some(key) = acknowledged_key(self.moves.get(slot), from, number, copy) else {
+            self.write_change(draft, epoch, Change::Nothing);
+            return Ok(());
         };
-        stamped::<K>(self.alloc, self.stamp_in(ticket, epoch), draft)
+        let bodies = listed(self.alloc, self.drained_by_ack(slot, key))?;
+        let released = self.releases(&Waiting::For { slot, number, copy }, &done())?;
+        let change = Change::Frees {
+            from,
+            slot,
+            number,
+            copy,
+        };
+        self.write_releases(draft, released, bodies, epoch, change);
+        Ok(())
+    }
+
+    // The word that the slot is drained, where the key is its last.
+    fn drained_by_ack(&self, place: Slot, key: &ByteString) -> Option<(NodeNo, Body)>
+        ensures { bodies_of result ≡ drained_by_ack self.now place key.now }
+    {
+        if self.is_last(place, key) {
+            return self.drained(place);
+        }
+        None
+    }
+
+    // Whether the key is the only one of the slot.
+    fn is_last(&self, place: Slot, key: &ByteString) -> bool
+        ensures { result ≡ is_last self.now.keyspace place key.now }
+    {
+        self.store.count_in_slot(place) == 1
+            && slot(key.as_slice()) == place
+            && self.store.get(key).is_some()
     }
 
     /// Notes that a slot is drained that comes to this node.
-    pub(crate) fn take_drained<K: Keep>(
-        &mut self,
-        ticket: u64,
+    pub(crate) fn take_drained(
+        &self,
         epoch: Epoch,
         from: NodeNo,
         slot: Slot,
         number: MoveNo,
         drained: Epoch,
-    ) -> (Outputs, K::Kept)
-        ensures comes { ComesTo ticket (noted (at_epoch self.old epoch) from slot number drained) result.0 self.new }
-        ensures kept { K.kept result.1 ≡ result.0 }
+        draft: &mut Draft,
+    )
+        requires { HasNothing self.now draft.old }
+        ensures { Drafts self.now (noted (at_epoch self.now epoch) from slot number drained) draft.new }
     {
-        on_drained(&mut self.moves, slot, from, number, drained);
-        self.learn::<K>(ticket, epoch)
+        let change = Change::Notes {
+            from,
+            slot,
+            number,
+            drained,
+        };
+        self.write_change(draft, epoch, change);
     }
 }
 
-/// The first where a slot lost its last key, and else the second.
-pub(crate) fn if_drained<T: Drop>(had_keys: bool, has_keys: bool, telling: T, quiet: T) -> T
-    ensures { result ≡ if had_keys && not has_keys then telling else quiet }
+// The change that installs a copy.
+fn installation(
+    from: NodeNo,
+    name: CopyName,
+    fits: bool,
+    key: &ByteString,
+    value: &Value,
+) -> Result<Change, AllocError>
+    ensures { IfOk result (λ change. change ≡ Change.Installs from name.0 name.1 name.2 fits key.now value.now) }
 {
-    if had_keys && !has_keys {
-        telling
-    } else {
-        quiet
-    }
+    let (slot, number, copy) = name;
+    Ok(Change::Installs {
+        from,
+        slot,
+        number,
+        copy,
+        fits,
+        key: key.clone()?,
+        value: value.clone()?,
+    })
 }
 
 // The acknowledgement of a copy.

@@ -1,82 +1,180 @@
 //! What a step gives, before its state changes.
-ghost use Rattle.std.specs.Prelude.{◌≡◌, [], IfOk};
-ghost use Rattle.node_core.specs.Comes.{bodies_of, stamped_draft};
+ghost use Rattle.std.specs.Prelude.{◌≡◌, [], IfOk, map};
+ghost use Rattle.connections.specs.Connections.{waiting};
+ghost use Rattle.connections.specs.Waiting.{test_of};
+ghost use Rattle.node_core.specs.Becomes.{Becomes};
+ghost use Rattle.keyspace.specs.Keyspace.{Keyspace};
+ghost use Rattle.keyspace.specs.Plan.{committed};
+ghost use Rattle.node_core.specs.Comes.{Drafts, HasNothing, at_epoch, bodies_of};
+ghost use Rattle.node_step.specs.Outcome.{release, replied, replied_sending, silent};
 ghost use Rattle.node_step.specs.Plain.{HasNoReply};
-ghost use Rattle.node_step.specs.declared.response.Response.TheVariants.{Nothing, Replied};
+ghost use Rattle.node_step.specs.Requests.{using_up};
+ghost use Rattle.node_step.specs.State.{NodeState};
 
+use crate::change::Change;
+use crate::node::NodeCore;
 use bus::Body;
+use connections::{Conn, Waiting};
+use keyspace::Plan;
 use node_step::{Answer, Keep, Messages, Outputs, Releases, Response, Why};
 use resp2::Reply;
+use slot_store::{SlotKeys, SlotParts};
 use slot_table::{Epoch, NodeNo};
 use std::alloc::{AllocError, Global};
 
-/// What each message of a step carries.
-#[derive(Clone, Copy)]
-pub(crate) struct Stamp {
-    /// The node that makes the step.
-    pub(crate) from: NodeNo,
-    /// The number of the step.
-    pub(crate) ticket: u64,
+/// A step that is decided and not made yet.
+///
+/// It is large, so it stays where it was made, and the functions that decide write into it.
+pub(crate) struct Draft {
+    /// What the sender of the event gets back.
+    pub(crate) response: Response,
+    /// What connections get that waited.
+    pub(crate) released: Releases,
+    /// What other nodes are sent, each body with the node that it is for.
+    pub(crate) bodies: Vec<(NodeNo, Body)>,
     /// The node's epoch after the step.
     pub(crate) epoch: Epoch,
+    /// What changes of keys, where the change says that a plan is committed.
+    pub(crate) plan: Plan,
+    /// What else changes in the node.
+    pub(crate) change: Change,
 }
 
-/// What a step gives, before it is stamped.
-#[derive(Drop)]
-pub(crate) struct Draft {
-    pub(crate) response: Response,
-    pub(crate) released: Releases,
-    pub(crate) bodies: Vec<(NodeNo, Body)>,
+// Its parts are dropped in one place.
+impl Drop for Draft {
+    fn drop(self) {
+        let Draft {
+            response: _,
+            released: _,
+            bodies: _,
+            epoch: _,
+            plan: _,
+            change: _,
+        } = self;
+    }
 }
 
 impl Draft {
-    /// Nothing.
-    pub(crate) fn silent(alloc: Global) -> Draft
-        ensures response { result.response ≡ Nothing }
-        ensures rest { (result.released ≡ []) × (result.bodies.items ≡ []) }
+    fn put_reply(&mut self, why: Why, reply: Reply)
+        ensures { self.new ≡ record self.old { response = Response.Replied (record { why = why; reply = reply }) } }
+    {
+        self.response = Response::Replied(Answer { why, reply });
+    }
+
+    pub(crate) fn put_bodies(&mut self, bodies: Vec<(NodeNo, Body)>)
+        ensures { self.new ≡ record self.old { bodies = bodies } }
+    {
+        self.bodies = bodies;
+    }
+
+    pub(crate) fn put_change(&mut self, epoch: Epoch, change: Change)
+        ensures { self.new ≡ record self.old { epoch = epoch; change = change } }
+    {
+        self.epoch = epoch;
+        self.change = change;
+    }
+}
+
+impl<S: SlotParts + SlotKeys> NodeCore<S> {
+    /// A draft in which nothing comes out, and nothing changes.
+    pub(crate) fn blank(&self) -> Draft
+        ensures nothing { HasNothing self.now result }
+        ensures plan { (keyspace : Keyspace) → committed keyspace result.plan ≡ keyspace }
     {
         Draft {
             response: Response::Nothing,
             released: Releases::new(),
-            bodies: Vec::new(alloc),
+            bodies: Vec::new(self.alloc),
+            epoch: self.current_epoch,
+            plan: Plan::new(self.alloc),
+            change: Change::Nothing,
         }
     }
 
-    /// A reply, and why it is given.
-    pub(crate) fn replied(alloc: Global, why: Why, reply: Reply) -> Draft
-        ensures response { result.response ≡ Replied (record { why = why; reply = reply }) }
-        ensures rest { (result.released ≡ []) × (result.bodies.items ≡ []) }
+    /// Nothing comes out but the change, in that epoch.
+    pub(crate) fn write_change(&self, draft: &mut Draft, epoch: Epoch, change: Change)
+        requires { HasNothing self.now draft.old }
+        ensures { (after : NodeState) → Becomes (at_epoch self.now epoch) draft.old.plan change after → Drafts self.now (silent after) draft.new }
     {
-        Draft {
-            response: Response::Replied(Answer { why, reply }),
-            released: Releases::new(),
-            bodies: Vec::new(alloc),
-        }
+        draft.put_change(epoch, change);
     }
-}
 
-/// The outputs of a step, and what `K` keeps of them.
-pub(crate) fn stamped<K: Keep>(
-    alloc: Global,
-    stamp: Stamp,
-    draft: Draft,
-) -> Result<(Outputs, K::Kept), AllocError>
-    ensures outputs { IfOk result (λ made. made.0 ≡ stamped_draft stamp draft) }
-    ensures kept { IfOk result (λ made. K.kept made.1 ≡ made.0) }
-{
-    let Stamp {
-        from,
-        ticket,
-        epoch,
-    } = stamp;
-    let outputs = Outputs {
-        ticket,
-        response: draft.response,
-        released: draft.released,
-        sent: Messages::stamped(alloc, from, ticket, epoch, draft.bodies)?,
-    };
-    let kept = K::keep(&outputs)?;
-    Ok((outputs, kept))
+    /// A reply comes out, and nothing changes but the asking of the connection.
+    pub(crate) fn tell(&self, draft: &mut Draft, conn: Conn, why: Why, reply: Reply)
+        requires { HasNothing self.now draft.old }
+        ensures { Drafts self.now (replied (using_up self.now conn) why reply) draft.new }
+    {
+        self.write_reply(draft, why, reply, Change::Asks { conn });
+    }
+
+    /// A reply comes out beside the change.
+    pub(crate) fn write_reply(&self, draft: &mut Draft, why: Why, reply: Reply, change: Change)
+        requires { HasNothing self.now draft.old }
+        ensures { (after : NodeState) → Becomes self.now draft.old.plan change after → Drafts self.now (replied after why reply) draft.new }
+    {
+        draft.put_reply(why, reply);
+        draft.put_change(self.current_epoch, change);
+    }
+
+    /// The same with messages.
+    pub(crate) fn write_reply_sending(
+        &self,
+        draft: &mut Draft,
+        why: Why,
+        reply: Reply,
+        bodies: Vec<(NodeNo, Body)>,
+        change: Change,
+    )
+        requires { HasNothing self.now draft.old }
+        ensures { (after : NodeState) → Becomes self.now draft.old.plan change after → Drafts self.now (replied_sending after why reply bodies.items) draft.new }
+    {
+        draft.put_reply(why, reply);
+        draft.put_bodies(bodies);
+        draft.put_change(self.current_epoch, change);
+    }
+
+    /// The same in that epoch.
+    pub(crate) fn write_reply_in(
+        &self,
+        draft: &mut Draft,
+        why: Why,
+        reply: Reply,
+        bodies: Vec<(NodeNo, Body)>,
+        epoch: Epoch,
+        change: Change,
+    )
+        requires { HasNothing self.now draft.old }
+        ensures { (after : NodeState) → Becomes (at_epoch self.now epoch) draft.old.plan change after → Drafts self.now (replied_sending after why reply bodies.items) draft.new }
+    {
+        draft.put_reply(why, reply);
+        draft.put_bodies(bodies);
+        draft.put_change(epoch, change);
+    }
+
+    /// Connections that waited get replies, and other nodes messages.
+    pub(crate) fn write_releases(
+        &self,
+        draft: &mut Draft,
+        released: Releases,
+        bodies: Vec<(NodeNo, Body)>,
+        epoch: Epoch,
+        change: Change,
+    )
+        requires { HasNothing self.now draft.old }
+        ensures { (after : NodeState) → Becomes (at_epoch self.now epoch) draft.old.plan change after → Drafts self.now (record (silent after) { released = released; sent = bodies.items }) draft.new }
+    {
+        draft.released = released;
+        draft.put_bodies(bodies);
+        draft.put_change(epoch, change);
+    }
+
+    /// The reply to each connection that waits so.
+    pub(crate) fn releases(&self, which: &Waiting, reply: &Reply) -> Result<Releases, AllocError>
+        ensures { IfOk result (λ released. released ≡ map (release reply.now) (waiting self.now.connections (test_of which.now))) }
+    {
+        let waiting = self.connections.waiting(self.alloc, which)?;
+        Releases::to_all(self.alloc, waiting.as_slice(), reply)
+    }
 }
 
 /// The outputs of a step that gives this response and nothing else, which take no memory.

@@ -1,22 +1,27 @@
 //! A node, and its steps.
-ghost use Rattle.std.specs.Prelude.{◌≡◌, IfOk, OnErr, Err, Ok};
+ghost use Rattle.std.specs.Prelude.{◌≡◌, IfOk, IsTrue, OnOk, OnErr, Err, Ok};
 ghost use Rattle.std.specs.FinMap as fin_map;
 ghost use Rattle.connections.specs.Connections.{IsUsedUp};
+ghost use Rattle.node_core.specs.Becomes.{Becomes, CanBeMade};
+ghost use Rattle.keyspace.specs.Keyspace.{Keyspace};
+ghost use Rattle.keyspace.specs.Plan.{committed};
+ghost use Rattle.node_core.specs.Comes.{HasNothing, IsDraftOf, at_epoch, is_drafted, stamped_draft};
 ghost use Rattle.node_core.specs.declared.fault.StepFault.TheVariants.{Exhausted};
 ghost use Rattle.node_step.specs.Numbers.{NoNumberLeft};
 ghost use Rattle.node_step.specs.State.{first_state};
 ghost use Rattle.node_step.specs.Step.{NodeStep};
 
-use crate::draft::{Stamp, plain};
+use crate::draft::{Draft, plain};
 use crate::fault::StepFault;
 use cluster_config::Config;
 use connections::{Conn, Connections};
-use node_step::{Event, Keep, Outputs, Response};
+use node_step::{Event, Keep, Messages, Outputs, Releases, Response};
 use slot_moves::SlotMoves;
 use slot_store::{SlotKeys, SlotParts, SlotStore};
 use slot_table::{Epoch, NodeNo, SlotTable};
 use std::alloc::{AllocError, Global};
 use std::marker::Model;
+use std::mem;
 
 /// A node of the cluster: what it holds, and the steps that it takes.
 #[derive(Drop)]
@@ -104,10 +109,86 @@ impl<S: SlotParts + SlotKeys> NodeCore<S> {
         match event {
             Event::Open => self.open::<K>(ticket),
             Event::Close(conn) => Ok(self.close::<K>(ticket, *conn)),
-            Event::Request(conn, words) => self.request::<K>(ticket, *conn, words),
-            Event::Deliver(message) => Ok(self.deliver::<K>(ticket, message)?),
-            Event::Tick => Ok(self.tick::<K>(ticket)?),
+            Event::Request(_, _) | Event::Deliver(_) | Event::Tick => {
+                let mut draft = self.blank();
+                self.drafted_step::<K>(ticket, event, &mut draft)
+            }
         }
+    }
+
+    // Drafts the step for a request, a message or a tick, and makes it.
+    #[tactic(auto, using(crate::proofs::ChangeLemmas::draft_can_be_made))]
+    fn drafted_step<K: Keep>(
+        &mut self,
+        ticket: u64,
+        event: &Event,
+        draft: &mut Draft,
+    ) -> Result<(Outputs, K::Kept), StepFault>
+        requires event { IsTrue (is_drafted event.now) }
+        requires nothing { HasNothing self.old draft.old }
+        requires plan { (keyspace : Keyspace) → committed keyspace draft.old.plan ≡ keyspace }
+        ensures step { IfOk result (λ made. NodeStep ticket self.old event.now made.0 self.new) }
+        ensures kept { IfOk result (λ made. K.kept made.1 ≡ made.0) }
+        ensures err { OnErr result (self.new ≡ self.old) }
+        ensures exhausted { result ≡ Err Exhausted → NoNumberLeft self.old event.now }
+    {
+        self.draft(event, draft)?;
+        Ok(self.make::<K>(ticket, draft)?)
+    }
+
+    // Drafts what comes of a request, a message or a tick. The draft is written where it lies, since it is large.
+    fn draft(&self, event: &Event, draft: &mut Draft) -> Result<(), StepFault>
+        requires event { IsTrue (is_drafted event.now) }
+        requires nothing { HasNothing self.now draft.old }
+        requires plan { (keyspace : Keyspace) → committed keyspace draft.old.plan ≡ keyspace }
+        ensures draft { OnOk result (IsDraftOf self.now event.now draft.new) }
+        ensures exhausted { result ≡ Err Exhausted → NoNumberLeft self.now event.now }
+    {
+        match event {
+            Event::Request(conn, words) => self.request(*conn, words, draft),
+            Event::Deliver(message) => Ok(self.deliver(message, draft)?),
+            Event::Tick => Ok(self.tick(draft)?),
+            Event::Open | Event::Close(_) => unreachable!(),
+        }
+    }
+
+    // Makes a drafted step. Outputs and what is kept of them are made before the node changes.
+    fn make<K: Keep>(
+        &mut self,
+        ticket: u64,
+        draft: &mut Draft,
+    ) -> Result<(Outputs, K::Kept), AllocError>
+        requires { CanBeMade self.old draft.old.plan draft.old.change }
+        ensures outputs { IfOk result (λ made. made.0 ≡ stamped_draft self.old.number ticket draft.old) }
+        ensures state { OnOk result (Becomes (at_epoch self.old draft.old.epoch) draft.old.plan draft.old.change self.new) }
+        ensures kept { IfOk result (λ made. K.kept made.1 ≡ made.0) }
+        ensures err { OnErr result (self.new ≡ self.old) }
+    {
+        let made = self.record::<K>(ticket, draft)?;
+        self.apply(draft)?;
+        Ok(made)
+    }
+
+    // Takes what comes out of the draft, stamped, and what is kept of it.
+    fn record<K: Keep>(
+        &self,
+        ticket: u64,
+        draft: &mut Draft,
+    ) -> Result<(Outputs, K::Kept), AllocError>
+        ensures outputs { IfOk result (λ made. made.0 ≡ stamped_draft self.now.number ticket draft.old) }
+        ensures kept { IfOk result (λ made. K.kept made.1 ≡ made.0) }
+        ensures epoch { draft.new.epoch ≡ draft.old.epoch }
+        ensures plan { draft.new.plan ≡ draft.old.plan }
+        ensures change { draft.new.change ≡ draft.old.change }
+    {
+        let bodies = mem::replace(&mut draft.bodies, Vec::new(self.alloc));
+        let sent = Messages::stamped(self.alloc, self.number, ticket, draft.epoch, bodies)?;
+        kept::<K>(Outputs {
+            ticket,
+            response: mem::replace(&mut draft.response, Response::Nothing),
+            released: mem::replace(&mut draft.released, Releases::new()),
+            sent,
+        })
     }
 
     #[inline(never)]
@@ -129,15 +210,13 @@ impl<S: SlotParts + SlotKeys> NodeCore<S> {
         let _was_open = self.connections.close(conn);
         plain::<K>(ticket, Response::Nothing)
     }
+}
 
-    /// What the messages of a step carry that leaves the epoch as it is.
-    pub(crate) fn stamp(&self, ticket: u64) -> Stamp
-        ensures { result ≡ record { from = self.now.number; ticket = ticket; epoch = self.now.current_epoch } }
-    {
-        Stamp {
-            from: self.number,
-            ticket,
-            epoch: self.current_epoch,
-        }
-    }
+// The outputs, and what is kept of them.
+fn kept<K: Keep>(outputs: Outputs) -> Result<(Outputs, K::Kept), AllocError>
+    ensures outputs { IfOk result (λ made. made.0 ≡ outputs) }
+    ensures kept { IfOk result (λ made. K.kept made.1 ≡ made.0) }
+{
+    let kept = K::keep(&outputs)?;
+    Ok((outputs, kept))
 }

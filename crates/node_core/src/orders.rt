@@ -1,7 +1,7 @@
 //! CLUSTER SETSLOT: moves of slots that begin and end.
-ghost use Rattle.std.specs.Prelude.{◌≡◌, ◌<◌, ◌^◌, ◌∷◌, [], false, IfOk, OnOk, OnErr, SomeIff, Err, if◌then◌else◌};
-ghost use Rattle.node_core.specs.Comes.{ComesTo, bodies_of};
-ghost use Rattle.node_core.specs.Orders.{Claims, Gives};
+ghost use Rattle.std.specs.Prelude.{◌≡◌, ◌<◌, ◌^◌, ◌∷◌, [], false, IfOk, OnOk, Some, SomeIff, Err, if◌then◌else◌, slice_set};
+ghost use Rattle.node_core.specs.Comes.{Drafts, HasNothing, bodies_of};
+ghost use Rattle.node_core.specs.Orders.{Gives};
 ghost use Rattle.node_core.specs.declared.fault.StepFault.TheVariants.{Exhausted};
 ghost use Rattle.node_step.specs.Orders.{done, drained_at_start, ending_reply, ending_verdict, import_reply, importing, migrate_reply, migrating, new_epoch, others, to_all, with_moves};
 ghost use Rattle.node_step.specs.Requests.{has_epoch, using_up};
@@ -10,17 +10,20 @@ ghost use Rattle.node_step.specs.State.{standing};
 ghost use Rattle.slot_moves.specs.Importing.{import_verdict};
 ghost use Rattle.slot_moves.specs.Migrating.{after_migrate, migrate_verdict};
 ghost use Rattle.slot_moves.specs.Moves.{last_move_of, move_of};
+ghost use Rattle.slot_table.specs.Runs.{AreRunsOf};
+ghost use Rattle.slot_table.specs.Table.{claim_at};
 
-use crate::draft::{Draft, Stamp, stamped};
+use crate::change::Change;
+use crate::draft::{Draft, listed};
 use crate::fault::StepFault;
 use crate::node::NodeCore;
 use bus::Body;
 use command::ErrorLine;
 use connections::Conn;
 use key_slot::Slot;
-use node_step::{Keep, Outputs, Why};
+use node_step::Why;
 use resp2::{Line, Reply};
-use slot_moves::{ImportVerdict, MigrateVerdict, MoveNo, NodeVerdict, Order};
+use slot_moves::{ImportVerdict, MigrateVerdict, MoveNo, NodeVerdict, Order, epoch_after_import};
 use slot_store::{SlotKeys, SlotParts};
 use slot_table::{Claim, Epoch, NodeNo, SlotEntry};
 use std::alloc::AllocError;
@@ -34,22 +37,14 @@ pub(crate) fn done() -> Reply
 
 impl<S: SlotParts + SlotKeys> NodeCore<S> {
     /// Begins to import the slot, if nothing stands against it.
-    pub(crate) fn import<K: Keep>(
-        &mut self,
-        ticket: u64,
-        conn: Conn,
-        order: Order,
-    ) -> Result<(Outputs, K::Kept), AllocError>
-        ensures comes { IfOk result (λ made. ComesTo ticket (importing (using_up self.old conn) order.slot order.node order.number) made.0 self.new) }
-        ensures kept { IfOk result (λ made. K.kept made.1 ≡ made.0) }
-        ensures err { OnErr result (self.new ≡ self.old) }
+    pub(crate) fn import(&self, conn: Conn, order: Order, draft: &mut Draft)
+        requires { HasNothing self.now draft.old }
+        ensures { Drafts self.now (importing (using_up self.now conn) order.slot order.node order.number) draft.new }
     {
         let verdict = self.import_verdict(&order);
         let reply = import_reply(&verdict);
-        let made = self.answered::<K>(ticket, Why::Imports(verdict), reply, None)?;
-        self.begin_import(order)?;
-        self.use_up(conn);
-        Ok(made)
+        let change = Change::Imports { conn, order };
+        self.write_reply(draft, Why::Imports(verdict), reply, change);
     }
 
     // The verdict on an order to import a slot.
@@ -60,35 +55,24 @@ impl<S: SlotParts + SlotKeys> NodeCore<S> {
         self.moves.import_verdict(at, *order)
     }
 
-    // The slot is imported from now on, if nothing stands against it.
-    fn begin_import(&mut self, order: Order) -> Result<(), AllocError>
-        ensures ok { OnOk result (self.new ≡ (importing self.old order.slot order.node order.number).state) }
-        ensures err { OnErr result (self.new ≡ self.old) }
-    {
-        let at = self.standing(order.slot);
-        let _verdict = self.moves.set_importing(at, order)?;
-        Ok(())
-    }
-
     /// Begins to migrate the slot, if nothing stands against it.
-    pub(crate) fn migrate_slot<K: Keep>(
-        &mut self,
-        ticket: u64,
+    pub(crate) fn migrate_slot(
+        &self,
         conn: Conn,
         order: Order,
-    ) -> Result<(Outputs, K::Kept), AllocError>
-        ensures comes { IfOk result (λ made. ComesTo ticket (migrating (using_up self.old conn) order.slot order.node order.number) made.0 self.new) }
-        ensures kept { IfOk result (λ made. K.kept made.1 ≡ made.0) }
-        ensures err { OnErr result (self.new ≡ self.old) }
+        draft: &mut Draft,
+    ) -> Result<(), AllocError>
+        requires { HasNothing self.now draft.old }
+        ensures { OnOk result (Drafts self.now (migrating (using_up self.now conn) order.slot order.node order.number) draft.new) }
     {
-        let slot = order.slot;
         let verdict = self.migrate_verdict(&order);
         let reply = migrate_reply(&verdict);
-        let drained = self.drained_at_start(slot, &verdict);
-        let made = self.answered::<K>(ticket, Why::Migrates(verdict), reply, drained)?;
-        self.begin_migration(order)?;
-        self.use_up(conn);
-        Ok(made)
+        let drained = self.drained_at_start(order.slot, &verdict);
+        let bodies = listed(self.alloc, drained)?;
+        let why = Why::Migrates(verdict);
+        let change = Change::Migrates { conn, order };
+        self.write_reply_sending(draft, why, reply, bodies, change);
+        Ok(())
     }
 
     // The verdict on an order to migrate a slot.
@@ -97,23 +81,6 @@ impl<S: SlotParts + SlotKeys> NodeCore<S> {
     {
         let at = self.standing(order.slot);
         self.moves.migrate_verdict(at, *order)
-    }
-
-    // The slot migrates from now on, if nothing stands against it.
-    fn begin_migration(&mut self, order: Order) -> Result<(), AllocError>
-        ensures ok { OnOk result (self.new ≡ (migrating self.old order.slot order.node order.number).state) }
-        ensures err { OnErr result (self.new ≡ self.old) }
-    {
-        let at = self.standing(order.slot);
-        let _verdict = self.moves.set_migrating(at, order)?;
-        Ok(())
-    }
-
-    // The next request of the connection has no ASKING before it.
-    fn use_up(&mut self, conn: Conn)
-        ensures { self.new ≡ using_up self.old conn }
-    {
-        self.connections.use_up(conn);
     }
 
     // A slot without keys is drained as soon as it begins to leave.
@@ -149,16 +116,15 @@ impl<S: SlotParts + SlotKeys> NodeCore<S> {
     }
 
     /// Gives the slot to a node: an import ends, if it is drained.
-    pub(crate) fn give_slot<K: Keep>(
-        &mut self,
-        ticket: u64,
+    pub(crate) fn give_slot(
+        &self,
         conn: Conn,
         order: Order,
-    ) -> Result<(Outputs, K::Kept), StepFault>
-        ensures gives { IfOk result (λ made. Gives ticket self.old conn order.slot (ending_verdict self.old order.slot order.node order.number) made.0 self.new) }
-        ensures kept { IfOk result (λ made. K.kept made.1 ≡ made.0) }
-        ensures err { OnErr result (self.new ≡ self.old) }
-        ensures exhausted { result ≡ Err Exhausted → has_epoch self.old order.slot (ending_verdict self.old order.slot order.node order.number) ≡ false }
+        draft: &mut Draft,
+    ) -> Result<(), StepFault>
+        requires { HasNothing self.now draft.old }
+        ensures gives { OnOk result (Gives self.now conn order.slot (ending_verdict self.now order.slot order.node order.number) draft.new) }
+        ensures exhausted { result ≡ Err Exhausted → has_epoch self.now order.slot (ending_verdict self.now order.slot order.node order.number) ≡ false }
     {
         let slot = order.slot;
         let verdict = self.node_verdict(order);
@@ -167,7 +133,7 @@ impl<S: SlotParts + SlotKeys> NodeCore<S> {
                 let Some(epoch) = self.next_epoch(slot, drained) else {
                     return Err(StepFault::Exhausted);
                 };
-                Ok(self.end_import::<K>(ticket, conn, slot, drained, epoch)?)
+                Ok(self.end_of_import(conn, slot, drained, epoch, draft)?)
             }
             NodeVerdict::UnknownNode
             | NodeVerdict::OldMove
@@ -175,7 +141,8 @@ impl<S: SlotParts + SlotKeys> NodeCore<S> {
             | NodeVerdict::IsOwner
             | NodeVerdict::NotYetOwner => {
                 let reply = ending_reply(verdict);
-                Ok(self.tell::<K>(ticket, conn, Why::Ends(verdict), reply)?)
+                self.tell(draft, conn, Why::Ends(verdict), reply);
+                Ok(())
             }
         }
     }
@@ -192,61 +159,38 @@ impl<S: SlotParts + SlotKeys> NodeCore<S> {
     fn next_epoch(&self, slot: Slot, drained: Epoch) -> Option<Epoch>
         ensures { SomeIff result (new_epoch self.now slot drained < 2 ^ 64) (new_epoch self.now slot drained) }
     {
-        let known = self.current_epoch.max(drained).max(self.slot_epoch(slot));
-        Some(Epoch::new(known.get().checked_add(1)?))
+        epoch_after_import(self.current_epoch, drained, self.slot_epoch(slot))
     }
 
-    // Takes the slot for its own in the new epoch, and claims it.
-    fn end_import<K: Keep>(
-        &mut self,
-        ticket: u64,
+    // The slot is the node's own in the new epoch, and claimed.
+    fn end_of_import(
+        &self,
         conn: Conn,
         slot: Slot,
         drained: Epoch,
         epoch: Epoch,
-    ) -> Result<(Outputs, K::Kept), AllocError>
-        requires { (epoch ≡ new_epoch self.old slot drained) × (new_epoch self.old slot drained < 2 ^ 64) }
-        ensures gives { IfOk result (λ made. Gives ticket self.old conn slot (NodeVerdict.Ends drained) made.0 self.new) }
-        ensures kept { IfOk result (λ made. K.kept made.1 ≡ made.0) }
-        ensures err { OnErr result (self.new ≡ self.old) }
+        draft: &mut Draft,
+    ) -> Result<(), AllocError>
+        requires epoch { (epoch ≡ new_epoch self.now slot drained) × (new_epoch self.now slot drained < 2 ^ 64) }
+        requires nothing { HasNothing self.now draft.old }
+        ensures { OnOk result (Gives self.now conn slot (NodeVerdict.Ends drained) draft.new) }
     {
-        let before = self.table.entry(slot);
-        let owner = self.number;
-        self.table.set(slot, Some(SlotEntry { epoch, owner }));
-        match self.claim::<K>(ticket, epoch, drained) {
-            Ok(made) => {
-                self.moves.end(slot);
-                self.current_epoch = epoch;
-                self.connections.use_up(conn);
-                Ok(made)
-            }
-            Err(refused) => {
-                self.table.set(slot, before);
-                Err(refused)
-            }
-        }
+        let claim = self.claim_with(slot, epoch)?;
+        let bodies = self.to_all(&claim)?;
+        let why = Why::Ends(NodeVerdict::Ends { drained });
+        let change = Change::Ends { conn, slot, epoch };
+        self.write_reply_in(draft, why, done(), bodies, epoch, change);
+        Ok(())
     }
 
-    // The reply to an order that ends an import, and the claim to all slots of the node for all other nodes.
-    fn claim<K: Keep>(
-        &self,
-        ticket: u64,
-        epoch: Epoch,
-        drained: Epoch,
-    ) -> Result<(Outputs, K::Kept), AllocError>
-        ensures made { IfOk result (λ made. Claims ticket self.now epoch drained made.0) }
-        ensures kept { IfOk result (λ made. K.kept made.1 ≡ made.0) }
+    // The claim of the node once the slot is its own in that epoch.
+    fn claim_with(&self, slot: Slot, epoch: Epoch) -> Result<Claim, AllocError>
+        ensures { IfOk result (λ claim. AreRunsOf (claim_at (slice_set self.now.table slot (Some (record { epoch = epoch; owner = self.now.number }))) self.now.number) claim) }
     {
-        let claim = self.table.claim_of(self.alloc, self.number)?;
-        let why = Why::Ends(NodeVerdict::Ends { drained });
-        let mut draft = Draft::replied(self.alloc, why, done());
-        draft.bodies = self.to_all(&claim)?;
-        let stamp = Stamp {
-            from: self.number,
-            ticket,
-            epoch,
-        };
-        stamped::<K>(self.alloc, stamp, draft)
+        let owner = self.number;
+        let mut table = self.table.clone()?;
+        table.set(slot, Some(SlotEntry { epoch, owner }));
+        table.claim_of(self.alloc, owner)
     }
 
     // The claim for each other node, by rising number.

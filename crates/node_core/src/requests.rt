@@ -1,109 +1,72 @@
-//! Requests: what they ask for, and replies that change nothing else.
-ghost use Rattle.std.specs.Prelude.{◌≡◌, IfOk, OnErr, Err, Ok, false, Some};
+//! Requests: what they ask for.
+ghost use Rattle.std.specs.Prelude.{◌≡◌, OnOk, Err, Ok, false, Some};
 ghost use Rattle.command.specs.Table.{command_of};
 ghost use Rattle.connections.specs.Connections.{connection_at};
-ghost use Rattle.node_core.specs.Comes.{AnswersSo, ComesTo, bodies_of};
+ghost use Rattle.keyspace.specs.Keyspace.{Keyspace};
+ghost use Rattle.keyspace.specs.Plan.{committed};
+ghost use Rattle.node_core.specs.Comes.{AnswersSo, HasNothing, IsDraftOf};
 ghost use Rattle.node_core.specs.declared.fault.StepFault.TheVariants.{Exhausted};
 ghost use Rattle.node_step.specs.Numbers.{NoNumberLeft};
-ghost use Rattle.node_step.specs.Outcome.{outputs_of, replied, replied_sending};
 ghost use Rattle.node_step.specs.Requests.{has_number, using_up};
-ghost use Rattle.node_step.specs.Step.{NodeStep};
 
-use crate::draft::{Draft, listed, plain, stamped};
+use crate::draft::Draft;
 use crate::fault::StepFault;
 use crate::node::NodeCore;
-use bus::Body;
 use command::{Command, parse};
 use connections::{Conn, Connection};
-use node_step::{Event, Keep, Outputs, Response, Why};
-use resp2::{Reply, Words};
+use node_step::{Event, Why};
+use resp2::Words;
 use slot_store::{SlotKeys, SlotParts};
-use slot_table::NodeNo;
-use std::alloc::AllocError;
 
 impl<S: SlotParts + SlotKeys> NodeCore<S> {
-    /// Answers a request. One on a connection that isn't open, or waits for a reply, is not answered.
+    /// Drafts the answer to a request. One on a connection that isn't open, or waits for a reply, is not answered.
     #[inline(never)]
-    #[tactic(auto, using(crate::proofs::AnswerLemmas::answer_is_step))]
-    pub(crate) fn request<K: Keep>(
-        &mut self,
-        ticket: u64,
+    #[tactic(auto, using(crate::proofs::AnswerLemmas::answer_is_drafted))]
+    pub(crate) fn request(
+        &self,
         conn: Conn,
         words: &Words,
-    ) -> Result<(Outputs, K::Kept), StepFault>
-        ensures step { IfOk result (λ made. NodeStep ticket self.old (Event.Request conn words.now) made.0 self.new) }
-        ensures kept { IfOk result (λ made. K.kept made.1 ≡ made.0) }
-        ensures err { OnErr result (self.new ≡ self.old) }
-        ensures exhausted { result ≡ Err Exhausted → NoNumberLeft self.old (Event.Request conn words.now) }
+        draft: &mut Draft,
+    ) -> Result<(), StepFault>
+        requires nothing { HasNothing self.now draft.old }
+        requires plan { (keyspace : Keyspace) → committed keyspace draft.old.plan ≡ keyspace }
+        ensures draft { OnOk result (IsDraftOf self.now (Event.Request conn words.now) draft.new) }
+        ensures exhausted { result ≡ Err Exhausted → NoNumberLeft self.now (Event.Request conn words.now) }
     {
         let Some(connection) = self.connections.get(conn) else {
-            return Ok(plain::<K>(ticket, Response::Nothing));
+            return Ok(());
         };
         if let Some(_wait) = connection.waits {
-            return Ok(plain::<K>(ticket, Response::Nothing));
+            return Ok(());
         }
-        self.answer::<K>(ticket, conn, connection, words)
+        self.answer(conn, connection, words, draft)
     }
 
     // Answers the words of a connection that may ask.
     #[tactic(auto, using(crate::proofs::AnswerLemmas::data_answered, crate::proofs::AnswerLemmas::fault_answered))]
-    fn answer<K: Keep>(
-        &mut self,
-        ticket: u64,
+    fn answer(
+        &self,
         conn: Conn,
         connection: Connection,
         words: &Words,
-    ) -> Result<(Outputs, K::Kept), StepFault>
-        requires { connection_at self.old.connections conn ≡ Some connection }
-        ensures answer { IfOk result (λ made. AnswersSo ticket self.old conn (command_of words.now) made.0 self.new) }
-        ensures kept { IfOk result (λ made. K.kept made.1 ≡ made.0) }
-        ensures err { OnErr result (self.new ≡ self.old) }
-        ensures exhausted { result ≡ Err Exhausted → has_number (using_up self.old conn) (command_of words.now) ≡ false }
+        draft: &mut Draft,
+    ) -> Result<(), StepFault>
+        requires connection { connection_at self.now.connections conn ≡ Some connection }
+        requires nothing { HasNothing self.now draft.old }
+        requires plan { (keyspace : Keyspace) → committed keyspace draft.old.plan ≡ keyspace }
+        ensures answer { OnOk result (AnswersSo self.now conn (command_of words.now) draft.new) }
+        ensures exhausted { result ≡ Err Exhausted → has_number (using_up self.now conn) (command_of words.now) ≡ false }
     {
         let command = match parse(words) {
             Ok(Command::Data(command)) => command,
-            Ok(Command::Cluster(command)) => {
-                return self.answer_about_cluster::<K>(ticket, conn, &command);
-            }
+            Ok(Command::Cluster(command)) => return self.answer_about_cluster(
+                conn, &command, draft,
+            ),
             Err(fault) => {
-                let why = Why::NotACommand(fault);
-                return Ok(self.tell::<K>(ticket, conn, why, fault.line().reply())?);
+                self.tell(draft, conn, Why::NotACommand(fault), fault.line().reply());
+                return Ok(());
             }
         };
-        Ok(self.answer_on_keys::<K>(ticket, conn, connection, &command)?)
-    }
-
-    /// Gives a reply. Only the asking of the connection is used up.
-    pub(crate) fn tell<K: Keep>(
-        &mut self,
-        ticket: u64,
-        conn: Conn,
-        why: Why,
-        reply: Reply,
-    ) -> Result<(Outputs, K::Kept), AllocError>
-        ensures comes { IfOk result (λ made. ComesTo ticket (replied (using_up self.old conn) why reply) made.0 self.new) }
-        ensures kept { IfOk result (λ made. K.kept made.1 ≡ made.0) }
-        ensures err { OnErr result (self.new ≡ self.old) }
-    {
-        let draft = Draft::replied(self.alloc, why, reply);
-        let made = stamped::<K>(self.alloc, self.stamp(ticket), draft)?;
-        self.connections.use_up(conn);
-        Ok(made)
-    }
-
-    /// What a reply with a message gives, or with none.
-    pub(crate) fn answered<K: Keep>(
-        &self,
-        ticket: u64,
-        why: Why,
-        reply: Reply,
-        body: Option<(NodeNo, Body)>,
-    ) -> Result<(Outputs, K::Kept), AllocError>
-        ensures outputs { IfOk result (λ made. made.0 ≡ outputs_of ticket (replied_sending self.now why reply (bodies_of body))) }
-        ensures kept { IfOk result (λ made. K.kept made.1 ≡ made.0) }
-    {
-        let mut draft = Draft::replied(self.alloc, why, reply);
-        draft.bodies = listed(self.alloc, body)?;
-        stamped::<K>(self.alloc, self.stamp(ticket), draft)
+        Ok(self.answer_on_keys(conn, connection, &command, draft)?)
     }
 }

@@ -1,18 +1,18 @@
 //! Ticks of a node's time: waits end, and what is not acknowledged is sent again.
-ghost use Rattle.std.specs.Prelude.{◌≡◌, IfOk, OnErr};
+ghost use Rattle.std.specs.Prelude.{◌≡◌, IfOk, OnOk};
 ghost use Rattle.std.specs.List.{flat_map};
-ghost use Rattle.node_core.specs.Comes.{ComesTo, bodies_of};
+ghost use Rattle.node_core.specs.Comes.{Drafts, HasNothing, bodies_of};
 ghost use Rattle.node_step.specs.Ticks.{sent_again, tick};
 ghost use Rattle.slot_moves.specs.Moves.{running_moves};
 
-use crate::draft::{Draft, stamped};
+use crate::change::Change;
+use crate::draft::Draft;
 use crate::node::NodeCore;
 use bus::Body;
 use command::ErrorLine;
 use connections::Waiting;
 use key_slot::Slot;
 use migrate::{Resend, resent};
-use node_step::{Keep, Outputs, Releases, Response};
 use slot_moves::Move;
 use slot_store::{SlotKeys, SlotParts};
 use slot_table::NodeNo;
@@ -20,22 +20,15 @@ use std::alloc::AllocError;
 
 impl<S: SlotParts + SlotKeys> NodeCore<S> {
     /// A tick: connections that waited as long as they wanted get their reply, and copies are sent again.
-    pub(crate) fn tick<K: Keep>(&mut self, ticket: u64) -> Result<(Outputs, K::Kept), AllocError>
-        ensures comes { IfOk result (λ made. ComesTo ticket (tick self.old) made.0 self.new) }
-        ensures kept { IfOk result (λ made. K.kept made.1 ≡ made.0) }
-        ensures err { OnErr result (self.new ≡ self.old) }
+    pub(crate) fn tick(&self, draft: &mut Draft) -> Result<(), AllocError>
+        requires { HasNothing self.now draft.old }
+        ensures { OnOk result (Drafts self.now (tick self.now) draft.new) }
     {
-        let waiting = self.connections.waiting(self.alloc, &Waiting::Over)?;
         let reply = ErrorLine::NotAcknowledged.reply();
-        let draft = Draft {
-            response: Response::Nothing,
-            released: Releases::to_all(self.alloc, waiting.as_slice(), &reply)?,
-            bodies: self.sent_again()?,
-        };
-        let made = stamped::<K>(self.alloc, self.stamp(ticket), draft)?;
-        self.connections.free(&Waiting::Over);
-        self.connections.age();
-        Ok(made)
+        let released = self.releases(&Waiting::Over, &reply)?;
+        let bodies = self.sent_again()?;
+        self.write_releases(draft, released, bodies, self.current_epoch, Change::Ages);
+        Ok(())
     }
 
     // What is sent again, by rising slot.

@@ -4,9 +4,9 @@ use Rattle.std.specs.Str.{bytes_eq}
 use Rattle.cluster_config.specs.declared.config.NodeConfig.{NodeConfig}
 use Rattle.command.specs.declared.command.ClusterCommand.{ClusterCommand}
 use Rattle.command.specs.declared.command.Command.TheVariants.{Cluster}
-use Rattle.node_core.specs.Comes.{AnswersSo, ComesTo}
+use Rattle.node_core.specs.Comes.{AnswersSo, Drafts}
 use Rattle.node_core.specs.Orders.{Obeys}
-use Rattle.node_core.proofs.AnswerLemmas.{migration_answered, migration_exhausted, order_answered, order_exhausted}
+use Rattle.node_core.proofs.AnswerLemmas.{asking_answered, migration_answered, migration_exhausted, order_answered, order_exhausted}
 use Rattle.node_step.specs.Copies.{copy_outcome, copy_verdict_on, is_at}
 use Rattle.node_step.specs.Requests.{has_copy_number, has_number, has_order_number, using_up}
 use Rattle.node_step.specs.State.{NodeState}
@@ -23,12 +23,12 @@ returns-in_err-obey-in-SetSlot-clause-exhausted g c = λ exhausted.
 
 pub returns-in_ok-obey-in-SetSlot-clause-answer : goal.returns-in_ok-obey-in-SetSlot-clause-answer
 returns-in_ok-obey-in-SetSlot-clause-answer g c =
-    let outputs = c.in_ok-obey-in-SetSlot.field-0.0 in
-    subst (λ (command : ClusterCommand). AnswersSo c.args.ticket c.args.self.now c.args.conn (Ok (Cluster command)) outputs c.obey.new.self) (sym c.in-SetSlot.is)
-    (order_answered c.args.ticket c.args.self.now c.args.conn c.in-SetSlot.slot c.in-SetSlot.order c.in-SetSlot.node c.node_with_id.result c.in-SetSlot.number c.self.inside.config.nodes
-    outputs c.obey.new.self (ap (λ (node : NodeState). node.config.nodes) c.self.view_is)
+    let draft = c.obey.new.draft in
+    subst (λ (command : ClusterCommand). AnswersSo c.args.self.now c.args.conn (Ok (Cluster command)) draft) (sym c.in-SetSlot.is)
+    (order_answered c.args.self.now c.args.conn c.in-SetSlot.slot c.in-SetSlot.order c.in-SetSlot.node c.node_with_id.result c.in-SetSlot.number c.self.inside.config.nodes
+    draft (ap (λ (node : NodeState). node.config.nodes) c.self.view_is)
     (c.node_with_id.ensures ∙ ap (λ id. position (λ (node : NodeConfig). bytes_eq node.id id) c.self.inside.config.nodes) (c.as_slice.ensures ∙ c.deref.ensures))
-    (subst (λ (number : Option ℕ). Obeys c.args.ticket c.args.self.now c.args.conn c.in-SetSlot.slot c.in-SetSlot.order c.node_with_id.result number outputs c.obey.new.self) c.named_number.ensures
+    (subst (λ (number : Option ℕ). Obeys c.args.self.now c.args.conn c.in-SetSlot.slot c.in-SetSlot.order c.node_with_id.result number draft) c.named_number.ensures
     c.in_ok-obey-in-SetSlot.ensures.obeys))
 
 pub returns-in_err-migrate_key-in-Migrate-clause-exhausted : goal.returns-in_err-migrate_key-in-Migrate-clause-exhausted
@@ -36,23 +36,28 @@ returns-in_err-migrate_key-in-Migrate-clause-exhausted g c = λ exhausted.
     let target = c.node_at-target.result in
     let same_port : to_z w64 (of_z w64 c.in-Migrate.port) ≡ c.in-Migrate.port = search rules in
     subst (λ (command : ClusterCommand). has_number (using_up c.args.self.now c.args.conn) (Ok (Cluster command)) ≡ false) (sym c.in-Migrate.is)
-    (migration_exhausted c.args.self.now c.args.conn c.in-Migrate.host c.in-Migrate.port c.in-Migrate.key c.in-Migrate.timeout target c.self-in-Migrate.inside.config.nodes
-    (ap (λ (node : NodeState). node.config.nodes) c.self-in-Migrate.view_is)
-    (c.node_at-target.ensures ∙ ap (λ port. position (is_at c.as_slice-in-Migrate.result.now port) c.self-in-Migrate.inside.config.nodes) same_port
-    ∙ ap (λ host. position (is_at host c.in-Migrate.port) c.self-in-Migrate.inside.config.nodes) (c.as_slice-in-Migrate.ensures ∙ c.deref-in-Migrate.ensures))
+    (migration_exhausted c.args.self.now c.args.conn c.in-Migrate.host c.in-Migrate.port c.in-Migrate.key c.in-Migrate.timeout target c.self.inside.config.nodes
+    (ap (λ (node : NodeState). node.config.nodes) c.self.view_is)
+    (c.node_at-target.ensures ∙ ap (λ port. position (is_at c.as_slice-in-Migrate.result.now port) c.self.inside.config.nodes) same_port
+    ∙ ap (λ host. position (is_at host c.in-Migrate.port) c.self.inside.config.nodes) (c.as_slice-in-Migrate.ensures ∙ c.deref-in-Migrate.ensures))
     (subst (λ (key : List ℕ). has_copy_number (copy_verdict_on c.args.self.now key target) ≡ false) c.bytes.ensures
     (c.in_err-migrate_key-in-Migrate.ensures.exhausted (search rules))))
 
 pub returns-in_ok-migrate_key-in-Migrate-clause-answer : goal.returns-in_ok-migrate_key-in-Migrate-clause-answer
 returns-in_ok-migrate_key-in-Migrate-clause-answer g c =
-    let outputs = c.in_ok-migrate_key-in-Migrate.field-0.0 in
+    let draft = c.migrate_key.new.draft in
     let target = c.node_at-target.result in
     let same_port : to_z w64 (of_z w64 c.in-Migrate.port) ≡ c.in-Migrate.port = search rules in
-    subst (λ (command : ClusterCommand). AnswersSo c.args.ticket c.args.self.now c.args.conn (Ok (Cluster command)) outputs c.migrate_key.new.self) (sym c.in-Migrate.is)
-    (migration_answered c.args.ticket c.args.self.now c.args.conn c.in-Migrate.host c.in-Migrate.port c.in-Migrate.key c.in-Migrate.timeout target c.self-in-Migrate.inside.config.nodes
-    outputs c.migrate_key.new.self (ap (λ (node : NodeState). node.config.nodes) c.self-in-Migrate.view_is)
-    (c.node_at-target.ensures ∙ ap (λ port. position (is_at c.as_slice-in-Migrate.result.now port) c.self-in-Migrate.inside.config.nodes) same_port
-    ∙ ap (λ host. position (is_at host c.in-Migrate.port) c.self-in-Migrate.inside.config.nodes) (c.as_slice-in-Migrate.ensures ∙ c.deref-in-Migrate.ensures))
+    subst (λ (command : ClusterCommand). AnswersSo c.args.self.now c.args.conn (Ok (Cluster command)) draft) (sym c.in-Migrate.is)
+    (migration_answered c.args.self.now c.args.conn c.in-Migrate.host c.in-Migrate.port c.in-Migrate.key c.in-Migrate.timeout target c.self.inside.config.nodes
+    draft (ap (λ (node : NodeState). node.config.nodes) c.self.view_is)
+    (c.node_at-target.ensures ∙ ap (λ port. position (is_at c.as_slice-in-Migrate.result.now port) c.self.inside.config.nodes) same_port
+    ∙ ap (λ host. position (is_at host c.in-Migrate.port) c.self.inside.config.nodes) (c.as_slice-in-Migrate.ensures ∙ c.deref-in-Migrate.ensures))
     (subst (λ (key : List ℕ). has_copy_number (copy_verdict_on c.args.self.now key target) ≡ true) c.bytes.ensures c.in_ok-migrate_key-in-Migrate.ensures.number)
-    (subst (λ (key : List ℕ). ComesTo c.args.ticket (copy_outcome (using_up c.args.self.now c.args.conn) c.args.conn key c.in-Migrate.timeout (copy_verdict_on c.args.self.now key target)) outputs c.migrate_key.new.self)
-    c.bytes.ensures c.in_ok-migrate_key-in-Migrate.ensures.comes))
+    (subst (λ (key : List ℕ). Drafts c.args.self.now (copy_outcome (using_up c.args.self.now c.args.conn) c.args.conn key c.in-Migrate.timeout (copy_verdict_on c.args.self.now key target)) draft)
+    c.bytes.ensures c.in_ok-migrate_key-in-Migrate.ensures.draft))
+
+pub returns-in-Asking-clause-answer : goal.returns-in-Asking-clause-answer
+returns-in-Asking-clause-answer g c =
+    subst (λ (command : ClusterCommand). AnswersSo c.args.self.now c.args.conn (Ok (Cluster command)) c.allow.new.draft) (sym c.in-Asking.is)
+    (asking_answered c.args.self.now c.args.conn c.in-Asking.number c.asking_for.result c.allow.new.draft c.asking_for.ensures c.allow.ensures)
