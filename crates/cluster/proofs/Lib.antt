@@ -1,3 +1,2 @@
-pub mod GateLemmas
 pub mod JournalLemmas
 pub mod PlaceLemmas

@@ -46,10 +46,10 @@ fn finish_all<K: Deployment, L: Log + Drop>(
     ensures seated { IfOk result (λ parts. All (λ seat. table_of seat ≡ K.table) parts.1.items) }
     ensures counted { IfOk result (λ parts. All (λ seat. seats_of seat ≡ K.seats) parts.1.items) }
 {
-    let mut journals = Vec::with_capacity(alloc, cells.len())?;
-    let mut seats = Vec::with_capacity(alloc, cells.len())?;
+    let mut journals = Vec::new(alloc);
+    let mut seats = Vec::new(alloc);
     for cell in cells {
-        let (_config, _node, journal, seat) = cell.finish();
+        let (_, _, journal, seat) = cell.finish();
         journals.push(journal).map_err(AllocError::from)?;
         seats.push(seat).map_err(AllocError::from)?;
     }

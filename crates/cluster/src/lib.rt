@@ -3,14 +3,11 @@
 
 mod clients;
 mod finish;
-mod gate;
 mod mail;
 mod node;
 mod server;
-mod shared;
 mod stop;
 
 pub use finish::{Journals, finish_nodes};
-pub use gate::Gate;
 pub use server::{Place, ServeFault, serve_nodes};
-pub use shared::SharedNode;
+pub use shared_node::{Gate, SharedNode};

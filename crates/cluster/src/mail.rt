@@ -32,19 +32,10 @@ impl<K: Deployment, L: Log + Drop> Carrier<K, L> {
         node: &Arc<Node<K, L>, Global>,
         nodes: &[Arc<Node<K, L>, Global>],
     ) -> Result<Carrier<K, L>, AllocError> {
-        let node = Arc::try_clone(node)?;
-        let mut others = Vec::with_capacity(alloc, nodes.len())?;
-        let mut unsent = Vec::with_capacity(alloc, nodes.len())?;
-        for other in nodes {
-            others
-                .push(Arc::try_clone(other)?)
-                .map_err(AllocError::from)?;
-            unsent.push(VecDeque::new(alloc)).map_err(AllocError::from)?;
-        }
         Ok(Carrier {
-            node,
-            nodes: others,
-            unsent,
+            node: Arc::try_clone(node)?,
+            nodes: all_of(alloc, nodes)?,
+            unsent: none_unsent(alloc, nodes.len())?,
         })
     }
 
@@ -71,38 +62,30 @@ impl<K: Deployment, L: Log + Drop> Carrier<K, L> {
     fn deliver<R: Wait>(&self, rt: &R) -> bool {
         let mut came = false;
         for (number, sender) in (0..u8::MAX).zip(self.nodes.iter()) {
-            let Some(number) = NodeNo::new(number) else {
-                continue;
-            };
-            let Some(received) = self.node.inbox.receive(rt, number) else {
-                continue;
-            };
-            came = true;
-            if received.was_full {
-                sender.shared.ring_for_mail();
-            }
-            let mut cell = self.node.shared.lock(rt);
-            // A message for which there is no memory is lost, as it may be on any network.
-            let _lost = cell.deliver(received.message);
-            self.node.shared.ring(&cell);
+            came |= self.deliver_from(rt, number, &**sender);
         }
         came
     }
 
-    // Takes the messages out of the node's outbox. Those for which there is no memory are lost.
-    fn collect<R: Wait>(&mut self, rt: &R, alloc: Global) {
-        let mut cell = self.node.shared.lock(rt);
-        if !cell.has_sent() {
-            return;
+    // Delivers the next message from the node with the number, and says whether there was one.
+    fn deliver_from<R: Wait>(&self, rt: &R, number: u8, sender: &Node<K, L>) -> bool {
+        let Some(number) = NodeNo::new(number) else {
+            return false;
+        };
+        let Some(received) = self.node.inbox.receive(rt, number) else {
+            return false;
+        };
+        if received.was_full {
+            sender.shared.ring_for_mail();
         }
-        let sent = cell.take_sent(alloc);
-        drop(cell);
-        for messages in sent {
-            for message in messages.into_vec(alloc) {
-                if let Some(unsent) = self.unsent.get_mut(usize::from(message.to.get())) {
-                    let _lost = unsent.push_back(message);
-                }
-            }
+        self.node.shared.deliver(rt, received.message);
+        true
+    }
+
+    // Takes the messages out of the node's outbox.
+    fn collect<R: Wait>(&mut self, rt: &R, alloc: Global) {
+        for messages in self.node.shared.take_sent(rt, alloc) {
+            put_all(&mut self.unsent, messages.into_vec(alloc));
         }
     }
 
@@ -121,6 +104,40 @@ impl<K: Deployment, L: Log + Drop> Carrier<K, L> {
     }
 }
 
+fn all_of<K: Deployment, L: Log + Drop>(
+    alloc: Global,
+    nodes: &[Arc<Node<K, L>, Global>],
+) -> Result<Vec<Arc<Node<K, L>, Global>>, AllocError> {
+    let mut all = Vec::with_capacity(alloc, nodes.len())?;
+    for node in nodes {
+        all.push(Arc::try_clone(node)?).map_err(AllocError::from)?;
+    }
+    Ok(all)
+}
+
+// No message for any of so many nodes.
+fn none_unsent(alloc: Global, count: usize) -> Result<Vec<VecDeque<Message>>, AllocError> {
+    let mut unsent = Vec::with_capacity(alloc, count)?;
+    for _ in 0..count {
+        unsent.push(VecDeque::new(alloc)).map_err(AllocError::from)?;
+    }
+    Ok(unsent)
+}
+
+// Puts each of the messages behind those for the same node.
+fn put_all(unsent: &mut Vec<VecDeque<Message>>, messages: Vec<Message>) {
+    for message in messages {
+        put(unsent, message);
+    }
+}
+
+// A message for which there is no memory is lost.
+fn put(unsent: &mut Vec<VecDeque<Message>>, message: Message) {
+    if let Some(unsent) = unsent.get_mut(usize::from(message.to.get())) {
+        let _lost = unsent.push_back(message).map_err(AllocError::from);
+    }
+}
+
 // Sends the messages to the node in order, until one finds no room.
 fn send_to<K: Deployment, L: Log, R: Wait>(
     rt: &R,
@@ -132,7 +149,7 @@ fn send_to<K: Deployment, L: Log, R: Wait>(
             return;
         };
         if let Err(message) = node.inbox.send(rt, message) {
-            let _room = unsent.push_front(message);
+            let _room = unsent.push_front(message).map_err(AllocError::from);
             return;
         }
     }

@@ -3,8 +3,6 @@ ghost use Rattle.std.specs.Prelude.{◌≡◌};
 ghost use Rattle.tickets.specs.Tickets.{IsFresh};
 
 use crate::clients::{Clients, Refused};
-use crate::gate::Gate;
-use crate::shared::SharedNode;
 use crate::stop::Stop;
 use cluster_config::Config;
 use links::Inbox;
@@ -12,6 +10,7 @@ use listener::serve_conn;
 use node_cell::{Deployment, Log, NodeCell, NodeGate};
 use node_core::Event;
 use resp2::Counting;
+use shared_node::{Gate, SharedNode};
 use slot_table::NodeNo;
 use std::alloc::{AllocError, Global};
 use std::net::{Net, TcpListener, TcpStream};
@@ -50,8 +49,8 @@ impl<K: Deployment, L: Log> Node<K, L> {
         requires cluster { config.now ≡ K.config }
         requires seat { IsFresh K.table K.seats seat }
     {
-        let cell = NodeCell::<K, L>::new(alloc, config, number, seat)?;
         let inbox = Inbox::new(alloc, config.nodes().len())?;
+        let cell = NodeCell::<K, L>::new(alloc, config, number, seat)?;
         Ok(Node {
             shared: SharedNode::new(cell),
             inbox,
@@ -174,13 +173,21 @@ pub(crate) fn pass_time<K: Deployment, L: Log + Drop, R: Wait + Copy + Drop>(
     most: u64,
 ) {
     let mut gate = Gate::new(rt, &node.shared);
+    tick_at(&rt, &mut gate, stop, interval, most);
+}
+
+fn tick_at<G: NodeGate, R: Wait>(rt: &R, gate: &mut G, stop: &Stop, interval: Duration, most: u64) {
     for _ in 0..most {
-        stop.sleep(&rt, interval);
+        stop.sleep(rt, interval);
         if stop.has_ended() {
             return;
         }
-        // A tick for which there is no memory is no step.
-        let _refused = gate.step(Event::Tick);
-        gate.release();
+        tick(gate);
     }
+}
+
+// A tick for which there is no memory is no step.
+fn tick<G: NodeGate>(gate: &mut G) {
+    let _refused = gate.step(Event::Tick);
+    gate.release();
 }

@@ -73,16 +73,68 @@ where
     ensures { IfOk result (λ cells. vec_len cells ≡ length places.items) }
 {
     let nodes = nodes_at::<K, L>(alloc, config, places)?;
+    let interval = Duration::from_millis(u64::from(config.tick_ms()));
+    run_all(rt, alloc, nodes.as_slice(), interval, ticks)?;
+    cells_of(alloc, nodes)
+}
+
+// Runs the nodes until the first of them has made `ticks` ticks, or for ever.
+fn run_all<
+    K: Deployment + Send + Sync + 'static,
+    L: Log + Drop + Send + 'static,
+    R: Threads
+        + Wait
+        + Net<Listener = TcpListener, Stream = TcpStream>
+        + Copy
+        + Drop
+        + Send
+        + Sync
+        + 'static,
+>(
+    rt: R,
+    alloc: Global,
+    nodes: &[Arc<Node<K, L>, Global>],
+    interval: Duration,
+    ticks: Option<u64>,
+) -> Result<(), ServeFault>
+where
+    L::Kept: Send + 'static,
+{
     let clients = Arc::new(alloc, Clients::new(alloc)).map_err(AllocError::from)?;
     let stop = Arc::new(alloc, Stop::new()).map_err(AllocError::from)?;
-    let interval = Duration::from_millis(u64::from(config.tick_ms()));
+    run_with(rt, alloc, nodes, &clients, &stop, interval, ticks)
+}
+
+fn run_with<
+    K: Deployment + Send + Sync + 'static,
+    L: Log + Drop + Send + 'static,
+    R: Threads
+        + Wait
+        + Net<Listener = TcpListener, Stream = TcpStream>
+        + Copy
+        + Drop
+        + Send
+        + Sync
+        + 'static,
+>(
+    rt: R,
+    alloc: Global,
+    nodes: &[Arc<Node<K, L>, Global>],
+    clients: &Arc<Clients, Global>,
+    stop: &Arc<Stop, Global>,
+    interval: Duration,
+    ticks: Option<u64>,
+) -> Result<(), ServeFault>
+where
+    L::Kept: Send + 'static,
+{
     let mut threads = Vec::with_capacity(alloc, 3 * nodes.len())?;
     let started = start_all(
         rt,
         alloc,
-        nodes.as_slice(),
-        &clients,
-        &stop,
+        nodes,
+        clients,
+        stop,
         interval,
         ticks,
         &mut threads,
@@ -91,9 +143,8 @@ where
         Ok(()) => stop.wait(&rt),
         Err(_) => stop.end(),
     }
-    end_all(&rt, nodes.as_slice(), &clients, threads);
-    started?;
-    cells_of(alloc, nodes)
+    end_all(&rt, nodes, clients, threads);
+    started
 }
 
 // Ends all connections and all threads.
@@ -128,16 +179,27 @@ fn nodes_at<K: Deployment, L: Log + Drop>(
 {
     let mut nodes = Vec::with_capacity(alloc, places.len())?;
     for place in places {
-        let Place {
-            node,
-            seat,
-            listener,
-        } = place;
-        let node = Node::<K, L>::new(alloc, config, node, seat, listener)?;
-        let node = Arc::new(alloc, node).map_err(AllocError::from)?;
+        let node = node_at(alloc, config, place)?;
         nodes.push(node).map_err(AllocError::from)?;
     }
     Ok(nodes)
+}
+
+fn node_at<K: Deployment, L: Log + Drop>(
+    alloc: Global,
+    config: &Config,
+    place: Place,
+) -> Result<Arc<Node<K, L>, Global>, AllocError>
+    requires cluster { config.now ≡ K.config }
+    requires seat { IsFresh K.table K.seats place.seat }
+{
+    let Place {
+        node,
+        seat,
+        listener,
+    } = place;
+    let node = Node::<K, L>::new(alloc, config, node, seat, listener)?;
+    Arc::new(alloc, node).map_err(AllocError::from)
 }
 
 // Starts the threads of all nodes. The ticks of the first node alone are counted.
@@ -160,14 +222,21 @@ where
 {
     let mut most = ticks.unwrap_or(u64::MAX);
     for node in nodes {
-        let clock = start_clock(rt, node, stop, interval, most)?;
-        threads.push(clock).map_err(AllocError::from)?;
-        let door = start_accepting(rt, alloc, node, clients, stop)?;
-        threads.push(door).map_err(AllocError::from)?;
-        let carrier = start_carrying(rt, alloc, node, nodes)?;
-        threads.push(carrier).map_err(AllocError::from)?;
+        keep(threads, start_clock(rt, node, stop, interval, most))?;
+        keep(threads, start_accepting(rt, alloc, node, clients, stop))?;
+        keep(threads, start_carrying(rt, alloc, node, nodes))?;
         most = u64::MAX;
     }
+    Ok(())
+}
+
+// Keeps a thread that was started, to be joined.
+fn keep(
+    threads: &mut Vec<JoinHandle<()>>,
+    started: Result<JoinHandle<()>, ServeFault>,
+) -> Result<(), ServeFault> {
+    let thread = started?;
+    threads.push(thread).map_err(AllocError::from)?;
     Ok(())
 }
 

@@ -9,7 +9,7 @@ use Rattle.node_cell.specs.Journal.{CellView, EnteredView, Enters, IsGiven, IsHi
 use Rattle.node_cell.specs.declared.entry.Entry.{Entry}
 use Rattle.node_core.specs.declared.fault.StepFault.{StepFault}
 use Rattle.resp2.specs.declared.reply.Reply.{Reply}
-use Rattle.cluster.specs.Answers.{MayAnswer, MayGive, MayRefuse}
+use Rattle.shared_node.specs.Answers.{MayAnswer, MayGive, MayRefuse}
 
 -- a step that a cell of the cluster entered is one that a node of it may answer
 pub may_answer : (config : ClusterConfig) (old new : CellView) (event : Event) (entered : EnteredView) → old.config ≡ config

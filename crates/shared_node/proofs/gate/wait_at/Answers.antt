@@ -1,5 +1,5 @@
-use Rattle.cluster.proofs.GateLemmas.{may_give_if_kept}
-use Rattle.cluster.proofs.gate.wait_at.Goals as goal
+use Rattle.shared_node.proofs.GateLemmas.{may_give_if_kept}
+use Rattle.shared_node.proofs.gate.wait_at.Goals as goal
 
 pub returns-then-is_some : goal.returns-then-is_some
 returns-then-is_some g c =

@@ -1,6 +1,6 @@
 //! A conversation's way to a node: a cell behind a lock.
 ghost use Rattle.std.specs.Prelude.{◌≡◌, IfSome};
-ghost use Rattle.cluster.specs.Answers.{MayGive};
+ghost use Rattle.shared_node.specs.Answers.{MayGive};
 
 use crate::shared::SharedNode;
 use node_cell::{Asks, Deployment, Entered, Log, NodeCell, NodeGate};
@@ -43,7 +43,7 @@ impl<'n, K: Deployment, L: Log, R: Wait> Gate<'n, K, L, R> {
 impl<'n, K: Deployment, L: Log, R: Wait> NodeGate for Gate<'n, K, L, R> {
     type Answer = Entered<K>;
 
-    ghost use Rattle.cluster.specs.Answers.{MayAnswer, MayGive, MayRefuse};
+    ghost use Rattle.shared_node.specs.Answers.{MayAnswer, MayGive, MayRefuse};
 
     ghost asked = { λ gate. gate.asks };
 

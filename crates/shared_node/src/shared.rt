@@ -1,6 +1,9 @@
 //! A node that several threads share.
 
+use bus::Message;
 use node_cell::{Deployment, Log, NodeCell};
+use node_core::Messages;
+use std::alloc::Global;
 use std::sync::atomic::{AtomicBool, Ordering};
 use std::sync::{Condvar, Mutex, MutexGuard, Wait};
 use std::thread;
@@ -71,18 +74,31 @@ impl<K: Deployment, L: Log> SharedNode<K, L> {
         self.replies.wait(rt, cell)
     }
 
+    /// Has the node take a message. One for which there is no memory is lost, as it may be on any network.
+    pub fn deliver<R: Wait>(&self, rt: &R, message: Message) {
+        let mut cell = self.lock(rt);
+        let _lost = cell.deliver(message);
+        self.ring(&cell);
+    }
+
+    /// Takes the messages that the node's steps left to be sent, those of each step together.
+    pub fn take_sent<R: Wait>(&self, rt: &R, alloc: Global) -> Vec<Messages> {
+        let mut cell = self.lock(rt);
+        cell.take_sent(alloc)
+    }
+
     /// Tells the thread that carries the node's messages to look for them.
-    pub(crate) fn ring_for_mail(&self) {
+    pub fn ring_for_mail(&self) {
         self.mail.notify_all();
     }
 
     /// How often that thread was told.
-    pub(crate) fn mail_rings(&self) -> u64 {
+    pub fn mail_rings(&self) -> u64 {
         self.mail.notifications()
     }
 
     /// Sleeps until that thread was told more often than `seen`, but for no longer than this time.
-    pub(crate) fn wait_for_mail<R: Wait>(&self, rt: &R, seen: u64, time: Duration) {
+    pub fn wait_for_mail<R: Wait>(&self, rt: &R, seen: u64, time: Duration) {
         self.mail.sleep(rt, seen, time);
     }
 
@@ -96,7 +112,7 @@ impl<K: Deployment, L: Log> SharedNode<K, L> {
     }
 
     /// Whether the waits are ended.
-    pub(crate) fn is_closed(&self) -> bool {
+    pub fn is_closed(&self) -> bool {
         self.is_closed.load(Ordering::SeqCst)
     }
 }

@@ -1,5 +1,5 @@
-use Rattle.cluster.proofs.GateLemmas.{may_answer_if_made, may_refuse_if_refused}
-use Rattle.cluster.proofs.gate.GateNodeGate.step.Goals as goal
+use Rattle.shared_node.proofs.GateLemmas.{may_answer_if_made, may_refuse_if_refused}
+use Rattle.shared_node.proofs.gate.GateNodeGate.step.Goals as goal
 
 pub returns-clause-may : goal.returns-clause-may
 returns-clause-may g c = may_answer_if_made _ _ _ _ c.ask-answer.result c.ask-answer.ensures.cluster c.ask-answer.ensures.history c.ask-answer.ensures.ok

@@ -1,0 +1,8 @@
+//! A node behind a lock, which the threads of a cluster share, and a conversation's way to it.
+#![tactic(auto)]
+
+mod gate;
+mod shared;
+
+pub use gate::Gate;
+pub use shared::SharedNode;
