@@ -82,3 +82,9 @@ on_ok_both (Err e) both p q = tt
 pub on_err_both : {T E P Q S : Type 0} (r : Result T E) → (P → Q → S) → OnErr r P → OnErr r Q → OnErr r S
 on_err_both (Ok x) both p q = tt
 on_err_both (Err e) both p q = both p q
+
+-- what waited went out, and then a beginning of these bytes, which waited alone
+pub fails_alone : {T E : Type 0} (r : Result T E) (a b c : Stream) (x y p : List ℕ) → Sends (change a b) x → y ≡ p → OnErr r (Fails (change b c) y) → OnErr r (Fails (change a c) (x ++ p))
+fails_alone (Ok value) a b c x y p sent alone fails = tt
+fails_alone (Err error) a b c x y p sent alone fails =
+    fails_behind a b c x p sent (subst (λ w. AppendsBeginning b.bytes c.bytes w) alone fails.begun) fails.risen

@@ -29,6 +29,10 @@ pub fn send<W: Write>(
         (batch.old.items ++ reply_spelling reply.now)) }
 {
     flush(batch, writer)?;
+    // A reply of many parts is one write where it fits alone, and not one for each part.
+    if fits_in(reply, batch) {
+        return flush(batch, writer);
+    }
     send_reply(reply, writer)
 }
 
