@@ -1,26 +1,15 @@
 //! The command line.
+
+use crate::verbs::{Argument, FEW_REPETITIONS, FEW_TRIES, Kind, VERBS, Verb};
 use clap::builder::ValueParser;
-use clap::{Arg, ArgAction, Command, Error};
-use std::alloc::Global;
+use clap::{Arg, ArgAction, ArgMatches, Command, Error};
+use std::alloc::{AllocError, Global};
 
 // Of the program.
 const VERSION: &str = "0.1.0";
 
-// How often a call begins again for TRYAGAIN where nothing is said, and at most.
-const FEW_TRIES: u64 = 100;
-
-const MOST_TRIES: u64 = 1_000_000;
-
-// How often a run that moves slots asks the same again where nothing is said, and at most.
-const FEW_REPETITIONS: u64 = 1000;
-
-const MOST_REPETITIONS: u64 = 1_000_000;
-
-// After how many ticks the program may be asked to end.
-const MOST_TICKS: u64 = 1_000_000;
-
 /// What the program is asked to do.
-#[derive(Debug, Drop)]
+#[derive(Drop)]
 pub enum Call<'a> {
     /// To serve the cluster that a file describes.
     Serve {
@@ -64,152 +53,124 @@ pub enum Call<'a> {
 
 /// Reads the words of a command line, the program's name first.
 pub fn read_call<'a>(alloc: Global, words: &'a [String]) -> Result<Call<'a>, Error> {
-    let command = Command::new(alloc, "rcluster")
+    let command = program(alloc)?;
+    let matches = command.try_get_matches_from(words)?;
+    call_of(alloc, &matches)
+}
+
+fn program<'a>(alloc: Global) -> Result<Command<'a>, AllocError> {
+    let commands = commands_of(alloc, &VERBS)?;
+    Command::new(alloc, "rcluster")
         .about("A Redis Cluster in one process")
         .version(VERSION)
         .subcommand_required(true)
         .arg_required_else_help(true)
-        .subcommand(serve_command(alloc)?)?
-        .subcommand(simulate_command(alloc)?)?
-        .subcommand(cli_command(alloc)?)?
-        .subcommand(reshard_command(alloc)?)?;
-    let matches = command.try_get_matches_from(words)?;
+        .subcommands(commands)
+}
+
+fn commands_of<'a>(alloc: Global, verbs: &[Verb]) -> Result<Vec<Command<'a>>, AllocError> {
+    let mut commands = Vec::with_capacity(alloc, verbs.len())?;
+    for verb in verbs {
+        let command = command_of(alloc, verb)?;
+        commands.push(command).map_err(AllocError::from)?;
+    }
+    Ok(commands)
+}
+
+fn command_of<'a>(alloc: Global, verb: &Verb) -> Result<Command<'a>, AllocError> {
+    let mut command = Command::new(alloc, verb.name).about(verb.about);
+    for argument in verb.arguments {
+        command = command.arg(arg_of(alloc, argument))?;
+    }
+    Ok(command)
+}
+
+fn arg_of<'a>(alloc: Global, argument: &Argument) -> Arg<'a> {
+    match &argument.kind {
+        Kind::Text => option_of(alloc, argument)
+            .required(true)
+            .action(ArgAction::Set),
+        Kind::Number { least, most } => option_of(alloc, argument)
+            .value_parser(ValueParser::unsigned(*least, *most))
+            .action(ArgAction::Set),
+        Kind::Flag => Arg::new(alloc, argument.name)
+            .long(argument.name)
+            .help(argument.help)
+            .action(ArgAction::SetTrue),
+        Kind::Words => Arg::new(alloc, argument.name)
+            .value_name(argument.value_name)
+            .help(argument.help)
+            .required(true)
+            .num_args(1..)
+            .action(ArgAction::Append),
+    }
+}
+
+// An option with a value.
+fn option_of<'a>(alloc: Global, argument: &Argument) -> Arg<'a> {
+    Arg::new(alloc, argument.name)
+        .long(argument.name)
+        .value_name(argument.value_name)
+        .help(argument.help)
+}
+
+fn call_of<'a>(alloc: Global, matches: &ArgMatches<'a>) -> Result<Call<'a>, Error> {
     if let Some(simulate) = matches.subcommand_matches("simulate") {
-        return Ok(Call::Simulate {
-            config: simulate.get_str("config").unwrap_or(""),
-            script: simulate.get_str("script").unwrap_or(""),
-        });
+        return Ok(simulate_call(simulate));
     }
     if let Some(cli) = matches.subcommand_matches("cli") {
-        let mut words = Vec::new(alloc);
-        words.extend_from_slice(cli.get_strs("words").unwrap_or(&[]))?;
-        return Ok(Call::Cli {
-            address: cli.get_str("addr").unwrap_or(""),
-            tries: cli.get_one::<u64>("try").unwrap_or(FEW_TRIES),
-            words,
-        });
+        return Ok(cli_call(alloc, cli)?);
     }
     if let Some(reshard) = matches.subcommand_matches("reshard") {
-        return Ok(Call::Reshard {
-            address: reshard.get_str("addr").unwrap_or(""),
-            from: reshard.get_str("from").unwrap_or(""),
-            to: reshard.get_str("to").unwrap_or(""),
-            slots: reshard.get_str("slots").unwrap_or(""),
-            limit: reshard.get_one::<u64>("limit").unwrap_or(FEW_REPETITIONS),
-        });
+        return Ok(reshard_call(reshard));
     }
-    let serve = matches.subcommand_matches("serve");
-    let config = serve
-        .and_then(|serve| serve.get_str("config"))
-        .unwrap_or("");
-    let ticks = serve.and_then(|serve| serve.get_one::<u64>("ticks"));
-    let keeps_journal = serve.is_some_and(|serve| serve.get_flag("journal"));
-    Ok(Call::Serve {
-        config,
-        ticks,
-        keeps_journal,
+    Ok(serve_call(matches.subcommand_matches("serve")))
+}
+
+fn serve_call<'a>(serve: Option<&ArgMatches<'a>>) -> Call<'a> {
+    match serve {
+        Some(serve) => Call::Serve {
+            config: text(serve, "config"),
+            ticks: serve.get_one::<u64>("ticks"),
+            keeps_journal: serve.get_flag("journal"),
+        },
+        // The command line has a verb, and it is none of the others.
+        None => Call::Serve {
+            config: "",
+            ticks: None,
+            keeps_journal: false,
+        },
+    }
+}
+
+fn simulate_call<'a>(simulate: &ArgMatches<'a>) -> Call<'a> {
+    Call::Simulate {
+        config: text(simulate, "config"),
+        script: text(simulate, "script"),
+    }
+}
+
+fn cli_call<'a>(alloc: Global, cli: &ArgMatches<'a>) -> Result<Call<'a>, AllocError> {
+    let mut words = Vec::new(alloc);
+    words.extend_from_slice(cli.get_strs("words").unwrap_or(&[]))?;
+    Ok(Call::Cli {
+        address: text(cli, "addr"),
+        tries: cli.get_one::<u64>("try").unwrap_or(FEW_TRIES),
+        words,
     })
 }
 
-fn config_option<'a>(alloc: Global) -> Arg<'a> {
-    text_option(
-        alloc,
-        "config",
-        "FILE",
-        "The cluster's configuration, a JSON file",
-    )
+fn reshard_call<'a>(reshard: &ArgMatches<'a>) -> Call<'a> {
+    Call::Reshard {
+        address: text(reshard, "addr"),
+        from: text(reshard, "from"),
+        to: text(reshard, "to"),
+        slots: text(reshard, "slots"),
+        limit: reshard.get_one::<u64>("limit").unwrap_or(FEW_REPETITIONS),
+    }
 }
 
-fn simulate_command<'a>(alloc: Global) -> Result<Command<'a>, Error> {
-    let script = text_option(
-        alloc,
-        "script",
-        "FILE",
-        "The script, one step a line: admin N WORDS, tick N, deliver M, stop N, call C N WORDS, carry C, return C, cut C or late C",
-    );
-    let simulate = Command::new(alloc, "simulate")
-        .about(
-            "Plays a script in a cluster without sockets, and prints what comes out of each step",
-        )
-        .arg(config_option(alloc))?
-        .arg(script)?;
-    Ok(simulate)
-}
-
-fn address_option<'a>(alloc: Global) -> Arg<'a> {
-    text_option(alloc, "addr", "HOST:PORT", "The node to begin with")
-}
-
-fn cli_command<'a>(alloc: Global) -> Result<Command<'a>, Error> {
-    let tries = Arg::new(alloc, "try")
-        .long("try")
-        .value_name("N")
-        .help("How often the call begins again for TRYAGAIN, 0 to 1000000; 100 if missing")
-        .value_parser(ValueParser::unsigned(0, MOST_TRIES))
-        .action(ArgAction::Set);
-    let words = Arg::new(alloc, "words")
-        .value_name("WORDS")
-        .help("The command; words that begin with - stand behind --")
-        .required(true)
-        .num_args(1..)
-        .action(ArgAction::Append);
-    let cli = Command::new(alloc, "cli")
-        .about("Has the node of a command's keys execute the command, and prints the reply")
-        .arg(address_option(alloc))?
-        .arg(tries)?
-        .arg(words)?;
-    Ok(cli)
-}
-
-fn reshard_command<'a>(alloc: Global) -> Result<Command<'a>, Error> {
-    let limit = Arg::new(alloc, "limit")
-        .long("limit")
-        .value_name("N")
-        .help("How often a node is asked the same again, 0 to 1000000; 1000 if missing")
-        .value_parser(ValueParser::unsigned(0, MOST_REPETITIONS))
-        .action(ArgAction::Set);
-    let reshard = Command::new(alloc, "reshard")
-        .about("Moves slots from one master to another, and prints a line for each slot")
-        .arg(address_option(alloc))?
-        .arg(text_option(alloc, "from", "ID", "The master that the slots leave"))?
-        .arg(text_option(alloc, "to", "ID", "The master that they come to"))?
-        .arg(text_option(
-            alloc,
-            "slots",
-            "A-B",
-            "The slots from A to B, each from 0 to 16383",
-        ))?
-        .arg(limit)?;
-    Ok(reshard)
-}
-
-// An option that has to be there, with a text.
-fn text_option<'a>(alloc: Global, name: &'a str, value_name: &'a str, help: &'a str) -> Arg<'a> {
-    Arg::new(alloc, name)
-        .long(name)
-        .value_name(value_name)
-        .help(help)
-        .required(true)
-        .action(ArgAction::Set)
-}
-
-fn serve_command<'a>(alloc: Global) -> Result<Command<'a>, Error> {
-    let ticks = Arg::new(alloc, "ticks")
-        .long("ticks")
-        .value_name("N")
-        .help(
-            "Ends after N ticks of node 0, 1 to 1000000; each node's journal is kept in memory until then",
-        )
-        .value_parser(ValueParser::unsigned(1, MOST_TICKS))
-        .action(ArgAction::Set);
-    let journal = Arg::new(alloc, "journal")
-        .long("journal")
-        .help("Keeps each node's journal in memory, which grows with every request")
-        .action(ArgAction::SetTrue);
-    let serve = Command::new(alloc, "serve")
-        .about("Serves all nodes of a cluster, each at its own address")
-        .arg(config_option(alloc))?
-        .arg(ticks)?
-        .arg(journal)?;
-    Ok(serve)
+// The text of an option that has to be there.
+fn text<'a>(matches: &ArgMatches<'a>, name: &str) -> &'a str {
+    matches.get_str(name).unwrap_or("")
 }

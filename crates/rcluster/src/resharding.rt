@@ -2,6 +2,7 @@
 
 use crate::failure::Failure;
 use crate::fault::ProgramFault;
+use crate::output::write;
 use crate::sockets::{ADDRESS_TEXT, Sockets};
 use bytes::Bytes;
 use cluster_config::NodeId;
@@ -9,7 +10,7 @@ use command::{Positive, number_in};
 use key_slot::{Slot, SlotRange};
 use redirection::Address;
 use resharder::{MovedSlot, Plan, ReshardFault, Resharder};
-use smart_client::Connections;
+use smart_client::{Connections, Network};
 use std::alloc::{AllocError, Global};
 use std::net::{Net, TcpListener, TcpStream};
 
@@ -55,10 +56,19 @@ where
     let plan = plan(alloc, wanted, limit)?;
     let connections = Connections::new(alloc, Sockets::new(rt));
     let mut resharder = Resharder::new(alloc, connections, plan);
+    move_all(&rt, &mut resharder)
+}
+
+// Moves one slot after another, and prints a line for each.
+fn move_all<R, N>(rt: &R, resharder: &mut Resharder<N>) -> Result<(), Failure>
+where
+    R: AllocGlobal + Print,
+    N: Network + Drop,
+{
     // A loop has to end, so this one counts the slots.
     'slots: for _ in 0..=Slot::COUNT {
         match resharder.move_next() {
-            Ok(Some(moved)) => print(&rt, moved)?,
+            Ok(Some(moved)) => print(rt, moved)?,
             Ok(None) => return Ok(()),
             Err(fault) => return Err(Failure::from(ProgramFault::Reshard(fault))),
         }
@@ -103,8 +113,5 @@ fn print<R: AllocGlobal + Print>(rt: &R, moved: MovedSlot) -> Result<(), Failure
         moved.slot.get(),
         moved.keys
     )?;
-    match rt.write_all(line.as_bytes()) {
-        Ok(()) => Ok(()),
-        Err(_) => Err(Failure::from(ProgramFault::Output)),
-    }
+    write(rt, line.as_bytes())
 }

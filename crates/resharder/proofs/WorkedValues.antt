@@ -1,11 +1,11 @@
 -- Worked values: a key of slot 12182 is moved from the third of three masters to the second, and a run that finds the slot there already.
-use Rattle.std.proofs.Common.{◌≡◌, refl, ℕ, List, [], ◌∷◌, Some, None}
+use Rattle.std.proofs.Common.{◌≡◌, refl, ℕ, List, [], ◌∷◌, Some}
 use Rattle.std.specs.Prelude.{codes, map, pos}
 use Rattle.std.specs.Fmt.{digits}
 use Rattle.redirection.specs.Address.{Place}
 use Rattle.resp2.specs.Reply.{array_of}
 use Rattle.resp2.specs.declared.reply.Reply.{Reply as Answer}
-use Rattle.resp2.specs.declared.reply.Reply.TheVariants.{Simple, Error, Integer, Bulk, Null, Array}
+use Rattle.resp2.specs.declared.reply.Reply.TheVariants.{Simple, Error, Integer, Bulk, Array}
 use Rattle.resharder.specs.Step.{Turn, turn}
 use Rattle.resharder.specs.Step.Turn.{Goes, Ends, Reads}
 use Rattle.resharder.specs.declared.action.Action.{Action}

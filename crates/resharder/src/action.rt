@@ -7,7 +7,7 @@ use redirection::Address;
 use resp2::{Reply, Words};
 
 /// What a run is told.
-#[derive(Debug, Drop)]
+#[derive(Drop)]
 pub enum Event {
     /// The run begins; or, after [`Action::Line`], the line is printed, and the run goes on.
     Start,
@@ -21,7 +21,7 @@ pub enum Event {
 }
 
 /// What a run wants done.
-#[derive(Debug, Drop)]
+#[derive(Drop)]
 pub enum Action {
     /// The words are to be sent to the node at the address, and one reply is to be read there.
     Ask {

@@ -7,7 +7,7 @@ use redirection::first_word;
 use resp2::Reply;
 
 /// What a node answers to an order to move a slot or a key.
-#[derive(Clone, Copy, PartialEq, Eq, Debug)]
+#[derive(Clone, Copy)]
 pub(crate) enum Answer {
     /// It is done: `+OK`.
     Done,

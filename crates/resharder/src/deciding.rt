@@ -21,7 +21,7 @@ use resp2::{Reply, Words};
 use std::alloc::{AllocError, Global};
 
 /// What a run waits for from now on, and what it wants done.
-#[derive(Debug, Drop)]
+#[derive(Drop)]
 pub(crate) struct Made {
     pub stage: Stage,
     pub action: Action,

@@ -11,7 +11,6 @@ use std::collections::VecDeque;
 use std::marker::Model;
 
 /// A key: its bytes fit into a word of a request.
-#[derive(Debug, Drop)]
 pub(crate) struct Key {
     bytes: ByteString,
 }
@@ -25,6 +24,13 @@ impl Model for Key {
     ghost view = { λ key. key.bytes };
 
     ghost invariant = { λ key. length key.bytes ≤ MOST_WORD_BYTES };
+}
+
+// It does what the derive would. Written out it is one call wherever a key is let go.
+impl Drop for Key {
+    fn drop(self) {
+        let Key { bytes: _bytes } = self;
+    }
 }
 
 impl Key {
@@ -48,7 +54,7 @@ impl Key {
 }
 
 /// The keys that wait to be moved, in the order in which they are.
-#[derive(Debug, Drop)]
+#[derive(Drop)]
 pub(crate) struct Waiting {
     keys: VecDeque<Key>,
 }

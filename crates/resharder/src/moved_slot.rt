@@ -4,7 +4,7 @@ use command::Positive;
 use key_slot::Slot;
 
 /// A slot that is at its new master.
-#[derive(Clone, Copy, PartialEq, Eq, Debug)]
+#[derive(Clone, Copy, PartialEq, Eq)]
 pub struct MovedSlot {
     /// The slot.
     pub slot: Slot,

@@ -15,7 +15,6 @@ use std::collections::BTreeMap;
 use std::marker::Model;
 
 /// The nodes that a run speaks to.
-#[derive(Debug, Drop)]
 pub(crate) struct Nodes {
     source: Address,
     destination: Address,
@@ -28,6 +27,17 @@ impl Model for Nodes {
     ghost Value = { KnownNodes };
 
     ghost view = { λ nodes. record { source = nodes.source; destination = nodes.destination; others = nodes.others.items } };
+}
+
+// It does what the derive would. Written out it is one call wherever nodes are let go.
+impl Drop for Nodes {
+    fn drop(self) {
+        let Nodes {
+            source: _source,
+            destination: _destination,
+            others: _others,
+        } = self;
+    }
 }
 
 impl Nodes {

@@ -14,7 +14,7 @@ use resp2::Words;
 use std::alloc::{AllocError, Global};
 
 /// What a node is to do with a slot.
-#[derive(Clone, Copy, PartialEq, Eq, Debug)]
+#[derive(Clone, Copy)]
 pub(crate) enum SlotOrder {
     /// It comes to the node.
     Importing,
@@ -87,15 +87,17 @@ pub(crate) fn set_words(
 {
     let slot = decimal(alloc, u64::from(slot.get()))?;
     let id = word_of(id)?;
-    let cluster = ByteString::from_static(b"CLUSTER");
-    let set_slot = ByteString::from_static(b"SETSLOT");
-    let words = match number {
-        Some(number) => {
-            let number = decimal(alloc, number.get())?;
-            vec![in alloc; cluster, set_slot, slot, order.word(), id, number]?
-        }
-        None => vec![in alloc; cluster, set_slot, slot, order.word(), id]?,
-    };
+    let mut words = vec![in alloc;
+        ByteString::from_static(b"CLUSTER"),
+        ByteString::from_static(b"SETSLOT"),
+        slot,
+        order.word(),
+        id,
+    ]?;
+    if let Some(number) = number {
+        let number = decimal(alloc, number.get())?;
+        words.push(number).map_err(AllocError::from)?;
+    }
     Ok(request(words))
 }
 

@@ -6,7 +6,7 @@ use key_slot::SlotRange;
 use redirection::Address;
 
 /// What a run is to do.
-#[derive(Debug, Drop)]
+#[derive(Drop)]
 pub struct Plan {
     /// The address of the node that is asked who the masters are.
     pub(crate) start: Address,

@@ -7,7 +7,7 @@ use command::Positive;
 use resp2::{Element, Reply};
 
 /// What a node does with a slot.
-#[derive(Clone, Copy, PartialEq, Eq, Debug)]
+#[derive(Clone, Copy)]
 pub(crate) enum Standing {
     /// It owns the slot, which doesn't move.
     Owned,
@@ -41,7 +41,7 @@ impl Standing {
 }
 
 /// What a node reports of a slot.
-#[derive(Clone, Copy, Debug)]
+#[derive(Clone, Copy)]
 pub(crate) struct Report {
     /// What it does with the slot.
     pub standing: Standing,

@@ -18,7 +18,6 @@ use std::mem;
 ///
 /// A run that was stopped at any moment can begin anew, with the same plan: it reads first how far the move of each slot is, and
 /// every request can be asked twice.
-#[derive(Debug, Drop)]
 pub struct ReshardCore {
     alloc: Global,
     plan: Plan,
@@ -31,6 +30,18 @@ impl Model for ReshardCore {
     ghost Value = { RunState };
 
     ghost view = { λ core. record { plan = core.plan; stage = core.stage } };
+}
+
+// It does what the derive would. Written out it is one call wherever a run is let go, and not a `match` over its stage, which the
+// proofs of those functions would have to look at.
+impl Drop for ReshardCore {
+    fn drop(self) {
+        let ReshardCore {
+            alloc: _,
+            plan: _plan,
+            stage: _stage,
+        } = self;
+    }
 }
 
 impl ReshardCore {
@@ -54,10 +65,16 @@ impl ReshardCore {
         let stage = mem::replace(&mut self.stage, Stage::Over);
         match self.plan.turn(self.alloc, stage, event) {
             Ok(made) => {
-                self.stage = made.stage;
+                self.wait_for(made.stage);
                 made.action
             }
             Err(fault) => Action::Fault(fault),
         }
+    }
+
+    fn wait_for(&mut self, stage: Stage)
+        ensures { self.new ≡ record self.old { stage = stage } }
+    {
+        self.stage = stage;
     }
 }

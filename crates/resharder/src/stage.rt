@@ -7,7 +7,7 @@ use key_slot::Slot;
 use redirection::Address;
 
 /// What a run waits for.
-#[derive(Debug, Drop)]
+#[derive(Drop)]
 pub(crate) enum Stage {
     /// The event by which it begins.
     Begins,
@@ -22,7 +22,7 @@ pub(crate) enum Stage {
 }
 
 /// The work at a slot.
-#[derive(Debug, Drop)]
+#[derive(Drop)]
 pub(crate) struct Work {
     /// The nodes to be asked.
     pub nodes: Nodes,
@@ -41,7 +41,7 @@ pub(crate) struct Work {
 }
 
 /// What was asked about a slot.
-#[derive(Debug, Drop)]
+#[derive(Drop)]
 pub(crate) enum Step {
     /// What the source does with the slot.
     ReadsSource,
@@ -69,7 +69,7 @@ pub(crate) enum Step {
 }
 
 /// What the source reported of a slot.
-#[derive(Clone, Copy, PartialEq, Eq, Debug)]
+#[derive(Clone, Copy)]
 pub(crate) struct Source {
     /// The number of the move by which the slot leaves it for the destination.
     pub number: Option<Positive>,

@@ -1,6 +1,6 @@
 -- Further entries of a world.
 use Rattle.std.proofs.Common.{◌≡◌, ℕ, Bool, List, drop, length, [], ◌∷◌, ◌++◌, Contains, refl, sym, ap, subst, ◌∙◌, inl, inr, append-nil, append_assoc}
-use Rattle.std.specs.Prelude.{reverse, slice_get, slice_set, Some, zero, suc}
+use Rattle.std.specs.Prelude.{reverse, slice_get, slice_set, Some, zero, suc, Result, Ok, Err, IfOk}
 use Rattle.std.proofs.lemmas.List.{length-set, reverse-append}
 use Rattle.std.proofs.lemmas.List.Elements.{Contains-append_cases, Contains-append_left, Contains-append_right}
 use Rattle.std.proofs.lemmas.Grind.{flat_map-append}
@@ -173,3 +173,10 @@ shown_since old after node event made first outputs makes is gives =
     gives ∙ ap (λ (n : ℕ). shown_from node n (drop n after.sent) made) is
     ∙ ap (λ (messages : List Message). shown_from node (length old.sent) messages made)
     (ap (λ (run : RunView). drop (length old.sent) run.sent) makes.is ∙ drop-append_seam old.sent made.sent)
+
+-- ---- results
+
+-- what two clauses say of a result holds together
+pub both_at_ok : {X Y : Type 0} (result : Result X Y) (P Q R : X → Type 0) → ((x : X) → P x → Q x → R x) → IfOk result P → IfOk result Q → IfOk result R
+both_at_ok (Ok x) P Q R together one other = together x one other
+both_at_ok (Err fault) P Q R together one other = tt

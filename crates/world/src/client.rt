@@ -7,6 +7,7 @@ ghost use Rattle.world.specs.Calls.{Acts, Arrives, Begins, CanDo, Carries, Conne
 ghost use Rattle.world.specs.Clients.{AwaitsConnection, AwaitsReply, IsSettled, broken_off, is_at, kept_to, leads_to, lost_at, lost_by, new_client, node_at, place_at, stopped_at, used_by, with_kept, without_late};
 ghost use Rattle.world.specs.View.{GoesOn, IsKept, is_up};
 ghost use Rattle.world.specs.declared.client.Traffic.TheVariants.{Quiet};
+ghost use Rattle.world.specs.declared.output.Output.TheVariants.{Answer};
 
 use crate::output::{Output, nothing, one};
 use crate::run::Run;
@@ -15,7 +16,7 @@ use cluster_config::{Config, NodeConfig};
 use connections::Conn;
 use redirection::Address;
 use resp2::{Reply, Words};
-use smart_client::{Action, ClientCore, Event};
+use smart_client::{Action, ClientCore, ClientFault, Event};
 use std::alloc::{AllocError, Global};
 use std::marker::Model;
 use std::mem;
@@ -24,7 +25,7 @@ use std::mem;
 pub(crate) const MOST_REPEATS: u64 = 16;
 
 /// A connection of a client to a node.
-#[derive(Clone, Copy, Debug)]
+#[derive(Clone, Copy)]
 pub(crate) struct Link {
     /// The node.
     pub node: u64,
@@ -33,7 +34,7 @@ pub(crate) struct Link {
 }
 
 /// What is under way between a client and a node.
-#[derive(Debug, Drop)]
+#[derive(Drop)]
 pub(crate) enum Traffic {
     /// Nothing: no call is under way.
     Quiet,
@@ -44,7 +45,7 @@ pub(crate) enum Traffic {
 }
 
 /// A request that is still under way on a connection that was cut.
-#[derive(Debug, Drop)]
+#[derive(Drop)]
 pub(crate) struct Late {
     pub link: Link,
     pub words: Words,
@@ -136,11 +137,11 @@ impl Client {
                 if run.is_up(link.node) {
                     return self.arrive(run, link, words);
                 }
-                self.traffic = Traffic::Asked(link, words);
+                self.put(Traffic::Asked(link, words));
                 nothing(run.allocator())
             }
             traffic => {
-                self.traffic = traffic;
+                self.put(traffic);
                 nothing(run.allocator())
             }
         }
@@ -166,7 +167,7 @@ impl Client {
                 self.act(run, config, Some(link), action)
             }
             traffic => {
-                self.traffic = traffic;
+                self.put(traffic);
                 nothing(run.allocator())
             }
         }
@@ -183,15 +184,41 @@ impl Client {
     {
         match mem::replace(&mut self.traffic, Traffic::Quiet) {
             Traffic::Quiet => nothing(run.allocator()),
-            Traffic::Asked(link, words) => {
-                self.late.push(Late { link, words })?;
-                one(run.allocator(), self.break_off(link.node))
-            }
-            Traffic::Answered(link, _) => {
-                shut(run, link)?;
-                one(run.allocator(), self.break_off(link.node))
-            }
+            Traffic::Asked(link, words) => self.cut_request(run, link, words),
+            Traffic::Answered(link, _) => self.cut_reply(run, link),
         }
+    }
+
+    // The connection is cut while a request is under way on it, which may still come late.
+    fn cut_request(
+        &mut self,
+        run: &mut Run,
+        link: Link,
+        words: Words,
+    ) -> Result<Vec<Output>, AllocError>
+        requires awaits { AwaitsReply self.old.core.call }
+        ensures run { run.new ≡ run.old }
+        ensures settled { OnOk result (IsSettled self.new) }
+        ensures broken { OnOk result (self.new ≡ record (broken_off link.node self.old) { late = self.old.late ++ (record { link = link; words = words }) ∷ [] }) }
+        ensures lost { IfOk result (λ outputs. outputs.items ≡ lost_by self.old) }
+    {
+        self.late.push(Late { link, words })?;
+        one(run.allocator(), self.break_off(link.node))
+    }
+
+    // The connection is cut while a reply is under way on it, which is lost.
+    fn cut_reply(&mut self, run: &mut Run, link: Link) -> Result<Vec<Output>, AllocError>
+        requires awaits { AwaitsReply self.old.core.call }
+        requires kept { IsKept run.old }
+        ensures goes_on { GoesOn run.old run.new }
+        ensures kept { OnOk result (IsKept run.new) }
+        ensures settled { OnOk result (IsSettled self.new) }
+        ensures shut { OnOk result (IsShut run.old link run.new) }
+        ensures broken { OnOk result (self.new ≡ broken_off link.node self.old) }
+        ensures lost { IfOk result (λ outputs. outputs.items ≡ lost_by self.old) }
+    {
+        shut(run, link)?;
+        one(run.allocator(), self.break_off(link.node))
     }
 
     /// The oldest request on a connection that was cut reaches its node.
@@ -233,6 +260,13 @@ impl Client {
         self.late.retain(|late| late.link.node != node);
     }
 
+    // From now on this is under way.
+    fn put(&mut self, traffic: Traffic)
+        ensures { self.new ≡ record self.old { traffic = traffic } }
+    {
+        self.traffic = traffic;
+    }
+
     // Whether the connection in use leads to the node.
     fn uses(&self, node: u64) -> bool
         ensures { result ≡ leads_to node (used_by self.now.traffic) }
@@ -259,7 +293,7 @@ impl Client {
         let Some(reply) = reply else {
             return self.go_without_reply(run.allocator(), link.node, outputs);
         };
-        self.traffic = Traffic::Answered(link, reply);
+        self.put(Traffic::Answered(link, reply));
         Ok(outputs)
     }
 
@@ -289,7 +323,7 @@ impl Client {
         ensures settled { IsSettled self.new }
         ensures lost { result ∷ [] ≡ lost_by self.old }
     {
-        self.traffic = Traffic::Quiet;
+        self.put(Traffic::Quiet);
         self.keep(node, None);
         match self.core.on(Event::Broken { handed: true }) {
             Action::Done { answer, .. } => Output::Answer {
@@ -422,15 +456,30 @@ impl Client {
                 let Some(link) = link else {
                     unreachable!();
                 };
-                self.traffic = Traffic::Asked(link, words);
+                self.put(Traffic::Asked(link, words));
                 Ok(Vec::new(run.allocator()))
             }
-            Action::Done { answer, close } => {
-                self.end(run, link, close)?;
-                let client = self.number;
-                one(run.allocator(), Output::Answer { client, answer })
-            }
+            Action::Done { answer, close } => self.tell_answer(run, link, answer, close),
         }
+    }
+
+    // The call is over, with this answer.
+    fn tell_answer(
+        &mut self,
+        run: &mut Run,
+        link: Option<Link>,
+        answer: Result<Reply, ClientFault>,
+        close: bool,
+    ) -> Result<Vec<Output>, AllocError>
+        requires kept { IsKept run.old }
+        ensures goes_on { GoesOn run.old run.new }
+        ensures kept { OnOk result (IsKept run.new) }
+        ensures gives_up { OnOk result (GivesUp run.old self.old link close run.new self.new) }
+        ensures answer { IfOk result (λ outputs. outputs.items ≡ Answer self.old.number answer ∷ []) }
+    {
+        self.end(run, link, close)?;
+        let client = self.number;
+        one(run.allocator(), Output::Answer { client, answer })
     }
 
     // The call is over, and its connection is closed where that is wanted.

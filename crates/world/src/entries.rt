@@ -82,17 +82,17 @@ impl Entries {
         &mut self,
         core: &mut Core,
         node: u64,
-        event: Event,
+        event: &Event,
     ) -> Result<Option<Outputs>, AllocError>
-        ensures made { IfOk result (λ made. IfSome made (λ outputs. Steps self.old core.old node (Made event outputs) self.new core.new)) }
+        ensures made { IfOk result (λ made. IfSome made (λ outputs. Steps self.old core.old node (Made event.now outputs) self.new core.new)) }
         ensures skipped { IfOk result (λ made. IfNone made (Steps self.old core.old node Skipped self.new core.new)) }
-        ensures number { IfOk result (λ made. IfNone made (NoNumberLeft core.old event)) }
+        ensures number { IfOk result (λ made. IfNone made (NoNumberLeft core.old event.now)) }
         ensures err { OnErr result ((self.new ≡ self.old) × (core.new ≡ core.old)) }
     {
         let ticket = self.count.saturating_add(1);
-        match core.step::<Seen>(ticket, &event) {
+        match core.step::<Seen>(ticket, event) {
             Ok((outputs, kept)) => {
-                let doing = Doing::Made(Snapshot::of(&event), kept);
+                let doing = Doing::Made(Snapshot::of(event), kept);
                 self.enter(node, ticket, doing);
                 Ok(Some(outputs))
             }

@@ -13,7 +13,7 @@ use smart_client::ClientFault;
 use std::alloc::{AllocError, Global};
 
 /// What comes out of a step of a world.
-#[derive(Debug, Drop)]
+#[derive(Drop)]
 pub enum Output {
     /// A client's call is over.
     Answer {

@@ -155,7 +155,20 @@ impl Run {
         let Some(made) = self.make(node, event)? else {
             unreachable!();
         };
-        let outputs = self.outputs(node, first, &made)?;
+        self.finish(node, first, &made)
+    }
+
+    // Closes the connections that got their replies by a step of the node, and shows what came out of it. The messages from that
+    // place on are those of the step.
+    fn finish(&mut self, node: u64, first: usize, made: &Outputs) -> Result<Vec<Output>, AllocError>
+        requires there { node < length self.old.nodes }
+        requires first { first ≤ length self.old.sent }
+        ensures goes_on { GoesOn self.old self.new }
+        ensures kept { OnOk result (IsKept self.old → IsKept self.new) }
+        ensures closes { OnOk result (Closes self.old node (released_conns made.now.released) self.new) }
+        ensures shows { IfOk result (λ outputs. outputs.items ≡ shown_from node first (drop first self.old.sent) made.now) }
+    {
+        let outputs = self.outputs(node, first, made)?;
         self.close_all(node, made.released.as_slice())?;
         Ok(outputs)
     }
@@ -193,8 +206,26 @@ impl Run {
             self.close(node, conn)?;
             return exhausted(self.alloc, node);
         };
-        let outputs = self.outputs(node, first, &made)?;
-        self.close_served(node, conn, &made)?;
+        self.finish_request(node, conn, first, &made)
+    }
+
+    // The same after a step for a request on that connection, which is closed too if the reply came.
+    fn finish_request(
+        &mut self,
+        node: u64,
+        conn: Conn,
+        first: usize,
+        made: &Outputs,
+    ) -> Result<Vec<Output>, AllocError>
+        requires there { node < length self.old.nodes }
+        requires first { first ≤ length self.old.sent }
+        ensures goes_on { GoesOn self.old self.new }
+        ensures kept { OnOk result (IsKept self.old → IsKept self.new) }
+        ensures closes { OnOk result (Closes self.old node (answered_conn conn made.now.response ++ released_conns made.now.released) self.new) }
+        ensures shows { IfOk result (λ outputs. outputs.items ≡ shown_from node first (drop first self.old.sent) made.now) }
+    {
+        let outputs = self.outputs(node, first, made)?;
+        self.close_served(node, conn, made)?;
         Ok(outputs)
     }
 
@@ -250,6 +281,20 @@ impl Run {
         ensures skipped { IfOk result (λ made. IfNone made (Enters self.old node Skipped self.new)) }
         ensures number { IfOk result (λ made. IfNone made (NeedsNumber event)) }
     {
+        self.make_for(node, &event)
+    }
+
+    fn make_for(&mut self, node: u64, event: &Event) -> Result<Option<Outputs>, AllocError>
+        requires there { node < length self.old.nodes }
+        requires may { MayHappen (reverse self.old.entries) event.now }
+        requires asks { MayTake self.old node event.now }
+        ensures goes_on { GoesOn self.old self.new }
+        ensures there { length self.new.nodes ≡ length self.old.nodes }
+        ensures kept { OnOk result (IsKept self.old → IsKept self.new) }
+        ensures made { IfOk result (λ made. IfSome made (λ outputs. Makes self.old node event.now outputs self.new)) }
+        ensures skipped { IfOk result (λ made. IfNone made (Enters self.old node Skipped self.new)) }
+        ensures number { IfOk result (λ made. IfNone made (NeedsNumber event.now)) }
+    {
         let Some(outputs) = step_at(&mut self.nodes, &mut self.entries, node, event)? else {
             return Ok(None);
         };
@@ -299,13 +344,13 @@ fn step_at(
     nodes: &mut Vec<Core>,
     entries: &mut Entries,
     node: u64,
-    event: Event,
+    event: &Event,
 ) -> Result<Option<Outputs>, AllocError>
     requires there { node < length nodes.old.items }
-    requires may { MayHappen (reverse entries.old) event }
-    ensures made { IfOk result (λ made. IfSome made (λ outputs. EntersAt entries.old nodes.old.items node (Made event outputs) entries.new nodes.new.items)) }
+    requires may { MayHappen (reverse entries.old) event.now }
+    ensures made { IfOk result (λ made. IfSome made (λ outputs. EntersAt entries.old nodes.old.items node (Made event.now outputs) entries.new nodes.new.items)) }
     ensures skipped { IfOk result (λ made. IfNone made (EntersAt entries.old nodes.old.items node Skipped entries.new nodes.new.items)) }
-    ensures number { IfOk result (λ made. IfNone made (NeedsNumber event)) }
+    ensures number { IfOk result (λ made. IfNone made (NeedsNumber event.now)) }
     ensures err { OnErr result ((nodes.new.items ≡ nodes.old.items) × (entries.new ≡ entries.old)) }
 {
     match entries.step(&mut nodes[node as usize], node, event) {

@@ -1,22 +1,24 @@
 //! Requests of clients, on connections that stay open.
-ghost use Rattle.std.specs.Prelude.{◌≡◌, ◌<◌, [], Some, length, IfOk, OnOk};
+ghost use Rattle.std.specs.Prelude.{◌≡◌, ◌<◌, ◌≤◌, [], Some, drop, length, IfOk, OnOk};
 ghost use Rattle.command.specs.declared.error_line.ErrorLine.TheVariants.{Exhausted};
 ghost use Rattle.node_step.specs.Outcome.{error};
 ghost use Rattle.node_step.specs.declared.event.Event.TheVariants.{Request};
 ghost use Rattle.world.specs.Asking.{MayTake};
 ghost use Rattle.world.specs.Calls.{IsOpened, IsServed, IsSkipped, Serves, ServesLast, reply_in};
+ghost use Rattle.world.specs.NodeSteps.{Closes, released_conns};
+ghost use Rattle.world.specs.Outputs.{beside_from};
 ghost use Rattle.world.specs.View.{GoesOn, IsKept};
 
 use crate::output::Output;
 use crate::run::Run;
 use command::ErrorLine;
 use connections::Conn;
-use node_core::{Event, Response};
+use node_core::{Event, Outputs, Response};
 use resp2::{Reply, Words};
 use std::alloc::AllocError;
 
 /// What comes of a request.
-#[derive(Debug, Drop)]
+#[derive(Drop)]
 pub(crate) struct Served {
     /// The reply, if one comes.
     pub reply: Option<Reply>,
@@ -60,12 +62,31 @@ impl Run {
         let Some(made) = self.make(node, Event::Request(conn, words))? else {
             return Ok(self.skipped());
         };
-        let outputs = self.beside(node, first, &made)?;
-        self.close_all(node, made.released.as_slice())?;
+        let outputs = self.finish_beside(node, first, &made)?;
         Ok(Served {
             reply: reply_in(made.response),
             outputs,
         })
+    }
+
+    // Closes the connections of requests that waited and got their replies by a step of the node, and shows what came out of it
+    // beside the reply to its own. The messages from that place on are those of the step.
+    fn finish_beside(
+        &mut self,
+        node: u64,
+        first: usize,
+        made: &Outputs,
+    ) -> Result<Vec<Output>, AllocError>
+        requires there { node < length self.old.nodes }
+        requires first { first ≤ length self.old.sent }
+        ensures goes_on { GoesOn self.old self.new }
+        ensures kept { OnOk result (IsKept self.old → IsKept self.new) }
+        ensures closes { OnOk result (Closes self.old node (released_conns made.now.released) self.new) }
+        ensures shows { IfOk result (λ outputs. outputs.items ≡ beside_from node first (drop first self.old.sent) made.now) }
+    {
+        let outputs = self.beside(node, first, made)?;
+        self.close_all(node, made.released.as_slice())?;
+        Ok(outputs)
     }
 
     /// The request reaches the node on a connection that was cut, which the node then finds closed.

@@ -4,7 +4,7 @@ use resp2::Words;
 
 /// A step of a world. Nodes are numbered from 0 on, messages from 1 on, in the order in which they are sent. A client begins with
 /// its first call, at the node with the number 0.
-#[derive(Debug, Drop)]
+#[derive(Drop)]
 pub enum Step {
     /// A client begins a call, if none of its calls is under way. A connection is made in the step that needs it.
     Call {

@@ -1,5 +1,5 @@
 use Rattle.world.proofs.Going.{made_goes_on, skipped_goes_on}
-use Rattle.world.proofs.run.Run.make.Goals as goal
+use Rattle.world.proofs.run.Run.make_for.Goals as goal
 
 pub returns-in_default-clause-goes_on : goal.returns-in_default-clause-goes_on
 returns-in_default-clause-goes_on c =
@@ -9,9 +9,9 @@ returns-in_default-clause-goes_on c =
 pub returns-in_err-keep-clause-goes_on : goal.returns-in_err-keep-clause-goes_on
 returns-in_err-keep-clause-goes_on c =
     let made = rw c.in-Some.is at c.in_ok-outputs.ensures.made in
-    made_goes_on c.args.self.now (record { nodes = c.self.inside.nodes.items; stopped = c.self.inside.stopped.items; sent = c.self.inside.sent.items; entries = c.self.inside.entries }) c.step_at.new.nodes.items c.self.inside.stopped.items c.keep.new.sent.items c.step_at.new.entries c.args.node c.args.event c.in-Some.outputs c.self.view_is c.requires.asks made
+    made_goes_on c.args.self.now (record { nodes = c.self.inside.nodes.items; stopped = c.self.inside.stopped.items; sent = c.self.inside.sent.items; entries = c.self.inside.entries }) c.step_at.new.nodes.items c.self.inside.stopped.items c.keep.new.sent.items c.step_at.new.entries c.args.node c.args.event.now c.in-Some.outputs c.self.view_is c.requires.asks made
 
 pub returns-clause-goes_on : goal.returns-clause-goes_on
 returns-clause-goes_on c =
     let made = rw c.in-Some.is at c.in_ok-outputs.ensures.made in
-    made_goes_on c.args.self.now (record { nodes = c.self.inside.nodes.items; stopped = c.self.inside.stopped.items; sent = c.self.inside.sent.items; entries = c.self.inside.entries }) c.step_at.new.nodes.items c.self.inside.stopped.items c.keep.new.sent.items c.step_at.new.entries c.args.node c.args.event c.in-Some.outputs c.self.view_is c.requires.asks made
+    made_goes_on c.args.self.now (record { nodes = c.self.inside.nodes.items; stopped = c.self.inside.stopped.items; sent = c.self.inside.sent.items; entries = c.self.inside.entries }) c.step_at.new.nodes.items c.self.inside.stopped.items c.keep.new.sent.items c.step_at.new.entries c.args.node c.args.event.now c.in-Some.outputs c.self.view_is c.requires.asks made

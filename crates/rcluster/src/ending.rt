@@ -1,0 +1,54 @@
+//! How the program ends: what it prints then, and its status.
+
+use crate::failure::Failure;
+use crate::fault::ProgramFault;
+use clap::Error;
+use clap::error::ErrorKind;
+use std::io;
+use std::process::ExitCode;
+
+// The status of a wrong command line.
+const USAGE: u8 = 2;
+
+/// The end of what the program was asked to do.
+pub fn end(rt: &(impl Print + Eprint), outcome: Result<(), Failure>) -> io::Result<ExitCode> {
+    match outcome {
+        Ok(()) => Ok(ExitCode::SUCCESS),
+        Err(failure) => print_failure(rt, &failure),
+    }
+}
+
+/// The end by this fault, of which there is no more to say.
+pub fn fail(rt: &(impl Print + Eprint), fault: ProgramFault) -> io::Result<ExitCode> {
+    print_failure(rt, &Failure::from(fault))
+}
+
+/// The end where the command line is wrong, as the sentence says.
+pub fn refuse(rt: &impl Eprint, wrong: &str) -> io::Result<ExitCode> {
+    eprintln!(rt; "error: {wrong}\n\nFor more information, try '--help'.")?;
+    Ok(ExitCode::from(USAGE))
+}
+
+/// The end where the command line is wrong, or asks for help.
+pub fn explain(rt: &(impl Print + Eprint), error: &Error) -> io::Result<ExitCode> {
+    if error.kind() == ErrorKind::OutOfMemory {
+        return fail(rt, ProgramFault::Memory);
+    }
+    error.print(rt)?;
+    Ok(ExitCode::from(error.exit_code() as u8))
+}
+
+// The code goes to the output, and a sentence for people to standard error.
+fn print_failure(rt: &(impl Print + Eprint), failure: &Failure) -> io::Result<ExitCode> {
+    eprintln!(rt; "{failure}")?;
+    print_fault(rt, failure.fault)?;
+    Ok(ExitCode::FAILURE)
+}
+
+fn print_fault(rt: &impl Print, fault: ProgramFault) -> io::Result<()> {
+    match fault {
+        // Where the output can't be written, nothing is printed there.
+        ProgramFault::Output => Ok(()),
+        fault => println!(rt; "{fault}"),
+    }
+}
