@@ -17,11 +17,16 @@ BEGINNING = threading.Lock()
 FILE = "cluster.json"
 
 
-def run(*words, text=None):
-    """The status, the output and the standard error of the program with these words, in a folder whose `cluster.json` has that text."""
+def run(*words, text=None, files=()):
+    """The status, the output and the standard error of the program with these words, in a folder whose `cluster.json` has that text,
+    and that has these files with their bytes.
+    """
     with tempfile.TemporaryDirectory() as folder:
         if text is not None:
             write(folder, text)
+        for name in files:
+            with open(os.path.join(folder, name), "wb") as file:
+                file.write(files[name])
         done = subprocess.run([PATH, *words], cwd=folder, capture_output=True, timeout=PATIENCE, check=False)
     return done.returncode, done.stdout, done.stderr
 

@@ -1,6 +1,6 @@
 """What the program prints where it doesn't serve: the status, the code on standard output, the sentence on standard error.
 
-The sentence of each faulty configuration is shown by crates/cases; here two are compared whole, and of the others that they begin
+The sentence of each faulty configuration is shown by `tests/cases/data/configuration.cases`; here two are compared whole, and of the others that they begin
 with the program's and the file's name and end with the code.
 """
 

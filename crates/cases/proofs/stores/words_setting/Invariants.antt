@@ -1,7 +1,0 @@
-use Rattle.std.proofs.Common.{◌≡◌, ◌++◌, ◌∷◌, codes}
-use Rattle.hash.specs.Size.{words_of}
-use Rattle.cases.proofs.stores.words_setting.Given as goal
-
--- the words so far, and those of the pairs that are left
-abbrev pub invariant-loop-field : goal.invariant-loop-field
-invariant-loop-field l = l.words.items ++ words_of l.field-iterator ≡ codes "HSET" ∷ l.key ∷ words_of l.hash

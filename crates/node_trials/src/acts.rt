@@ -1,0 +1,86 @@
+//! What is asked of a node, and what comes of it as text.
+
+use anyhow::{Context, Result};
+use bus::Body;
+use byte_string::ByteString;
+use node_core::{Conn, Event, Outputs, Response};
+use resp2::{Words, append_reply};
+use std::alloc::{AllocError, Global};
+
+/// What is asked of a node. Its connections are numbered from 0 on, in the order in which they were opened.
+#[derive(Clone, Copy)]
+pub enum Act<'a> {
+    /// A connection is opened.
+    Open,
+    /// A connection is closed.
+    Close(usize),
+    /// These words are asked on a connection. `#1` stands for the id of node 1.
+    Ask(usize, &'a str),
+    /// A tick.
+    Tick,
+}
+
+impl Act<'_> {
+    /// The event of this act.
+    pub fn event(self, alloc: Global) -> Result<Event> {
+        match self {
+            Act::Open => Ok(Event::Open),
+            Act::Close(key) => Ok(Event::Close(conn_of(key))),
+            Act::Ask(key, words) => Ok(Event::Request(conn_of(key), words_of(alloc, words)?)),
+            Act::Tick => Ok(Event::Tick),
+        }
+    }
+}
+
+/// The connection of this number. Each is the first of its place.
+pub fn conn_of(key: usize) -> Conn {
+    Conn { key, generation: 0 }
+}
+
+/// The request of words with one blank between them.
+pub fn words_of(alloc: Global, text: &str) -> Result<Words> {
+    let mut words = Vec::new(alloc);
+    for word in text.split(' ') {
+        words.push(ByteString::copy_from_slice(alloc, bytes_of(word))?)?;
+    }
+    Words::new(words).context("the words are no request")
+}
+
+fn bytes_of(word: &str) -> &[u8] {
+    match word {
+        "#0" => b"0000000000000000000000000000000000000000",
+        "#1" => b"0000000000000000000000000000000000000001",
+        "#2" => b"0000000000000000000000000000000000000002",
+        _ => word.as_bytes(),
+    }
+}
+
+/// Puts all that came out of a step behind the text: replies as their bytes, and a word for each message.
+pub fn push_outputs(text: &mut Vec<u8>, outputs: &Outputs) -> Result<(), AllocError> {
+    push_response(text, &outputs.response)?;
+    for release in outputs.released.as_slice() {
+        append_reply(&release.reply, text)?;
+    }
+    for message in outputs.sent.as_slice() {
+        text.extend_from_slice(name_of(&message.body))?;
+    }
+    Ok(())
+}
+
+/// Puts what the sender of an event got back behind the text.
+pub fn push_response(text: &mut Vec<u8>, response: &Response) -> Result<(), AllocError> {
+    match response {
+        Response::Replied(answer) => append_reply(&answer.reply, text),
+        Response::Parked => text.extend_from_slice(b"parked "),
+        Response::Opened(_) | Response::Nothing => Ok(()),
+    }
+}
+
+fn name_of(body: &Body) -> &'static [u8] {
+    match body {
+        Body::Copy { .. } => b"copy ",
+        Body::Ack { .. } => b"ack ",
+        Body::Drained { .. } => b"drained ",
+        Body::Claim(_) => b"claim ",
+    }
+}

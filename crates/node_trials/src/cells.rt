@@ -1,0 +1,282 @@
+//! A node with its journal: what it is asked, in order, and what is left of it.
+ghost use Rattle.std.specs.Prelude.{◌≡◌};
+ghost use Rattle.node_cell.specs.Journal.{IsOwn};
+ghost use Rattle.tickets.specs.Tickets.{IsFresh};
+
+use crate::acts::Act::{Ask, Close, Open, Tick};
+use crate::acts::{Act, conn_of, push_outputs, push_response, words_of};
+use crate::cells::Call::{Apply, Deliver, TakeReply, TakeSent};
+use crate::clusters::three_masters;
+use crate::telling::tell;
+use anyhow::{Context, Result};
+use bus::{Body, Message};
+use cluster_config::Config;
+use key_slot::Slot;
+use node_cell::{DeliveryFault, Deployment, Entered, Entry, Journal, NodeCell};
+use node_core::Event;
+use resp2::append_reply;
+use slot_moves::MoveNo;
+use slot_table::{Epoch, NodeNo};
+use std::alloc::{AllocError, Global};
+use std::marker::Brand;
+use tickets::{Seat, open};
+
+// The node that has the slots of `foo` and `x`.
+const NODE: u8 = 2;
+
+// What is asked of a cell: a step, with a message that node 0 sent in the step of a ticket, a reply that is kept for a connection,
+// or the messages in the outbox.
+#[derive(Clone, Copy)]
+enum Call {
+    Apply(Act<'static>),
+    Deliver(u64),
+    TakeReply(usize),
+    TakeSent,
+}
+
+// The calls, and what they give, with the journal behind it.
+struct Case {
+    calls: &'static [Call],
+    given: &'static str,
+}
+
+const CASES: [Case; 3] = [
+    // Each step draws a ticket and is entered, also one without an answer. A connection that is closed is never answered again, also
+    // when another one is opened.
+    Case {
+        calls: &[
+            Apply(Tick),
+            Apply(Ask(0, "PING")),
+            Apply(Open),
+            Apply(Ask(0, "SET x 1")),
+            Apply(Ask(0, "GET x")),
+            Apply(Ask(0, "GET b")),
+            Apply(Close(0)),
+            Apply(Ask(0, "PING")),
+            Apply(Open),
+            Apply(Ask(0, "PING")),
+        ],
+        given: "0 1 2 3 +OK\r\n4 $1\r\n1\r\n5 -MOVED 3300 127.0.0.1:7000\r\n6 7 8 9 journal 0 1 2 3 +OK\r\n4 $1\r\n1\r\n5 -MOVED 3300 127.0.0.1:7000\r\n6 7 8 9 ",
+    },
+    // A message is older than its delivery. A ticket that isn't greater than the message's is skipped.
+    Case {
+        calls: &[Deliver(1), Deliver(1), Deliver(1)],
+        given: "early early 2 journal 0 skipped 1 skipped 2 ",
+    },
+    // A request that waits for a copy is parked. Its reply is kept until it is taken, and messages wait in the outbox. A
+    // connection that is closed gets nothing any more, and another one that waits still does.
+    Case {
+        calls: &[
+            Apply(Open),
+            Apply(Open),
+            Apply(Ask(0, "SET foo 1")),
+            Apply(Ask(0, "SET x 1")),
+            Apply(Ask(0, "CLUSTER SETSLOT 12182 MIGRATING #1")),
+            Apply(Ask(0, "CLUSTER SETSLOT 16287 MIGRATING #1")),
+            Apply(Ask(0, "MIGRATE 127.0.0.1 7001 foo 0 1")),
+            Apply(Ask(1, "MIGRATE 127.0.0.1 7001 x 0 1")),
+            TakeReply(1),
+            TakeSent,
+            TakeSent,
+            Apply(Tick),
+            Apply(Close(0)),
+            TakeReply(0),
+            TakeReply(1),
+            TakeReply(1),
+            TakeSent,
+        ],
+        given: "0 1 2 +OK\r\n3 +OK\r\n4 +OK\r\n5 +OK\r\n6 parked 7 parked none 2 sent 0 sent 8 9 none \
+-IOERR copy not acknowledged\r\nnone 2 sent journal 0 1 2 +OK\r\n3 +OK\r\n4 +OK\r\n5 +OK\r\n6 parked copy 7 parked copy \
+8 -IOERR copy not acknowledged\r\n-IOERR copy not acknowledged\r\ncopy copy 9 ",
+    },
+];
+
+/// Says whether the cells gave something else than they have to.
+pub fn try_out<R: AllocGlobal + Print>(rt: &R) -> Result<()> {
+    let config = three_masters(rt.alloc())?;
+    let other = other_answer(rt, &config)?;
+    Ok(tell(rt, "cells", other)?)
+}
+
+fn other_answer<R: AllocGlobal>(rt: &R, config: &Config) -> Result<Option<String>> {
+    for case in &CASES {
+        let given = given_by(rt, config, case.calls)?;
+        if given.as_slice() != case.given.as_bytes() {
+            return Ok(Some(String::from_utf8(given)?));
+        }
+    }
+    Ok(None)
+}
+
+// What the calls give, and the journal.
+fn given_by<R: AllocGlobal>(rt: &R, config: &Config, calls: &[Call]) -> Result<Vec<u8>> {
+    let (_table, mut seats) = open(rt.alloc(), 1)?;
+    let seat = seats.pop().context("there is no seat")?;
+    given_at::<Brand>(rt.alloc(), config, seat, calls)
+}
+
+fn given_at<K: Deployment>(
+    alloc: Global,
+    config: &Config,
+    seat: Seat,
+    calls: &[Call],
+) -> Result<Vec<u8>>
+    requires cluster { config.now ≡ K.config }
+    requires seat { IsFresh K.table K.seats seat }
+{
+    let node = NodeNo::new(NODE).context("there is no such node")?;
+    let mut cell = NodeCell::<K, Journal>::new(alloc, config, node, seat)?;
+    let mut given = make_all(alloc, &mut cell, calls)?;
+    push_journal(&mut given, entries_of(cell).as_slice())?;
+    Ok(given)
+}
+
+fn entries_of<K: Deployment>(cell: NodeCell<K, Journal>) -> Vec<Entry> {
+    let (_config, _node, log, _seat) = cell.finish();
+    log.into_entries()
+}
+
+fn make_all<K: Deployment>(
+    alloc: Global,
+    cell: &mut NodeCell<K, Journal>,
+    calls: &[Call],
+) -> Result<Vec<u8>> {
+    let mut given = Vec::new(alloc);
+    for call in calls {
+        make(alloc, cell, &mut given, *call)?;
+    }
+    Ok(given)
+}
+
+fn make<K: Deployment>(
+    alloc: Global,
+    cell: &mut NodeCell<K, Journal>,
+    given: &mut Vec<u8>,
+    call: Call,
+) -> Result<()> {
+    match call {
+        Apply(act) => apply(alloc, cell, given, act),
+        Deliver(ticket) => deliver(cell, given, message(ticket)?),
+        TakeReply(key) => Ok(take_reply(cell, given, key)?),
+        TakeSent => Ok(take_sent(alloc, cell, given)?),
+    }
+}
+
+// Makes the step, and tells its ticket and what its sender got back.
+fn apply<K: Deployment>(
+    alloc: Global,
+    cell: &mut NodeCell<K, Journal>,
+    given: &mut Vec<u8>,
+    act: Act<'_>,
+) -> Result<()> {
+    match act {
+        Open => step(cell, given, Event::Open),
+        Close(key) => step(cell, given, Event::Close(conn_of(key))),
+        Ask(key, words) => step(
+            cell,
+            given,
+            Event::Request(conn_of(key), words_of(alloc, words)?),
+        ),
+        Tick => step(cell, given, Event::Tick),
+    }
+}
+
+fn step<K: Deployment>(
+    cell: &mut NodeCell<K, Journal>,
+    given: &mut Vec<u8>,
+    event: Event,
+) -> Result<()>
+    requires own { IsOwn event }
+{
+    let entered = cell.apply(event)?;
+    Ok(push_entered(given, &entered)?)
+}
+
+// Delivers the message, and tells the ticket of its step, or that the message isn't older.
+fn deliver<K: Deployment>(
+    cell: &mut NodeCell<K, Journal>,
+    given: &mut Vec<u8>,
+    message: Message,
+) -> Result<()> {
+    match cell.deliver(message) {
+        Ok(entered) => Ok(push_entered(given, &entered)?),
+        Err(fault) => push_refusal(given, fault),
+    }
+}
+
+fn push_refusal(given: &mut Vec<u8>, fault: DeliveryFault) -> Result<()> {
+    match fault {
+        DeliveryFault::Early => Ok(given.extend_from_slice(b"early ")?),
+        fault => Err(fault.into()),
+    }
+}
+
+fn push_entered<K: Deployment>(
+    given: &mut Vec<u8>,
+    entered: &Entered<K>,
+) -> Result<(), AllocError> {
+    push_number(given, entered.ticket() as usize)?;
+    push_response(given, entered.response())
+}
+
+// An acknowledgement that nobody waits for.
+fn message(ticket: u64) -> Result<Message> {
+    Ok(Message {
+        from: NodeNo::new(0).context("no node 0")?,
+        to: NodeNo::new(NODE).context("there is no such node")?,
+        ticket,
+        epoch: Epoch::FIRST,
+        body: Body::Ack {
+            slot: Slot::new(0).context("no slot 0")?,
+            number: MoveNo::new(1).context("no move 1")?,
+            copy: 1,
+        },
+    })
+}
+
+fn take_reply<K: Deployment>(
+    cell: &mut NodeCell<K, Journal>,
+    given: &mut Vec<u8>,
+    key: usize,
+) -> Result<(), AllocError> {
+    match cell.take_reply(conn_of(key)) {
+        Some(reply) => append_reply(&reply, given),
+        None => given.extend_from_slice(b"none "),
+    }
+}
+
+// How many messages were in the outbox.
+fn take_sent<K: Deployment>(
+    alloc: Global,
+    cell: &mut NodeCell<K, Journal>,
+    given: &mut Vec<u8>,
+) -> Result<(), AllocError> {
+    let mut count = 0usize;
+    for messages in cell.take_sent(alloc) {
+        count = count.saturating_add(messages.as_slice().len());
+    }
+    push_number(given, count)?;
+    given.extend_from_slice(b"sent ")
+}
+
+// The entries: their tickets, and all that came out of each step.
+fn push_journal(text: &mut Vec<u8>, entries: &[Entry]) -> Result<(), AllocError> {
+    text.extend_from_slice(b"journal ")?;
+    for entry in entries {
+        push_number(text, entry.ticket() as usize)?;
+        push_entry(text, entry)?;
+    }
+    Ok(())
+}
+
+fn push_entry(text: &mut Vec<u8>, entry: &Entry) -> Result<(), AllocError> {
+    match entry {
+        Entry::Skipped { ticket: _ } => text.extend_from_slice(b"skipped "),
+        Entry::Step { event: _, outputs } => push_outputs(text, outputs),
+    }
+}
+
+fn push_number(text: &mut Vec<u8>, number: usize) -> Result<(), AllocError> {
+    let number = format!(in *text.allocator(); "{number} ")?;
+    text.extend_from_slice(number.as_bytes())
+}

@@ -1,0 +1,16 @@
+//! What trials say.
+
+use std::io;
+
+/// Says whether this holds.
+pub fn say<R: Print>(rt: &R, what: &str, holds: bool) -> io::Result<()> {
+    println!(rt; "{what}: {holds}")
+}
+
+/// Says which other answer came in a trial, if one came.
+pub fn tell<R: Print>(rt: &R, trial: &str, other: Option<String>) -> io::Result<()> {
+    match other {
+        None => println!(rt; "{trial}: no other answer"),
+        Some(given) => println!(rt; "{trial}: another answer: {given}"),
+    }
+}
