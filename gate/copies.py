@@ -3,7 +3,7 @@
 import os
 import shutil
 
-from sources import PARTS, ROOT, crate_names, libraries
+from sources import PARTS, ROOT, crate_names
 
 # What the kit runs a program on.
 RUN = ("stdin", "stdout", "args", "status", "data")
@@ -29,7 +29,7 @@ def copy_crates(to, names=None, edits_of=None):
 def is_wanted(line, names):
     """Whether this line of crates.txt is of one of these crates."""
     head = line.partition("#")[0].partition(":")[0].split()
-    return bool(head) and head[0] in names and head[0] in libraries()
+    return bool(head) and head[0] in names
 
 
 def copy_part(part, to):
