@@ -2,14 +2,16 @@
 use Rattle.std.specs.Prelude.{◌≤◌, ℕ, List, take, ⊤}
 use Rattle.byte_string.specs.declared.short.TheConstants.{MOST_SHORT}
 use Rattle.byte_string.specs.declared.byte_string.Form.{Form}
-use Rattle.byte_string.specs.declared.byte_string.Form.TheVariants.{Short, Long, Grown}
+use Rattle.byte_string.specs.declared.byte_string.Form.TheVariants.{Short, Static, Shared, Owned}
 
 abbrev pub bytes_of : Form → List ℕ
 bytes_of (Short short) = take short.len short.bytes
-bytes_of (Long bytes) = bytes
-bytes_of (Grown buffer) = buffer.items
+bytes_of (Static bytes) = bytes.now
+bytes_of (Shared block) = block.value
+bytes_of (Owned buffer) = buffer.value.items
 
 abbrev pub IsForm : Form → Type 0
 IsForm (Short short) = short.len ≤ MOST_SHORT
-IsForm (Long _) = ⊤
-IsForm (Grown _) = ⊤
+IsForm (Static _) = ⊤
+IsForm (Shared _) = ⊤
+IsForm (Owned _) = ⊤

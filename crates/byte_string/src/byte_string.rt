@@ -5,6 +5,7 @@ ghost use Rattle.std.specs.Cmp.Lexicographic.{pointwise, slice_cmp, bytes_decide
 ghost use Rattle.std.specs.Cmp.{partial_equiv_from_equiv};
 ghost use Rattle.std.specs.Hash as fed;
 ghost use Rattle.std.proofs.Common.{ap};
+ghost use Rattle.byte_string.specs.Form.{IsForm, bytes_of};
 
 use crate::short::Short;
 use bytes::Bytes;
@@ -13,22 +14,35 @@ use std::cmp::Ordering;
 use std::fmt;
 use std::hash::{Hash, Hasher};
 use std::marker::Model;
+use std::sync::Arc;
+
+/// From this length on, in bytes, a string shares its bytes with its copies: copying them costs several times what
+/// counting one more owner does.
+pub(crate) const LEAST_SHARED: usize = 4096;
 
 #[derive(Drop)]
-enum Form {
+pub(crate) enum Form {
     Short(Short),
-    Long(Bytes),
-    // A long string with a buffer of its own, and room behind its bytes.
-    Grown(Vec<u8>),
+    // Bytes of the program's own text.
+    Static(&'static [u8]),
+    // Bytes that copies share.
+    Shared(Arc<Bytes>),
+    // A buffer of the string's own, which may have room behind its bytes.
+    Owned(Box<Vec<u8>>),
 }
 
-/// Any bytes.
+/// Any bytes, in 24 bytes of its own.
 ///
-/// A copy of a short string takes no memory, and one of a long string shares its bytes. One of a long string that has
-/// grown by `append` copies them.
-#[derive(Drop)]
+/// At most 22 bytes lie in place, so a copy of them takes no memory. More have a block of their own, which copies share
+/// from 4,096 bytes on. A string that has grown by `append` copies its bytes once more before copies share them.
 pub struct ByteString {
     form: Form,
+}
+
+impl Drop for ByteString {
+    fn drop(self) {
+        let ByteString { form: _ } = self;
+    }
 }
 
 impl Model for ByteString {
@@ -57,8 +71,15 @@ impl ByteString {
     {
         let form = match Short::of(bytes) {
             Some(short) => Form::Short(short),
-            None => Form::Long(Bytes::from_static(bytes)),
+            None => Form::Static(bytes),
         };
+        ByteString { form }
+    }
+
+    pub(crate) fn of(form: Form) -> ByteString
+        requires { IsForm form }
+        ensures { result ≡ bytes_of form }
+    {
         ByteString { form }
     }
 
@@ -68,7 +89,7 @@ impl ByteString {
     {
         let form = match Short::of(bytes) {
             Some(short) => Form::Short(short),
-            None => Form::Long(Bytes::copy_from_slice(alloc, bytes)?),
+            None => long_copy(alloc, bytes)?,
         };
         Ok(ByteString { form })
     }
@@ -79,8 +100,9 @@ impl ByteString {
     {
         match &self.form {
             Form::Short(short) => short.as_slice(),
-            Form::Long(bytes) => bytes.as_slice(),
-            Form::Grown(buffer) => buffer.as_slice(),
+            Form::Static(bytes) => bytes,
+            Form::Shared(block) => block.as_slice(),
+            Form::Owned(buffer) => buffer.as_slice(),
         }
     }
 
@@ -105,37 +127,41 @@ impl ByteString {
         let form = match &mut self.form {
             Form::Short(short) => match short.with(bytes) {
                 Some(short) => Form::Short(short),
-                None => Form::Grown(buffer_of(alloc, short.as_slice(), bytes)?),
+                None => grown(alloc, short.as_slice(), bytes)?,
             },
-            Form::Long(long) => Form::Grown(buffer_of(alloc, long.as_slice(), bytes)?),
-            Form::Grown(buffer) => return buffer.extend_from_slice(bytes),
+            Form::Static(text) => grown(alloc, text, bytes)?,
+            Form::Shared(block) => grown(alloc, block.as_slice(), bytes)?,
+            Form::Owned(buffer) => return buffer.extend_from_slice(bytes),
         };
         self.form = form;
         Ok(())
     }
 }
 
+// A copy of bytes that are too many to lie in place.
+fn long_copy(alloc: Global, bytes: &[u8]) -> Result<Form, AllocError>
+    ensures bytes { IfOk result (λ form. bytes_of form ≡ bytes.now) }
+    ensures form { IfOk result (λ form. IsForm form) }
+{
+    if bytes.len() >= LEAST_SHARED {
+        let bytes = Bytes::copy_from_slice(alloc, bytes)?;
+        return Ok(Form::Shared(Arc::new(alloc, bytes)?));
+    }
+    let mut buffer = Vec::with_capacity(alloc, bytes.len())?;
+    buffer.extend_from_slice(bytes)?;
+    Ok(Form::Owned(Box::new(alloc, buffer)?))
+}
+
 // All bytes in a buffer that has room for as many again.
-fn buffer_of(alloc: Global, first: &[u8], more: &[u8]) -> Result<Vec<u8>, AllocError>
-    ensures { IfOk result (λ buffer. buffer.items ≡ first.now ++ more.now) }
+fn grown(alloc: Global, first: &[u8], more: &[u8]) -> Result<Form, AllocError>
+    ensures bytes { IfOk result (λ form. bytes_of form ≡ first.now ++ more.now) }
+    ensures form { IfOk result (λ form. IsForm form) }
 {
     let len = first.len().saturating_add(more.len());
     let mut buffer = Vec::with_capacity(alloc, len.saturating_mul(2))?;
     buffer.extend_from_slice(first)?;
     buffer.extend_from_slice(more)?;
-    Ok(buffer)
-}
-
-impl From<Bytes> for ByteString {
-    ghost from_gives = { λ bytes string. string ≡ bytes };
-
-    fn from(bytes: Bytes) -> ByteString {
-        let form = match Short::of(bytes.as_slice()) {
-            Some(short) => Form::Short(short),
-            None => Form::Long(bytes),
-        };
-        ByteString { form }
-    }
+    Ok(Form::Owned(Box::new(alloc, buffer)?))
 }
 
 impl Clone for ByteString {
@@ -144,8 +170,9 @@ impl Clone for ByteString {
     fn clone(&self) -> Result<ByteString, AllocError> {
         let form = match &self.form {
             Form::Short(short) => Form::Short(*short),
-            Form::Long(bytes) => Form::Long(bytes.clone()?),
-            Form::Grown(buffer) => {
+            Form::Static(bytes) => Form::Static(bytes),
+            Form::Shared(block) => Form::Shared(block.clone()?),
+            Form::Owned(buffer) => {
                 return ByteString::copy_from_slice(*buffer.allocator(), buffer.as_slice());
             }
         };

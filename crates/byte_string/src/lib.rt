@@ -1,7 +1,8 @@
-//! Byte strings, as keys, values and the words of requests are: short ones in place, long ones shared.
+//! Byte strings, as keys, values and the words of requests are: short ones in place, long ones in a block, which copies of very long ones share.
 #![tactic(auto)]
 
 mod byte_string;
+mod cut;
 mod short;
 
 pub use byte_string::ByteString;

@@ -2,8 +2,8 @@
 ghost use Rattle.std.specs.Prelude.{◌≡◌, ◌≤◌, ◌+◌, ◌++◌, length, take, IfSome, IsSome, ◌↔◌};
 ghost use Rattle.byte_string.specs.declared.short.TheConstants.{MOST_SHORT};
 
-/// The largest number of bytes that lie in place: as many as the handle of a shared block takes.
-pub const MOST_SHORT: usize = 39;
+/// The largest number of bytes that lie in place: a string of 24 bytes has room for them beside their number and its form.
+pub const MOST_SHORT: usize = 22;
 
 /// At most [`MOST_SHORT`] bytes: the first `len` of the array.
 #[derive(Clone, Copy)]

@@ -1,18 +1,10 @@
 //! The bytes of a bulk string, and the end of its line: of a word of a request, and of a reply.
-ghost use Rattle.std.specs.Prelude.{◌≡◌, ◌+◌, ◌≤◌, length, take, drop, IfOk, IfErr, OnOk, OnErr};
+ghost use Rattle.std.specs.Prelude.{◌≡◌, ◌+◌, ◌≤◌, length, take, drop, IfOk, IfErr};
 ghost use Rattle.std.specs.Bool.{OnTrue, OnFalse};
 ghost use Rattle.resp2.specs.Reading.{Wants, Bad, Found, body_at};
 
 use crate::fault::Fault;
-use byte_string::ByteString;
 use bytes::BytesMut;
-use std::alloc::AllocError;
-
-/// From this length on, in bytes, a word shares the memory that it came in: copying it costs several
-/// times what counting one more owner does. A shorter word is copied, which costs no more than that:
-/// it may be kept for as long as its key lives, and would keep the whole block of input around it,
-/// which is often a thousand times as large.
-const LEAST_SHARED: usize = 4096;
 
 /// Asks at once for the room that a whole word takes, so that a long one doesn't move as its bytes
 /// come. Where that is refused, the input grows with them.
@@ -44,19 +36,4 @@ pub(crate) fn is_whole(bytes: &[u8], len: usize) -> Result<bool, Fault>
         return Err(Fault::Protocol);
     }
     Ok(true)
-}
-
-/// Cuts this many bytes off the front.
-pub(crate) fn cut(input: &mut BytesMut, len: usize) -> Result<ByteString, AllocError>
-    requires { len ≤ length input.old.items }
-    ensures front { IfOk result (λ word. word ≡ take len input.old.items) }
-    ensures rest { OnOk result (input.new.items ≡ drop len input.old.items) }
-    ensures err { OnErr result (input.new.items ≡ input.old.items) }
-{
-    if len >= LEAST_SHARED {
-        return Ok(ByteString::from(input.freeze_to(len)?));
-    }
-    let word = ByteString::copy_from_slice(*input.allocator(), &input.as_slice()[..len])?;
-    input.advance(len);
-    Ok(word)
 }

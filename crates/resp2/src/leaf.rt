@@ -8,11 +8,12 @@ ghost use Rattle.resp2.specs.ReplyProgress.{GivesInteger, TakesElement, IsBegun,
 ghost use Rattle.resp2.specs.ReplyReading.{leaf_at, text_at, bytes_of, number_element_at, bulk_or_null_at, null_at, integer_at};
 
 use crate::array::Element;
-use crate::bulk::{cut, is_whole, make_room};
+use crate::bulk::{is_whole, make_room};
 use crate::fault::Fault;
 use crate::header::{Bounds, read_header};
 use crate::line::{Line, is_text_byte};
 use crate::reply_reader::MOST_COUNT;
+use byte_string::ByteString;
 use bytes::{Bytes, BytesMut};
 
 /// For so many bytes of a bulk string room is made as soon as its length is known, and for more as
@@ -284,7 +285,7 @@ fn take_bytes(input: &mut BytesMut, begun: &mut Begun, len: usize) -> Result<Opt
         make_room(input, len.min(MOST_ROOM));
         return Ok(None);
     }
-    let bytes = cut(input, len)?;
+    let bytes = ByteString::cut_from(input, len)?;
     input.advance(2);
     *begun = Begun::nothing();
     Ok(Some(Element::Bulk(bytes)))

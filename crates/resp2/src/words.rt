@@ -5,7 +5,7 @@ ghost use Rattle.resp2.specs.Request.{IsRequest, KeepsLimits, bulk_spelling, hea
 ghost use Rattle.resp2.specs.Reading.{Wants, Bad, Found, body_at, word_at, reading_words};
 ghost use Rattle.resp2.specs.Progress.{TakesWord, TakesAll, Refuses, HasLen, IsPartial, word_front, partial_onto};
 
-use crate::bulk::{cut, is_whole, make_room};
+use crate::bulk::{is_whole, make_room};
 use crate::fault::Fault;
 use crate::header::{Bounds, read_header};
 use byte_string::ByteString;
@@ -334,7 +334,7 @@ fn take_body(
         make_room(input, known);
         return Ok(false);
     }
-    let word = cut(input, known)?;
+    let word = ByteString::cut_from(input, known)?;
     words.push_reserved(word);
     input.advance(2);
     *len = None;
