@@ -2,16 +2,14 @@
 use Rattle.std.specs.Prelude.{◌≤◌, ℕ, List, take, ⊤}
 use Rattle.byte_string.specs.declared.short.TheConstants.{MOST_SHORT}
 use Rattle.byte_string.specs.declared.byte_string.Form.{Form}
-use Rattle.byte_string.specs.declared.byte_string.Form.TheVariants.{Short, Static, Shared, Owned}
+use Rattle.byte_string.specs.declared.byte_string.Form.TheVariants.{Short, Shared, Owned}
 
 abbrev pub bytes_of : Form → List ℕ
 bytes_of (Short short) = take short.len short.bytes
-bytes_of (Static bytes) = bytes.now
 bytes_of (Shared block) = block.value
 bytes_of (Owned buffer) = buffer.value.items
 
 abbrev pub IsForm : Form → Type 0
 IsForm (Short short) = short.len ≤ MOST_SHORT
-IsForm (Static _) = ⊤
 IsForm (Shared _) = ⊤
 IsForm (Owned _) = ⊤

@@ -1,11 +1,12 @@
 //! A byte string.
-ghost use Rattle.std.specs.Prelude.{◌≡◌, ◌++◌, [], length, nat_eq, refl, Some, IfOk, OnOk, OnErr};
+ghost use Rattle.std.specs.Prelude.{◌≡◌, ◌≤◌, ◌++◌, [], length, nat_eq, refl, Some, IfOk, OnOk, OnErr};
 ghost use Rattle.std.specs.Ordering.{nat_cmp};
 ghost use Rattle.std.specs.Cmp.Lexicographic.{pointwise, slice_cmp, bytes_decides, nat_list_eq_equiv, nat_list_cmp_total, texts_ties, texts_po};
 ghost use Rattle.std.specs.Cmp.{partial_equiv_from_equiv};
 ghost use Rattle.std.specs.Hash as fed;
 ghost use Rattle.std.proofs.Common.{ap};
 ghost use Rattle.byte_string.specs.Form.{IsForm, bytes_of};
+ghost use Rattle.byte_string.specs.declared.short.TheConstants.{MOST_SHORT};
 
 use crate::short::Short;
 use bytes::Bytes;
@@ -23,8 +24,6 @@ pub(crate) const LEAST_SHARED: usize = 4096;
 #[derive(Drop)]
 pub(crate) enum Form {
     Short(Short),
-    // Bytes of the program's own text.
-    Static(&'static [u8]),
     // Bytes that copies share.
     Shared(Arc<Bytes>),
     // A buffer of the string's own, which may have room behind its bytes.
@@ -51,6 +50,7 @@ impl Model for ByteString {
     ghost Value = { List ℕ };
 
     ghost use Rattle.byte_string.specs.Form.{IsForm, bytes_of};
+ghost use Rattle.byte_string.specs.declared.short.TheConstants.{MOST_SHORT};
 
     ghost view = { λ string. bytes_of string.form };
 
@@ -62,18 +62,20 @@ impl ByteString {
     pub fn new() -> ByteString
         ensures { result ≡ [] }
     {
-        ByteString::from_static(b"")
+        ByteString::inline(b"")
     }
 
-    /// A string of the program's own. It takes no memory.
-    pub fn from_static(bytes: &'static [u8]) -> ByteString
+    /// A string of so few bytes that they lie in place. It takes no memory.
+    pub fn inline(bytes: &[u8]) -> ByteString
+        requires { length bytes.now ≤ MOST_SHORT }
         ensures { result ≡ bytes.now }
     {
-        let form = match Short::of(bytes) {
-            Some(short) => Form::Short(short),
-            None => Form::Static(bytes),
+        let Some(short) = Short::of(bytes) else {
+            unreachable!();
         };
-        ByteString { form }
+        ByteString {
+            form: Form::Short(short),
+        }
     }
 
     pub(crate) fn of(form: Form) -> ByteString
@@ -100,7 +102,6 @@ impl ByteString {
     {
         match &self.form {
             Form::Short(short) => short.as_slice(),
-            Form::Static(bytes) => bytes,
             Form::Shared(block) => block.as_slice(),
             Form::Owned(buffer) => buffer.as_slice(),
         }
@@ -129,7 +130,6 @@ impl ByteString {
                 Some(short) => Form::Short(short),
                 None => grown(alloc, short.as_slice(), bytes)?,
             },
-            Form::Static(text) => grown(alloc, text, bytes)?,
             Form::Shared(block) => grown(alloc, block.as_slice(), bytes)?,
             Form::Owned(buffer) => return buffer.extend_from_slice(bytes),
         };
@@ -170,7 +170,6 @@ impl Clone for ByteString {
     fn clone(&self) -> Result<ByteString, AllocError> {
         let form = match &self.form {
             Form::Short(short) => Form::Short(*short),
-            Form::Static(bytes) => Form::Static(bytes),
             Form::Shared(block) => Form::Shared(block.clone()?),
             Form::Owned(buffer) => {
                 return ByteString::copy_from_slice(*buffer.allocator(), buffer.as_slice());

@@ -6,3 +6,4 @@ mod cut;
 mod short;
 
 pub use byte_string::ByteString;
+pub use short::MOST_SHORT;

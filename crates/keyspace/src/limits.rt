@@ -30,7 +30,7 @@ pub fn value_fits(key: &ByteString, value: &Value) -> bool
 fn string_fits(key: &ByteString, bytes: &ByteString) -> bool
     ensures { result ≡ fits_request (codes "SET" ∷ key.now ∷ bytes.now ∷ []) }
 {
-    let name = ByteString::from_static(b"SET");
+    let name = ByteString::inline(b"SET");
     let size = count_size(3) + bulk_size(&name) + bulk_size(key) + bulk_size(bytes);
     size <= MOST_REQUEST_BYTES as u128
 }
@@ -53,7 +53,7 @@ pub(crate) fn fits(key: &ByteString, extent: Extent) -> bool
     if extent.len > MOST_FIELDS {
         return false;
     }
-    let name = ByteString::from_static(b"HSET");
+    let name = ByteString::inline(b"HSET");
     let around = count_size(2 + 2 * extent.len) + bulk_size(&name) + bulk_size(key);
     let most = MOST_REQUEST_BYTES as u128;
     if around > most {

@@ -37,7 +37,7 @@ pub fn rebuild(alloc: Global, key: &ByteString, value: &Value) -> Result<Words, 
 {
     let items = match value {
         Value::Str(bytes) => {
-            let name = ByteString::from_static(b"SET");
+            let name = ByteString::inline(b"SET");
             vec![in alloc; name, key.clone()?, bytes.clone()?]?
         }
         Value::Hash(hash) => setting_words(alloc, key, hash.get())?,
@@ -53,7 +53,7 @@ fn setting_words(
 ) -> Result<Vec<ByteString>, AllocError>
     ensures { IfOk result (λ words. words.items ≡ codes "HSET" ∷ key.now ∷ words_of hash.now) }
 {
-    let name = ByteString::from_static(b"HSET");
+    let name = ByteString::inline(b"HSET");
     let mut words = vec![in alloc; name, key.clone()?]?;
     hash.append_words(&mut words)?;
     Ok(words)

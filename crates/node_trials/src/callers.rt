@@ -72,21 +72,21 @@ fn answers(alloc: Global) -> Result<bool> {
 fn sets(alloc: Global) -> Result<bool> {
     let mut store = TreeStore::new(alloc);
     put_both(alloc, &mut store)?;
-    Ok(has(&store, b"a", b"1") && has(&store, b"b", b"2") && !is_there(&store, b"c"))
+    Ok(has(&store, b'a', b"1") && has(&store, b'b', b"2") && !is_there(&store, b'c'))
 }
 
 fn put_both<S: Store>(alloc: Global, store: &mut S) -> Result<(), AllocError> {
-    let first = (ByteString::from_static(b"a"), ByteString::from_static(b"1"));
-    let second = (ByteString::from_static(b"b"), ByteString::from_static(b"2"));
+    let first = (ByteString::inline(b"a"), ByteString::inline(b"1"));
+    let second = (ByteString::inline(b"b"), ByteString::inline(b"2"));
     set_both(alloc, store, &first, &second)
 }
 
-fn is_there<S: Store>(store: &S, key: &'static [u8]) -> bool {
-    store.get(&ByteString::from_static(key)).is_some()
+fn is_there<S: Store>(store: &S, key: u8) -> bool {
+    store.get(&ByteString::inline(&[key])).is_some()
 }
 
-fn has<S: Store>(store: &S, key: &'static [u8], value: &[u8]) -> bool {
-    match store.get(&ByteString::from_static(key)) {
+fn has<S: Store>(store: &S, key: u8, value: &[u8]) -> bool {
+    match store.get(&ByteString::inline(&[key])) {
         Some(Value::Str(bytes)) => bytes.as_slice() == value,
         _ => false,
     }
@@ -118,8 +118,8 @@ fn entered_by<K: Deployment>(
     alloc: Global,
     cell: &mut NodeCell<K, Journal>,
 ) -> Result<Entered<K>, StepFault> {
-    let key = ByteString::from_static(b"a");
-    let value = ByteString::from_static(b"1");
+    let key = ByteString::inline(b"a");
+    let value = ByteString::inline(b"1");
     set_then_get(alloc, cell, &key, &value)
 }
 

@@ -53,9 +53,9 @@ fn is_kept(slots: &Reply, out: &mut Vec<u8>) -> bool {
 // The first and the last slot of a node, and where it is reached.
 fn slots(alloc: Global) -> Result<Reply, AllocError> {
     let node = array(vec![in alloc;
-        Reply::Bulk(ByteString::from_static(b"127.0.0.1")),
+        Reply::Bulk(ByteString::inline(b"127.0.0.1")),
         Reply::Integer(7000),
-        Reply::Bulk(ByteString::from_static(b"0")),
+        Reply::Bulk(ByteString::inline(b"0")),
     ]?)?;
     let entry = array(vec![in alloc; Reply::Integer(0), Reply::Integer(5460), node]?)?;
     array(vec![in alloc; entry]?)

@@ -53,8 +53,8 @@ impl Nodes {
         let Some(masters) = read_masters(alloc, reply)? else {
             return Err(ReshardFault::BadReply);
         };
-        let from = word_of(from)?;
-        let to = word_of(to)?;
+        let from = word_of(alloc, from)?;
+        let to = word_of(alloc, to)?;
         Nodes::among(alloc, masters, &from, &to)
     }
 
@@ -105,12 +105,12 @@ impl Nodes {
     }
 }
 
-/// A word with the id, whose bytes it shares.
-pub(crate) fn word_of(id: &NodeId) -> Result<ByteString, AllocError>
+/// A word with the id.
+pub(crate) fn word_of(alloc: Global, id: &NodeId) -> Result<ByteString, AllocError>
     ensures word { IfOk result (λ word. word ≡ id.now) }
     ensures short { length id.now ≡ 40 }
 {
-    Ok(ByteString::from(id.bytes().clone()?))
+    ByteString::copy_from_slice(alloc, id.bytes().as_slice())
 }
 
 fn address_in(

@@ -30,9 +30,9 @@ impl SlotOrder {
         ensures short { length result ≤ 20 }
     {
         match self {
-            SlotOrder::Importing => ByteString::from_static(b"IMPORTING"),
-            SlotOrder::Migrating => ByteString::from_static(b"MIGRATING"),
-            SlotOrder::Node => ByteString::from_static(b"NODE"),
+            SlotOrder::Importing => ByteString::inline(b"IMPORTING"),
+            SlotOrder::Migrating => ByteString::inline(b"MIGRATING"),
+            SlotOrder::Node => ByteString::inline(b"NODE"),
         }
     }
 }
@@ -42,8 +42,8 @@ pub(crate) fn slots_words(alloc: Global) -> Result<Words, AllocError>
     ensures { IfOk result (λ words. words ≡ slots_words) }
 {
     let words = vec![in alloc;
-        ByteString::from_static(b"CLUSTER"),
-        ByteString::from_static(b"SLOTS"),
+        ByteString::inline(b"CLUSTER"),
+        ByteString::inline(b"SLOTS"),
     ]?;
     Ok(request(words))
 }
@@ -54,8 +54,8 @@ pub(crate) fn state_words(alloc: Global, slot: Slot) -> Result<Words, AllocError
 {
     let slot = decimal(alloc, u64::from(slot.get()))?;
     let words = vec![in alloc;
-        ByteString::from_static(b"CLUSTER"),
-        ByteString::from_static(b"SLOTSTATE"),
+        ByteString::inline(b"CLUSTER"),
+        ByteString::inline(b"SLOTSTATE"),
         slot,
     ]?;
     Ok(request(words))
@@ -67,10 +67,10 @@ pub(crate) fn keys_words(alloc: Global, slot: Slot) -> Result<Words, AllocError>
 {
     let slot = decimal(alloc, u64::from(slot.get()))?;
     let words = vec![in alloc;
-        ByteString::from_static(b"CLUSTER"),
-        ByteString::from_static(b"GETKEYSINSLOT"),
+        ByteString::inline(b"CLUSTER"),
+        ByteString::inline(b"GETKEYSINSLOT"),
         slot,
-        ByteString::from_static(b"16"),
+        ByteString::inline(b"16"),
     ]?;
     Ok(request(words))
 }
@@ -86,10 +86,10 @@ pub(crate) fn set_words(
     ensures { IfOk result (λ words. words ≡ set_words order slot id.now number) }
 {
     let slot = decimal(alloc, u64::from(slot.get()))?;
-    let id = word_of(id)?;
+    let id = word_of(alloc, id)?;
     let mut words = vec![in alloc;
-        ByteString::from_static(b"CLUSTER"),
-        ByteString::from_static(b"SETSLOT"),
+        ByteString::inline(b"CLUSTER"),
+        ByteString::inline(b"SETSLOT"),
         slot,
         order.word(),
         id,
@@ -105,16 +105,16 @@ pub(crate) fn set_words(
 pub(crate) fn migrate_words(alloc: Global, to: &Address, key: &Key) -> Result<Words, AllocError>
     ensures { IfOk result (λ words. words ≡ migrate_words to.now key.now) }
 {
-    let host = ByteString::from(to.host().bytes().clone()?);
+    let host = ByteString::copy_from_slice(alloc, to.host().bytes().as_slice())?;
     let port = decimal(alloc, u64::from(to.port()))?;
     let key = key.word()?;
     let words = vec![in alloc;
-        ByteString::from_static(b"MIGRATE"),
+        ByteString::inline(b"MIGRATE"),
         host,
         port,
         key,
-        ByteString::from_static(b"0"),
-        ByteString::from_static(b"100"),
+        ByteString::inline(b"0"),
+        ByteString::inline(b"100"),
     ]?;
     Ok(request(words))
 }

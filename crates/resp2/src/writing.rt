@@ -58,19 +58,19 @@ pub fn append_reply(reply: &Reply, out: &mut Vec<u8>) -> Result<(), AllocError>
 {
     let before = out.len();
     let mut digits = Buffer::new();
-    let Ok(()) = append_pieces(&pieces_of(reply, &mut digits), out) else {
+    let Ok(()) = append_pieces(pieces_of(reply, &mut digits), out) else {
         out.truncate(before);
         return Err(AllocError);
     };
     Ok(())
 }
 
-fn append_pieces(pieces: &Pieces, out: &mut Vec<u8>) -> Result<(), AllocError>
-    ensures ok { OnOk result (out.new.items ≡ out.old.items ++ spelled_by pieces.now) }
+fn append_pieces(pieces: Pieces<'_>, out: &mut Vec<u8>) -> Result<(), AllocError>
+    ensures ok { OnOk result (out.new.items ≡ out.old.items ++ spelled_by pieces.entry) }
     ensures err { OnErr result (Continues out.old.items out.new.items) }
 {
     match pieces {
-        Pieces::One(parts) => append_parts(parts, out),
+        Pieces::One(parts) => append_parts(&parts, out),
         Pieces::Many(elements) => append_elements(elements, out),
     }
 }

@@ -64,8 +64,8 @@ pub(crate) fn numbered_words(alloc: Global) -> Result<Words, AllocError>
 {
     two_words(
         alloc,
-        ByteString::from_static(b"CLUSTER"),
-        ByteString::from_static(b"NUMBERED"),
+        ByteString::inline(b"CLUSTER"),
+        ByteString::inline(b"NUMBERED"),
     )
 }
 
@@ -76,7 +76,7 @@ pub(crate) fn asking_words(alloc: Global, number: Positive) -> Result<Words, All
     let mut buffer = Buffer::new();
     let text = buffer.format(number.get());
     let number = ByteString::copy_from_slice(alloc, text.as_bytes())?;
-    two_words(alloc, ByteString::from_static(b"ASKING"), number)
+    two_words(alloc, ByteString::inline(b"ASKING"), number)
 }
 
 // Two short words.

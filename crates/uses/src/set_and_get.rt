@@ -39,7 +39,7 @@ fn set_words(alloc: Global, key: &ByteString, value: &ByteString) -> Result<Word
     requires value { length value.now ≤ MOST_WORD_BYTES }
     ensures { IfOk result (λ words. words ≡ codes "SET" ∷ key.now ∷ value.now ∷ []) }
 {
-    let name = ByteString::from_static(b"SET");
+    let name = ByteString::inline(b"SET");
     let items = vec![in alloc; name, key.clone()?, value.clone()?]?;
     Ok(Words::new(items).unwrap())
 }
@@ -48,6 +48,6 @@ fn get_words(alloc: Global, key: &ByteString) -> Result<Words, AllocError>
     requires { length key.now ≤ MOST_WORD_BYTES }
     ensures { IfOk result (λ words. words ≡ codes "GET" ∷ key.now ∷ []) }
 {
-    let items = vec![in alloc; ByteString::from_static(b"GET"), key.clone()?]?;
+    let items = vec![in alloc; ByteString::inline(b"GET"), key.clone()?]?;
     Ok(Words::new(items).unwrap())
 }
