@@ -6,9 +6,15 @@ use bytes::Bytes;
 use std::marker::Model;
 
 /// The id of a node: 40 hexadecimal digits, `0` to `9` and `a` to `f`.
-#[derive(Clone, Debug, Drop)]
+#[derive(Clone, Debug)]
 pub struct NodeId {
     text: Bytes,
+}
+
+impl Drop for NodeId {
+    fn drop(self) {
+        let NodeId { text: _ } = self;
+    }
 }
 
 impl Model for NodeId {
@@ -46,9 +52,15 @@ impl NodeId {
 }
 
 /// Where clients reach a node: 1 to 255 printing ASCII characters, none of them `:`.
-#[derive(Clone, Debug, Drop)]
+#[derive(Clone, Debug)]
 pub struct Host {
     text: Bytes,
+}
+
+impl Drop for Host {
+    fn drop(self) {
+        let Host { text: _ } = self;
+    }
 }
 
 impl Model for Host {
