@@ -1,11 +1,13 @@
 #!/usr/bin/env python3
 """What a request costs here and in Redis, under the same load in the same run.
 
-usage: bench/run.py [instructions] [throughput] [commands] [connections] [processors] [memory] [--quick] [--out FILE]
+usage: bench/run.py [instructions] [fields] [throughput] [commands] [connections] [processors] [memory] [shapes]
+                    [--quick] [--out FILE]
 
 Without a word all of them are measured. The report goes to the output, and to FILE. The program is the built one
-(./serve builds it) or that of the variable RCLUSTER. It needs redis-server and redis-tools, and for `instructions`
-valgrind. --quick takes a tenth of the requests: good to see that all works, and too few to tell.
+(./serve builds it) or that of the variable RCLUSTER, and `fields` counts that of RCLUSTER_BEFORE beside it. It needs
+redis-server and redis-tools, and for `instructions` and `fields` valgrind. --quick takes a tenth of the requests: good
+to see that all works, and too few to tell.
 """
 
 import os
@@ -17,6 +19,7 @@ import time
 
 import load
 import servers
+import shapes
 
 MIB = 1 << 20
 # The tests of redis-benchmark, by the names of their commands.
@@ -291,11 +294,13 @@ def machine():
 
 PARTS = {
     "instructions": instructions,
+    "fields": shapes.instructions,
     "throughput": throughput,
     "commands": commands,
     "connections": connections,
     "processors": processors,
     "memory": memory,
+    "shapes": shapes.memory,
 }
 
 

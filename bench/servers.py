@@ -65,9 +65,9 @@ class Server:
             return int(re.search(r"VmRSS:\s+(\d+) kB", file.read())[1]) * 1024
 
 
-def rcluster(*options, under=()):
+def rcluster(*options, under=(), program=PROGRAM):
     """Returns one node that owns all slots."""
-    return cluster_of([[0, 16383]], options, under)
+    return cluster_of([[0, 16383]], options, under, program)
 
 
 # The slots of three masters that share them evenly.
@@ -79,7 +79,7 @@ def three_masters():
     return cluster_of(THIRDS, (), ())
 
 
-def cluster_of(ranges, options, under):
+def cluster_of(ranges, options, under, program=PROGRAM):
     ports = [free_port() for _ in ranges]
     nodes = [
         {"id": "%040x" % number, "host": "127.0.0.1", "port": port, "slots": [slots]}
@@ -89,7 +89,7 @@ def cluster_of(ranges, options, under):
     file = tempfile.NamedTemporaryFile("w", suffix=".json", prefix="bench-", delete=False)
     with file:
         json.dump({"tick_ms": 10000, "node_timeout": 20, "nodes": nodes, "voters": voters}, file)
-    server = Server("rcluster", [PROGRAM, "serve", "--config", file.name, *options], ports[0], under)
+    server = Server("rcluster", [program, "serve", "--config", file.name, *options], ports[0], under)
     server.ports = ports
     return server
 
