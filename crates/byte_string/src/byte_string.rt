@@ -50,7 +50,6 @@ impl Model for ByteString {
     ghost Value = { List ℕ };
 
     ghost use Rattle.byte_string.specs.Form.{IsForm, bytes_of};
-ghost use Rattle.byte_string.specs.declared.short.TheConstants.{MOST_SHORT};
 
     ghost view = { λ string. bytes_of string.form };
 
