@@ -4,17 +4,18 @@ use Rattle.indexmap.specs.IndexMap.{insert_entry}
 use Rattle.std.proofs.lemmas.List.Sums.{fold_push}
 use Rattle.std.proofs.lemmas.Map.{lookup-remove_entry}
 use Rattle.std.specs.Cmp.Lexicographic.{pointwise, bytes_decides, nat_list_eq_equiv}
-use Rattle.std.specs.List.{AllByRecursion, IsDistinct}
-use Rattle.std.specs.Map.{keys_of, lookup, remove_entry}
+use Rattle.std.specs.Map.{lookup, remove_entry}
 use Rattle.std.specs.Option.{unwrap_or}
 use Rattle.std.specs.Prelude.{Option, Some, None, nat_eq}
+use Rattle.hash.specs.Foreseen.{Foresees}
 use Rattle.hash.specs.Pairs.{Pairs, Changes, value_of, field_changed, fields_changed, HasDistinctFields}
 use Rattle.hash.specs.Size.{size_of}
-use Rattle.hash.specs.Sized.{pair_size, count_of, AreShort}
+use Rattle.hash.specs.Sized.{pair_size, count_of, AreShort, IsSized}
+use Rattle.hash.proofs.DistinctLemmas.{distinct-changed}
 use Rattle.hash.proofs.SizeLemmas.{size-changed, short-changed, size-le}
 
 -- equal fields are one
-same_field : (p q : List ℕ) → pointwise nat_eq p q ≡ true → p ≡ q
+pub same_field : (p q : List ℕ) → pointwise nat_eq p q ≡ true → p ≡ q
 same_field p q = (bytes_decides p q).0
 
 value_set_at : (pair : List ℕ × List ℕ) (pairs after : Pairs) (field value q : List ℕ) (b c : Bool) → pointwise nat_eq field pair.0 ≡ b → pointwise nat_eq field q ≡ c
@@ -38,57 +39,6 @@ value_set (pair ∷ pairs) field value q =
 pub value-changed : (pairs : Pairs) (field : List ℕ) (value : Option (List ℕ)) (q : List ℕ) → HasDistinctFields pairs → value_of (field_changed pairs field value) q ≡ cond (pointwise nat_eq field q) value (value_of pairs q)
 value-changed pairs field (Some value) q distinct = value_set pairs field value q
 value-changed pairs field None q distinct = lookup-remove_entry nat_list_eq_equiv (pointwise nat_eq field) (λ x y e. ap (λ p. pointwise nat_eq p y) (same_field field x e)) q pairs distinct
-
--- the field is none of those of the pairs
-abbrev pub IsApart : List ℕ → Pairs → Type 0
-IsApart field pairs = AllByRecursion (λ other. pointwise nat_eq field other ≡ false) (keys_of pairs)
-
-apart_set_at : (p : List ℕ) (pair : List ℕ × List ℕ) (pairs after : Pairs) (value : List ℕ) (b : Bool) → IsApart p (pair ∷ pairs) → IsApart p after → IsApart p (if b then (pair.0, value) ∷ pairs else pair ∷ after)
-apart_set_at p pair pairs after value true apart rest = apart
-apart_set_at p pair pairs after value false apart rest = (apart.0, rest)
-
-apart_set : (p : List ℕ) (pairs : Pairs) (field value : List ℕ) → pointwise nat_eq p field ≡ false → IsApart p pairs → IsApart p (insert_entry (pointwise nat_eq) pairs field value)
-apart_set p [] field value other apart = (other, tt)
-apart_set p (pair ∷ pairs) field value other apart =
-    apart_set_at p pair pairs (insert_entry (pointwise nat_eq) pairs field value) value (pointwise nat_eq field pair.0) apart (apart_set p pairs field value other apart.1)
-
-apart_removed_at : (p : List ℕ) (pair : List ℕ × List ℕ) (pairs after : Pairs) (b : Bool) → IsApart p (pair ∷ pairs) → IsApart p after → IsApart p (cond b pairs (pair ∷ after))
-apart_removed_at p pair pairs after true apart rest = apart.1
-apart_removed_at p pair pairs after false apart rest = (apart.0, rest)
-
-apart_removed : (p : List ℕ) (pairs : Pairs) (field : List ℕ) → IsApart p pairs → IsApart p (remove_entry (pointwise nat_eq field) pairs)
-apart_removed p [] field apart = tt
-apart_removed p (pair ∷ pairs) field apart =
-    apart_removed_at p pair pairs (remove_entry (pointwise nat_eq field) pairs) (pointwise nat_eq field pair.0) apart (apart_removed p pairs field apart.1)
-
-distinct_set_at : (pair : List ℕ × List ℕ) (pairs after : Pairs) (value : List ℕ) (b : Bool) → HasDistinctFields (pair ∷ pairs) → (b ≡ false → IsApart pair.0 after) → HasDistinctFields after
-    → HasDistinctFields (if b then (pair.0, value) ∷ pairs else pair ∷ after)
-unfolding IsDistinct
-distinct_set_at pair pairs after value true distinct apart rest = distinct
-distinct_set_at pair pairs after value false distinct apart rest = (apart refl, rest)
-
-distinct_set : (pairs : Pairs) (field value : List ℕ) → HasDistinctFields pairs → HasDistinctFields (insert_entry (pointwise nat_eq) pairs field value)
-unfolding IsDistinct
-distinct_set [] field value distinct = (tt, tt)
-distinct_set (pair ∷ pairs) field value distinct =
-    distinct_set_at pair pairs (insert_entry (pointwise nat_eq) pairs field value) value (pointwise nat_eq field pair.0) distinct
-    (λ other. apart_set pair.0 pairs field value (nat_list_eq_equiv.symm pair.0 field ∙ other) distinct.0) (distinct_set pairs field value distinct.1)
-
-distinct_removed_at : (pair : List ℕ × List ℕ) (pairs after : Pairs) (b : Bool) → HasDistinctFields (pair ∷ pairs) → IsApart pair.0 after → HasDistinctFields after → HasDistinctFields (cond b pairs (pair ∷ after))
-unfolding IsDistinct
-distinct_removed_at pair pairs after true distinct apart rest = distinct.1
-distinct_removed_at pair pairs after false distinct apart rest = (apart, rest)
-
-distinct_removed : (pairs : Pairs) (field : List ℕ) → HasDistinctFields pairs → HasDistinctFields (remove_entry (pointwise nat_eq field) pairs)
-unfolding IsDistinct
-distinct_removed [] field distinct = tt
-distinct_removed (pair ∷ pairs) field distinct =
-    distinct_removed_at pair pairs (remove_entry (pointwise nat_eq field) pairs) (pointwise nat_eq field pair.0) distinct (apart_removed pair.0 pairs field distinct.0) (distinct_removed pairs field distinct.1)
-
--- no field stands twice after one change
-pub distinct-changed : (pairs : Pairs) (field : List ℕ) (value : Option (List ℕ)) → HasDistinctFields pairs → HasDistinctFields (field_changed pairs field value)
-distinct-changed pairs field (Some value) distinct = distinct_set pairs field value distinct
-distinct-changed pairs field None distinct = distinct_removed pairs field distinct
 
 length_set_at : (pair : List ℕ × List ℕ) (pairs after : Pairs) (old : Option (List ℕ)) (value : List ℕ) (b : Bool) → length after + count_of old ≡ length pairs + 1
     → length (if b then (pair.0, value) ∷ pairs else pair ∷ after) + count_of (cond b (Some pair.1) old) ≡ length (pair ∷ pairs) + 1
@@ -135,15 +85,6 @@ one_field : (value : Option (List ℕ)) → count_of value ≤ 1
 one_field (Some value) = omega arith
 one_field None = omega arith
 
--- the values that the changes left, beside the hash, tell each value after them; and the number and the size are those after them
-pub record Foresees (pairs : Pairs) (left : Changes) (changes : Changes) (len size : ℕ) : Type 0 where
-  pub values : (field : List ℕ) → value_of (fields_changed pairs changes) field ≡ unwrap_or (lookup (pointwise nat_eq field) left) (value_of pairs field)
-  pub distinct : HasDistinctFields (fields_changed pairs changes)
-  pub short : AreShort (fields_changed pairs changes)
-  pub counted : len ≡ length (fields_changed pairs changes)
-  pub sized : size ≡ size_of (fields_changed pairs changes)
-  pub few : length (fields_changed pairs changes) ≤ length pairs + length changes
-
 module _ (pairs : Pairs) (left done : Changes) (len size : ℕ) (foreseen : Foresees pairs left done len size)
     (field : List ℕ) (value old : Option (List ℕ)) (found : old ≡ unwrap_or (lookup (pointwise nat_eq field) left) (value_of pairs field)) where
   old_value : value_of (fields_changed pairs done) field ≡ old
@@ -181,10 +122,10 @@ module _ (pairs : Pairs) (left done : Changes) (len size : ℕ) (foreseen : Fore
         omega (arith, e, o, s, m, n, sized)
 
     -- what the changes leave at their fields, with this one
-    pub foreseen_next : (new_left : Changes) (key : List ℕ) (left_there : Option (List ℕ)) → key ≡ field → left_there ≡ value → pair_size field new ≤ 2 ^ 64 + 2 ^ 6
+    pub foreseen_next : (more : Changes) → more ≡ done ++ (field, value) ∷ [] → (new_left : Changes) (key : List ℕ) (left_there : Option (List ℕ)) → key ≡ field → left_there ≡ value → pair_size field new ≤ 2 ^ 64 + 2 ^ 6
         → ((q : List ℕ) → lookup (pointwise nat_eq q) new_left ≡ cond (pointwise nat_eq key q) (Some left_there) (lookup (pointwise nat_eq q) left))
-        → Foresees pairs new_left (done ++ (field, value) ∷ []) new_len new_size
-    foreseen_next new_left key left_there same_key same_value fits updates = record {
+        → Foresees pairs new_left more new_len new_size
+    foreseen_next more is new_left key left_there same_key same_value fits updates = subst (λ (changes : Changes). Foresees pairs new_left changes new_len new_size) (sym is) record {
       values = λ q.
           ap (λ after. value_of after q) one_more ∙ value-changed (fields_changed pairs done) field value q foreseen.distinct
           ∙ ap (cond (pointwise nat_eq field q) value) (foreseen.values q)
@@ -212,3 +153,15 @@ size_small pairs left done len size foreseen few some =
     let s = foreseen.sized in
     let f = foreseen.few in
     omega (arith, most, s, f)
+
+-- before the first change, the hash is as it was
+pub foreseen_first : (pairs : Pairs) (left : Changes) (len size : ℕ) → IsSized pairs size → left ≡ [] → len ≡ length pairs → Foresees pairs left [] len size
+foreseen_first pairs left len size sized empty count =
+    subst (λ (none : Changes). Foresees pairs none [] len size) (sym empty) record {
+      values = λ field. refl;
+      distinct = sized.distinct;
+      short = sized.short;
+      counted = count;
+      sized = sized.total;
+      few = omega arith;
+    }

@@ -1,3 +1,7 @@
+pub mod DistinctLemmas
 pub mod Foreseen
+pub mod PlaceLemmas
+pub mod RoomLemmas
+pub mod RunLemmas
 pub mod SizeLemmas
 mod WorkedValues

@@ -1,10 +1,12 @@
 -- How the size of a hash goes with its changes.
-use Rattle.std.proofs.Common.{◌≡◌, ℕ, ◌+◌, ◌-◌, ◌*◌, ◌<◌, ◌≤◌, ◌^◌, List, [], ◌∷◌, ◌++◌, length, length-append, Bool, true, false, cond, if◌then◌else◌, refl, sym, ap, ◌∙◌, arith}
+use Rattle.std.proofs.Common.{◌≡◌, ℕ, ◌+◌, ◌-◌, ◌*◌, ◌<◌, ◌≤◌, ◌^◌, List, [], ◌∷◌, ◌++◌, length, length-append, Bool, true, false, cond, if◌then◌else◌, refl, sym, ap, subst, ◌∙◌, arith}
 use Rattle.indexmap.specs.IndexMap.{insert_entry}
 use Rattle.resp2.specs.Request.{bulk_spelling, bulks_spelling}
 use Rattle.std.specs.Cmp.Lexicographic.{pointwise, bytes_decides}
+use Rattle.std.specs.List.{IsDistinct}
 use Rattle.std.specs.Map.{remove_entry}
 use Rattle.std.specs.Prelude.{Option, Some, None, nat_eq}
+use Rattle.hash.proofs.DistinctLemmas.{distinct-changed}
 use Rattle.hash.specs.Pairs.{Pairs, value_of, field_changed}
 use Rattle.hash.specs.Size.{size_of, words_of}
 use Rattle.hash.specs.Sized.{pair_size, AreShort, IsSized}
@@ -99,10 +101,28 @@ removed pairs field old size f o sized found field_size old_size =
     record {
       old = omega (arith, e, t);
       sized = record {
+        distinct = distinct-changed pairs field None sized.distinct;
         total = omega (arith, e, t);
         short = short-changed pairs field None (omega arith) sized.short;
       };
     }
+
+-- a field that isn't there leaves nothing
+pub removed_none : (pairs : Pairs) (field : List ℕ) (size : ℕ) → IsSized pairs size → value_of pairs field ≡ None → IsSized (field_changed pairs field None) size
+removed_none pairs field size sized none =
+    let e = size-changed pairs field None in
+    let gone = ap (pair_size field) none in
+    let t = sized.total in
+    record {
+      distinct = distinct-changed pairs field None sized.distinct;
+      total = omega (arith, e, gone, t);
+      short = short-changed pairs field None (omega arith) sized.short;
+    }
+
+-- no pairs take nothing
+pub none_sized : (pairs : Pairs) → pairs ≡ [] → IsSized pairs 0
+unfolding IsDistinct
+none_sized pairs none = subst (λ (empty : Pairs). IsSized empty 0) (sym none) record { distinct = tt; total = refl; short = tt }
 
 -- the bytes of the old value go and those of the new one come, where a field is there
 pub record Sets (pairs : Pairs) (field value : List ℕ) (size gone come : ℕ) : Type 0 where
@@ -123,6 +143,7 @@ set_again pairs field value old size f v o sized found field_size value_size old
       old = omega (arith, before);
       fits = omega (arith, before, t, most);
       sized = record {
+        distinct = distinct-changed pairs field (Some value) sized.distinct;
         total = omega (arith, e, before, t);
         short = short-changed pairs field (Some value) (omega arith) sized.short;
       };
@@ -144,6 +165,7 @@ set_new pairs field value size f v sized none field_size value_size few short_fi
     record {
       fits = omega (arith, t, most);
       sized = record {
+        distinct = distinct-changed pairs field (Some value) sized.distinct;
         total = omega (arith, e, t);
         short = short-changed pairs field (Some value) (omega arith) sized.short;
       };

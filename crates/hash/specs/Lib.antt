@@ -1,3 +1,6 @@
+pub mod Entries
+pub mod Foreseen
+pub mod Iter
 pub mod Pairs
 pub mod Size
 pub mod Sized

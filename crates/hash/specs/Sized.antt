@@ -1,7 +1,7 @@
--- How the size of a hash is kept. No public clause needs it.
+-- What is kept of the pairs of a hash. No public clause needs it.
 use Rattle.std.specs.Prelude.{◌≡◌, ◌+◌, ◌≤◌, ◌^◌, ℕ, List, length, Option, None, Some}
 use Rattle.std.specs.List.{AllByRecursion}
-use Rattle.hash.specs.Pairs.{Pairs}
+use Rattle.hash.specs.Pairs.{Pairs, HasDistinctFields}
 use Rattle.hash.specs.Size.{size_of}
 use Rattle.resp2.specs.Request.{bulk_spelling}
 
@@ -19,7 +19,8 @@ count_of (Some _) = 1
 abbrev pub AreShort : Pairs → Type 0
 AreShort pairs = AllByRecursion (λ pair. pair_size pair.0 (Some pair.1) ≤ 2 ^ 64 + 2 ^ 6) pairs
 
--- the size is that of the pairs
+-- no field stands twice, and the size is that of the pairs
 pub record IsSized (pairs : Pairs) (size : ℕ) : Type 0 where
+  pub distinct : HasDistinctFields pairs
   pub total : size ≡ size_of pairs
   pub short : AreShort pairs

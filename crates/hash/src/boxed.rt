@@ -8,7 +8,7 @@ use std::alloc::{AllocError, Global};
 use std::marker::Model;
 
 /// A hash in a block of its own: what holds it takes no more room than a pointer.
-#[derive(Debug, Drop)]
+#[derive(Drop)]
 pub struct BoxedHash {
     hash: Box<Hash>,
 }

@@ -1,23 +1,23 @@
 //! Fields that are set and removed in place.
-ghost use Rattle.std.specs.Prelude.{◌≡◌, ◌+◌, ◌≤◌, length, Some, None};
-ghost use Rattle.indexmap.specs.IndexMap.{spare};
-ghost use Rattle.hash.specs.Pairs.{field_changed, fields_changed};
+ghost use Rattle.std.specs.Prelude.{◌≡◌, ◌∷◌, [], Some, None};
+ghost use Rattle.hash.specs.Entries.{pairs_of, IsReadyFor};
+ghost use Rattle.hash.specs.Pairs.{Changes, field_changed, fields_changed};
 ghost use Rattle.hash.specs.Sized.{IsSized};
 
+use crate::entries::Entries;
 use crate::sizes::bulk_size;
 use byte_string::ByteString;
-use indexmap::IndexMap;
 
 /// Makes the changes one after another, where there is room for all of them.
 pub fn change_fields(
-    entries: &mut IndexMap<ByteString, ByteString>,
+    entries: &mut Entries,
     size: &mut u128,
     changes: Vec<(ByteString, Option<ByteString>)>,
 )
-    requires room { length changes.items ≤ spare entries.old }
-    requires sized { IsSized entries.old.entries size.old }
-    ensures entries { entries.new.entries ≡ fields_changed entries.old.entries changes.items }
-    ensures sized { IsSized entries.new.entries size.new }
+    requires ready { IsReadyFor entries.old changes.items }
+    requires sized { IsSized (pairs_of entries.old) size.old }
+    ensures pairs { pairs_of entries.new ≡ fields_changed (pairs_of entries.old) changes.items }
+    ensures sized { IsSized (pairs_of entries.new) size.new }
 {
     for (field, value) in changes {
         change_field(entries, size, field, value);
@@ -25,16 +25,17 @@ pub fn change_fields(
 }
 
 fn change_field(
-    entries: &mut IndexMap<ByteString, ByteString>,
+    entries: &mut Entries,
     size: &mut u128,
     field: ByteString,
     value: Option<ByteString>,
 )
-    requires room { 1 ≤ spare entries.old }
-    requires sized { IsSized entries.old.entries size.old }
-    ensures entries { entries.new.entries ≡ field_changed entries.old.entries field value }
-    ensures room { spare entries.old ≤ spare entries.new + 1 }
-    ensures sized { IsSized entries.new.entries size.new }
+    requires ready { IsReadyFor entries.old ((field, value) ∷ []) }
+    requires sized { IsSized (pairs_of entries.old) size.old }
+    ensures pairs { pairs_of entries.new ≡ field_changed (pairs_of entries.old) field value }
+    ensures ready { (changes : Changes) → IsReadyFor entries.old ((field, value) ∷ changes) →
+        IsReadyFor entries.new changes }
+    ensures sized { IsSized (pairs_of entries.new) size.new }
 {
     match value {
         Some(value) => set_field(entries, size, field, value),
@@ -42,38 +43,32 @@ fn change_field(
     }
 }
 
-fn set_field(
-    entries: &mut IndexMap<ByteString, ByteString>,
-    size: &mut u128,
-    field: ByteString,
-    value: ByteString,
-)
-    requires room { 1 ≤ spare entries.old }
-    requires sized { IsSized entries.old.entries size.old }
-    ensures entries { entries.new.entries ≡ field_changed entries.old.entries field (Some value) }
-    ensures room { spare entries.old ≤ spare entries.new + 1 }
-    ensures sized { IsSized entries.new.entries size.new }
+fn set_field(entries: &mut Entries, size: &mut u128, field: ByteString, value: ByteString)
+    requires ready { IsReadyFor entries.old ((field, Some value) ∷ []) }
+    requires sized { IsSized (pairs_of entries.old) size.old }
+    ensures pairs { pairs_of entries.new ≡ field_changed (pairs_of entries.old) field (Some value) }
+    ensures ready { (changes : Changes) → IsReadyFor entries.old ((field, Some value) ∷ changes) →
+        IsReadyFor entries.new changes }
+    ensures sized { IsSized (pairs_of entries.new) size.new }
 {
     // So few fields have a size of 128 bits, however long they are.
     prove!(entries.len() < 1 << 63);
     let field_size = bulk_size(&field);
     let value_size = bulk_size(&value);
-    let Ok(old) = entries.insert(field, value) else {
-        unreachable!();
-    };
-    match old {
+    match entries.set(field, value) {
         Some(old) => *size = *size - bulk_size(&old) + value_size,
         None => *size += field_size + value_size,
     }
 }
 
-fn remove_field(entries: &mut IndexMap<ByteString, ByteString>, size: &mut u128, field: &ByteString)
-    requires { IsSized entries.old.entries size.old }
-    ensures entries { entries.new.entries ≡ field_changed entries.old.entries field.now None }
-    ensures room { spare entries.old ≤ spare entries.new }
-    ensures sized { IsSized entries.new.entries size.new }
+fn remove_field(entries: &mut Entries, size: &mut u128, field: &ByteString)
+    requires { IsSized (pairs_of entries.old) size.old }
+    ensures pairs { pairs_of entries.new ≡ field_changed (pairs_of entries.old) field.now None }
+    ensures ready { (changes : Changes) → IsReadyFor entries.old ((field.now, None) ∷ changes) →
+        IsReadyFor entries.new changes }
+    ensures sized { IsSized (pairs_of entries.new) size.new }
 {
-    if let Some(old) = entries.shift_remove(field) {
+    if let Some(old) = entries.remove(field) {
         let field_size = bulk_size(field);
         let value_size = bulk_size(&old);
         *size -= field_size + value_size;

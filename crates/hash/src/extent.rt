@@ -1,12 +1,15 @@
 //! What a hash takes, and what it would take after changes.
-ghost use Rattle.std.specs.Prelude.{◌≡◌, ◌+◌, ◌-◌, ◌<◌, ◌≤◌, ◌^◌, length, nat_eq, IsOk, IfOk};
+ghost use Rattle.std.specs.Prelude.{◌≡◌, [], ◌+◌, ◌-◌, ◌<◌, ◌≤◌, ◌^◌, length, nat_eq, IsOk, IfOk};
 ghost use Rattle.std.specs.Cmp.Lexicographic.{pointwise};
 ghost use Rattle.std.specs.Option.{option_copied, unwrap_or};
 ghost use Rattle.indexmap.specs.IndexMap.{get};
+ghost use Rattle.hash.specs.Entries.{pairs_of};
+ghost use Rattle.hash.specs.Foreseen.{Foresees};
 ghost use Rattle.hash.specs.Pairs.{value_of, fields_changed};
 ghost use Rattle.hash.specs.Size.{size_of};
 ghost use Rattle.hash.specs.Sized.{pair_size, count_of, IsSized};
 
+use crate::entries::Entries;
 use crate::sizes::bulk_size;
 use byte_string::ByteString;
 use indexmap::IndexMap;
@@ -24,44 +27,63 @@ pub struct Extent {
 /// What a hash with these entries would take after the changes.
 pub fn extent_after(
     alloc: Global,
-    entries: &IndexMap<ByteString, ByteString>,
+    entries: &Entries,
     size: u128,
     changes: &[(ByteString, Option<ByteString>)],
 ) -> Result<Extent, AllocError>
-    requires { IsSized entries.now.entries size }
+    requires { IsSized (pairs_of entries.now) size }
     ensures len { IfOk result (λ extent.
-        extent.len ≡ length (fields_changed entries.now.entries changes.now)) }
+        extent.len ≡ length (fields_changed (pairs_of entries.now) changes.now)) }
     ensures size { IfOk result (λ extent.
-        extent.size ≡ size_of (fields_changed entries.now.entries changes.now)) }
+        extent.size ≡ size_of (fields_changed (pairs_of entries.now) changes.now)) }
     ensures single { length changes.now ≤ 1 → IsOk result }
 {
     // So few fields and changes have a size of 128 bits, however long they are.
     prove!(changes.len() < 1 << 60);
-    let mut extent = Extent {
+    let extent = Extent {
         len: entries.len(),
         size,
     };
     let Some((last, earlier)) = changes.split_last() else {
         return Ok(extent);
     };
-    // What the changes so far leave at the fields that they name. No change asks for what the last one leaves.
+    // No change asks for what the last one leaves.
     let mut left = IndexMap::new(alloc);
-    for (field, value) in earlier {
-        extent = extent.changed(field, value_now(entries, &left, field), value.as_ref());
-        left.insert(field.clone()?, value.clone()?)?;
-    }
+    let extent = extent_before_last(entries, extent, &mut left, earlier)?;
     let (field, value) = last;
     Ok(extent.changed(field, value_now(entries, &left, field), value.as_ref()))
 }
 
+// The extent after these changes, with what they leave at the fields that they name.
+fn extent_before_last(
+    entries: &Entries,
+    extent: Extent,
+    left: &mut IndexMap<ByteString, Option<ByteString>>,
+    changes: &[(ByteString, Option<ByteString>)],
+) -> Result<Extent, AllocError>
+    requires start { Foresees (pairs_of entries.now) left.old.entries [] extent.len extent.size }
+    requires few { length (pairs_of entries.now) < 2 ^ 63 }
+    requires short { length changes.now < 2 ^ 60 }
+    ensures foreseen { IfOk result (λ extent.
+        Foresees (pairs_of entries.now) left.new.entries changes.now extent.len extent.size) }
+    ensures none { length changes.now ≡ 0 → IsOk result }
+{
+    let mut extent = extent;
+    for (field, value) in changes {
+        extent = extent.changed(field, value_now(entries, left, field), value.as_ref());
+        left.insert(field.clone()?, value.clone()?)?;
+    }
+    Ok(extent)
+}
+
 /// The value that a field has after changes that left these values.
 fn value_now<'a>(
-    entries: &'a IndexMap<ByteString, ByteString>,
+    entries: &'a Entries,
     left: &'a IndexMap<ByteString, Option<ByteString>>,
     field: &ByteString,
 ) -> Option<&'a ByteString>
     ensures { option_copied result ≡ unwrap_or (get (pointwise nat_eq) left.now field.now)
-        (value_of entries.now.entries field.now) }
+        (value_of (pairs_of entries.now) field.now) }
 {
     match left.get(field) {
         Some(value) => value.as_ref(),

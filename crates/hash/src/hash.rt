@@ -6,31 +6,39 @@ ghost use Rattle.hash.specs.Pairs.{value_of, fields_changed, HasDistinctFields};
 ghost use Rattle.hash.specs.Size.{size_of};
 
 use crate::changing::change_fields;
+use crate::entries::Entries;
 use crate::extent::{Extent, extent_after};
+use crate::iter::Iter;
 use byte_string::ByteString;
-use indexmap::IndexMap;
-use indexmap::map::Iter;
 use std::alloc::{AllocError, Global};
-use std::fmt;
 use std::marker::Model;
 
 /// Fields with their values, in the order in which the fields came. No field stands twice.
-#[derive(Drop)]
 pub struct Hash {
-    entries: IndexMap<ByteString, ByteString>,
+    entries: Entries,
     /// The bytes of all pairs in a request. Long strings are shared, so that their sum may pass what memory holds.
     size: u128,
 }
 
 impl Model for Hash {
     ghost use Rattle.hash.specs.Pairs.{Pairs};
+    ghost use Rattle.hash.specs.Entries.{pairs_of};
     ghost use Rattle.hash.specs.Sized.{IsSized};
 
     ghost Value = { Pairs };
 
-    ghost view = { λ hash. hash.entries.entries };
+    ghost view = { λ hash. pairs_of hash.entries };
 
-    ghost invariant = { λ hash. IsSized hash.entries.entries hash.size };
+    ghost invariant = { λ hash. IsSized (pairs_of hash.entries) hash.size };
+}
+
+impl Drop for Hash {
+    fn drop(self) {
+        let Hash {
+            entries: _,
+            size: _,
+        } = self;
+    }
 }
 
 impl Hash {
@@ -39,7 +47,7 @@ impl Hash {
         ensures { result ≡ [] }
     {
         Hash {
-            entries: IndexMap::new(alloc),
+            entries: Entries::new(alloc),
             size: 0,
         }
     }
@@ -64,17 +72,18 @@ impl Hash {
     pub fn contains(&self, field: &ByteString) -> bool
         ensures { result ≡ is_some (value_of self.now field.now) }
     {
-        self.entries.contains_key(field)
+        self.entries.get(field).is_some()
     }
 
     /// The fields with their values, in order.
-    pub fn iter(&self) -> Iter<'_, ByteString, ByteString>
+    pub fn iter(&self) -> Iter<'_>
         ensures pairs { result ≡ self.now }
         ensures runs { ShowsInOrder (deref_pair {K = List ℕ} {X = List ℕ}) }
         ensures values_run { ShowsValuesInOrder (deref_pair {K = List ℕ} {X = List ℕ}) }
         ensures distinct { HasDistinctFields self.now }
         ensures fits { length self.now < 2 ^ 63 }
     {
+        prove!(self.entries.len() < 1 << 63);
         self.entries.iter()
     }
 
@@ -113,7 +122,7 @@ impl Hash {
         ensures ok { OnOk result (self.new ≡ fields_changed self.old changes.items) }
         ensures err { OnErr result (self.new ≡ self.old) }
     {
-        self.entries.reserve(changes.len())?;
+        self.entries.make_room(changes.as_slice())?;
         change_fields(&mut self.entries, &mut self.size, changes);
         Ok(())
     }
@@ -127,11 +136,5 @@ impl Clone for Hash {
             entries: self.entries.clone()?,
             size: self.size,
         })
-    }
-}
-
-impl fmt::Debug for Hash {
-    fn fmt<W: fmt::Write>(&self, f: &mut fmt::Formatter<W>) -> fmt::Result {
-        self.entries.fmt(f)
     }
 }

@@ -3,12 +3,17 @@
 
 mod boxed;
 mod changing;
+mod entries;
 mod extent;
+mod few;
 mod hash;
+mod iter;
+mod many;
 mod sizes;
 mod words;
 
 pub use boxed::BoxedHash;
 pub use extent::Extent;
 pub use hash::Hash;
+pub use iter::Iter;
 pub use sizes::bulk_size;

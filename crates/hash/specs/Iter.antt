@@ -1,0 +1,9 @@
+-- The pairs that are left to an iterator.
+use Rattle.std.specs.Slice.Iter.{iter_rest}
+use Rattle.hash.specs.Pairs.{Pairs}
+use Rattle.hash.specs.declared.iter.Form.{Form}
+use Rattle.hash.specs.declared.iter.Form.TheVariants.{Few, Many}
+
+abbrev pub pairs_left : Form → Pairs
+pairs_left (Few pairs) = iter_rest pairs
+pairs_left (Many pairs) = pairs

@@ -1,0 +1,146 @@
+//! The fields of a hash with their values: few in a list, and many in a map.
+ghost use Rattle.std.specs.Prelude.{◌≡◌, ◌∷◌, [], ◌<◌, ◌≤◌, ◌^◌, length, Some, None, IfOk, OnOk, OnErr};
+ghost use Rattle.std.specs.Option.{option_copied};
+ghost use Rattle.indexmap.specs.IndexMap.{spare};
+ghost use Rattle.hash.specs.Pairs.{Changes, value_of, field_changed, HasDistinctFields};
+ghost use Rattle.hash.specs.Entries.{pairs_of, IsReadyFor};
+
+use crate::iter::Iter;
+use crate::{few, many};
+use byte_string::ByteString;
+use indexmap::IndexMap;
+use std::alloc::{AllocError, Global};
+use std::mem;
+
+/// How many fields lie in a list at most: a walk over so many costs no more than a look into a map.
+const MOST_FEW: usize = 8;
+
+/// Pairs in the order in which their fields came. Entries that became a map stay one.
+#[derive(Drop)]
+pub enum Entries {
+    /// Few pairs, with room for no more than was asked for.
+    Few(Vec<(ByteString, ByteString)>),
+    /// Many pairs.
+    Many(Box<IndexMap<ByteString, ByteString>>),
+}
+
+impl Entries {
+    /// No pairs. They take no memory.
+    pub fn new(alloc: Global) -> Entries
+        ensures { pairs_of result ≡ [] }
+    {
+        Entries::Few(Vec::new(alloc))
+    }
+
+    /// The number of pairs.
+    pub fn len(&self) -> usize
+        ensures len { result ≡ length (pairs_of self.now) }
+        ensures small { result < 2 ^ 63 }
+    {
+        match self {
+            Entries::Few(pairs) => pairs.len(),
+            Entries::Many(map) => map.len(),
+        }
+    }
+
+    /// The value of the field.
+    pub fn get(&self, field: &ByteString) -> Option<&ByteString>
+        ensures { option_copied result ≡ value_of (pairs_of self.now) field.now }
+    {
+        match self {
+            Entries::Few(pairs) => few::value_in(pairs.as_slice(), field),
+            Entries::Many(map) => map.get(field),
+        }
+    }
+
+    /// The pairs, in order.
+    pub fn iter(&self) -> Iter<'_>
+        ensures { result ≡ pairs_of self.now }
+    {
+        match self {
+            Entries::Few(pairs) => Iter::over_few(pairs.as_slice()),
+            Entries::Many(map) => Iter::over_many(map),
+        }
+    }
+
+    /// Makes room for all fields that the changes set. Where memory is refused, nothing has changed.
+    pub fn make_room(
+        &mut self,
+        changes: &[(ByteString, Option<ByteString>)],
+    ) -> Result<(), AllocError>
+        requires { HasDistinctFields (pairs_of self.old) }
+        ensures pairs { pairs_of self.new ≡ pairs_of self.old }
+        ensures ready { OnOk result (IsReadyFor self.new changes.now) }
+    {
+        // So few changes and pairs are counted in 64 bits.
+        prove!(changes.len() < 1 << 60);
+        match self {
+            Entries::Few(pairs) => {
+                let new = few::count_new(pairs.as_slice(), changes);
+                if pairs.len().saturating_add(new) <= MOST_FEW {
+                    pairs.reserve_exact(new)?;
+                    return Ok(());
+                }
+                let map = map_of(pairs, changes.len())?;
+                *self = Entries::Many(map);
+                Ok(())
+            }
+            Entries::Many(map) => map.reserve(changes.len()),
+        }
+    }
+
+    /// Sets the field, for which there is room, and gives back the value that it had.
+    pub fn set(&mut self, field: ByteString, value: ByteString) -> Option<ByteString>
+        requires { IsReadyFor self.old ((field, Some value) ∷ []) }
+        ensures old { result ≡ value_of (pairs_of self.old) field }
+        ensures pairs { pairs_of self.new ≡ field_changed (pairs_of self.old) field (Some value) }
+        ensures ready { (changes : Changes) → IsReadyFor self.old ((field, Some value) ∷ changes) →
+            IsReadyFor self.new changes }
+    {
+        match self {
+            Entries::Few(pairs) => few::set(pairs, field, value),
+            Entries::Many(map) => many::set(map, field, value),
+        }
+    }
+
+    /// Removes the field, and gives back the value that it had. The others keep their order.
+    pub fn remove(&mut self, field: &ByteString) -> Option<ByteString>
+        ensures old { result ≡ value_of (pairs_of self.old) field.now }
+        ensures pairs { pairs_of self.new ≡ field_changed (pairs_of self.old) field.now None }
+        ensures ready { (changes : Changes) → IsReadyFor self.old ((field.now, None) ∷ changes) →
+            IsReadyFor self.new changes }
+    {
+        match self {
+            Entries::Few(pairs) => few::remove(pairs, field),
+            Entries::Many(map) => map.shift_remove(field),
+        }
+    }
+}
+
+// The pairs in a map with room for as many more. They are moved once nothing can be refused any more.
+fn map_of(
+    pairs: &mut Vec<(ByteString, ByteString)>,
+    more: usize,
+) -> Result<Box<IndexMap<ByteString, ByteString>>, AllocError>
+    requires distinct { HasDistinctFields pairs.old.items }
+    requires small { more < 2 ^ 60 }
+    ensures pairs { IfOk result (λ map. map.value.entries ≡ pairs.old.items) }
+    ensures room { IfOk result (λ map. more ≤ spare map.value) }
+    ensures err { OnErr result (pairs.new.items ≡ pairs.old.items) }
+{
+    let alloc = *pairs.allocator();
+    let mut map = many::with_room(alloc, pairs.len() + more)?;
+    many::fill(&mut map, mem::replace(pairs, Vec::new(alloc)));
+    Ok(map)
+}
+
+impl Clone for Entries {
+    ghost is_clone = { λ entries copy. pairs_of copy ≡ pairs_of entries };
+
+    fn clone(&self) -> Result<Entries, AllocError> {
+        match self {
+            Entries::Few(pairs) => Ok(Entries::Few(pairs.clone()?)),
+            Entries::Many(map) => Ok(Entries::Many(map.clone()?)),
+        }
+    }
+}

@@ -1,0 +1,67 @@
+//! The pairs of a hash, one after another.
+ghost use Rattle.std.specs.Prelude.{◌≡◌, length};
+ghost use Rattle.std.specs.Iterator.{at_most};
+ghost use Rattle.std.specs.Map.Iter.{TakesFirst, deref_pair};
+
+use byte_string::ByteString;
+use indexmap::{IndexMap, map};
+use std::marker::Model;
+use std::slice;
+
+#[derive(Drop)]
+enum Form<'a> {
+    Few(slice::Iter<'a, (ByteString, ByteString)>),
+    Many(map::Iter<'a, ByteString, ByteString>),
+}
+
+/// The fields of a hash with their values, in order.
+#[derive(Drop)]
+pub struct Iter<'a> {
+    form: Form<'a>,
+}
+
+impl<'a> Model for Iter<'a> {
+    ghost use Rattle.hash.specs.Pairs.{Pairs};
+
+    ghost Value = { Pairs };
+
+    ghost use Rattle.hash.specs.Iter.{pairs_left};
+
+    ghost view = { λ iter. pairs_left iter.form };
+}
+
+impl<'a> Iter<'a> {
+    pub(crate) fn over_few(pairs: &'a [(ByteString, ByteString)]) -> Iter<'a>
+        ensures { result ≡ pairs.now }
+    {
+        Iter {
+            form: Form::Few(pairs.iter()),
+        }
+    }
+
+    pub(crate) fn over_many(map: &'a IndexMap<ByteString, ByteString>) -> Iter<'a>
+        ensures { result ≡ map.now.entries }
+    {
+        Iter {
+            form: Form::Many(map.iter()),
+        }
+    }
+}
+
+impl<'a> Iterator for Iter<'a> {
+    type Item = (&'a ByteString, &'a ByteString);
+
+    ghost next_gives = { TakesFirst deref_pair };
+
+    ghost remaining = { λ pairs. at_most (length pairs) };
+
+    fn next(&mut self) -> Option<(&'a ByteString, &'a ByteString)> {
+        match &mut self.form {
+            Form::Few(pairs) => {
+                let pair = pairs.next()?;
+                Some((&pair.0, &pair.1))
+            }
+            Form::Many(pairs) => pairs.next(),
+        }
+    }
+}
