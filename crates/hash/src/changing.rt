@@ -1,5 +1,5 @@
 //! Fields that are set and removed in place.
-ghost use Rattle.std.specs.Prelude.{◌≡◌, ◌∷◌, [], Some, None};
+ghost use Rattle.std.specs.Prelude.{◌≡◌, ◌∷◌, [], Some, None, OnOk, OnErr};
 ghost use Rattle.hash.specs.Entries.{pairs_of, IsReadyFor};
 ghost use Rattle.hash.specs.Pairs.{Changes, field_changed, fields_changed};
 ghost use Rattle.hash.specs.Sized.{IsSized};
@@ -7,6 +7,7 @@ ghost use Rattle.hash.specs.Sized.{IsSized};
 use crate::entries::Entries;
 use crate::sizes::bulk_size;
 use byte_string::ByteString;
+use std::alloc::AllocError;
 
 /// Makes the changes one after another, where there is room for all of them.
 pub fn change_fields(
@@ -22,6 +23,50 @@ pub fn change_fields(
     for (field, value) in changes {
         change_field(entries, size, field, value);
     }
+}
+
+/// Makes one change, or none where memory is refused.
+pub fn change_one(
+    entries: &mut Entries,
+    size: &mut u128,
+    field: ByteString,
+    value: Option<ByteString>,
+) -> Result<(), AllocError>
+    requires { IsSized (pairs_of entries.old) size.old }
+    ensures pairs { OnOk result (pairs_of entries.new ≡ field_changed (pairs_of entries.old) field value) }
+    ensures err { OnErr result (pairs_of entries.new ≡ pairs_of entries.old) }
+    ensures sized { IsSized (pairs_of entries.new) size.new }
+{
+    match value {
+        Some(value) => put_field(entries, size, field, value),
+        None => {
+            remove_field(entries, size, &field);
+            Ok(())
+        }
+    }
+}
+
+fn put_field(
+    entries: &mut Entries,
+    size: &mut u128,
+    field: ByteString,
+    value: ByteString,
+) -> Result<(), AllocError>
+    requires { IsSized (pairs_of entries.old) size.old }
+    ensures pairs { OnOk result (pairs_of entries.new ≡ field_changed (pairs_of entries.old) field (Some value)) }
+    ensures err { OnErr result (pairs_of entries.new ≡ pairs_of entries.old) }
+    ensures sized { IsSized (pairs_of entries.new) size.new }
+{
+    // So few fields have a size of 128 bits, however long they are.
+    prove!(entries.len() < 1 << 63);
+    let field_bytes = bulk_size(&field);
+    let value_bytes = bulk_size(&value);
+    let before = entries.put(field, value)?;
+    match before {
+        Some(old) => *size = *size - bulk_size(&old) + value_bytes,
+        None => *size += field_bytes + value_bytes,
+    }
+    Ok(())
 }
 
 fn change_field(

@@ -89,6 +89,34 @@ impl Entries {
         }
     }
 
+    /// Sets the field, and gives back the value that it had. Where memory is refused, nothing has changed.
+    pub fn put(
+        &mut self,
+        field: ByteString,
+        value: ByteString,
+    ) -> Result<Option<ByteString>, AllocError>
+        requires { HasDistinctFields (pairs_of self.old) }
+        ensures old { IfOk result (λ old. old ≡ value_of (pairs_of self.old) field) }
+        ensures pairs { OnOk result (pairs_of self.new ≡ field_changed (pairs_of self.old) field (Some value)) }
+        ensures err { OnErr result (pairs_of self.new ≡ pairs_of self.old) }
+    {
+        let pairs = match self {
+            Entries::Few(pairs) => pairs,
+            Entries::Many(map) => return many::put(map, field, value),
+        };
+        match few::place_of(pairs.as_slice(), &field) {
+            Some(place) => Ok(Some(few::replace_at(pairs, place, value))),
+            None if pairs.len() < MOST_FEW => {
+                few::push(pairs, field, value)?;
+                Ok(None)
+            }
+            None => {
+                *self = Entries::Many(map_with(pairs, field, value)?);
+                Ok(None)
+            }
+        }
+    }
+
     /// Sets the field, for which there is room, and gives back the value that it had.
     pub fn set(&mut self, field: ByteString, value: ByteString) -> Option<ByteString>
         requires { IsReadyFor self.old ((field, Some value) ∷ []) }
@@ -131,6 +159,21 @@ fn map_of(
     let alloc = *pairs.allocator();
     let mut map = many::with_room(alloc, pairs.len() + more)?;
     many::fill(&mut map, mem::replace(pairs, Vec::new(alloc)));
+    Ok(map)
+}
+
+// The pairs in a map, and one more behind them.
+fn map_with(
+    pairs: &mut Vec<(ByteString, ByteString)>,
+    field: ByteString,
+    value: ByteString,
+) -> Result<Box<IndexMap<ByteString, ByteString>>, AllocError>
+    requires { HasDistinctFields pairs.old.items }
+    ensures pairs { IfOk result (λ map. map.value.entries ≡ field_changed pairs.old.items field (Some value)) }
+    ensures err { OnErr result (pairs.new.items ≡ pairs.old.items) }
+{
+    let mut map = map_of(pairs, 1)?;
+    let _none = many::set(&mut map, field, value);
     Ok(map)
 }
 

@@ -1,11 +1,12 @@
 //! Few pairs in a list, which a walk over all of them finds.
-ghost use Rattle.std.specs.Prelude.{◌≡◌, ◌<◌, ◌≤◌, ◌++◌, ◌∷◌, [], length, nat_eq, position, count_by, slice_set, slice_index_or, vec_len, vec_capacity, Some, None, IfSome};
+ghost use Rattle.std.specs.Prelude.{◌≡◌, ◌<◌, ◌≤◌, ◌++◌, ◌∷◌, [], length, nat_eq, position, count_by, slice_set, slice_index_or, vec_len, vec_capacity, Some, None, IfSome, OnOk, OnErr};
 ghost use Rattle.std.specs.Cmp.Lexicographic.{pointwise};
 ghost use Rattle.std.specs.Option.{option_copied};
 ghost use Rattle.hash.specs.Pairs.{value_of, field_changed};
 ghost use Rattle.hash.specs.Entries.{is_of, is_new};
 
 use byte_string::ByteString;
+use std::alloc::AllocError;
 use std::mem;
 
 /// The value of the field.
@@ -72,16 +73,16 @@ pub fn remove(pairs: &mut Vec<(ByteString, ByteString)>, field: &ByteString) -> 
     Some(pairs.remove(place).1)
 }
 
-// The place of the field.
-fn place_of(pairs: &[(ByteString, ByteString)], field: &ByteString) -> Option<usize>
+/// The place of the field.
+pub fn place_of(pairs: &[(ByteString, ByteString)], field: &ByteString) -> Option<usize>
     ensures place { result ≡ position (is_of field.now) pairs.now }
     ensures within { IfSome result (λ place. place < length pairs.now) }
 {
     pairs.iter().position(|(other, _)| field == other)
 }
 
-// Puts the value into the pair at the place, and gives back the one that was there.
-fn replace_at(
+/// Puts the value into the pair at the place, and gives back the one that was there.
+pub fn replace_at(
     pairs: &mut Vec<(ByteString, ByteString)>,
     place: usize,
     value: ByteString,
@@ -93,6 +94,20 @@ fn replace_at(
     ensures capacity { vec_capacity pairs.new ≡ vec_capacity pairs.old }
 {
     mem::replace(&mut pairs[place].1, value)
+}
+
+/// Puts a pair behind the others, with room for it alone. Where memory is refused, nothing has changed.
+pub fn push(
+    pairs: &mut Vec<(ByteString, ByteString)>,
+    field: ByteString,
+    value: ByteString,
+) -> Result<(), AllocError>
+    ensures pairs { OnOk result (pairs.new.items ≡ pairs.old.items ++ (field, value) ∷ []) }
+    ensures err { OnErr result (pairs.new.items ≡ pairs.old.items) }
+{
+    pairs.reserve_exact(1)?;
+    append(pairs, field, value);
+    Ok(())
 }
 
 fn append(pairs: &mut Vec<(ByteString, ByteString)>, field: ByteString, value: ByteString)

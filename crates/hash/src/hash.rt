@@ -5,7 +5,7 @@ ghost use Rattle.std.specs.Option.{option_copied};
 ghost use Rattle.hash.specs.Pairs.{value_of, fields_changed, HasDistinctFields};
 ghost use Rattle.hash.specs.Size.{size_of};
 
-use crate::changing::change_fields;
+use crate::changing::{change_fields, change_one};
 use crate::entries::Entries;
 use crate::extent::{Extent, extent_after};
 use crate::iter::Iter;
@@ -122,9 +122,16 @@ impl Hash {
         ensures ok { OnOk result (self.new ≡ fields_changed self.old changes.items) }
         ensures err { OnErr result (self.new ≡ self.old) }
     {
-        self.entries.make_room(changes.as_slice())?;
-        change_fields(&mut self.entries, &mut self.size, changes);
-        Ok(())
+        let mut changes = changes;
+        if changes.len() > 1 {
+            self.entries.make_room(changes.as_slice())?;
+            change_fields(&mut self.entries, &mut self.size, changes);
+            return Ok(());
+        }
+        match changes.pop() {
+            Some((field, value)) => change_one(&mut self.entries, &mut self.size, field, value),
+            None => Ok(()),
+        }
     }
 }
 

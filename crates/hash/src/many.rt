@@ -1,5 +1,5 @@
 //! Many pairs in a map, which finds one by the hash of its field.
-ghost use Rattle.std.specs.Prelude.{◌≡◌, ◌+◌, ◌≤◌, [], length, nat_eq, Some, IfOk};
+ghost use Rattle.std.specs.Prelude.{◌≡◌, ◌+◌, ◌≤◌, [], length, nat_eq, Some, IfOk, OnOk, OnErr};
 ghost use Rattle.std.specs.Cmp.Lexicographic.{pointwise};
 ghost use Rattle.indexmap.specs.IndexMap.{insert_all, spare};
 ghost use Rattle.hash.specs.Pairs.{value_of, field_changed};
@@ -46,4 +46,17 @@ pub fn set(
         unreachable!();
     };
     old
+}
+
+/// Sets the field, and gives back the value that it had. Where memory is refused, nothing has changed.
+pub fn put(
+    map: &mut IndexMap<ByteString, ByteString>,
+    field: ByteString,
+    value: ByteString,
+) -> Result<Option<ByteString>, AllocError>
+    ensures old { IfOk result (λ old. old ≡ value_of map.old.entries field) }
+    ensures pairs { OnOk result (map.new.entries ≡ field_changed map.old.entries field (Some value)) }
+    ensures err { OnErr result (map.new.entries ≡ map.old.entries) }
+{
+    map.insert(field, value).map_err(AllocError::from)
 }
