@@ -5,15 +5,15 @@ ghost use Rattle.keyspace.specs.Keyspace.{appended, keyspace_of, with_appended};
 
 use crate::value::Value;
 use byte_string::ByteString;
+use key_map::KeyMap;
 use std::alloc::{AllocError, Global};
-use std::collections::BTreeMap;
 
 /// Puts the bytes behind the string at the key, in place, unless memory is refused.
 ///
 /// A missing string begins empty, and a hash stays.
 pub fn append_in(
     alloc: Global,
-    entries: &mut BTreeMap<ByteString, Value>,
+    entries: &mut KeyMap<Value>,
     key: ByteString,
     bytes: ByteString,
 ) -> Result<(), AllocError>

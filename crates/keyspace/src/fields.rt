@@ -8,8 +8,8 @@ ghost use Rattle.keyspace.specs.Keyspace.{fields_left, hash_of, keyspace_of, wit
 use crate::value::Value;
 use byte_string::ByteString;
 use hash::{BoxedHash, Hash};
+use key_map::KeyMap;
 use std::alloc::{AllocError, Global};
-use std::collections::BTreeMap;
 
 /// Fields to be changed, each with its new value, or with None where it is to be removed.
 pub type FieldChanges = Vec<(ByteString, Option<ByteString>)>;
@@ -18,7 +18,7 @@ pub type FieldChanges = Vec<(ByteString, Option<ByteString>)>;
 ///
 /// A missing hash begins with no fields, and one that is left with none is removed. A string stays.
 pub fn change_fields_in(
-    entries: &mut BTreeMap<ByteString, Value>,
+    entries: &mut KeyMap<Value>,
     key: ByteString,
     changes: FieldChanges,
 ) -> Result<(), AllocError>
@@ -38,7 +38,7 @@ pub fn change_fields_in(
 
 // Makes the hash of a key that is missing.
 fn put_new_hash(
-    entries: &mut BTreeMap<ByteString, Value>,
+    entries: &mut KeyMap<Value>,
     key: ByteString,
     changes: FieldChanges,
 ) -> Result<(), AllocError>
@@ -54,7 +54,7 @@ fn put_new_hash(
 }
 
 /// Removes the key, if it is there.
-pub(crate) fn remove_from(entries: &mut BTreeMap<ByteString, Value>, key: &ByteString)
+pub(crate) fn remove_from(entries: &mut KeyMap<Value>, key: &ByteString)
     ensures { keyspace_of entries.new.entries ≡ map.remove (keyspace_of entries.old.entries) key.now }
 {
     let _old = entries.remove(key);

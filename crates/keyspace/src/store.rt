@@ -1,4 +1,4 @@
-//! Where a node keeps its keys: the trait of all stores, and a store in a tree.
+//! Where a node keeps its keys: the trait of all stores, and a store in a map.
 ghost use Rattle.std.specs.Prelude.{◌≡◌, OnOk, OnErr, IsSome, IsOk};
 ghost use Rattle.std.specs.Option.{option_copied};
 ghost use Rattle.std.specs.FinMap as map;
@@ -8,8 +8,8 @@ use crate::appending::append_in;
 use crate::fields::{FieldChanges, change_fields_in, remove_from};
 use crate::value::Value;
 use byte_string::ByteString;
+use key_map::KeyMap;
 use std::alloc::{AllocError, Global};
-use std::collections::BTreeMap;
 
 /// A map from keys to values. A call that fails changes nothing.
 pub trait Store {
@@ -51,18 +51,18 @@ pub trait Store {
         ensures err { OnErr result (contents self.new ≡ contents self.old) };
 }
 
-/// A store in a balanced tree, in the byte order of its keys.
-pub type TreeStore = BTreeMap<ByteString, Value>;
+/// A store in one map, in the byte order of its keys: in a list while it has few, and then in a tree.
+pub type TreeStore = KeyMap<Value>;
 
-impl Store for BTreeMap<ByteString, Value> {
-    ghost contents = { λ tree. keyspace_of tree.entries };
+impl Store for KeyMap<Value> {
+    ghost contents = { λ map. keyspace_of map.entries };
 
     fn get(&self, key: &ByteString) -> Option<&Value> {
-        BTreeMap::get(self, key)
+        KeyMap::get(self, key)
     }
 
     fn insert(&mut self, key: ByteString, value: Value) -> Result<(), AllocError> {
-        let _old = BTreeMap::insert(self, key, value)?;
+        let _old = KeyMap::insert(self, key, value)?;
         Ok(())
     }
 

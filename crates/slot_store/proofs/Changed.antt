@@ -2,11 +2,11 @@
 use Rattle.std.proofs.Common.{◌≡◌, ◌≢◌, inl, inr, ℕ, zero, suc, List, [], ◌∷◌, length, ◌<◌, true, false, cond, refl, sym, ap, ◌∙◌, arith, length-set}
 use Rattle.std.proofs.lemmas.Bool.Decides.{eqb_tells}
 use Rattle.std.proofs.lemmas.Cmp.{nat_list_cmp_total, eq_by_cmp_equiv}
-use Rattle.std.specs.BTreeMap.{BTreeMap}
 use Rattle.std.specs.FinMap as map
 use Rattle.std.specs.List.{slice_index_or, slice_set}
 use Rattle.std.specs.Map.{lookup}
 use Rattle.std.specs.Prelude.{Option, Result, Ok, Err, OnErr}
+use Rattle.key_map.specs.KeyMap.{KeyMap}
 use Rattle.key_slot.specs.Slot.{hash_slot}
 use Rattle.keyspace.proofs.Applied.{is_key, is_key-same, get_changed}
 use Rattle.keyspace.proofs.Applied.{same as same_keyspace}
@@ -16,12 +16,12 @@ use Rattle.slot_store.specs.Maps.{entries_at, found_at, ArePlaced}
 use Rattle.slot_store.proofs.Placed.{contents_of, get_placed, entries-index}
 
 module _ {X : Type 0} where
-  pub entries-set : (maps : List (BTreeMap (List ℕ) X)) (i : ℕ) (n : BTreeMap (List ℕ) X) → i < length maps → entries_at (slice_set maps i n) i ≡ n.entries
+  pub entries-set : (maps : List (KeyMap X)) (i : ℕ) (n : KeyMap X) → i < length maps → entries_at (slice_set maps i n) i ≡ n.entries
   entries-set [] i n below = absurd (omega arith)
   entries-set (m ∷ maps) zero n below = refl
   entries-set (m ∷ maps) (suc i) n below = entries-set maps i n (omega arith)
 
-  pub entries-set_other : (maps : List (BTreeMap (List ℕ) X)) (i j : ℕ) (n : BTreeMap (List ℕ) X) → j ≢ i → entries_at (slice_set maps i n) j ≡ entries_at maps j
+  pub entries-set_other : (maps : List (KeyMap X)) (i j : ℕ) (n : KeyMap X) → j ≢ i → entries_at (slice_set maps i n) j ≡ entries_at maps j
   entries-set_other [] i j n other = refl
   entries-set_other (m ∷ maps) zero zero n other = absurd (other refl)
   entries-set_other (m ∷ maps) zero (suc j) n other = refl
@@ -34,7 +34,7 @@ on_err (Ok x) p = tt
 on_err (Err e) p = p
 
 -- the map at the slot of k has w at k, and at other keys what it had before
-module _ (maps : List (BTreeMap (List ℕ) Value)) (i : ℕ) (m n : BTreeMap (List ℕ) Value) (k : List ℕ) (w : Option Value)
+module _ (maps : List (KeyMap Value)) (i : ℕ) (m n : KeyMap Value) (k : List ℕ) (w : Option Value)
     (size : length maps ≡ 16384) (placed : ArePlaced maps) (small : i < 16384) (at : m ≡ slice_index_or maps i m) (slot : i ≡ hash_slot k)
     (updates : (q : List ℕ) → lookup (is_key q) n.entries ≡ cond (is_key k q) w (lookup (is_key q) m.entries)) where
   found_there : (q : List ℕ) → found_at (slice_set maps i n) i q ≡ cond (is_key k q) w (found_at maps i q)
@@ -74,7 +74,7 @@ module _ (maps : List (BTreeMap (List ℕ) Value)) (i : ℕ) (m n : BTreeMap (Li
   contents_changed = same_keyspace _ _ (λ q. get_at_changed q ∙ sym (get_changed (contents_of maps) k w q))
 
 -- the map at an index is replaced by one with the same entries
-module _ (maps : List (BTreeMap (List ℕ) Value)) (i : ℕ) (m n : BTreeMap (List ℕ) Value)
+module _ (maps : List (KeyMap Value)) (i : ℕ) (m n : KeyMap Value)
     (size : length maps ≡ 16384) (small : i < 16384) (at : m ≡ slice_index_or maps i m) (same : n.entries ≡ m.entries) where
   entries-kept : (j : ℕ) → entries_at (slice_set maps i n) j ≡ entries_at maps j
   entries-kept j = elim (eqb_tells j i) [
@@ -90,5 +90,5 @@ module _ (maps : List (BTreeMap (List ℕ) Value)) (i : ℕ) (m n : BTreeMap (Li
       get_placed (slice_set maps i n) q (placed_kept placed) ∙ ap (lookup (is_key q)) (entries-kept (hash_slot q)) ∙ sym (get_placed maps q placed))
 
 -- the length stays
-pub length_changed : (maps : List (BTreeMap (List ℕ) Value)) (i : ℕ) (n : BTreeMap (List ℕ) Value) → length (slice_set maps i n) ≡ length maps
+pub length_changed : (maps : List (KeyMap Value)) (i : ℕ) (n : KeyMap Value) → length (slice_set maps i n) ≡ length maps
 length_changed maps i n = simp length-set

@@ -1,11 +1,11 @@
 -- The map of a slot is emptied.
 use Rattle.std.proofs.Common.{◌≡◌, ℕ, List, [], length, ◌<◌, true, false, not, cond, refl, sym, ap, ◌∙◌, arith}
-use Rattle.std.specs.BTreeMap.{BTreeMap}
 use Rattle.std.specs.Cmp.Lexicographic.{slice_cmp}
 use Rattle.std.specs.FinMap as map
 use Rattle.std.specs.List.{slice_set}
 use Rattle.std.specs.Ordering.{nat_cmp}
 use Rattle.std.specs.Prelude.{Bool, None}
+use Rattle.key_map.specs.KeyMap.{KeyMap}
 use Rattle.keyspace.proofs.Applied.{same as same_keyspace}
 use Rattle.keyspace.proofs.Parts.{get_part, get_left, part_again, parts_make_the_keyspace}
 use Rattle.keyspace.specs.Keyspace.{Keyspace, keyspace_of}
@@ -32,7 +32,7 @@ part_of_rest takes m = same_keyspace _ _ (λ q.
     ] refl
     ∙ sym (map.get-empty (slice_cmp nat_cmp) q))
 
-module _ (maps : List (BTreeMap (List ℕ) Value)) (i slot : ℕ) (n : BTreeMap (List ℕ) Value) (old : Keyspace)
+module _ (maps : List (KeyMap Value)) (i slot : ℕ) (n : KeyMap Value) (old : Keyspace)
     (size : length maps ≡ 16384) (placed : ArePlaced maps) (small : i < 16384) (is_slot : i ≡ slot) (view : contents_of maps ≡ old) (empty : n.entries ≡ []) where
   nothing : keyspace_of n.entries ≡ map.empty
   nothing = ap map.from_entries empty

@@ -2,11 +2,11 @@
 use Rattle.std.proofs.Common.{◌≡◌, ◌≢◌, ℕ, List, length, ◌<◌, arith, inl, inr, false, not, cond, nat_eq, sym, ap, ◌∙◌, OnOk, OnErr}
 use Rattle.std.proofs.lemmas.Bool.Decides.{eqb_tells}
 use Rattle.std.proofs.lemmas.Cmp.{nat_list_cmp_total}
-use Rattle.std.specs.BTreeMap.{BTreeMap}
 use Rattle.std.specs.FinMap as map
 use Rattle.std.specs.List.{slice_index_or, slice_set}
 use Rattle.std.specs.Map.{lookup}
 use Rattle.std.specs.Prelude.{Result, Ok, Err, None}
+use Rattle.key_map.specs.KeyMap.{KeyMap}
 use Rattle.key_slot.specs.Slot.{hash_slot}
 use Rattle.keyspace.proofs.Applied.{is_key}
 use Rattle.keyspace.proofs.Applied.{same as same_keyspace}
@@ -23,11 +23,11 @@ use Rattle.slot_store.proofs.Placed.{contents_of, get_placed}
 use Rattle.slot_store.proofs.SlotEntries.{get_in_slot}
 
 -- the map of a slot is what the store has in the slot
-pub part_is : (maps : List (BTreeMap (List ℕ) Value)) (i : ℕ) (m : BTreeMap (List ℕ) Value) → length maps ≡ 16384 → ArePlaced maps → i < 16384 → m ≡ slice_index_or maps i m → keyspace_of m.entries ≡ in_slot i (contents_of maps)
+pub part_is : (maps : List (KeyMap Value)) (i : ℕ) (m : KeyMap Value) → length maps ≡ 16384 → ArePlaced maps → i < 16384 → m ≡ slice_index_or maps i m → keyspace_of m.entries ≡ in_slot i (contents_of maps)
 part_is maps i m size placed small at = same_keyspace _ _ (λ q. get_seen nat_list_cmp_total m.entries q ∙ sym (get_in_slot maps i m size placed small at q))
 
 -- the map of a slot is replaced by one that has no keys of other slots
-module _ (maps : List (BTreeMap (List ℕ) Value)) (i : ℕ) (n : BTreeMap (List ℕ) Value)
+module _ (maps : List (KeyMap Value)) (i : ℕ) (n : KeyMap Value)
     (placed : ArePlaced maps) (below : i < length maps) (stays : LiesInSlot i (keyspace_of n.entries)) where
   found_there : (q : List ℕ) → found_at (slice_set maps i n) i q ≡ map.get (keyspace_of n.entries) q
   found_there q = ap (lookup (is_key q)) (entries-set maps i n below) ∙ sym (get_seen nat_list_cmp_total n.entries q)
@@ -68,7 +68,7 @@ module _ (maps : List (BTreeMap (List ℕ) Value)) (i : ℕ) (n : BTreeMap (List
       ∙ sym (get_part (λ key. not (is_in_slot i key)) (contents_of maps) q))
 
 -- the plan is committed on the map, or refused
-module _ {T E : Type 0} (maps : List (BTreeMap (List ℕ) Value)) (i slot : ℕ) (m n : BTreeMap (List ℕ) Value) (plan : Plan) (old : Keyspace) (result : Result T E)
+module _ {T E : Type 0} (maps : List (KeyMap Value)) (i slot : ℕ) (m n : KeyMap Value) (plan : Plan) (old : Keyspace) (result : Result T E)
     (size : length maps ≡ 16384) (placed : ArePlaced maps) (small : i < 16384) (at : m ≡ slice_index_or maps i m) (is_slot : i ≡ slot) (view : contents_of maps ≡ old)
     (lies : LiesInSlot slot (committed (in_slot slot old) plan))
     (ok : OnOk result (keyspace_of n.entries ≡ committed (keyspace_of m.entries) plan)) (err : OnErr result (keyspace_of n.entries ≡ keyspace_of m.entries)) where

@@ -3,7 +3,6 @@ use Rattle.std.proofs.Common.{◌≡◌, ℕ, List, [], ◌∷◌, length, ◌<�
 use Rattle.std.proofs.lemmas.Bool.Decides.{eqb_tells}
 use Rattle.std.proofs.lemmas.Cmp.{nat_list_cmp_total}
 use Rattle.std.proofs.lemmas.Map.Lookups.{exact_bytes}
-use Rattle.std.specs.BTreeMap.{BTreeMap, keys, IsOrdered}
 use Rattle.std.specs.Cmp.Lexicographic.{slice_cmp}
 use Rattle.std.specs.FinMap as map
 use Rattle.std.specs.FinMap.Entries.{is_sorted, below_all, same_entries}
@@ -13,6 +12,7 @@ use Rattle.std.specs.Map.{lookup, keys_of}
 use Rattle.std.specs.Ordering.{nat_cmp, is_lt}
 use Rattle.std.specs.Prelude.{None, ◌&&◌}
 use Rattle.std.specs.declared.cmp.Ordering.TheVariants.{Less}
+use Rattle.key_map.specs.KeyMap.{KeyMap, keys, IsOrdered}
 use Rattle.key_slot.specs.Slot.{hash_slot}
 use Rattle.keyspace.proofs.Applied.{is_key}
 use Rattle.keyspace.proofs.Maps.{get_seen}
@@ -36,7 +36,7 @@ unfolding IsStrictlySortedBy
 rises [] ordered = tt
 rises (e ∷ es) ordered = both _ _ (rises_from e.0 es ordered.0) (rises es ordered.1)
 
-module _ (maps : List (BTreeMap (List ℕ) Value)) (i : ℕ) (m : BTreeMap (List ℕ) Value) (size : length maps ≡ 16384) (placed : ArePlaced maps) (small : i < 16384) (at : m ≡ slice_index_or maps i m) where
+module _ (maps : List (KeyMap Value)) (i : ℕ) (m : KeyMap Value) (size : length maps ≡ 16384) (placed : ArePlaced maps) (small : i < 16384) (at : m ≡ slice_index_or maps i m) where
   -- a key has the same value there
   pub get_in_slot : (q : List ℕ) → map.get (in_slot i (contents_of maps)) q ≡ lookup (is_key q) m.entries
   get_in_slot q =
@@ -47,13 +47,13 @@ module _ (maps : List (BTreeMap (List ℕ) Value)) (i : ℕ) (m : BTreeMap (List
       ]
       ∙ ap (lookup (is_key q)) (entries-index maps i m (omega arith) at)
 
-  pub entries_in_slot : IsOrdered (slice_cmp nat_cmp) m → m.entries ≡ map.entries (in_slot i (contents_of maps))
+  pub entries_in_slot : IsOrdered m → m.entries ≡ map.entries (in_slot i (contents_of maps))
   entries_in_slot ordered =
       same_entries (slice_cmp nat_cmp) nat_list_cmp_total exact_bytes m.entries (map.entries (in_slot i (contents_of maps))) (rises m.entries ordered) (map.entries_sorted (in_slot i (contents_of maps)))
       (λ q. sym (map.get-from_entries nat_list_cmp_total m.entries q) ∙ get_seen nat_list_cmp_total m.entries q ∙ sym (get_in_slot q) ∙ map.get-entries _ q)
 
-  pub len_in_slot : IsOrdered (slice_cmp nat_cmp) m → length m.entries ≡ map.len (in_slot i (contents_of maps))
+  pub len_in_slot : IsOrdered m → length m.entries ≡ map.len (in_slot i (contents_of maps))
   len_in_slot ordered = ap length (entries_in_slot ordered) ∙ sym (map.len-entries _)
 
-  pub keys_in_slot : IsOrdered (slice_cmp nat_cmp) m → keys m ≡ map.keys (in_slot i (contents_of maps))
+  pub keys_in_slot : IsOrdered m → keys m ≡ map.keys (in_slot i (contents_of maps))
   keys_in_slot ordered = ap keys_of (entries_in_slot ordered)

@@ -1,11 +1,11 @@
 -- The value of one key is changed in the map of its slot.
 use Rattle.std.proofs.Common.{◌≡◌, ℕ, List, cond, sym, ap, ◌∙◌}
 use Rattle.std.proofs.lemmas.Cmp.{nat_list_cmp_total, eq_by_cmp_equiv}
-use Rattle.std.specs.BTreeMap.{BTreeMap}
 use Rattle.std.specs.FinMap as map
 use Rattle.std.specs.List.{slice_index_or, slice_set}
 use Rattle.std.specs.Map.{lookup}
 use Rattle.std.specs.Prelude.{◌<◌, length, Option, Result, Ok, Err, OnOk, OnErr}
+use Rattle.key_map.specs.KeyMap.{KeyMap}
 use Rattle.key_slot.specs.Slot.{hash_slot}
 use Rattle.keyspace.proofs.Applied.{is_key, get_changed}
 use Rattle.keyspace.proofs.InPlace.{changed_same, get_changed_itself}
@@ -16,7 +16,7 @@ use Rattle.slot_store.specs.Maps.{ArePlaced}
 use Rattle.slot_store.proofs.Changed.{contents_changed}
 use Rattle.slot_store.proofs.Placed.{contents_of, get_at}
 
-module _ {T E : Type 0} (maps : List (BTreeMap (List ℕ) Value)) (i : ℕ) (m n : BTreeMap (List ℕ) Value) (k : List ℕ) (left : Option Value → Option Value) (result : Result T E)
+module _ {T E : Type 0} (maps : List (KeyMap Value)) (i : ℕ) (m n : KeyMap Value) (k : List ℕ) (left : Option Value → Option Value) (result : Result T E)
     (size : length maps ≡ 16384) (placed : ArePlaced maps) (small : i < 16384) (at : m ≡ slice_index_or maps i m) (slot : i ≡ hash_slot k)
     (ok : OnOk result (keyspace_of n.entries ≡ changed (keyspace_of m.entries) k (left (map.get (keyspace_of m.entries) k)))) (err : OnErr result (keyspace_of n.entries ≡ keyspace_of m.entries)) where
   abbrev pub after : Option Value

@@ -1,4 +1,4 @@
-//! A store with a map for each slot: a look-up walks a small tree, and the keys of a slot are counted without a scan.
+//! A store with a map for each slot: a look-up goes over few keys, and the keys of a slot are counted without a scan.
 #![tactic(auto)]
 
 mod slot_keys;

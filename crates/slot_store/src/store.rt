@@ -1,9 +1,7 @@
 //! A store with a map for each slot.
 ghost use Rattle.std.specs.Prelude.{◌≡◌, IfOk, take};
-ghost use Rattle.std.specs.BTreeMap.{keys, IsOrdered};
-ghost use Rattle.std.specs.Cmp.Lexicographic.{slice_cmp};
 ghost use Rattle.std.specs.FinMap as map;
-ghost use Rattle.std.specs.Ordering.{nat_cmp};
+ghost use Rattle.key_map.specs.KeyMap.{keys, IsOrdered};
 
 use crate::slot_keys::SlotKeys;
 use crate::slot_parts::SlotParts;
@@ -13,7 +11,7 @@ use keyspace::{FieldChanges, Plan, Store, TreeStore, Value, append_in, change_fi
 use std::alloc::{AllocError, Global};
 use std::marker::Model;
 
-/// Keys and values, those of each slot in a balanced tree of their own, in the byte order of the keys.
+/// Keys and values, those of each slot in a map of their own, in the byte order of the keys.
 #[derive(Drop)]
 pub struct SlotStore {
     // One map for each slot, at the slot's number. A key lies in the map of its slot.
@@ -116,7 +114,7 @@ impl SlotParts for SlotStore {
 // The first keys of the map, at most `count`, which are in order.
 fn first_keys(alloc: Global, map: &TreeStore, count: usize) -> Result<Vec<ByteString>, AllocError>
     ensures found { IfOk result (λ found. found.items ≡ take count (keys map.now)) }
-    ensures ordered { IsOrdered (slice_cmp nat_cmp) map.now }
+    ensures ordered { IsOrdered map.now }
 {
     let mut found = Vec::with_capacity(alloc, count.min(map.len()))?;
     for key in map.keys().take(count) {

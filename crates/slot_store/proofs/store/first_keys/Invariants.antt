@@ -1,5 +1,5 @@
 use Rattle.std.proofs.Common.{◌≡◌, ◌++◌, take}
-use Rattle.std.specs.BTreeMap.{keys}
+use Rattle.key_map.specs.KeyMap.{keys}
 use Rattle.slot_store.proofs.store.first_keys.Given as goal
 
 -- the keys so far and those that are left

@@ -27,10 +27,10 @@ returns-in_err-_old-clause-over c = λ there.
 pub invariant_of-self-2 : goal.invariant_of-self-2
 invariant_of-self-2 c = (
   length_changed c.self.inside.maps.items _ _ ∙ c.self.invariant.0,
-  placed_changed c.self.inside.maps.items _ c.index_mut.result.now _ c.args.key (Some c.args.value) c.self.invariant.0 c.self.invariant.1 c.index.ensures.below c.index_mut.ensures.value (c.index.ensures.same ∙ c.slot-slot.ensures.value ∙ ap hash_slot c.as_slice.ensures) c.in_ok-_old.ensures.updates.0,
+  placed_changed c.self.inside.maps.items _ c.index_mut.result.now _ c.args.key (Some c.args.value) c.self.invariant.0 c.self.invariant.1 c.index.ensures.below c.index_mut.ensures.value (c.index.ensures.same ∙ c.slot-slot.ensures.value ∙ ap hash_slot c.as_slice.ensures) c.in_ok-_old.ensures.updates,
 )
 
 pub returns-clause-ok : goal.returns-clause-ok
 returns-clause-ok c =
-    contents_changed c.self.inside.maps.items _ c.index_mut.result.now _ c.args.key (Some c.args.value) c.self.invariant.0 c.self.invariant.1 c.index.ensures.below c.index_mut.ensures.value (c.index.ensures.same ∙ c.slot-slot.ensures.value ∙ ap hash_slot c.as_slice.ensures) c.in_ok-_old.ensures.updates.0
+    contents_changed c.self.inside.maps.items _ c.index_mut.result.now _ c.args.key (Some c.args.value) c.self.invariant.0 c.self.invariant.1 c.index.ensures.below c.index_mut.ensures.value (c.index.ensures.same ∙ c.slot-slot.ensures.value ∙ ap hash_slot c.as_slice.ensures) c.in_ok-_old.ensures.updates
     ∙ ap (λ m. map.insert m c.args.key c.args.value) c.self.view_is
