@@ -5,6 +5,8 @@ clients do with the owners and moves of slots. Each answer that was printed has 
 doesn't, `Differs` says so.
 """
 
+from __future__ import annotations
+
 import binascii
 import json
 from dataclasses import dataclass, field
@@ -36,6 +38,8 @@ class Arrow:
     sent_in: int
     # None where it never arrived.
     came_in: int | None = None
+    # Of a message its body, and the key or the claim that it carries.
+    content: tuple = ()
 
 
 @dataclass
