@@ -21,6 +21,7 @@ SCRIPTS = {
     "tests/refused_moves": "node_trials",
     "tests/refused_calls": "rcluster",
     "tests/simulated/run": "rcluster",
+    "tests/drawings/run": "rcluster",
     "tests/cases/run": "rcluster",
     "tests/on_a_socket/run": "rcluster",
 }
