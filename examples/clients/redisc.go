@@ -38,6 +38,9 @@ func main() {
 	if err != nil {
 		log.Fatal(err)
 	}
+	if err := cluster.Refresh(); err != nil {
+		log.Fatal(err)
+	}
 	for round := 1; round <= rounds; round++ {
 		for user := 0; user < 8; user++ {
 			served("INCR", fmt.Sprintf("{redisc:%d}:counter", user))
