@@ -8,7 +8,7 @@ use std::alloc::{AllocError, Global};
 use std::marker::Model;
 
 /// A hash in a block of its own: what holds it takes no more room than a pointer.
-#[derive(Drop)]
+#[derive(Debug, Drop)]
 pub struct BoxedHash {
     hash: Box<Hash>,
 }

@@ -12,7 +12,7 @@ use indexmap::IndexMap;
 use std::alloc::{AllocError, Global};
 use std::mem;
 
-/// How many fields lie in a list at most: a walk over so many costs no more than a look into a map.
+/// How many fields lie in a list at most. A walk over so many costs about as much as a look into a map.
 const MOST_FEW: usize = 8;
 
 /// Pairs in the order in which their fields came. Entries that became a map stay one.
@@ -72,7 +72,7 @@ impl Entries {
         ensures pairs { pairs_of self.new ≡ pairs_of self.old }
         ensures ready { OnOk result (IsReadyFor self.new changes.now) }
     {
-        // So few changes and pairs are counted in 64 bits.
+        // The pairs and so few changes are counted in 64 bits together.
         prove!(changes.len() < 1 << 60);
         match self {
             Entries::Few(pairs) => {

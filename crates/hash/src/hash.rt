@@ -11,6 +11,7 @@ use crate::extent::{Extent, extent_after};
 use crate::iter::Iter;
 use byte_string::ByteString;
 use std::alloc::{AllocError, Global};
+use std::fmt;
 use std::marker::Model;
 
 /// Fields with their values, in the order in which the fields came. No field stands twice.
@@ -143,5 +144,11 @@ impl Clone for Hash {
             entries: self.entries.clone()?,
             size: self.size,
         })
+    }
+}
+
+impl fmt::Debug for Hash {
+    fn fmt<W: fmt::Write>(&self, f: &mut fmt::Formatter<W>) -> fmt::Result {
+        f.debug_map().entries(self.iter()).finish()
     }
 }
