@@ -7,7 +7,8 @@ use Rattle.std.specs.Cmp.Lexicographic.{pointwise, nat_list_eq_equiv}
 use Rattle.std.specs.List.{AllByRecursion, IsDistinct, list_any, slice_get}
 use Rattle.std.specs.Map.{keys_of}
 use Rattle.std.specs.Prelude.{count_by, is_some, nat_lt}
-use Rattle.hash.proofs.Foreseen.{distinct-changed, length-changed, value-changed}
+use Rattle.hash.proofs.DistinctLemmas.{distinct-changed}
+use Rattle.hash.proofs.Foreseen.{length-changed, value-changed}
 use Rattle.hash.specs.Pairs.{Pairs, Changes, HasDistinctFields, field_changed, fields_changed, value_of}
 use Rattle.hash.specs.Sized.{count_of}
 use Rattle.indexmap.specs.IndexMap.{insert_entry}
