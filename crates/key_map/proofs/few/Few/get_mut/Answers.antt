@@ -1,6 +1,4 @@
-use Rattle.std.proofs.Common.{refl, sym, ap, ◌∙◌, arith}
-use Rattle.std.specs.List.{slice_get}
-use Rattle.std.specs.Map.{values_of}
+use Rattle.std.proofs.Common.{refl, sym, ◌∙◌, arith}
 use Rattle.key_map.proofs.Places.{found, missing, value_at, writes_none}
 use Rattle.key_map.proofs.few.Few.get_mut.Goals as goal
 

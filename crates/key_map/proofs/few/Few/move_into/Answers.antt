@@ -1,4 +1,4 @@
-use Rattle.std.proofs.Common.{ap, sym, ◌∙◌}
+use Rattle.std.proofs.Common.{◌∙◌}
 use Rattle.key_map.proofs.Places.{moved}
 use Rattle.key_map.proofs.few.Few.move_into.Goals as goal
 

@@ -1,4 +1,4 @@
-use Rattle.std.proofs.Common.{refl, sym, ap, arith}
+use Rattle.std.proofs.Common.{refl, ap, arith}
 use Rattle.std.specs.Vec.{with_item}
 use Rattle.key_map.specs.declared.few.Few.{Few}
 use Rattle.key_map.proofs.Places.{pair_at}
