@@ -8,6 +8,7 @@ mod cells;
 mod clusters;
 mod conversation;
 mod gates;
+mod growth;
 mod load;
 mod moves;
 mod refused;

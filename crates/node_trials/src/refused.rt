@@ -3,6 +3,7 @@
 
 use crate::clusters::three_masters;
 use crate::conversation::{Client, hold};
+use crate::growth::{hash_is_kept, map_is_kept};
 use crate::second_tries::{buffer_is_kept, reader_loses_nothing};
 use crate::telling::tell;
 use anyhow::{Result, bail};
@@ -56,6 +57,12 @@ fn other_answer<R: Wait + AllocGlobal + Copy + Drop>(rt: R) -> Result<Option<Str
     }
     if matches!(buffer_is_kept(rt.alloc()), Ok(false)) {
         bail!("a reply that was refused changed a buffer");
+    }
+    if matches!(hash_is_kept(rt.alloc()), Ok(false)) {
+        bail!("a field that was refused changed a hash");
+    }
+    if matches!(map_is_kept(rt.alloc()), Ok(false)) {
+        bail!("a key that was refused changed a map");
     }
     let answers = answers(rt)?;
     if may_be_read(answers.as_slice()) {
