@@ -10,7 +10,7 @@ import socket
 import clusters
 import program
 from clusters import node_id, ports_of
-from wire import PING, PONG, talk
+from wire import PING, PONG, array, bulk, number, spelled, talk
 
 SERVE = ("serve", "--config", program.FILE)
 
@@ -34,6 +34,7 @@ def faulty_clusters():
 
 def play(judge):
     play_faulty_files(judge)
+    play_masters(judge)
     play_taken_ports(judge)
     play_words(judge)
 
@@ -49,6 +50,36 @@ def play_faulty_files(judge):
         judge_sentence(judge, what, error, program.FILE.encode(), b"(%s)" % code.encode())
         if sentence:
             judge.equal(f"{what}: the sentence", error.decode(), f"rcluster: {program.FILE}: {sentence} ({code})\n")
+        judge.equal(f"{what}: checked alone", program.run(*SERVE, "--check", text=text), (status, output, error))
+    sound = json.dumps(clusters.six_nodes())
+    judge.equal("a sound file, checked alone", program.run(*SERVE, "--check", text=sound), (0, b"", b""))
+
+
+def play_masters(judge):
+    """Clusters without a file."""
+    for count in (1, 3, 16):
+        port = free_row(count)
+        with program.Server({"nodes": range(count)}, source=("--masters", str(count), "--port", str(port))) as server:
+            ports = range(port, port + count)
+            judge.equal(f"{count} masters: the lines of the nodes", server.lines, b"".join(b"node %d 127.0.0.1:%d\n" % it for it in enumerate(ports)))
+            bounds = [(2 * 16384 * it + count) // (2 * count) for it in range(count + 1)]
+            slots = array(
+                *(
+                    array(number(bounds[it]), number(bounds[it + 1] - 1), array(bulk(b"127.0.0.1"), number(port + it), bulk(node_id(it).encode())))
+                    for it in range(count)
+                )
+            )
+            judge.equal(f"{count} masters: the slots", talk(ports[-1], spelled(b"CLUSTER", b"SLOTS")), slots)
+    judge.equal("masters, checked alone", program.run("serve", "--masters", "16", "--check"), (0, b"", b""))
+    judge.equal("masters up to the last port", program.run("serve", "--masters", "3", "--port", "65533", "--check"), (0, b"", b""))
+
+
+def free_row(count):
+    """The first of so many free ports that follow one another."""
+    for port in range(20000, 30000, count):
+        if all(clusters.is_free(it) for it in range(port, port + count)):
+            return port
+    raise OSError("no free ports")
 
 
 def play_taken_ports(judge):
@@ -87,6 +118,14 @@ def faulty_words():
     yield ("serve", "--config"), "a value is required for '--config <FILE>'"
     yield ("serve", "--colour", "red"), "unexpected argument '--colour'"
     yield ("stop",), "unrecognized subcommand 'stop'"
+    yield (*SERVE, "--masters", "3"), "cannot be used with"
+    yield ("serve", "--port", "7000"), "--masters <M>"
+    yield (*SERVE, "--port", "7000"), "cannot be used with '--port <P>'"
+    for count in ("0", "17", "x"):
+        yield ("serve", "--masters", count), f"invalid value '{count}' for '--masters <M>'"
+    for port in ("0", "65536"):
+        yield ("serve", "--masters", "1", "--port", port), f"invalid value '{port}' for '--port <P>'"
+    yield ("serve", "--masters", "3", "--port", "65534"), "the last one is above 65535"
 
 
 def play_words(judge):
@@ -99,5 +138,5 @@ def play_words(judge):
     judge.equal("--version", program.run("--version"), (0, b"rcluster 0.1.0\n", b""))
     status, output, error = program.run("serve", "--help")
     judge.equal("serve --help: status, and nothing on standard error", (status, error), (0, b""))
-    for option in (b"--config <FILE>", b"--ticks <N>", b"--journal"):
+    for option in (b"--config <FILE>", b"--masters <M>", b"--port <P>", b"--check", b"--ticks <N>", b"--journal"):
         judge.within(f"serve --help tells {option.decode()}", option, output)

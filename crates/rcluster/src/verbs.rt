@@ -1,5 +1,7 @@
 //! The verbs of the command line, and what stands behind each.
 
+use crate::masters::{LAST_PORT, MOST_MASTERS};
+
 /// How often a call begins again for TRYAGAIN where nothing is said.
 pub const FEW_TRIES: u64 = 100;
 
@@ -12,6 +14,9 @@ const MOST_REPETITIONS: u64 = 1_000_000;
 
 // After how many ticks the program may be asked to end.
 const MOST_TICKS: u64 = 1_000_000;
+
+/// The port of the first master where nothing is said.
+pub const FIRST_PORT: u64 = 7000;
 
 /// The first word of a command line, which says what the program is asked to do.
 pub struct Verb {
@@ -35,8 +40,20 @@ pub struct Argument {
 pub enum Kind {
     /// A text, which has to be there.
     Text,
+    /// A text, which has to be there unless the option of this name is. Both exclude each other.
+    TextOr(&'static str),
     /// A number from `least` to `most`.
-    Number { least: u64, most: u64 },
+    Number {
+        least: u64,
+        most: u64,
+    },
+    /// The same, beside the one option and not beside the other.
+    NumberBeside {
+        one: &'static str,
+        other: &'static str,
+        least: u64,
+        most: u64,
+    },
     /// Nothing: it is there or not.
     Flag,
     /// One word or more, with no name in front.
@@ -48,7 +65,7 @@ pub static VERBS: [Verb; 4] = [
     Verb {
         name: "serve",
         about: "Serves all nodes of a cluster, each at its own address",
-        arguments: &[CONFIG, TICKS, JOURNAL],
+        arguments: &[CONFIG_OR_MASTERS, MASTERS, PORT, CHECK, TICKS, JOURNAL],
     },
     Verb {
         name: "simulate",
@@ -74,6 +91,42 @@ const CONFIG: Argument = Argument {
     kind: Kind::Text,
 };
 
+const CONFIG_OR_MASTERS: Argument = Argument {
+    name: "config",
+    value_name: "FILE",
+    help: "The cluster's configuration, a JSON file; without it --masters is wanted",
+    kind: Kind::TextOr("masters"),
+};
+
+const MASTERS: Argument = Argument {
+    name: "masters",
+    value_name: "M",
+    help: "Serves M masters without a file, 1 to 16, which share the slots evenly; the hosts are 127.0.0.1",
+    kind: Kind::Number {
+        least: 1,
+        most: MOST_MASTERS,
+    },
+};
+
+const PORT: Argument = Argument {
+    name: "port",
+    value_name: "P",
+    help: "The port of the first of these masters, from which the others rise; 7000 if missing",
+    kind: Kind::NumberBeside {
+        one: "masters",
+        other: "config",
+        least: 1,
+        most: LAST_PORT,
+    },
+};
+
+const CHECK: Argument = Argument {
+    name: "check",
+    value_name: "",
+    help: "Looks for faults of the cluster alone: prints nothing where there is none, and else what serving prints",
+    kind: Kind::Flag,
+};
+
 const TICKS: Argument = Argument {
     name: "ticks",
     value_name: "N",
@@ -94,7 +147,7 @@ const JOURNAL: Argument = Argument {
 const SCRIPT: Argument = Argument {
     name: "script",
     value_name: "FILE",
-    help: "The script, one step a line: admin N WORDS, tick N, deliver M, stop N, call C N WORDS, carry C, return C, cut C or late C",
+    help: "The script, one step a line: admin N WORDS, tick N, deliver M, stop N, call K WORDS, carry K, return K, cut K or late K",
     kind: Kind::Text,
 };
 
