@@ -140,3 +140,14 @@ def play_words(judge):
     judge.equal("serve --help: status, and nothing on standard error", (status, error), (0, b""))
     for option in (b"--config <FILE>", b"--masters <M>", b"--port <P>", b"--check", b"--ticks <N>", b"--journal"):
         judge.within(f"serve --help tells {option.decode()}", option, output)
+    for verb, codes in [
+        ("serve", ["F1", "F2", "F3", *(f"K{it}" for it in range(1, 9))]),
+        ("simulate", ["F1", "K1 to K8", "S and N", "F3"]),
+        ("cli", ["F3", *(f"C{it}" for it in range(1, 8))]),
+        ("reshard", ["F3", "V1", "V2", "V3"]),
+    ]:
+        status, output, _ = program.run(verb, "--help")
+        listed = output.decode().partition("Codes:\n")[2]
+        judge.equal(f"{verb} --help: status", status, 0)
+        judge.equal(f"{verb} --help: codes that it doesn't tell", [it for it in (*codes, "F4") if f"  {it}  " not in listed], [])
+        judge.within(f"{verb} --help tells the statuses", "Exit status:\n  0  ", output.decode())

@@ -1,7 +1,7 @@
 //! The command line.
 
 use crate::source::Source;
-use crate::verbs::{Argument, FEW_REPETITIONS, FEW_TRIES, FIRST_PORT, Kind, VERBS, Verb};
+use crate::verbs::{AFTER, Argument, FEW_REPETITIONS, FEW_TRIES, FIRST_PORT, Kind, VERBS, Verb};
 use clap::builder::ValueParser;
 use clap::{Arg, ArgAction, ArgMatches, Command, Error};
 use std::alloc::{AllocError, Global};
@@ -66,6 +66,7 @@ fn program<'a>(alloc: Global) -> Result<Command<'a>, AllocError> {
     Command::new(alloc, "rcluster")
         .about("A Redis Cluster in one process")
         .version(VERSION)
+        .after_help(AFTER)
         .subcommand_required(true)
         .arg_required_else_help(true)
         .subcommands(commands)
@@ -81,7 +82,9 @@ fn commands_of<'a>(alloc: Global, verbs: &[Verb]) -> Result<Vec<Command<'a>>, Al
 }
 
 fn command_of<'a>(alloc: Global, verb: &Verb) -> Result<Command<'a>, AllocError> {
-    let mut command = Command::new(alloc, verb.name).about(verb.about);
+    let mut command = Command::new(alloc, verb.name)
+        .about(verb.about)
+        .after_help(verb.after);
     for argument in verb.arguments {
         command = command.arg(arg_of(alloc, argument)?)?;
     }

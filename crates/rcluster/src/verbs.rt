@@ -25,6 +25,8 @@ pub struct Verb {
     pub about: &'static str,
     /// What stands behind the verb, in the order of its help.
     pub arguments: &'static [Argument],
+    /// What its help says at the end.
+    pub after: &'static str,
 }
 
 /// An option of a verb, or the words that stand behind all options.
@@ -66,21 +68,25 @@ pub static VERBS: [Verb; 4] = [
         name: "serve",
         about: "Serves all nodes of a cluster, each at its own address",
         arguments: &[CONFIG_OR_MASTERS, MASTERS, PORT, CHECK, TICKS, JOURNAL],
+        after: AFTER_SERVE,
     },
     Verb {
         name: "simulate",
         about: "Plays a script in a cluster without sockets, and prints what comes out of each step",
         arguments: &[CONFIG, SCRIPT],
+        after: AFTER_SIMULATE,
     },
     Verb {
         name: "cli",
         about: "Has the node of a command's keys execute the command, and prints the reply",
         arguments: &[ADDRESS, TRIES, WORDS],
+        after: AFTER_CLI,
     },
     Verb {
         name: "reshard",
         about: "Moves slots from one master to another, and prints a line for each slot",
         arguments: &[ADDRESS, FROM, TO, SLOTS, LIMIT],
+        after: AFTER_RESHARD,
     },
 ];
 
@@ -161,7 +167,7 @@ const ADDRESS: Argument = Argument {
 const TRIES: Argument = Argument {
     name: "try",
     value_name: "N",
-    help: "How often the call begins again for TRYAGAIN, 0 to 1000000; 100 if missing",
+    help: "How often the call begins again for TRYAGAIN, 0 to 1000000, 100 if missing; then it ends with C3",
     kind: Kind::Number {
         least: 0,
         most: MOST_TRIES,
@@ -199,9 +205,76 @@ const SLOTS: Argument = Argument {
 const LIMIT: Argument = Argument {
     name: "limit",
     value_name: "N",
-    help: "How often a node is asked the same again, 0 to 1000000; 1000 if missing",
+    help: "How often a node is asked the same again, 0 to 1000000, 1000 if missing; then the run ends with V1",
     kind: Kind::Number {
         least: 0,
         most: MOST_REPETITIONS,
     },
 };
+
+/// What the help of the program says at the end.
+pub const AFTER: &str = "\
+Exit status:\n  \
+0  what was asked is done\n  \
+1  a fault: standard output gets its code, as `fault C5`, and standard error a sentence\n  \
+2  the words are no command line of this program\n\
+The help of each verb lists its codes.";
+
+const AFTER_SERVE: &str = "\
+Exit status:\n  \
+0  the ticks of --ticks are over, or --check found no fault\n  \
+1  a fault, whose code is printed as `fault K3`\n  \
+2  the words are no command line of this program\n\n\
+Codes:\n  \
+F1  the file can't be read\n  \
+K1  it is no JSON text, or a member is missing, strange or of the wrong kind\n  \
+K2  an id isn't 40 lowercase hexadecimal digits, or the ids don't rise\n  \
+K3  a range of slots is none, or a slot is listed twice\n  \
+K4  replica_of names no master\n  \
+K5  no node votes, or a voter is unknown or stands twice\n  \
+K6  there are more than 16 nodes\n  \
+K7  an address stands twice\n  \
+K8  a time or a port is out of its range\n  \
+F2  an address can't be listened on\n  \
+F3  memory was refused, or a thread can't be started\n  \
+F4  the output can't be written, and so this code isn't either";
+
+const AFTER_SIMULATE: &str = "\
+Exit status:\n  \
+0  the script was played\n  \
+1  a fault, whose code is printed as `fault S3`\n  \
+2  the words are no command line of this program\n\n\
+Codes:\n  \
+F1        a file can't be read\n  \
+K1 to K8  the configuration describes no cluster; the help of serve lists them\n  \
+S and N   line N of the script, from 1 on, is no step; nothing was played\n  \
+F3        memory was refused\n  \
+F4        the output can't be written, and so this code isn't either";
+
+const AFTER_CLI: &str = "\
+Exit status:\n  \
+0  there is a reply, which may be an error reply\n  \
+1  a fault, whose code is printed as `fault C5`\n  \
+2  the words are no command line of this program\n\n\
+Codes:\n  \
+C1  the connection failed: whether the command was executed is unknown\n  \
+C2  the command was redirected too often, and was not executed\n  \
+C3  the nodes answered TRYAGAIN too often, and the command was not executed\n  \
+C4  memory was refused, and the command was not executed\n  \
+C5  a node can't be reached, and the command was not executed\n  \
+C6  a node answered as none does: whether the command was executed is unknown\n  \
+C7  CLUSTER, MIGRATE and ASKING are not sent\n  \
+F3  memory was refused before anything was sent\n  \
+F4  the output can't be written, and so this code isn't either";
+
+const AFTER_RESHARD: &str = "\
+Exit status:\n  \
+0  all slots are at their new master\n  \
+1  a fault, whose code is printed as `fault V1`; the same words may be given again\n  \
+2  the words are no command line of this program\n\n\
+Codes:\n  \
+V1  a node was asked the same again as often as --limit allows\n  \
+V2  a node can't be reached, or no master with slots has one of the ids\n  \
+V3  a node refused, or no next number of a move is left\n  \
+F3  memory was refused\n  \
+F4  the output can't be written, and so this code isn't either";
