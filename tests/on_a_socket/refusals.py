@@ -34,6 +34,7 @@ def faulty_clusters():
 
 def play(judge):
     play_faulty_files(judge)
+    play_scripts(judge)
     play_masters(judge)
     play_taken_ports(judge)
     play_words(judge)
@@ -53,6 +54,20 @@ def play_faulty_files(judge):
         judge.equal(f"{what}: checked alone", program.run(*SERVE, "--check", text=text), (status, output, error))
     sound = json.dumps(clusters.six_nodes())
     judge.equal("a sound file, checked alone", program.run(*SERVE, "--check", text=sound), (0, b"", b""))
+
+
+def play_scripts(judge):
+    """Lines that are no step, and can't be told by a case of tests/simulated."""
+    words = ("simulate", "--config", program.FILE, "--script", "script")
+    for line, said in [
+        (b"tick 0\r", "it ends with a carriage return: \"tick 0\\r\""),
+        (b"# the slot moves", "a script has no comments: \"# the slot moves\""),
+        (b"call 1 GET \xff", "it has a byte that isn't from 32 to 126: \"call 1 GET \\xff\""),
+        (b"x" * 101, f"no step begins with \"{'x' * 100}..\": \"{'x' * 100}..\""),
+    ]:
+        came = program.run(*words, text=json.dumps(clusters.masters(1)), files={"script": b"tick 0\n" + line + b"\ntick 0\n"})
+        sentence = f"rcluster: script: line 2 is no step, since {said} (S2)\n"
+        judge.equal(f"a script with the line {line!r}", came, (1, b"fault S2\n", sentence.encode()))
 
 
 def play_masters(judge):

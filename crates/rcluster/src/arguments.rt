@@ -1,7 +1,9 @@
 //! The command line.
 
 use crate::source::Source;
-use crate::verbs::{AFTER, Argument, FEW_REPETITIONS, FEW_TRIES, FIRST_PORT, Kind, VERBS, Verb};
+use crate::verbs::{
+    AFTER, After, Argument, FEW_REPETITIONS, FEW_TRIES, FIRST_PORT, Kind, VERBS, Verb,
+};
 use clap::builder::ValueParser;
 use clap::{Arg, ArgAction, ArgMatches, Command, Error};
 use std::alloc::{AllocError, Global};
@@ -54,15 +56,19 @@ pub enum Call<'a> {
     },
 }
 
-/// Reads the words of a command line, the program's name first.
-pub fn read_call<'a>(alloc: Global, words: &'a [String]) -> Result<Call<'a>, Error> {
-    let command = program(alloc)?;
+/// Reads the words of a command line, the program's name first. The other text is what the help tells of scripts.
+pub fn read_call<'a>(
+    alloc: Global,
+    words: &'a [String],
+    script_help: &'a str,
+) -> Result<Call<'a>, Error> {
+    let command = program(alloc, script_help)?;
     let matches = command.try_get_matches_from(words)?;
     call_of(alloc, &matches)
 }
 
-fn program<'a>(alloc: Global) -> Result<Command<'a>, AllocError> {
-    let commands = commands_of(alloc, &VERBS)?;
+fn program<'a>(alloc: Global, script_help: &'a str) -> Result<Command<'a>, AllocError> {
+    let commands = commands_of(alloc, &VERBS, script_help)?;
     Command::new(alloc, "rcluster")
         .about("A Redis Cluster in one process")
         .version(VERSION)
@@ -72,19 +78,31 @@ fn program<'a>(alloc: Global) -> Result<Command<'a>, AllocError> {
         .subcommands(commands)
 }
 
-fn commands_of<'a>(alloc: Global, verbs: &[Verb]) -> Result<Vec<Command<'a>>, AllocError> {
+fn commands_of<'a>(
+    alloc: Global,
+    verbs: &[Verb],
+    script_help: &'a str,
+) -> Result<Vec<Command<'a>>, AllocError> {
     let mut commands = Vec::with_capacity(alloc, verbs.len())?;
     for verb in verbs {
-        let command = command_of(alloc, verb)?;
+        let command = command_of(alloc, verb, script_help)?;
         commands.push(command).map_err(AllocError::from)?;
     }
     Ok(commands)
 }
 
-fn command_of<'a>(alloc: Global, verb: &Verb) -> Result<Command<'a>, AllocError> {
+fn command_of<'a>(
+    alloc: Global,
+    verb: &Verb,
+    script_help: &'a str,
+) -> Result<Command<'a>, AllocError> {
+    let after = match verb.after {
+        After::Text(text) => text,
+        After::Steps => script_help,
+    };
     let mut command = Command::new(alloc, verb.name)
         .about(verb.about)
-        .after_help(verb.after);
+        .after_help(after);
     for argument in verb.arguments {
         command = command.arg(arg_of(alloc, argument)?)?;
     }

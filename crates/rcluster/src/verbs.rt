@@ -26,7 +26,15 @@ pub struct Verb {
     /// What stands behind the verb, in the order of its help.
     pub arguments: &'static [Argument],
     /// What its help says at the end.
-    pub after: &'static str,
+    pub after: After,
+}
+
+/// What the help of a verb says at the end.
+pub enum After {
+    /// This text: how the program ends.
+    Text(&'static str),
+    /// The steps of a script, and behind them how the program ends.
+    Steps,
 }
 
 /// An option of a verb, or the words that stand behind all options.
@@ -68,25 +76,25 @@ pub static VERBS: [Verb; 4] = [
         name: "serve",
         about: "Serves all nodes of a cluster, each at its own address",
         arguments: &[CONFIG_OR_MASTERS, MASTERS, PORT, CHECK, TICKS, JOURNAL],
-        after: AFTER_SERVE,
+        after: After::Text(AFTER_SERVE),
     },
     Verb {
         name: "simulate",
         about: "Plays a script in a cluster without sockets, and prints what comes out of each step",
         arguments: &[CONFIG, SCRIPT],
-        after: AFTER_SIMULATE,
+        after: After::Steps,
     },
     Verb {
         name: "cli",
         about: "Has the node of a command's keys execute the command, and prints the reply",
         arguments: &[ADDRESS, TRIES, WORDS],
-        after: AFTER_CLI,
+        after: After::Text(AFTER_CLI),
     },
     Verb {
         name: "reshard",
         about: "Moves slots from one master to another, and prints a line for each slot",
         arguments: &[ADDRESS, FROM, TO, SLOTS, LIMIT],
-        after: AFTER_RESHARD,
+        after: After::Text(AFTER_RESHARD),
     },
 ];
 
@@ -153,7 +161,7 @@ const JOURNAL: Argument = Argument {
 const SCRIPT: Argument = Argument {
     name: "script",
     value_name: "FILE",
-    help: "The script, one step a line: admin N WORDS, tick N, deliver M, stop N, call K WORDS, carry K, return K, cut K or late K",
+    help: "The script, one step a line",
     kind: Kind::Text,
 };
 
@@ -239,7 +247,8 @@ F2  an address can't be listened on\n  \
 F3  memory was refused, or a thread can't be started\n  \
 F4  the output can't be written, and so this code isn't either";
 
-const AFTER_SIMULATE: &str = "\
+/// What the help of `simulate` says at the end, behind the steps of a script.
+pub const AFTER_SIMULATE: &str = "\
 Exit status:\n  \
 0  the script was played\n  \
 1  a fault, whose code is printed as `fault S3`\n  \
