@@ -36,6 +36,7 @@ def play(judge):
     play_faulty_files(judge)
     play_scripts(judge)
     play_masters(judge)
+    play_reach(judge)
     play_taken_ports(judge)
     play_words(judge)
 
@@ -95,6 +96,20 @@ def free_row(count):
         if all(clusters.is_free(it) for it in range(port, port + count)):
             return port
     raise OSError("no free ports")
+
+
+def play_reach(judge):
+    """Who serves at a host that others may reach is told so."""
+    for host, is_told in [("127.0.0.1", False), ("127.0.0.2", False), ("0.0.0.0", True)]:
+        cluster = clusters.masters(2, tick_ms=10)
+        cluster["nodes"][1]["host"] = host
+        status, _, error = program.run(*SERVE, "--ticks", "2", text=json.dumps(cluster))
+        port = ports_of(cluster)[1]
+        sentence = (
+            f"rcluster: the host {host} of node 1 is no loopback address: there is no password and no TLS, "
+            f"and whoever reaches port {port} reads and writes all keys\n"
+        )
+        judge.equal(f"a node at {host}: status and standard error", (status, error.decode()), (0, sentence if is_told else ""))
 
 
 def play_taken_ports(judge):
