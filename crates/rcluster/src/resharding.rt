@@ -81,8 +81,25 @@ where
         + Copy
         + Drop,
 {
+    let connections = Connections::new(rt.alloc(), Sockets::new(rt));
+    let network = Watched::new(Patient::new(rt, connections), seen);
+    reshard_over(&rt, network, wanted, limit, seen)
+}
+
+// The same, over this way to the nodes.
+fn reshard_over<R, N>(
+    rt: &R,
+    network: N,
+    wanted: Move,
+    limit: u64,
+    seen: &RefCell<Seen>,
+) -> Result<(), Failure>
+where
+    R: AllocGlobal + Print + Eprint + Clock,
+    N: Network + Drop,
+{
     let alloc = rt.alloc();
-    let begun = Instant::now(&rt).ok();
+    let begun = Instant::now(rt).ok();
     let Move {
         start,
         from,
@@ -90,17 +107,29 @@ where
         slots,
     } = wanted;
     let mut done = Done::new(slots.first);
-    let plan = Plan::new(start, id_in(alloc, from)?, id_in(alloc, to)?, slots, limit);
-    let network = Patient::new(rt, Connections::new(alloc, Sockets::new(rt)));
-    let mut resharder = Resharder::new(alloc, Watched::new(network, seen), plan);
-    match move_all(&rt, &mut resharder, &mut done)? {
+    let plan = plan(alloc, start, from, to, slots, limit)?;
+    let ended = move_all(rt, Resharder::new(alloc, network, plan), &mut done)?;
+    match ended {
         Ok(()) => {
-            tell(&rt, &done, imports_of(seen), begun);
+            tell(rt, &done, imports_of(seen), begun);
             Ok(())
         }
         Err(ReshardFault::NotListed) => Err(unlisted_failure(alloc, seen, from, to)),
         Err(fault) => Err(run_failure(alloc, fault, seen, done.next)),
     }
+}
+
+fn plan(
+    alloc: Global,
+    start: Address,
+    from: &str,
+    to: &str,
+    slots: SlotRange,
+    limit: u64,
+) -> Result<Plan, Failure> {
+    let from = id_in(alloc, from)?;
+    let to = id_in(alloc, to)?;
+    Ok(Plan::new(start, from, to, slots, limit))
 }
 
 // What a run has done so far.
@@ -131,13 +160,14 @@ impl Done {
 // Moves one slot after another, and prints a line for each. It gives how the run ended.
 fn move_all<R, N>(
     rt: &R,
-    resharder: &mut Resharder<N>,
+    resharder: Resharder<N>,
     done: &mut Done,
 ) -> Result<Result<(), ReshardFault>, Failure>
 where
     R: AllocGlobal + Print,
     N: Network + Drop,
 {
+    let mut resharder = resharder;
     // A loop has to end, so this one counts the slots.
     'slots: for _ in 0..=Slot::COUNT {
         match resharder.move_next() {
