@@ -40,7 +40,8 @@ def play_words(judge):
         judge.equal(f"{what}: status and output", (status, output), (2, b""))
         judge.true(f"{what}: a sentence on standard error", error.startswith(b"error: "), repr(error))
     port = clusters.free_ports(1)[0]
-    judge.equal("no node is there", cli(port, "GET", "foo"), (1, b"fault C5\n"))
+    told = b"rcluster: 127.0.0.1:%d can't be reached, and the command was not executed (C5)\n" % port
+    judge.equal("no node is there", program.run("cli", "--addr", f"127.0.0.1:{port}", "GET", "foo"), (1, b"fault C5\n", told))
 
 
 def play_calls(judge):
@@ -133,6 +134,19 @@ def play_nodes(judge):
         judge.equal(f"{what}: what the nodes were asked", [node.asked for node in nodes], asked)
         for node in nodes:
             node.close()
+
+    for what, node, code, said in [
+        ("a connection that ends behind CLUSTER NUMBERED", Node(numbered=None), b"C5",
+         b"the connection to 127.0.0.1:%d failed, and the command was not executed"),
+        ("a reply that is none", Node(b"?\r\n"), b"C6", b"127.0.0.1:%d answered bytes that are no reply to GET foo, which no node does"),
+        ("another reply to CLUSTER NUMBERED", Node(numbered=b":7\r\n"), b"C6",
+         b"127.0.0.1:%d answered the number 7 to CLUSTER NUMBERED, which no node does"),
+        ("an ASK without the number of the move", Node(b"-ASK 12182 127.0.0.1:7000\r\n"), b"C6",
+         b'127.0.0.1:%d answered "ASK 12182 127.0.0.1:7000" to GET foo, which no node does'),
+    ]:
+        came = program.run("cli", "--addr", f"127.0.0.1:{node.port}", "GET", "foo")
+        judge.equal(f"what is said of {what}", came, (1, b"fault %s\n" % code, b"rcluster: %s (%s)\n" % (said % node.port, code)))
+        node.close()
 
     ends("the connection ends behind the command", (1, b"fault C1\n"), [[NUMBERED, GET]], Node())
     ends("it ends within the reply", (1, b"fault C1\n"), [[NUMBERED, GET]], Node(b"$5\r\nab", ends=True))

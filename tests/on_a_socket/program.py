@@ -39,17 +39,19 @@ def write(folder, text):
 class Server:
     """The program that serves a cluster. It is killed at the end of the block where it hasn't ended."""
 
-    def __init__(self, cluster, *options):
-        self.cluster, self.options = cluster, options
+    def __init__(self, cluster, *options, source=None):
+        """The words in `source` tell the cluster where it isn't told by a file."""
+        self.cluster, self.options, self.source = cluster, options, source
 
     def __enter__(self):
         self.folder = tempfile.TemporaryDirectory()
-        write(self.folder.name, json.dumps(self.cluster))
+        if not self.source:
+            write(self.folder.name, json.dumps(self.cluster))
         self.errors = tempfile.TemporaryFile()
         self.begun = time.monotonic()
         with BEGINNING:
             self.process = subprocess.Popen(
-                [PATH, "serve", "--config", FILE, *self.options],
+                [PATH, "serve", *(self.source or ("--config", FILE)), *self.options],
                 cwd=self.folder.name, stdin=subprocess.DEVNULL, stdout=subprocess.PIPE, stderr=self.errors,
             )
         # A line for each node. Where one is missing, the row that compares them says so.

@@ -10,7 +10,7 @@ import socket
 import clusters
 import program
 from clusters import node_id, ports_of
-from wire import PING, PONG, talk
+from wire import PING, PONG, array, bulk, number, spelled, talk
 
 SERVE = ("serve", "--config", program.FILE)
 
@@ -34,6 +34,9 @@ def faulty_clusters():
 
 def play(judge):
     play_faulty_files(judge)
+    play_scripts(judge)
+    play_masters(judge)
+    play_reach(judge)
     play_taken_ports(judge)
     play_words(judge)
 
@@ -49,6 +52,64 @@ def play_faulty_files(judge):
         judge_sentence(judge, what, error, program.FILE.encode(), b"(%s)" % code.encode())
         if sentence:
             judge.equal(f"{what}: the sentence", error.decode(), f"rcluster: {program.FILE}: {sentence} ({code})\n")
+        judge.equal(f"{what}: checked alone", program.run(*SERVE, "--check", text=text), (status, output, error))
+    sound = json.dumps(clusters.six_nodes())
+    judge.equal("a sound file, checked alone", program.run(*SERVE, "--check", text=sound), (0, b"", b""))
+
+
+def play_scripts(judge):
+    """Lines that are no step, and can't be told by a case of tests/simulated."""
+    words = ("simulate", "--config", program.FILE, "--script", "script")
+    for line, said in [
+        (b"tick 0\r", "it ends with a carriage return: \"tick 0\\r\""),
+        (b"# the slot moves", "a script has no comments: \"# the slot moves\""),
+        (b"call 1 GET \xff", "it has a byte that isn't from 32 to 126: \"call 1 GET \\xff\""),
+        (b"x" * 101, f"no step begins with \"{'x' * 100}..\": \"{'x' * 100}..\""),
+    ]:
+        came = program.run(*words, text=json.dumps(clusters.masters(1)), files={"script": b"tick 0\n" + line + b"\ntick 0\n"})
+        sentence = f"rcluster: script: line 2 is no step, since {said} (S2)\n"
+        judge.equal(f"a script with the line {line!r}", came, (1, b"fault S2\n", sentence.encode()))
+
+
+def play_masters(judge):
+    """Clusters without a file."""
+    for count in (1, 3, 16):
+        port = free_row(count)
+        with program.Server({"nodes": range(count)}, source=("--masters", str(count), "--port", str(port))) as server:
+            ports = range(port, port + count)
+            judge.equal(f"{count} masters: the lines of the nodes", server.lines, b"".join(b"node %d 127.0.0.1:%d\n" % it for it in enumerate(ports)))
+            bounds = [(2 * 16384 * it + count) // (2 * count) for it in range(count + 1)]
+            slots = array(
+                *(
+                    array(number(bounds[it]), number(bounds[it + 1] - 1), array(bulk(b"127.0.0.1"), number(port + it), bulk(node_id(it).encode())))
+                    for it in range(count)
+                )
+            )
+            judge.equal(f"{count} masters: the slots", talk(ports[-1], spelled(b"CLUSTER", b"SLOTS")), slots)
+    judge.equal("masters, checked alone", program.run("serve", "--masters", "16", "--check"), (0, b"", b""))
+    judge.equal("masters up to the last port", program.run("serve", "--masters", "3", "--port", "65533", "--check"), (0, b"", b""))
+
+
+def free_row(count):
+    """The first of so many free ports that follow one another."""
+    for port in range(20000, 30000, count):
+        if all(clusters.is_free(it) for it in range(port, port + count)):
+            return port
+    raise OSError("no free ports")
+
+
+def play_reach(judge):
+    """Who serves at a host that others may reach is told so."""
+    for host, is_told in [("127.0.0.1", False), ("127.0.0.2", False), ("0.0.0.0", True)]:
+        cluster = clusters.masters(2, tick_ms=10)
+        cluster["nodes"][1]["host"] = host
+        status, _, error = program.run(*SERVE, "--ticks", "2", text=json.dumps(cluster))
+        port = ports_of(cluster)[1]
+        sentence = (
+            f"rcluster: the host {host} of node 1 is no loopback address: there is no password and no TLS, "
+            f"and whoever reaches port {port} reads and writes all keys\n"
+        )
+        judge.equal(f"a node at {host}: status and standard error", (status, error.decode()), (0, sentence if is_told else ""))
 
 
 def play_taken_ports(judge):
@@ -87,6 +148,14 @@ def faulty_words():
     yield ("serve", "--config"), "a value is required for '--config <FILE>'"
     yield ("serve", "--colour", "red"), "unexpected argument '--colour'"
     yield ("stop",), "unrecognized subcommand 'stop'"
+    yield (*SERVE, "--masters", "3"), "cannot be used with"
+    yield ("serve", "--port", "7000"), "--masters <M>"
+    yield (*SERVE, "--port", "7000"), "cannot be used with '--port <P>'"
+    for count in ("0", "17", "x"):
+        yield ("serve", "--masters", count), f"invalid value '{count}' for '--masters <M>'"
+    for port in ("0", "65536"):
+        yield ("serve", "--masters", "1", "--port", port), f"invalid value '{port}' for '--port <P>'"
+    yield ("serve", "--masters", "3", "--port", "65534"), "the last one is above 65535"
 
 
 def play_words(judge):
@@ -99,5 +168,16 @@ def play_words(judge):
     judge.equal("--version", program.run("--version"), (0, b"rcluster 0.1.0\n", b""))
     status, output, error = program.run("serve", "--help")
     judge.equal("serve --help: status, and nothing on standard error", (status, error), (0, b""))
-    for option in (b"--config <FILE>", b"--ticks <N>", b"--journal"):
+    for option in (b"--config <FILE>", b"--masters <M>", b"--port <P>", b"--check", b"--ticks <N>", b"--journal"):
         judge.within(f"serve --help tells {option.decode()}", option, output)
+    for verb, codes in [
+        ("serve", ["F1", "F2", "F3", *(f"K{it}" for it in range(1, 9))]),
+        ("simulate", ["F1", "K1 to K8", "S and N", "F3"]),
+        ("cli", ["F3", *(f"C{it}" for it in range(1, 8))]),
+        ("reshard", ["F3", "V1", "V2", "V3"]),
+    ]:
+        status, output, _ = program.run(verb, "--help")
+        listed = output.decode().partition("Codes:\n")[2]
+        judge.equal(f"{verb} --help: status", status, 0)
+        judge.equal(f"{verb} --help: codes that it doesn't tell", [it for it in (*codes, "F4") if f"  {it}  " not in listed], [])
+        judge.within(f"{verb} --help tells the statuses", "Exit status:\n  0  ", output.decode())

@@ -2,6 +2,7 @@
 of the test's own, which keep what they are asked.
 """
 
+import re
 import socket
 import subprocess
 import threading
@@ -22,8 +23,7 @@ NOT_ACKNOWLEDGED = b"-IOERR copy not acknowledged\r\n"
 NOT_DRAINED = b"-ERR slot is not drained\r\n"
 REFUSED = b"-ERR no\r\n"
 LAST_MOVE = 9223372036854775807
-# The greatest limit that the program takes. A run repeats a request without a pause, so on a busy machine it may ask a thousand times
-# before a node's thread goes on.
+# The greatest limit that the program takes, for runs that have to wait until a node's thread goes on.
 MOST_REPETITIONS = 1000000
 
 
@@ -45,6 +45,12 @@ def reshard_patiently(port, *slots, **more):
     return reshard(port, *slots, limit=MOST_REPETITIONS, **more)
 
 
+def done(error):
+    """What the line on standard error says that a run has done: the slots and keys that were moved, and the slots that were there before."""
+    told = re.fullmatch(rb"rcluster: slots moved: (\d+), keys moved: (\d+), slots that were there before: (\d+), seconds: \d+\.\d{3}\n", error)
+    return tuple(map(int, told.groups())) if told else error
+
+
 def line(count, slot=SLOT, move=1):
     """What is printed of a slot, once so many keys of it are moved."""
     return b"slot %d move %d keys %d\n" % (slot, move, count)
@@ -53,6 +59,7 @@ def line(count, slot=SLOT, move=1):
 def play(judge):
     play_words(judge)
     play_requests(judge)
+    play_waits(judge)
     play_replies(judge)
     play_at_once(judge)
     play_a_cluster(judge)
@@ -76,8 +83,10 @@ def play_words(judge):
         judge.equal(f"{what}: status and output", (status, output), (2, b""))
         judge.true(f"{what}: a sentence on standard error", error.startswith(b"error: "), repr(error))
     port = clusters.free_ports(1)[0]
-    judge.equal("no node is there", reshard(port), (1, b"fault V2\n"))
-    judge.equal("an id that no node can have", reshard(port, source="you"), (1, b"fault V2\n"))
+    told = b"rcluster: 127.0.0.1:%d can't be reached (V2)\n" % port
+    judge.equal("no node is there", program.run(*words_of(port)), (1, b"fault V2\n", told))
+    told = b'rcluster: "you" is no id of a node, which has 40 lowercase hexadecimal digits (V2)\n'
+    judge.equal("an id that no node can have", program.run(*words_of(port, source="you")), (1, b"fault V2\n", told))
 
 
 # ---- nodes of the test's own
@@ -177,20 +186,51 @@ def play_requests(judge):
     asks("what is asked again", (0, line(1)),
          lambda ports: READS + takes(b"1") + [LISTS_KEYS] + [migrates(ports, b"foo")] * 3 + [LISTS_KEYS] + ends(b"1")[:1] * 3 + ends(b"1")[1:2] * 2 + ends(b"1")[2:] * 3,
          [AGAIN, AGAIN, OK], [FOREIGN, OK, NOT_DRAINED, NOT_DRAINED, OK], [OWNED, OK, keys(b"foo"), AGAIN, NOT_ACKNOWLEDGED, OK, keys(), AGAIN, OK], limit=2)
+    asks("what is asked again often", (0, line(1)), lambda ports: READS + takes(b"1") + [LISTS_KEYS] + [migrates(ports, b"foo")] * 21 + [LISTS_KEYS] + ends(b"1"),
+         [OK], [FOREIGN, OK, OK], [OWNED, OK, keys(b"foo"), *[AGAIN, NOT_ACKNOWLEDGED] * 10, OK, keys(), OK])
     asks("keys that are gone, and a key that comes", (0, line(2)),
          lambda ports: READS + takes(b"1") + [LISTS_KEYS] + [migrates(ports, it) for it in (b"a", b"b")] + [LISTS_KEYS, migrates(ports, b"c"), LISTS_KEYS] + ends(b"1"),
          [OK], [FOREIGN, OK, OK], [OWNED, OK, keys(b"a", b"b"), OK, b"+NOKEY\r\n", keys(b"c"), OK, keys(), OK])
 
 
+def play_waits(judge):
+    """Before the tenth repetition and each one behind it the run waits: 1, 2, 4, 8, 16, 32 and 64 milliseconds, and then 100 each time."""
+    masters = Masters([OK], [FOREIGN, OK, *[NOT_DRAINED] * 20, OK], [OWNED, OK, keys(), OK])
+    begun = time.monotonic()
+    came = reshard(masters.ports[0])
+    took = time.monotonic() - begun
+    judge.equal("a node refuses 20 times", came, (0, line(0)))
+    judge.least("a node refuses 20 times: seconds", took, 0.527)
+    masters.close()
+
+
 def play_replies(judge):
-    """The reply by which a run can't go on."""
-    def stops(what, fault, *answers, **more):
+    """The reply by which a run can't go on, and what is said of it."""
+    def stops(what, fault, *answers, said=None, **more):
         masters = Masters(*answers)
-        judge.equal(what, reshard(masters.ports[0], **more), (1, b"fault %s\n" % fault))
+        status, output, error = program.run(*words_of(masters.ports[0], **more))
+        judge.equal(what, (status, output), (1, b"fault %s\n" % fault))
         judge.equal(f"{what}: no answer is left", [it.answers for it in masters.nodes], [[], [], []])
+        if said:
+            wanted = said.format(*(f"127.0.0.1:{it}" for it in masters.ports), port=masters.ports[TARGET])
+            judge.equal(f"{what}: what is said", error.decode(), f"rcluster: {wanted} ({fault.decode()})\n")
         masters.close()
 
     begun = [OWNED, OK]
+    stops("MIGRATE is asked again, and may not be: said", b"V1", [], [FOREIGN, OK], [*begun, keys(b"foo"), AGAIN], limit=0,
+          said='slot 12182: {2} answered "TRYAGAIN Key is being moved" to MIGRATE 127.0.0.1 {port} foo 0 100 more often than --limit allows')
+    stops("an id that isn't listed: said", b"V2", [], [], [], target="f" * 40,
+          said=f"no master with slots has the id {'f' * 40}, and one without slots isn't listed; {{0}} lists {node_id(0)}, {node_id(1)}, {node_id(2)}")
+    stops("the connection ends: said", b"V2", [], [FOREIGN], [OWNED],
+          said="slot 12182: the connection to {1} failed")
+    stops("a reply that is none: said", b"V2", [], [b"?\r\n"], [OWNED],
+          said="slot 12182: {1} answered bytes that are no reply to CLUSTER SLOTSTATE 12182")
+    stops("IMPORTING is refused: said", b"V3", [], [FOREIGN, b"-ERR slot is not owned by the source\r\n"], [OWNED],
+          said=f'slot 12182: {{1}} answered "ERR slot is not owned by the source" to CLUSTER SETSLOT 12182 IMPORTING {node_id(SOURCE)} 1')
+    stops("no list of keys: said", b"V3", [], [FOREIGN, OK], [*begun, number(1)],
+          said="slot 12182: {2} answered the number 1 to CLUSTER GETKEYSINSLOT 12182 16")
+    stops("no next number: said", b"V3", [], [state(b"foreign", ID[SOURCE], 0, LAST_MOVE)], [OWNED],
+          said="slot 12182: no next number of a move is left")
     stops("MIGRATE is asked again, and may not be", b"V1", [], [FOREIGN, OK], [*begun, keys(b"foo"), AGAIN], limit=0)
     stops("MIGRATE is asked again too often", b"V1", [], [FOREIGN, OK], [*begun, keys(b"foo"), AGAIN, NOT_ACKNOWLEDGED, AGAIN], limit=2)
     stops("the slot isn't drained", b"V1", [], [FOREIGN, OK, NOT_DRAINED], [*begun, keys()], limit=0)
@@ -233,7 +273,7 @@ def play_at_once(judge):
     masters.nodes[SOURCE] = Waiting(SOURCE, masters.asked, state(b"foreign", ID[TARGET], 0, 3), OK, state(b"foreign", ID[TARGET], 0, 3), OK)
     masters.nodes[0].answers[0] = slots_of([it.port for it in masters.nodes])
     words = words_of(masters.ports[0], f"{SLOT}-{SLOT + 1}")
-    with subprocess.Popen([program.PATH, *words], stdin=subprocess.DEVNULL, stdout=subprocess.PIPE) as process:
+    with subprocess.Popen([program.PATH, *words], stdin=subprocess.DEVNULL, stdout=subprocess.PIPE, stderr=subprocess.DEVNULL) as process:
         patience = threading.Timer(PATIENCE / 2, process.kill)
         patience.start()
         first = process.stdout.readline()
@@ -282,7 +322,9 @@ def play_a_cluster(judge):
         judge.equal("by a client", cli(ports[5], "HGET", "{foo}h1", "2"), (0, b"$1\\r\\n3\\r\\n\n"))
         for node in (0, SOURCE, 3, 4, 5):
             judge.equal(f"node {node} knows where", in_time(ports[node], get, moved(SLOT, ports[TARGET])), moved(SLOT, ports[TARGET]))
-        judge.equal("the slot is there", reshard_patiently(ports[0]), (0, line(0)))
+        status, output, error = program.run(*words_of(ports[0], "12181-12182", limit=MOST_REPETITIONS))
+        judge.equal("the slot is there, and the one before isn't", (status, output), (0, line(0, SLOT - 1) + line(0)))
+        judge.equal("what was done then", done(error), (1, 0, 1))
         judge.equal("so it is from every other master on", reshard_patiently(ports[0], source=0), (0, line(0)))
         judge.equal("a slot that was there all the time", reshard_patiently(ports[0], "6000-6000"), (0, line(0, 6000, 0)))
         judge.equal("it is moved back", reshard_patiently(ports[0], source=TARGET, target=SOURCE), (0, line(len(values) + 3, move=2)))

@@ -1,6 +1,9 @@
 //! The command line.
 
-use crate::verbs::{Argument, FEW_REPETITIONS, FEW_TRIES, Kind, VERBS, Verb};
+use crate::source::Source;
+use crate::verbs::{
+    AFTER, After, Argument, FEW_REPETITIONS, FEW_TRIES, FIRST_PORT, Kind, VERBS, Verb,
+};
 use clap::builder::ValueParser;
 use clap::{Arg, ArgAction, ArgMatches, Command, Error};
 use std::alloc::{AllocError, Global};
@@ -11,10 +14,12 @@ const VERSION: &str = "0.1.0";
 /// What the program is asked to do.
 #[derive(Drop)]
 pub enum Call<'a> {
-    /// To serve the cluster that a file describes.
+    /// To serve a cluster.
     Serve {
-        /// The path of the file.
-        config: &'a str,
+        /// Where its nodes are told.
+        source: Source<'a>,
+        /// Whether the program looks for faults of the cluster alone, and serves nobody.
+        only_checks: bool,
         /// After how many ticks of the first node the program ends, or None where it goes on.
         ticks: Option<u64>,
         /// Whether each node keeps its journal in memory.
@@ -51,59 +56,94 @@ pub enum Call<'a> {
     },
 }
 
-/// Reads the words of a command line, the program's name first.
-pub fn read_call<'a>(alloc: Global, words: &'a [String]) -> Result<Call<'a>, Error> {
-    let command = program(alloc)?;
+/// Reads the words of a command line, the program's name first. The other text is what the help tells of scripts.
+pub fn read_call<'a>(
+    alloc: Global,
+    words: &'a [String],
+    script_help: &'a str,
+) -> Result<Call<'a>, Error> {
+    let command = program(alloc, script_help)?;
     let matches = command.try_get_matches_from(words)?;
     call_of(alloc, &matches)
 }
 
-fn program<'a>(alloc: Global) -> Result<Command<'a>, AllocError> {
-    let commands = commands_of(alloc, &VERBS)?;
+fn program<'a>(alloc: Global, script_help: &'a str) -> Result<Command<'a>, AllocError> {
+    let commands = commands_of(alloc, &VERBS, script_help)?;
     Command::new(alloc, "rcluster")
         .about("A Redis Cluster in one process")
         .version(VERSION)
+        .after_help(AFTER)
         .subcommand_required(true)
         .arg_required_else_help(true)
         .subcommands(commands)
 }
 
-fn commands_of<'a>(alloc: Global, verbs: &[Verb]) -> Result<Vec<Command<'a>>, AllocError> {
+fn commands_of<'a>(
+    alloc: Global,
+    verbs: &[Verb],
+    script_help: &'a str,
+) -> Result<Vec<Command<'a>>, AllocError> {
     let mut commands = Vec::with_capacity(alloc, verbs.len())?;
     for verb in verbs {
-        let command = command_of(alloc, verb)?;
+        let command = command_of(alloc, verb, script_help)?;
         commands.push(command).map_err(AllocError::from)?;
     }
     Ok(commands)
 }
 
-fn command_of<'a>(alloc: Global, verb: &Verb) -> Result<Command<'a>, AllocError> {
-    let mut command = Command::new(alloc, verb.name).about(verb.about);
+fn command_of<'a>(
+    alloc: Global,
+    verb: &Verb,
+    script_help: &'a str,
+) -> Result<Command<'a>, AllocError> {
+    let after = match verb.after {
+        After::Text(text) => text,
+        After::Steps => script_help,
+    };
+    let mut command = Command::new(alloc, verb.name)
+        .about(verb.about)
+        .after_help(after);
     for argument in verb.arguments {
-        command = command.arg(arg_of(alloc, argument))?;
+        command = command.arg(arg_of(alloc, argument)?)?;
     }
     Ok(command)
 }
 
-fn arg_of<'a>(alloc: Global, argument: &Argument) -> Arg<'a> {
+fn arg_of<'a>(alloc: Global, argument: &Argument) -> Result<Arg<'a>, AllocError> {
     match &argument.kind {
-        Kind::Text => option_of(alloc, argument)
-            .required(true)
-            .action(ArgAction::Set),
-        Kind::Number { least, most } => option_of(alloc, argument)
-            .value_parser(ValueParser::unsigned(*least, *most))
-            .action(ArgAction::Set),
-        Kind::Flag => Arg::new(alloc, argument.name)
-            .long(argument.name)
-            .help(argument.help)
-            .action(ArgAction::SetTrue),
-        Kind::Words => Arg::new(alloc, argument.name)
-            .value_name(argument.value_name)
-            .help(argument.help)
-            .required(true)
-            .num_args(1..)
-            .action(ArgAction::Append),
+        Kind::Text => Ok(option_of(alloc, argument).required(true)),
+        Kind::TextOr(other) => option_of(alloc, argument)
+            .required_unless_present(*other)?
+            .conflicts_with(*other),
+        Kind::Number { least, most } => Ok(number_of(alloc, argument, *least, *most)),
+        Kind::NumberBeside {
+            one,
+            other,
+            least,
+            most,
+        } => number_of(alloc, argument, *least, *most)
+            .requires_arg(*one)?
+            .conflicts_with(*other),
+        Kind::Flag => Ok(
+            Arg::new(alloc, argument.name)
+                .long(argument.name)
+                .help(argument.help)
+                .action(ArgAction::SetTrue),
+        ),
+        Kind::Words => Ok(
+            Arg::new(alloc, argument.name)
+                .value_name(argument.value_name)
+                .help(argument.help)
+                .required(true)
+                .num_args(1..)
+                .action(ArgAction::Append),
+        ),
     }
+}
+
+// An option with a number as its value.
+fn number_of<'a>(alloc: Global, argument: &Argument, least: u64, most: u64) -> Arg<'a> {
+    option_of(alloc, argument).value_parser(ValueParser::unsigned(least, most))
 }
 
 // An option with a value.
@@ -112,6 +152,7 @@ fn option_of<'a>(alloc: Global, argument: &Argument) -> Arg<'a> {
         .long(argument.name)
         .value_name(argument.value_name)
         .help(argument.help)
+        .action(ArgAction::Set)
 }
 
 fn call_of<'a>(alloc: Global, matches: &ArgMatches<'a>) -> Result<Call<'a>, Error> {
@@ -130,16 +171,29 @@ fn call_of<'a>(alloc: Global, matches: &ArgMatches<'a>) -> Result<Call<'a>, Erro
 fn serve_call<'a>(serve: Option<&ArgMatches<'a>>) -> Call<'a> {
     match serve {
         Some(serve) => Call::Serve {
-            config: text(serve, "config"),
+            source: source_of(serve),
+            only_checks: serve.get_flag("check"),
             ticks: serve.get_one::<u64>("ticks"),
             keeps_journal: serve.get_flag("journal"),
         },
         // The command line has a verb, and it is none of the others.
         None => Call::Serve {
-            config: "",
+            source: Source::File(""),
+            only_checks: false,
             ticks: None,
             keeps_journal: false,
         },
+    }
+}
+
+// One of the two options is there.
+fn source_of<'a>(serve: &ArgMatches<'a>) -> Source<'a> {
+    match serve.get_one::<u64>("masters") {
+        Some(count) => Source::Masters {
+            count,
+            first_port: serve.get_one::<u64>("port").unwrap_or(FIRST_PORT),
+        },
+        None => Source::File(text(serve, "config")),
     }
 }
 

@@ -3,7 +3,11 @@
 use crate::failure::Failure;
 use crate::fault::ProgramFault;
 use crate::output::write;
+use crate::patient::Patient;
+use crate::shown::Shown;
 use crate::sockets::{ADDRESS_TEXT, Sockets};
+use crate::telling::{run_failure, unlisted_failure};
+use crate::watched::{Seen, Watched};
 use bytes::Bytes;
 use cluster_config::NodeId;
 use command::{Positive, number_in};
@@ -12,7 +16,10 @@ use redirection::Address;
 use resharder::{MovedSlot, Plan, ReshardFault, Resharder};
 use smart_client::{Connections, Network};
 use std::alloc::{AllocError, Global};
+use std::cell::RefCell;
 use std::net::{Net, TcpListener, TcpStream};
+use std::rt::Clock;
+use std::time::{Duration, Instant};
 
 /// The slots that are to be moved, the masters that they leave and come to, and the node that is asked who these are.
 #[derive(Drop)]
@@ -48,45 +55,166 @@ impl<'a> Move<'a> {
 }
 
 /// Moves the slots, and prints a line once a slot is at its new master. A node is asked the same so often again at most.
+/// Once all slots are moved it says on standard error what was done.
 pub fn reshard<R>(rt: R, wanted: Move, limit: u64) -> Result<(), Failure>
 where
-    R: AllocGlobal + Print + Net<Listener = TcpListener, Stream = TcpStream> + Copy + Drop,
+    R: AllocGlobal
+        + Print
+        + Eprint
+        + Clock
+        + Net<Listener = TcpListener, Stream = TcpStream>
+        + Copy
+        + Drop,
 {
-    let alloc = rt.alloc();
-    let plan = plan(alloc, wanted, limit)?;
-    let connections = Connections::new(alloc, Sockets::new(rt));
-    let mut resharder = Resharder::new(alloc, connections, plan);
-    move_all(&rt, &mut resharder)
+    let seen = Seen::new(rt.alloc());
+    reshard_seen(rt, wanted, limit, &seen)
 }
 
-// Moves one slot after another, and prints a line for each.
-fn move_all<R, N>(rt: &R, resharder: &mut Resharder<N>) -> Result<(), Failure>
+// The same, where it is seen what is asked and answered.
+fn reshard_seen<R>(rt: R, wanted: Move, limit: u64, seen: &RefCell<Seen>) -> Result<(), Failure>
+where
+    R: AllocGlobal
+        + Print
+        + Eprint
+        + Clock
+        + Net<Listener = TcpListener, Stream = TcpStream>
+        + Copy
+        + Drop,
+{
+    let connections = Connections::new(rt.alloc(), Sockets::new(rt));
+    let network = Watched::new(Patient::new(rt, connections), seen);
+    reshard_over(&rt, network, wanted, limit, seen)
+}
+
+// The same, over this way to the nodes.
+fn reshard_over<R, N>(
+    rt: &R,
+    network: N,
+    wanted: Move,
+    limit: u64,
+    seen: &RefCell<Seen>,
+) -> Result<(), Failure>
+where
+    R: AllocGlobal + Print + Eprint + Clock,
+    N: Network + Drop,
+{
+    let alloc = rt.alloc();
+    let begun = Instant::now(rt).ok();
+    let Move {
+        start,
+        from,
+        to,
+        slots,
+    } = wanted;
+    let mut done = Done::new(slots.first);
+    let plan = plan(alloc, start, from, to, slots, limit)?;
+    let ended = move_all(rt, Resharder::new(alloc, network, plan), &mut done)?;
+    match ended {
+        Ok(()) => {
+            tell(rt, &done, imports_of(seen), begun);
+            Ok(())
+        }
+        Err(ReshardFault::NotListed) => Err(unlisted_failure(alloc, seen, from, to)),
+        Err(fault) => Err(run_failure(alloc, fault, seen, done.next)),
+    }
+}
+
+fn plan(
+    alloc: Global,
+    start: Address,
+    from: &str,
+    to: &str,
+    slots: SlotRange,
+    limit: u64,
+) -> Result<Plan, Failure> {
+    let from = id_in(alloc, from)?;
+    let to = id_in(alloc, to)?;
+    Ok(Plan::new(start, from, to, slots, limit))
+}
+
+// What a run has done so far.
+#[derive(Clone, Copy)]
+struct Done {
+    // The slot that it moves next, or moves now.
+    next: u16,
+    slots: u64,
+    keys: u64,
+}
+
+impl Done {
+    fn new(first: Slot) -> Done {
+        Done {
+            next: first.get(),
+            slots: 0,
+            keys: 0,
+        }
+    }
+
+    fn add(&mut self, moved: &MovedSlot) {
+        self.next = moved.slot.get().saturating_add(1);
+        self.slots = self.slots.saturating_add(1);
+        self.keys = self.keys.saturating_add(moved.keys);
+    }
+}
+
+// Moves one slot after another, and prints a line for each. It gives how the run ended.
+fn move_all<R, N>(
+    rt: &R,
+    resharder: Resharder<N>,
+    done: &mut Done,
+) -> Result<Result<(), ReshardFault>, Failure>
 where
     R: AllocGlobal + Print,
     N: Network + Drop,
 {
+    let mut resharder = resharder;
     // A loop has to end, so this one counts the slots.
     'slots: for _ in 0..=Slot::COUNT {
         match resharder.move_next() {
-            Ok(Some(moved)) => print(rt, moved)?,
-            Ok(None) => return Ok(()),
-            Err(fault) => return Err(Failure::from(ProgramFault::Reshard(fault))),
+            Ok(Some(moved)) => {
+                print(rt, &moved)?;
+                done.add(&moved);
+            }
+            Ok(None) => return Ok(Ok(())),
+            Err(fault) => return Ok(Err(fault)),
         }
     }
-    Ok(())
+    Ok(Ok(()))
 }
 
-fn plan(alloc: Global, wanted: Move, limit: u64) -> Result<Plan, Failure> {
-    let from = id_in(alloc, wanted.from)?;
-    let to = id_in(alloc, wanted.to)?;
-    Ok(Plan::new(wanted.start, from, to, wanted.slots, limit))
+// Each slot that this run moves is asked once to come to its new master.
+fn imports_of(seen: &RefCell<Seen>) -> u64 {
+    match seen.try_borrow() {
+        Ok(seen) => seen.imports,
+        Err(_) => 0,
+    }
+}
+
+// Where it can't be told what was done, it is done all the same.
+fn tell<R: Eprint + Clock>(rt: &R, done: &Done, moved: u64, begun: Option<Instant>) {
+    let before = done.slots.saturating_sub(moved);
+    let took = begun
+        .and_then(|begun| begun.elapsed(rt).ok())
+        .unwrap_or(Duration::ZERO);
+    let _told = eprintln!(rt;
+        "rcluster: slots moved: {moved}, keys moved: {}, slots that were there before: {before}, seconds: {}.{:03}",
+        done.keys,
+        took.as_secs(),
+        took.subsec_millis()
+    );
 }
 
 // A text that can't be an id is listed by nobody.
 fn id_in(alloc: Global, text: &str) -> Result<NodeId, Failure> {
     match NodeId::new(Bytes::copy_from_slice(alloc, text.as_bytes())?) {
         Some(id) => Ok(id),
-        None => Err(Failure::from(ProgramFault::Reshard(ReshardFault::NotListed))),
+        None => Err(Failure::new(
+            ProgramFault::Reshard(ReshardFault::NotListed),
+            format!(in alloc;
+                "\"{}\" is no id of a node, which has 40 lowercase hexadecimal digits",
+                Shown(text.as_bytes())
+            ),
+        )),
     }
 }
 
@@ -106,7 +234,7 @@ fn slot_in(text: &str) -> Option<Slot> {
 }
 
 // It is written at once, so that a reader knows of each slot when it has moved.
-fn print<R: AllocGlobal + Print>(rt: &R, moved: MovedSlot) -> Result<(), Failure> {
+fn print<R: AllocGlobal + Print>(rt: &R, moved: &MovedSlot) -> Result<(), Failure> {
     let number = moved.number.map_or(0, Positive::get);
     let line = format!(in rt.alloc();
         "slot {} move {number} keys {}\n",

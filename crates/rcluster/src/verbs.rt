@@ -1,5 +1,7 @@
 //! The verbs of the command line, and what stands behind each.
 
+use crate::masters::{LAST_PORT, MOST_MASTERS};
+
 /// How often a call begins again for TRYAGAIN where nothing is said.
 pub const FEW_TRIES: u64 = 100;
 
@@ -13,6 +15,9 @@ const MOST_REPETITIONS: u64 = 1_000_000;
 // After how many ticks the program may be asked to end.
 const MOST_TICKS: u64 = 1_000_000;
 
+/// The port of the first master where nothing is said.
+pub const FIRST_PORT: u64 = 7000;
+
 /// The first word of a command line, which says what the program is asked to do.
 pub struct Verb {
     pub name: &'static str,
@@ -20,6 +25,16 @@ pub struct Verb {
     pub about: &'static str,
     /// What stands behind the verb, in the order of its help.
     pub arguments: &'static [Argument],
+    /// What its help says at the end.
+    pub after: After,
+}
+
+/// What the help of a verb says at the end.
+pub enum After {
+    /// This text: how the program ends.
+    Text(&'static str),
+    /// The steps of a script, and behind them how the program ends.
+    Steps,
 }
 
 /// An option of a verb, or the words that stand behind all options.
@@ -35,8 +50,20 @@ pub struct Argument {
 pub enum Kind {
     /// A text, which has to be there.
     Text,
+    /// A text, which has to be there unless the option of this name is. Both exclude each other.
+    TextOr(&'static str),
     /// A number from `least` to `most`.
-    Number { least: u64, most: u64 },
+    Number {
+        least: u64,
+        most: u64,
+    },
+    /// The same, beside the one option and not beside the other.
+    NumberBeside {
+        one: &'static str,
+        other: &'static str,
+        least: u64,
+        most: u64,
+    },
     /// Nothing: it is there or not.
     Flag,
     /// One word or more, with no name in front.
@@ -48,22 +75,26 @@ pub static VERBS: [Verb; 4] = [
     Verb {
         name: "serve",
         about: "Serves all nodes of a cluster, each at its own address",
-        arguments: &[CONFIG, TICKS, JOURNAL],
+        arguments: &[CONFIG_OR_MASTERS, MASTERS, PORT, CHECK, TICKS, JOURNAL],
+        after: After::Text(AFTER_SERVE),
     },
     Verb {
         name: "simulate",
         about: "Plays a script in a cluster without sockets, and prints what comes out of each step",
         arguments: &[CONFIG, SCRIPT],
+        after: After::Steps,
     },
     Verb {
         name: "cli",
         about: "Has the node of a command's keys execute the command, and prints the reply",
         arguments: &[ADDRESS, TRIES, WORDS],
+        after: After::Text(AFTER_CLI),
     },
     Verb {
         name: "reshard",
         about: "Moves slots from one master to another, and prints a line for each slot",
         arguments: &[ADDRESS, FROM, TO, SLOTS, LIMIT],
+        after: After::Text(AFTER_RESHARD),
     },
 ];
 
@@ -72,6 +103,42 @@ const CONFIG: Argument = Argument {
     value_name: "FILE",
     help: "The cluster's configuration, a JSON file",
     kind: Kind::Text,
+};
+
+const CONFIG_OR_MASTERS: Argument = Argument {
+    name: "config",
+    value_name: "FILE",
+    help: "The cluster's configuration, a JSON file; without it --masters is wanted",
+    kind: Kind::TextOr("masters"),
+};
+
+const MASTERS: Argument = Argument {
+    name: "masters",
+    value_name: "M",
+    help: "Serves M masters without a file, 1 to 16, which share the slots evenly; the hosts are 127.0.0.1",
+    kind: Kind::Number {
+        least: 1,
+        most: MOST_MASTERS,
+    },
+};
+
+const PORT: Argument = Argument {
+    name: "port",
+    value_name: "P",
+    help: "The port of the first of these masters, from which the others rise; 7000 if missing",
+    kind: Kind::NumberBeside {
+        one: "masters",
+        other: "config",
+        least: 1,
+        most: LAST_PORT,
+    },
+};
+
+const CHECK: Argument = Argument {
+    name: "check",
+    value_name: "",
+    help: "Looks for faults of the cluster alone: prints nothing where there is none, and else what serving prints",
+    kind: Kind::Flag,
 };
 
 const TICKS: Argument = Argument {
@@ -94,7 +161,7 @@ const JOURNAL: Argument = Argument {
 const SCRIPT: Argument = Argument {
     name: "script",
     value_name: "FILE",
-    help: "The script, one step a line: admin N WORDS, tick N, deliver M, stop N, call C N WORDS, carry C, return C, cut C or late C",
+    help: "The script, one step a line",
     kind: Kind::Text,
 };
 
@@ -108,7 +175,7 @@ const ADDRESS: Argument = Argument {
 const TRIES: Argument = Argument {
     name: "try",
     value_name: "N",
-    help: "How often the call begins again for TRYAGAIN, 0 to 1000000; 100 if missing",
+    help: "How often the call begins again for TRYAGAIN, 0 to 1000000, 100 if missing; then it ends with C3",
     kind: Kind::Number {
         least: 0,
         most: MOST_TRIES,
@@ -146,9 +213,77 @@ const SLOTS: Argument = Argument {
 const LIMIT: Argument = Argument {
     name: "limit",
     value_name: "N",
-    help: "How often a node is asked the same again, 0 to 1000000; 1000 if missing",
+    help: "How often a node is asked the same again, 0 to 1000000, 1000 if missing; then the run ends with V1",
     kind: Kind::Number {
         least: 0,
         most: MOST_REPETITIONS,
     },
 };
+
+/// What the help of the program says at the end.
+pub const AFTER: &str = "\
+Exit status:\n  \
+0  what was asked is done\n  \
+1  a fault: standard output gets its code, as `fault C5`, and standard error a sentence\n  \
+2  the words are no command line of this program\n\
+The help of each verb lists its codes.";
+
+const AFTER_SERVE: &str = "\
+Exit status:\n  \
+0  the ticks of --ticks are over, or --check found no fault\n  \
+1  a fault, whose code is printed as `fault K3`\n  \
+2  the words are no command line of this program\n\n\
+Codes:\n  \
+F1  the file can't be read\n  \
+K1  it is no JSON text, or a member is missing, strange or of the wrong kind\n  \
+K2  an id isn't 40 lowercase hexadecimal digits, or the ids don't rise\n  \
+K3  a range of slots is none, or a slot is listed twice\n  \
+K4  replica_of names no master\n  \
+K5  no node votes, or a voter is unknown or stands twice\n  \
+K6  there are more than 16 nodes\n  \
+K7  an address stands twice\n  \
+K8  a time or a port is out of its range\n  \
+F2  an address can't be listened on\n  \
+F3  memory was refused, or a thread can't be started\n  \
+F4  the output can't be written, and so this code isn't either";
+
+/// What the help of `simulate` says at the end, behind the steps of a script.
+pub const AFTER_SIMULATE: &str = "\
+Exit status:\n  \
+0  the script was played\n  \
+1  a fault, whose code is printed as `fault S3`\n  \
+2  the words are no command line of this program\n\n\
+Codes:\n  \
+F1        a file can't be read\n  \
+K1 to K8  the configuration describes no cluster; the help of serve lists them\n  \
+S and N   line N of the script, from 1 on, is no step; nothing was played\n  \
+F3        memory was refused\n  \
+F4        the output can't be written, and so this code isn't either";
+
+const AFTER_CLI: &str = "\
+Exit status:\n  \
+0  there is a reply, which may be an error reply\n  \
+1  a fault, whose code is printed as `fault C5`\n  \
+2  the words are no command line of this program\n\n\
+Codes:\n  \
+C1  the connection failed: whether the command was executed is unknown\n  \
+C2  the command was redirected too often, and was not executed\n  \
+C3  the nodes answered TRYAGAIN too often, and the command was not executed\n  \
+C4  memory was refused, and the command was not executed\n  \
+C5  a node can't be reached, and the command was not executed\n  \
+C6  a node answered as none does: whether the command was executed is unknown\n  \
+C7  CLUSTER, MIGRATE and ASKING are not sent\n  \
+F3  memory was refused before anything was sent\n  \
+F4  the output can't be written, and so this code isn't either";
+
+const AFTER_RESHARD: &str = "\
+Exit status:\n  \
+0  all slots are at their new master\n  \
+1  a fault, whose code is printed as `fault V1`; the same words may be given again\n  \
+2  the words are no command line of this program\n\n\
+Codes:\n  \
+V1  a node was asked the same again as often as --limit allows\n  \
+V2  a node can't be reached, or no master with slots has one of the ids\n  \
+V3  a node refused, or no next number of a move is left\n  \
+F3  memory was refused\n  \
+F4  the output can't be written, and so this code isn't either";

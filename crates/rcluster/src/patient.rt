@@ -1,0 +1,81 @@
+//! A way to the nodes that waits before the same is asked again.
+
+use resp2::Reply;
+use smart_client::{Action, Event, Network};
+use std::rt::Clock;
+use std::thread::{sleep, yield_now};
+use std::time::Duration;
+
+/// A way to the nodes for who asks the same again where a node refuses it: before each repetition others may run, and from the
+/// tenth on it waits.
+#[derive(Drop)]
+pub struct Patient<R: Drop, N: Network + Drop> {
+    rt: R,
+    network: N,
+    // How many refusals came one after another.
+    refusals: u64,
+}
+
+impl<R: Drop, N: Network + Drop> Patient<R, N> {
+    /// The same way, on which nothing was refused yet.
+    pub fn new(rt: R, network: N) -> Patient<R, N> {
+        Patient {
+            rt,
+            network,
+            refusals: 0,
+        }
+    }
+}
+
+impl<R: Clock + Drop, N: Network + Drop> Network for Patient<R, N> {
+    ghost deeds = { λ patient. N.deeds patient.network };
+
+    ghost kept = { λ patient. N.kept patient.network };
+
+    fn perform(&mut self, action: Action) -> Event {
+        if matches!(&action, Action::Send(_)) {
+            pause(&self.rt, self.refusals);
+        }
+        let event = self.network.perform(action);
+        self.refusals = refusals_after(self.refusals, &event);
+        event
+    }
+
+    fn close(&mut self) {
+        self.network.close();
+    }
+}
+
+fn refusals_after(refusals: u64, event: &Event) -> u64 {
+    match event {
+        Event::Reply(Reply::Error(_)) => refusals.saturating_add(1),
+        Event::Reply(_) => 0,
+        _ => refusals,
+    }
+}
+
+fn pause<R: Clock>(rt: &R, refusals: u64) {
+    if refusals == 0 {
+        return;
+    }
+    yield_now();
+    let milliseconds = wait_before(refusals);
+    if milliseconds > 0 {
+        sleep(rt, Duration::from_millis(milliseconds));
+    }
+}
+
+// How many milliseconds it waits before the repetition of that number.
+fn wait_before(repetition: u64) -> u64 {
+    match repetition {
+        0..=9 => 0,
+        10 => 1,
+        11 => 2,
+        12 => 4,
+        13 => 8,
+        14 => 16,
+        15 => 32,
+        16 => 64,
+        _ => 100,
+    }
+}

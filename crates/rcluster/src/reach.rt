@@ -1,0 +1,28 @@
+//! Who reaches the nodes.
+
+use cluster_config::Config;
+use std::net::Ipv4Addr;
+
+/// Says of each node whether others than this machine may reach it.
+pub fn warn_of_reach<R: Eprint>(rt: &R, config: &Config) {
+    for (number, node) in config.nodes().iter().enumerate() {
+        let host = str::from_utf8(node.host.as_slice()).unwrap_or("");
+        if !is_loopback(host) {
+            // Where that can't be told, the cluster is served all the same.
+            let _told = eprintln!(rt;
+                "rcluster: the host {host} of node {number} is no loopback address: there is no password and no TLS, and whoever reaches port {} reads and writes all keys",
+                node.port
+            );
+        }
+    }
+}
+
+fn is_loopback(host: &str) -> bool {
+    if host == "localhost" {
+        return true;
+    }
+    match host.parse::<Ipv4Addr>() {
+        Ok(address) => address.is_loopback(),
+        Err(_) => false,
+    }
+}

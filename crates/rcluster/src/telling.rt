@@ -1,0 +1,163 @@
+//! What standard error says of a call or a run that stopped: the node, and what it answered.
+
+use crate::failure::Failure;
+use crate::fault::ProgramFault;
+use crate::shown::Shown;
+use crate::watched::Seen;
+use resharder::ReshardFault;
+use smart_client::ClientFault;
+use std::alloc::{AllocError, Global};
+use std::cell::RefCell;
+use std::fmt;
+use std::fmt::Write;
+
+/// Why a call stopped.
+pub fn call_failure(alloc: Global, fault: ClientFault, seen: &RefCell<Seen>) -> Failure {
+    let code = ProgramFault::Client(fault);
+    let Ok(seen) = seen.try_borrow() else {
+        return Failure::from(code);
+    };
+    match fault {
+        ClientFault::NotConnected if seen.has_place() => {
+            Failure::new(code, no_connection_text(alloc, &seen))
+        }
+        ClientFault::BadReply if seen.has_answer() => {
+            Failure::new(code, wrong_answer_text(alloc, &seen))
+        }
+        _ => Failure::from(code),
+    }
+}
+
+fn no_connection_text(alloc: Global, seen: &Seen) -> Result<String, AllocError> {
+    let unreached = Unreached { seen };
+    format!(in alloc; "{unreached}, and the command was not executed")
+}
+
+fn wrong_answer_text(alloc: Global, seen: &Seen) -> Result<String, AllocError> {
+    let answered = Answered { seen };
+    format!(in alloc; "{answered}, which no node does")
+}
+
+/// Why a run stopped whose next slot is that one.
+pub fn run_failure(alloc: Global, fault: ReshardFault, seen: &RefCell<Seen>, slot: u16) -> Failure {
+    let code = ProgramFault::Reshard(fault);
+    let Ok(seen) = seen.try_borrow() else {
+        return Failure::from(code);
+    };
+    match fault {
+        ReshardFault::TooOften if seen.has_answer() => {
+            Failure::new(code, too_often_text(alloc, &seen, slot))
+        }
+        ReshardFault::NotReached if seen.has_answer() => {
+            Failure::new(code, answer_text(alloc, &seen, slot))
+        }
+        ReshardFault::NotReached if seen.has_place() => {
+            Failure::new(code, unreached_text(alloc, &seen, slot))
+        }
+        ReshardFault::BadReply if seen.has_answer() => {
+            Failure::new(code, answer_text(alloc, &seen, slot))
+        }
+        ReshardFault::NoNextNumber => {
+            let text = format!(in alloc; "slot {slot}: no next number of a move is left");
+            Failure::new(code, text)
+        }
+        _ => Failure::from(code),
+    }
+}
+
+fn too_often_text(alloc: Global, seen: &Seen, slot: u16) -> Result<String, AllocError> {
+    let at = At { seen, slot };
+    let answered = Answered { seen };
+    format!(in alloc; "{at}{answered} more often than --limit allows")
+}
+
+fn answer_text(alloc: Global, seen: &Seen, slot: u16) -> Result<String, AllocError> {
+    let at = At { seen, slot };
+    let answered = Answered { seen };
+    format!(in alloc; "{at}{answered}")
+}
+
+fn unreached_text(alloc: Global, seen: &Seen, slot: u16) -> Result<String, AllocError> {
+    let at = At { seen, slot };
+    let unreached = Unreached { seen };
+    format!(in alloc; "{at}{unreached}")
+}
+
+/// Why a run stopped of whose two ids one isn't listed.
+pub fn unlisted_failure(alloc: Global, seen: &RefCell<Seen>, from: &str, to: &str) -> Failure {
+    let code = ProgramFault::Reshard(ReshardFault::NotListed);
+    let Ok(seen) = seen.try_borrow() else {
+        return Failure::from(code);
+    };
+    let id = if seen.lists(from.as_bytes()) {
+        to
+    } else {
+        from
+    };
+    Failure::new(code, unlisted_text(alloc, &seen, id))
+}
+
+fn unlisted_text(alloc: Global, seen: &Seen, id: &str) -> Result<String, AllocError> {
+    let mut text = format!(in alloc;
+        "no master with slots has the id {id}, and one without slots isn't listed; {} lists",
+        seen.place
+    )?;
+    for (number, master) in seen.masters.iter().enumerate() {
+        let mark = if number == 0 { " " } else { ", " };
+        write!(text, "{mark}{}", Shown(master.as_slice()))?;
+    }
+    if seen.masters.is_empty() {
+        text.push_str(" none")?;
+    }
+    Ok(text)
+}
+
+// What the node in use answered, and to which request.
+#[derive(Clone, Copy)]
+struct Answered<'a> {
+    seen: &'a Seen,
+}
+
+impl fmt::Display for Answered<'_> {
+    fn fmt<W: fmt::Write>(&self, f: &mut fmt::Formatter<W>) -> fmt::Result {
+        let seen = self.seen;
+        write!(
+            f,
+            "{} answered {} to {}",
+            seen.place, seen.answer, seen.request
+        )
+    }
+}
+
+// That the node in use can't be reached, or not any more.
+#[derive(Clone, Copy)]
+struct Unreached<'a> {
+    seen: &'a Seen,
+}
+
+impl fmt::Display for Unreached<'_> {
+    fn fmt<W: fmt::Write>(&self, f: &mut fmt::Formatter<W>) -> fmt::Result {
+        let place = &self.seen.place;
+        if self.seen.request.is_empty() {
+            write!(f, "{place} can't be reached")
+        } else {
+            write!(f, "the connection to {place} failed")
+        }
+    }
+}
+
+// The slot at which a run is, once it knows the masters.
+#[derive(Clone, Copy)]
+struct At<'a> {
+    seen: &'a Seen,
+    slot: u16,
+}
+
+impl fmt::Display for At<'_> {
+    fn fmt<W: fmt::Write>(&self, f: &mut fmt::Formatter<W>) -> fmt::Result {
+        if self.seen.masters.is_empty() {
+            return Ok(());
+        }
+        write!(f, "slot {}: ", self.slot)
+    }
+}

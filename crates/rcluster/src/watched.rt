@@ -1,0 +1,198 @@
+//! A way to the nodes on which is seen what was asked last, of which node, and what came of it.
+
+use crate::shown::{Shown, ShownWords};
+use byte_string::ByteString;
+use redirection::Address;
+use resp2::{Array, Element, Reply, Words};
+use smart_client::{Action, Event, Network};
+use std::alloc::Global;
+use std::cell::RefCell;
+use std::fmt::{Display, Write};
+
+// A cluster has so many masters at most.
+const MOST_MASTERS: usize = 16;
+
+/// What was asked last, and what was seen since the beginning. What there was no memory for is empty.
+pub struct Seen {
+    /// The address of the node in use.
+    pub place: String,
+    /// The words that were sent to it last, or nothing where none were.
+    pub request: String,
+    /// What it answered, or nothing where no answer came.
+    pub answer: String,
+    /// How many slots were asked to come to another node.
+    pub imports: u64,
+    /// The ids of the masters that CLUSTER SLOTS listed.
+    pub masters: Vec<ByteString>,
+    // Whether CLUSTER SLOTS was asked last.
+    lists_masters: bool,
+}
+
+// It does what the derive would. Written out it is one call wherever what was seen is let go.
+impl Drop for Seen {
+    fn drop(self) {
+        let Seen {
+            place: _place,
+            request: _request,
+            answer: _answer,
+            imports: _imports,
+            masters: _masters,
+            lists_masters: _lists_masters,
+        } = self;
+    }
+}
+
+impl Seen {
+    /// Nothing yet.
+    pub fn new(alloc: Global) -> RefCell<Seen> {
+        RefCell::new(Seen {
+            place: String::new(alloc),
+            request: String::new(alloc),
+            answer: String::new(alloc),
+            imports: 0,
+            masters: Vec::new(alloc),
+            lists_masters: false,
+        })
+    }
+
+    fn see_action(&mut self, action: &Action) {
+        self.answer.clear();
+        match action {
+            Action::Connect(address) => self.see_place(address),
+            Action::Send(words) => self.see_request(words),
+            Action::Done { .. } => {}
+        }
+    }
+
+    fn see_place(&mut self, address: &Address) {
+        self.request.clear();
+        let host = str::from_utf8(address.host().as_slice()).unwrap_or("");
+        note(&mut self.place, format_args!("{host}:{}", address.port()));
+    }
+
+    fn see_request(&mut self, words: &Words) {
+        let words = words.as_slice();
+        note(&mut self.request, ShownWords(words));
+        self.lists_masters = is_word(words, 1, b"SLOTS");
+        if is_word(words, 3, b"IMPORTING") {
+            self.imports = self.imports.saturating_add(1);
+        }
+    }
+
+    fn see_event(&mut self, event: &Event) {
+        match event {
+            Event::Reply(reply) => self.see_reply(reply),
+            Event::BadReply => note(&mut self.answer, "bytes that are no reply"),
+            Event::Call(_)
+            | Event::Connected
+            | Event::NotConnected
+            | Event::Broken { .. }
+            | Event::NoMemory => {}
+        }
+    }
+
+    fn see_reply(&mut self, reply: &Reply) {
+        match reply {
+            Reply::Simple(text) | Reply::Error(text) => note(
+                &mut self.answer,
+                format_args!("\"{}\"", Shown(text.as_slice())),
+            ),
+            Reply::Integer(number) => note(&mut self.answer, format_args!("the number {number}")),
+            Reply::Bulk(_) => note(&mut self.answer, "a string"),
+            Reply::Null => note(&mut self.answer, "a string that isn't there"),
+            Reply::Array(array) => {
+                note(&mut self.answer, "an array");
+                if self.lists_masters {
+                    self.see_masters(array);
+                }
+            }
+        }
+    }
+
+    // An entry has two strings: the host of a master, and its id behind that.
+    fn see_masters(&mut self, entries: &Array) {
+        let mut is_id = false;
+        for element in entries.as_slice() {
+            if let Element::Bulk(text) = element {
+                if is_id {
+                    self.see_master(text);
+                }
+                is_id = !is_id;
+            }
+        }
+    }
+
+    fn see_master(&mut self, id: &ByteString) {
+        if self.masters.len() == MOST_MASTERS || self.lists(id.as_slice()) {
+            return;
+        }
+        if let Ok(id) = id.clone() {
+            let _told = self.masters.push(id);
+        }
+    }
+
+    /// Whether the node in use is known.
+    pub fn has_place(&self) -> bool {
+        !self.place.is_empty()
+    }
+
+    /// Whether the node in use is known, and what it was asked and answered.
+    pub fn has_answer(&self) -> bool {
+        self.has_place() && !self.request.is_empty() && !self.answer.is_empty()
+    }
+
+    /// Whether CLUSTER SLOTS listed a master of this id.
+    pub fn lists(&self, id: &[u8]) -> bool {
+        self.masters.iter().any(|master| master.as_slice() == id)
+    }
+}
+
+// Whether the word at that place is this one.
+fn is_word(words: &[ByteString], place: usize, wanted: &[u8]) -> bool {
+    words
+        .get(place)
+        .is_some_and(|word| word.as_slice() == wanted)
+}
+
+// Keeps the text, or nothing where there is no memory for it.
+fn note<D: Display + Drop>(kept: &mut String, text: D) {
+    kept.clear();
+    if write!(kept, "{text}").is_err() {
+        kept.clear();
+    }
+}
+
+/// A way to the nodes of which all is seen.
+#[derive(Drop)]
+pub struct Watched<'a, N: Network + Drop> {
+    network: N,
+    seen: &'a RefCell<Seen>,
+}
+
+impl<'a, N: Network + Drop> Watched<'a, N> {
+    /// The same way, on which all is seen from now on.
+    pub fn new(network: N, seen: &'a RefCell<Seen>) -> Watched<'a, N> {
+        Watched { network, seen }
+    }
+}
+
+impl<N: Network + Drop> Network for Watched<'_, N> {
+    ghost deeds = { λ watched. N.deeds watched.network };
+
+    ghost kept = { λ watched. N.kept watched.network };
+
+    fn perform(&mut self, action: Action) -> Event {
+        if let Ok(mut seen) = self.seen.try_borrow_mut() {
+            seen.see_action(&action);
+        }
+        let event = self.network.perform(action);
+        if let Ok(mut seen) = self.seen.try_borrow_mut() {
+            seen.see_event(&event);
+        }
+        event
+    }
+
+    fn close(&mut self) {
+        self.network.close();
+    }
+}
