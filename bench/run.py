@@ -1,11 +1,11 @@
 #!/usr/bin/env python3
 """What a request costs here and in Redis, under the same load in the same run.
 
-usage: bench/run.py [instructions] [fields] [throughput] [commands] [connections] [processors] [memory] [shapes]
+usage: bench/run.py [instructions] [fields] [times] [throughput] [commands] [connections] [processors] [memory] [shapes]
                     [--quick] [--out FILE]
 
 Without a word all of them are measured. The report goes to the output, and to FILE. The program is the built one
-(./serve builds it) or that of the variable RCLUSTER, and `fields` counts that of RCLUSTER_BEFORE beside it. It needs
+(./serve builds it) or that of the variable RCLUSTER, and `fields` and `times` measure that of RCLUSTER_BEFORE beside it. It needs
 redis-server and redis-tools, and for `instructions` and `fields` valgrind. --quick takes a tenth of the requests: good
 to see that all works, and too few to tell.
 """
@@ -295,6 +295,7 @@ def machine():
 PARTS = {
     "instructions": instructions,
     "fields": shapes.instructions,
+    "times": shapes.times,
     "throughput": throughput,
     "commands": commands,
     "connections": connections,

@@ -2,6 +2,7 @@
 
 import os
 import re
+import statistics
 
 import load
 import servers
@@ -57,6 +58,30 @@ def fill(port, words, number):
     else:
         key = words[1].encode()
         load.send_all(port, (load.encode(b"HSET", key, b"f:%012d" % at, VALUE.encode()) for at in range(number)), b":1\r\n")
+
+
+# How many rounds there are of a time. In each both programs get the same load in turn.
+ROUNDS = 10
+# A processor's time is told in hundredths of a second, so a round has so many times the requests that are counted.
+TIMES = 5
+
+
+def times(report, scale):
+    """Measures the processor time of the same requests, of this program and of that of RCLUSTER_BEFORE in alternation."""
+    before = os.environ.get("RCLUSTER_BEFORE")
+    if not before:
+        return
+    report.say("\n## Processor time of a request, by the number of fields")
+    report.say(f"\nMicroseconds of the server's processor, one connection, pipelines of 16; the middle of {ROUNDS} rounds in alternation.")
+    report.table("Command", "Of", "rcluster", "before", "ratio")
+    for command, words, number, count in requests():
+        count = max(int(count * TIMES * scale), 16)
+        with servers.rcluster() as ours, servers.rcluster(program=before) as theirs:
+            for it in (ours, theirs):
+                fill(it.port, words, number)
+            rounds = [[load.costs(it, words, count, number, 16, 1)[1] for it in (ours, theirs)] for _ in range(ROUNDS)]
+        mine, other = (statistics.median(pair[at] for pair in rounds) * 1e6 for at in (0, 1))
+        report.row(command, f"{number:,}", f"{mine:.2f}", f"{other:.2f}", f"{mine / other:.2f}")
 
 
 # How many keys there are of each shape, by what they are called in the report, and the request that makes one.
