@@ -13,10 +13,10 @@ _given = set(range(7000, 7006))
 
 
 def free_ports(count):
-    """Ports at which nobody listens, and which the system gives to no client by itself."""
+    """Ports at which nobody listens, and which the system gives to no client by itself. None of them is the number of a slot, if that can be."""
     with open("/proc/sys/net/ipv4/ip_local_port_range", encoding="ascii") as file:
         first_of_clients = int(file.read().split()[0])
-    candidates = list(range(min(10000, first_of_clients // 2), first_of_clients))
+    candidates = list(range(min(16384, first_of_clients // 2), first_of_clients))
     random.shuffle(candidates)
     found = []
     for port in candidates:
