@@ -45,7 +45,7 @@ fn check_role(alloc: Global, number: usize, node: &Value) -> Result<(), Halt> {
             Err(wrong(alloc, Place::Node(number), what))
         }
         (None, None) => {
-            let what = "slots is missing, or replica_of";
+            let what = "one of slots and replica_of is wanted";
             Err(wrong(alloc, Place::Node(number), what))
         }
     }
@@ -129,7 +129,8 @@ fn check_host(alloc: Global, value: Option<&Value>, place: Place<'_>) -> Result<
     check_text(alloc, value, place)?;
     let host = value.and_then(Value::as_str).unwrap_or("");
     if !is_host(alloc, host)? {
-        let what = "1 to 255 printing ASCII characters without a colon are wanted";
+        let what =
+            "1 to 255 printing ASCII characters without a colon are wanted, and there is no IPv6";
         return Err(wrong(alloc, place, what));
     }
     Ok(())

@@ -66,8 +66,10 @@ pub(crate) fn check_masters(alloc: Global, cluster: &Value) -> Result<(), Halt> 
             continue;
         }
         let place = Place::NodeMember(number, "replica_of");
-        let Some(master) = numbers.get(&text_of(node, "replica_of")) else {
-            return Err(wrong(alloc, place, "no node has this id"));
+        let id = text_of(node, "replica_of");
+        let Some(master) = numbers.get(&id) else {
+            let what = format_args!("no node has the id {id:?}");
+            return Err(wrong(alloc, place, what));
         };
         if nodes
             .get(*master)
