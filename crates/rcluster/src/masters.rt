@@ -30,8 +30,7 @@ pub fn masters(
     let text = text_of(alloc, count, first_port)?;
     match read_config(alloc, text.as_bytes()) {
         Ok(config) => Ok(Ok(config)),
-        // Nothing is wrong with the text.
-        Err(_) => Err(Failure::from(ProgramFault::Memory)),
+        Err(fault) => Err(Failure::from(ProgramFault::Config(fault))),
     }
 }
 
