@@ -7,8 +7,8 @@ use Rattle.std.specs.List.{flat_map}
 use Rattle.std.specs.Io.KnownBytes.{Appends}
 use Rattle.std.proofs.KnownBytes.{Appends-trans}
 use Rattle.std.specs.Prelude.{decimal}
-use Rattle.resp2.specs.Reply.{line_spelling}
-use Rattle.resp2.specs.Request.{bulks_spelling, request_spelling}
+use Rattle.resp_values.specs.Reply.{line_spelling}
+use Rattle.resp_values.specs.Request.{bulks_spelling, request_spelling}
 use Rattle.resp2.specs.Writing.{AppendsBeginning, Continues}
 
 -- what is written and what is left are still all, once the first bytes of what was left are written

@@ -2,7 +2,8 @@
 use Rattle.std.proofs.Common.{◌≡◌, ℕ, zero, suc, List, [], ◌∷◌, ◌++◌, refl, sym, ap, ◌∙◌, append_assoc}
 use Rattle.std.proofs.lemmas.List.{append-nil}
 use Rattle.std.specs.Prelude.{replicate}
-use Rattle.resp2.specs.Request.{request_spelling, stream_spelling, with_words}
+use Rattle.resp_values.specs.Request.{request_spelling}
+use Rattle.resp2.specs.Stream.{stream_spelling, with_words}
 
 pub stream_spelling-append : (front requests : List (List (List ℕ))) → stream_spelling (front ++ requests) ≡ stream_spelling front ++ stream_spelling requests
 stream_spelling-append [] requests = refl

@@ -5,8 +5,9 @@ use Rattle.std.proofs.lemmas.Bool.{cases_lt}
 use Rattle.std.proofs.lemmas.List.{append-nil, length-append, length-take, take_all, take-append-drop}
 use Rattle.resp2.specs.declared.fault.Fault.{Fault}
 use Rattle.resp2.specs.declared.fault.Fault.TheVariants.{Protocol, TooLong, Memory}
-use Rattle.resp2.specs.declared.words.TheConstants.{MOST_WORDS, MOST_WORD_BYTES, MOST_REQUEST_BYTES}
-use Rattle.resp2.specs.Request.{request_spelling, IsBeginning, PassesLimit, IsBad, HasFirstBadByte}
+use Rattle.resp_values.specs.declared.words.TheConstants.{MOST_WORDS, MOST_WORD_BYTES, MOST_REQUEST_BYTES}
+use Rattle.resp_values.specs.Request.{request_spelling}
+use Rattle.resp2.specs.Stream.{IsBeginning, PassesLimit, IsBad, HasFirstBadByte}
 use Rattle.resp2.specs.Reading.{reading, reading_words, within_size, one_past_size, too_many, Seen, Wants, Bad, Found, header_onto, bulks_onto}
 use Rattle.resp2.proofs.RequestReading.{RequestMeans, header_onto-append, bulks_onto-append}
 use Rattle.resp2.proofs.RequestRoundTrip.{IsDecided}

@@ -5,13 +5,13 @@ use Rattle.std.specs.Bool.{OnTrue, OnFalse}
 use Rattle.std.proofs.lemmas.Int.{to_z-of_z, to_z_pos}
 use Rattle.std.proofs.lemmas.Bool.{ne_eqb}
 use Rattle.std.proofs.lemmas.List.{take-append-drop, take_all}
-use Rattle.resp2.specs.declared.array.Element.{Element}
-use Rattle.resp2.specs.declared.array.Element.TheVariants as element
+use Rattle.resp_values.specs.declared.array.Element.{Element}
+use Rattle.resp_values.specs.declared.array.Element.TheVariants as element
 use Rattle.resp2.specs.declared.fault.Fault.{Fault}
 use Rattle.resp2.specs.declared.fault.Fault.TheVariants.{Protocol}
 use Rattle.resp2.specs.declared.header.Header.{Header}
 use Rattle.resp2.specs.Header.{Gives}
-use Rattle.resp2.specs.Line.{is_one_line, is_text_byte}
+use Rattle.resp_values.specs.Line.{is_one_line, is_text_byte}
 use Rattle.resp2.specs.Reading.{Seen, Wants, Bad, Found, and_then, after_cr, body_at, line_end_at, number_at, header_at, header_onto}
 use Rattle.resp2.specs.Progress.{word_front}
 use Rattle.resp2.specs.ReplyProgress.{StopsText, TakesElement, IsBegun, element_front}

@@ -1,6 +1,4 @@
-pub mod ArrayLaws
 pub mod ArraySteps
-pub mod Arrays
 pub mod Beginnings
 pub mod Callers
 pub mod FirstBadByte

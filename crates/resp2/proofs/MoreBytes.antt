@@ -5,7 +5,7 @@ use Rattle.std.proofs.lemmas.List.{length-append, take-append-le, drop-append-le
 use Rattle.resp2.specs.declared.fault.Fault.{Fault}
 use Rattle.resp2.specs.declared.fault.Fault.TheVariants.{Protocol, TooLong}
 use Rattle.resp2.specs.Reading.{Seen, Wants, Bad, Found, and_then, MatchSeen, after_cr, line_end_at, digits_at, number_at, header_at, body_at, word_at, with_word, words_at, request_at, reading_words}
-use Rattle.resp2.specs.declared.words.TheConstants.{MOST_WORDS, MOST_WORD_BYTES}
+use Rattle.resp_values.specs.declared.words.TheConstants.{MOST_WORDS, MOST_WORD_BYTES}
 use Rattle.resp2.proofs.HeaderReading.{by_test}
 
 -- what was found or was bad is so again; that a word is too long needs `same`, the same limit

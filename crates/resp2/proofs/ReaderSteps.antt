@@ -8,16 +8,17 @@ use Rattle.resp2.specs.declared.fault.Fault.TheVariants.{Protocol, TooLong, Memo
 use Rattle.resp2.specs.declared.header.Header.{Header}
 use Rattle.resp2.specs.declared.reader.Progress.{Progress}
 use Rattle.resp2.specs.declared.words.Partial.{Partial}
-use Rattle.resp2.specs.declared.words.TheConstants.{MOST_WORDS, MOST_WORD_BYTES}
+use Rattle.resp_values.specs.declared.words.TheConstants.{MOST_WORDS, MOST_WORD_BYTES}
 use Rattle.resp2.specs.Header.{Gives}
 use Rattle.resp2.specs.Reading.{reading, reading_words, Seen, Wants, Bad, Found, header_at, body_at, word_at, words_at, header_onto, bulks_onto}
 use Rattle.resp2.specs.Progress.{Refuses, Takes, TakesWord, HasLen, IsPartial, word_front, partial_onto, request_front, partial_of, pending_of}
 use Rattle.resp2.specs.Reader.{ReaderState, empty_requests, PassesOver, HandsOut, Waits, Breaks, FailsBy, remembered}
-use Rattle.resp2.specs.Request.{request_spelling, header_spelling, bulks_spelling, IsRequest, KeepsLimits, WordsKeepLimits, IsUnfinished}
+use Rattle.resp_values.specs.Request.{request_spelling, header_spelling, bulks_spelling, IsRequest, KeepsLimits, WordsKeepLimits}
+use Rattle.resp2.specs.Stream.{IsUnfinished}
 use Rattle.resp2.proofs.HeaderReading.{header_is}
 use Rattle.resp2.proofs.RequestReading.{word_takes, header_onto-append, bulks_onto-append}
 use Rattle.resp2.proofs.RequestRoundTrip.{body_behind, request_behind, with_words}
-use Rattle.resp2.proofs.Spellings.{each_by_recursion, each_by_index}
+use Rattle.resp_values.proofs.Each.{each_by_recursion, each_by_index}
 use Rattle.resp2.proofs.FirstBadByte.{first_bad}
 use Rattle.resp2.proofs.ReadingDecides.{found_is, waiting_is_unfinished, bad_has_no_request}
 use Rattle.resp2.proofs.WordsDecide.{AreShort-append, bulks_onto-both, bytes_some, bytes_bound, words_some, words_bound}

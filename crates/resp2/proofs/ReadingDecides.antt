@@ -2,8 +2,9 @@
 use Rattle.std.proofs.Common.{◌≡◌, ℕ, inl, inr, suc, List, [], ◌∷◌, ◌++◌, drop, sym, ap, subst, ◌∙◌, append_assoc, take-append-drop, arith}
 use Rattle.resp2.specs.declared.fault.Fault.{Fault}
 use Rattle.resp2.specs.declared.fault.Fault.TheVariants.{Protocol}
-use Rattle.resp2.specs.declared.words.TheConstants.{MOST_REQUEST_BYTES}
-use Rattle.resp2.specs.Request.{request_spelling, stream_spelling, KeepsLimits, IsBeginning, PassesLimit, SizePasses, HasNoRequest, IsUnfinished}
+use Rattle.resp_values.specs.declared.words.TheConstants.{MOST_REQUEST_BYTES}
+use Rattle.resp_values.specs.Request.{request_spelling, KeepsLimits}
+use Rattle.resp2.specs.Stream.{stream_spelling, IsBeginning, PassesLimit, SizePasses, HasNoRequest, IsUnfinished}
 use Rattle.resp2.specs.Reading.{reading, reading_words, within_size, one_past_size, too_many, Seen, Wants, Bad, Found}
 use Rattle.resp2.proofs.RequestRoundTrip.{IsDecided}
 use Rattle.resp2.proofs.SizeLimit.{SizedMeans, sized_means, found_within, decided_within, long_decided}

@@ -2,18 +2,18 @@
 use Rattle.std.proofs.Common.{◌≡◌, inl, inr, ℕ, zero, suc, ◌+◌, ◌<◌, ◌≤◌, List, [], ◌∷◌, ◌++◌, length, map, true, refl, sym, ap, subst, ◌∙◌, append-nil, arith}
 use Rattle.std.specs.List.{AllByRecursion, flat_map}
 use Rattle.std.proofs.lemmas.List.{length-map}
-use Rattle.resp2.specs.Array.{is_array, depth_of}
-use Rattle.resp2.specs.Reply.{elements_of, array_of, is_reply, greatest_depth, reply_spelling}
+use Rattle.resp_values.specs.Array.{is_array, depth_of}
+use Rattle.resp_values.specs.Reply.{elements_of, array_of, is_reply, greatest_depth, reply_spelling}
 use Rattle.resp2.specs.ReplyProgress.{HasHeader}
 use Rattle.resp2.specs.ReplyReader.{ElementKeepsLimits}
-use Rattle.resp2.specs.declared.array.Element.{Element}
-use Rattle.resp2.specs.declared.array.Element.TheVariants as element
-use Rattle.resp2.specs.declared.reply.Reply.{Reply}
-use Rattle.resp2.specs.declared.reply.Reply.TheVariants.{Simple, Error, Integer, Bulk, Null, Array}
+use Rattle.resp_values.specs.declared.array.Element.{Element}
+use Rattle.resp_values.specs.declared.array.Element.TheVariants as element
+use Rattle.resp_values.specs.declared.reply.Reply.{Reply}
+use Rattle.resp_values.specs.declared.reply.Reply.TheVariants.{Simple, Error, Integer, Bulk, Null, Array}
 use Rattle.resp2.specs.declared.reply_reader.TheConstants.{MOST_COUNT}
-use Rattle.resp2.proofs.ArrayLaws.{arrays_are_of_replies, array_is_one_deeper}
+use Rattle.resp_values.proofs.ArrayLaws.{arrays_are_of_replies, array_is_one_deeper}
 use Rattle.resp2.proofs.ReplyReaders.{IsLeaf, IsReplyAt, all_spelled, joined}
-use Rattle.resp2.proofs.Spellings.{each_by_recursion, each_by_index}
+use Rattle.resp_values.proofs.Each.{each_by_recursion, each_by_index}
 
 abbrev pub AreLimited : List Element → Type 0
 AreLimited elements = AllByRecursion ElementKeepsLimits elements

@@ -3,8 +3,8 @@ use Rattle.std.proofs.Common.{◌≡◌, ℕ, zero, suc, ◌+◌, ◌-◌, ◌<�
 use Rattle.std.specs.List.{flat_map}
 use Rattle.std.proofs.lemmas.Bool.{eqb-true}
 use Rattle.std.proofs.lemmas.List.{length-append}
-use Rattle.resp2.specs.declared.array.Element.{Element}
-use Rattle.resp2.specs.declared.array.Element.TheVariants as element
+use Rattle.resp_values.specs.declared.array.Element.{Element}
+use Rattle.resp_values.specs.declared.array.Element.TheVariants as element
 use Rattle.resp2.specs.declared.fault.Fault.TheVariants.{Protocol}
 use Rattle.resp2.specs.declared.reply_reader.TheConstants.{MOST_DEPTH}
 use Rattle.resp2.specs.Reading.{Seen, Wants, Bad, Found, and_then, number_at, header_at}

@@ -2,9 +2,10 @@
 use Rattle.std.proofs.Common.{◌≡◌, ℕ, List, [], ◌∷◌, ◌++◌, refl, sym, ap, ◌∙◌, append_assoc}
 use Rattle.resp2.specs.Law.{NoSpellingBeginsAnother, NoUnfinishedIsWhole, StreamIsReadInOneWay}
 use Rattle.resp2.specs.Reading.{reading, reading_words, Wants, Found}
-use Rattle.resp2.specs.Request.{request_spelling, stream_spelling, KeepsLimits, HasNoRequest}
+use Rattle.resp_values.specs.Request.{request_spelling, KeepsLimits}
+use Rattle.resp2.specs.Stream.{stream_spelling, HasNoRequest}
 use Rattle.std.specs.List.{AllByRecursion}
-use Rattle.resp2.proofs.Spellings.{each_by_recursion}
+use Rattle.resp_values.proofs.Each.{each_by_recursion}
 use Rattle.resp2.proofs.SizeLimit.{found_within}
 use Rattle.resp2.proofs.WordsDecide.{front_wants, words_are_found}
 

@@ -4,13 +4,15 @@ use Rattle.std.specs.Prelude.{decimal, All, replicate}
 use Rattle.std.proofs.lemmas.List.{append-nil, length-append, length-replicate}
 use Rattle.std.proofs.lemmas.List.Elements.{All-cons, All-nil}
 use Rattle.resp2.specs.declared.fault.Fault.TheVariants.{Protocol}
-use Rattle.resp2.specs.declared.words.TheConstants.{MOST_WORDS, MOST_WORD_BYTES}
-use Rattle.resp2.specs.Request.{header_spelling, bulks_spelling, request_spelling, stream_spelling, HasNumbers, WordsKeepLimits, IsBeginning, CountPasses, LengthPasses}
+use Rattle.resp_values.specs.declared.words.TheConstants.{MOST_WORDS, MOST_WORD_BYTES}
+use Rattle.resp_values.specs.Request.{header_spelling, bulks_spelling, request_spelling, WordsKeepLimits}
+use Rattle.resp2.specs.Stream.{stream_spelling, HasNumbers, IsBeginning, CountPasses, LengthPasses}
 use Rattle.resp2.specs.Reading.{reading_words, Seen, Wants, Bad, Found, request_at, header_onto, bulk_onto, bulks_onto, request_onto}
 use Rattle.resp2.proofs.MoreBytes.{Goes, request_goes, words_stay_bad, words_stay_found}
 use Rattle.resp2.proofs.RequestReading.{AreShort, RequestMeans, request_means, empty_words, empty_count, empty_short, header_onto-append, bulks_onto-append}
 use Rattle.resp2.proofs.RequestRoundTrip.{request_again, request_decided, length_decided, count_decided, IsDecided}
-use Rattle.resp2.proofs.Spellings.{header_spelling-onto, bulks_spelling-onto, request_spelling-onto, each_by_recursion, each_by_index}
+use Rattle.resp2.proofs.Spellings.{header_spelling-onto, bulks_spelling-onto, request_spelling-onto}
+use Rattle.resp_values.proofs.Each.{each_by_recursion, each_by_index}
 
 -- the limits are numbers that the code can count with
 pub words_some : 0 < MOST_WORDS

@@ -1,13 +1,11 @@
--- What holds of the spellings of requests and of arrays, whoever reads or writes them.
-use Rattle.std.specs.Prelude.{◌≡◌, ◌+◌, ◌↔◌, ℕ, List, ◌++◌, All, IsTrue}
-use Rattle.std.specs.List.{AllPass}
-use Rattle.resp2.specs.declared.array.Element.{Element}
+-- What holds of the spellings of requests and of replies, whoever reads or writes them.
+use Rattle.std.specs.Prelude.{◌≡◌, ℕ, List, ◌++◌, All}
 use Rattle.resp2.specs.declared.fault.Fault.TheVariants.{Protocol, TooLong}
-use Rattle.resp2.specs.declared.reply.Reply.{Reply}
-use Rattle.resp2.specs.Array.{is_array, depth_of}
-use Rattle.resp2.specs.Reply.{array_of, is_reply, greatest_depth, reply_spelling}
+use Rattle.resp_values.specs.declared.reply.Reply.{Reply}
+use Rattle.resp_values.specs.Reply.{reply_spelling}
 use Rattle.resp2.specs.ReplyReader.{ReplyKeepsLimits, replies_spelling, HasFirstBadReplyByte, HasNoReply, IsUnfinishedReply}
-use Rattle.resp2.specs.Request.{request_spelling, stream_spelling, KeepsLimits, IsUnfinished, HasFirstBadByte, HasNoRequest}
+use Rattle.resp_values.specs.Request.{request_spelling, KeepsLimits}
+use Rattle.resp2.specs.Stream.{stream_spelling, IsUnfinished, HasFirstBadByte, HasNoRequest}
 
 -- bytes begin with one request at most, perhaps one without words, and its end is where the next begins
 abbrev pub NoSpellingBeginsAnother : Type 0
@@ -111,20 +109,3 @@ pub record HasOneReplyFront (bytes : List ℕ) : Type 0 where
 -- so each rule of the bytes says what a reader of replies does with any bytes at all
 abbrev pub BytesHaveOneReplyFront : Type 0
 BytesHaveOneReplyFront = (bytes : List ℕ) → HasOneReplyFront bytes
-
--- ---- arrays
-
--- elements are an array exactly if they are the array of some replies
-abbrev pub ArraysAreOfReplies : Type 0
-ArraysAreOfReplies =
-    (elements : List Element) → IsTrue (is_array elements) ↔ ((replies : List Reply) × AllPass is_reply replies × (elements ≡ array_of replies))
-
--- and of no others
-abbrev pub ArrayDeterminesReplies : Type 0
-ArrayDeterminesReplies =
-    (replies others : List Reply) → AllPass is_reply replies → AllPass is_reply others
-    → array_of replies ≡ array_of others → replies ≡ others
-
--- an array nests by one deeper than the deepest of its replies
-abbrev pub ArrayIsOneDeeper : Type 0
-ArrayIsOneDeeper = (replies : List Reply) → AllPass is_reply replies → depth_of (array_of replies) ≡ greatest_depth replies + 1

@@ -1,15 +1,12 @@
-pub mod Array
 pub mod Counting
 pub mod Header
 pub mod Law
-pub mod Line
 pub mod Parts
 pub mod Progress
 pub mod Reader
 pub mod Reading
-pub mod Reply
 pub mod ReplyProgress
 pub mod ReplyReader
 pub mod ReplyReading
-pub mod Request
+pub mod Stream
 pub mod Writing

@@ -1,8 +1,8 @@
 -- The pieces that replies are written from. No public clause needs them.
 use Rattle.std.specs.Prelude.{ℕ, List, ◌++◌}
 use Rattle.std.specs.List.{flat_map}
-use Rattle.resp2.specs.Reply.{element_spelling, line_spelling}
-use Rattle.resp2.specs.Request.{crlf}
+use Rattle.resp_values.specs.Reply.{element_spelling, line_spelling}
+use Rattle.resp_values.specs.Request.{crlf}
 use Rattle.resp2.specs.declared.parts.Parts.{Parts}
 use Rattle.resp2.specs.declared.parts.Parts.TheVariants.{Line, Bulk}
 use Rattle.resp2.specs.declared.parts.Pieces.{Pieces}

@@ -2,7 +2,8 @@
 use Rattle.std.specs.Prelude.{◌≡◌, ℕ, List, [], ◌++◌, replicate, Option, None, Some}
 use Rattle.resp2.specs.declared.fault.Fault.{Fault}
 use Rattle.resp2.specs.declared.fault.Fault.TheVariants.{Protocol, TooLong, Memory}
-use Rattle.resp2.specs.Request.{request_spelling, stream_spelling, IsRequest, HasFirstBadByte, HasNoRequest, IsUnfinished}
+use Rattle.resp_values.specs.Request.{request_spelling, IsRequest}
+use Rattle.resp2.specs.Stream.{stream_spelling, HasFirstBadByte, HasNoRequest, IsUnfinished}
 
 -- the bytes that were fed and not consumed, and the fault that was found in them
 pub record ReaderState : Type 0 where

@@ -1,8 +1,8 @@
--- Reading requests from the front of a list, with what the bytes so far decide. It ties the code to specs/Request.antt:
+-- Reading requests from the front of a list, with what the bytes so far decide. It ties the code to specs/Stream.antt:
 -- no public clause speaks of it.
 use Rattle.std.specs.Prelude.{◌+◌, ◌-◌, ◌*◌, ◌==◌, nat_lt, ◌||◌, if◌then◌else◌, zero, suc, ℕ, List, [], ◌∷◌, ◌++◌, length, take, drop, decimal}
 use Rattle.resp2.specs.declared.fault.Fault.{Fault}
-use Rattle.resp2.specs.declared.words.TheConstants.{MOST_WORDS, MOST_WORD_BYTES, MOST_REQUEST_BYTES}
+use Rattle.resp_values.specs.declared.words.TheConstants.{MOST_WORDS, MOST_WORD_BYTES, MOST_REQUEST_BYTES}
 use Rattle.resp2.specs.declared.fault.Fault.TheVariants.{Protocol, TooLong}
 
 -- ---- spellings with what follows them

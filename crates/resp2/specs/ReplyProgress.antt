@@ -1,19 +1,19 @@
 -- How far a reader of replies is, and what its steps say of the bytes. No public clause needs it.
 use Rattle.std.specs.Prelude.{◌≡◌, ◌≢◌, ◌≤◌, ◌<◌, ◌+◌, ◌-◌, ◌==◌, ℕ, ℤ, Bool, true, false, List, [], ◌∷◌, ◌++◌, length, take, drop, IsTrue, IfSome, Option, None, Some, Result, Ok, Err, suc}
 use Rattle.std.specs.List.{flat_map}
-use Rattle.resp2.specs.Line.{is_one_line, is_text_byte}
+use Rattle.resp_values.specs.Line.{is_one_line, is_text_byte}
 use Rattle.resp2.specs.Progress.{Refuses, word_front}
 use Rattle.resp2.specs.Reading.{Seen, Wants, Bad, Found, and_then}
-use Rattle.resp2.specs.Reply.{element_spelling, elements_of}
+use Rattle.resp_values.specs.Reply.{element_spelling, elements_of}
 use Rattle.resp2.specs.ReplyReading.{as_found, times, reply_at}
-use Rattle.resp2.specs.declared.array.Element.{Element}
-use Rattle.resp2.specs.declared.array.Element.TheVariants.{Array}
+use Rattle.resp_values.specs.declared.array.Element.{Element}
+use Rattle.resp_values.specs.declared.array.Element.TheVariants.{Array}
 use Rattle.resp2.specs.declared.array_part.ArrayPart.{ArrayPart}
 use Rattle.resp2.specs.declared.fault.Fault.{Fault}
 use Rattle.resp2.specs.declared.fault.Fault.TheVariants.{Protocol, TooLong, Memory}
 use Rattle.resp2.specs.declared.leaf.Begun.{Begun}
 use Rattle.resp2.specs.declared.leaf.Integer.{Integer}
-use Rattle.resp2.specs.declared.reply.Reply.{Reply}
+use Rattle.resp_values.specs.declared.reply.Reply.{Reply}
 use Rattle.resp2.specs.declared.reply_reader.TheConstants.{MOST_DEPTH, MOST_COUNT}
 
 -- ---- what a step answers

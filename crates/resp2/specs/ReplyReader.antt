@@ -1,15 +1,15 @@
 -- What a reader of replies holds, which replies it takes, and what its answers say of the bytes.
 use Rattle.std.specs.Prelude.{◌≡◌, ◌≢◌, ◌<◌, ◌≤◌, ◌-◌, ◌^◌, ℕ, ℤ, pos, negsuc, suc, List, ◌++◌, length, All, IsTrue, None, Some}
 use Rattle.std.specs.List.{flat_map}
-use Rattle.resp2.specs.Array.{depth_of}
-use Rattle.resp2.specs.Line.{is_one_line}
-use Rattle.resp2.specs.Reply.{elements_of, is_reply, reply_spelling}
+use Rattle.resp_values.specs.Array.{depth_of}
+use Rattle.resp_values.specs.Line.{is_one_line}
+use Rattle.resp_values.specs.Reply.{elements_of, is_reply, reply_spelling}
 use Rattle.resp2.specs.Reader.{ReaderState}
-use Rattle.resp2.specs.declared.array.Element.{Element}
-use Rattle.resp2.specs.declared.array.Element.TheVariants.{Simple, Error, Integer, Bulk, Null, Array}
+use Rattle.resp_values.specs.declared.array.Element.{Element}
+use Rattle.resp_values.specs.declared.array.Element.TheVariants.{Simple, Error, Integer, Bulk, Null, Array}
 use Rattle.resp2.specs.declared.fault.Fault.{Fault}
 use Rattle.resp2.specs.declared.fault.Fault.TheVariants.{Protocol, TooLong, Memory}
-use Rattle.resp2.specs.declared.reply.Reply.{Reply}
+use Rattle.resp_values.specs.declared.reply.Reply.{Reply}
 use Rattle.resp2.specs.declared.reply_reader.TheConstants.{MOST_DEPTH, MOST_COUNT}
 
 -- ---- which replies

@@ -2,8 +2,8 @@
 -- clause speaks of it.
 use Rattle.std.specs.Prelude.{◌-◌, ◌^◌, ◌==◌, if◌then◌else◌, zero, suc, ℕ, ℤ, pos, negsuc, List, [], ◌∷◌}
 use Rattle.std.specs.List.{flat_map}
-use Rattle.resp2.specs.declared.array.Element.{Element}
-use Rattle.resp2.specs.declared.array.Element.TheVariants as element
+use Rattle.resp_values.specs.declared.array.Element.{Element}
+use Rattle.resp_values.specs.declared.array.Element.TheVariants as element
 use Rattle.resp2.specs.declared.fault.Fault.TheVariants.{Protocol}
 use Rattle.resp2.specs.Reading.{Seen, Wants, Bad, Found, and_then, after_cr, number_at, body_at}
 

@@ -9,12 +9,12 @@ ghost use Rattle.resp2.specs.Reading.{header_at, Wants};
 ghost use Rattle.resp2.specs.ReplyProgress.{IsArrayPart, IsReading, begins_array, element_front, part_front, to_come};
 ghost use Rattle.resp2.specs.ReplyReading.{reply_at};
 
-use crate::array::{Array, Element};
 use crate::fault::Fault;
 use crate::header::{Bounds, Header, read_header};
 use crate::leaf::{Begun, take_leaf};
 use crate::reply_reader::{MOST_COUNT, MOST_DEPTH};
 use bytes::BytesMut;
+use resp_values::{Array, Element};
 use std::alloc::Global;
 use std::mem;
 

@@ -1,5 +1,5 @@
-//! Laws of the spellings: bytes are read in one way, and an array is that of some replies.
-ghost use Rattle.resp2.specs.Law.{NoReplyBeginsAnother, RepliesAreReadInOneWay, BytesHaveOneReplyFront, NoSpellingBeginsAnother, NoUnfinishedIsWhole, StreamIsReadInOneWay, BytesHaveOneFront, ArraysAreOfReplies, ArrayDeterminesReplies, ArrayIsOneDeeper};
+//! Laws of the spellings: bytes are read in one way.
+ghost use Rattle.resp2.specs.Law.{NoReplyBeginsAnother, RepliesAreReadInOneWay, BytesHaveOneReplyFront, NoSpellingBeginsAnother, NoUnfinishedIsWhole, StreamIsReadInOneWay, BytesHaveOneFront};
 
 /// No request's bytes begin another's, so what stands in front of a stream is one request at most.
 pub fn no_spelling_begins_another()
@@ -36,19 +36,4 @@ pub fn replies_are_read_in_one_way()
 /// that no reply can have there.
 pub fn bytes_have_one_reply_front()
     ensures { BytesHaveOneReplyFront }
-{}
-
-/// Elements are an array exactly if they are the array of some replies.
-pub fn arrays_are_of_replies()
-    ensures { ArraysAreOfReplies }
-{}
-
-/// Those replies are determined by the elements: no two lists of replies have the same array.
-pub fn array_determines_replies()
-    ensures { ArrayDeterminesReplies }
-{}
-
-/// An array nests by one deeper than the deepest of its replies.
-pub fn array_is_one_deeper()
-    ensures { ArrayIsOneDeeper }
 {}

@@ -1,20 +1,19 @@
 //! Replies that are no arrays, from the front of bytes that come in any pieces.
 ghost use Rattle.std.specs.Bool.{OnTrue, OnFalse};
 ghost use Rattle.std.specs.Prelude.{◌≡◌, ◌≢◌, ◌+◌, ◌-◌, ◌<◌, ◌≤◌, ◌^◌, IsTrue, length, take, drop, slice_get, Some, None, IfOk, IfErr, IfSome, IfNone, OnOk, OnErr};
-ghost use Rattle.resp2.specs.Line.{is_one_line};
+ghost use Rattle.resp_values.specs.Line.{is_one_line};
 ghost use Rattle.resp2.specs.Progress.{Takes};
 ghost use Rattle.resp2.specs.Reading.{Wants, Bad};
 ghost use Rattle.resp2.specs.ReplyProgress.{GivesInteger, TakesElement, IsBegun, StopsText, begins_array, element_front};
 ghost use Rattle.resp2.specs.ReplyReading.{leaf_at, text_at, bytes_of, number_element_at, bulk_or_null_at, null_at, integer_at};
 
-use crate::array::Element;
 use crate::bulk::{is_whole, make_room};
 use crate::fault::Fault;
 use crate::header::{Bounds, read_header};
-use crate::line::{Line, is_text_byte};
 use crate::reply_reader::MOST_COUNT;
 use byte_string::ByteString;
 use bytes::{Bytes, BytesMut};
+use resp_values::{Element, Line, is_text_byte};
 
 /// For so many bytes of a bulk string room is made as soon as its length is known, and for more as
 /// they come: so a length alone takes little memory.

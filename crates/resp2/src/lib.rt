@@ -1,7 +1,6 @@
 //! RESP2, the serialization protocol between Redis clients and servers.
 #![tactic(auto)]
 
-mod array;
 mod array_part;
 mod bulk;
 mod counting;
@@ -9,29 +8,26 @@ mod fault;
 mod header;
 mod law;
 mod leaf;
-mod line;
 mod parts;
 mod reader;
-mod reply;
 mod reply_reader;
 mod sending;
 mod whole;
 mod words;
 mod writing;
 
-pub use array::{Array, Element};
 pub use counting::Counting;
 pub use fault::Fault;
 pub use law::{
-    a_stream_is_read_in_one_way, array_determines_replies, array_is_one_deeper,
-    arrays_are_of_replies, bytes_have_one_front, bytes_have_one_reply_front,
+    a_stream_is_read_in_one_way, bytes_have_one_front, bytes_have_one_reply_front,
     no_reply_begins_another, no_spelling_begins_another, no_unfinished_is_whole,
     replies_are_read_in_one_way,
 };
-pub use line::Line;
 pub use reader::Reader;
-pub use reply::Reply;
 pub use reply_reader::{MOST_COUNT, MOST_DEPTH, ReplyReader};
+pub use resp_values::{
+    Array, Element, Line, MOST_REQUEST_BYTES, MOST_WORD_BYTES, MOST_WORDS, Reply, Words,
+    array_determines_replies, array_is_one_deeper, arrays_are_of_replies,
+};
 pub use sending::write_words;
-pub use words::{MOST_REQUEST_BYTES, MOST_WORD_BYTES, MOST_WORDS, Words};
 pub use writing::{append_reply, send_reply, write_reply};

@@ -1,13 +1,12 @@
 //! Replies and elements as the parts that their spellings consist of.
 ghost use Rattle.std.specs.Prelude.{◌≡◌};
-ghost use Rattle.resp2.specs.Request.{bulk_spelling};
-ghost use Rattle.resp2.specs.Reply.{reply_spelling, element_spelling};
+ghost use Rattle.resp_values.specs.Request.{bulk_spelling};
+ghost use Rattle.resp_values.specs.Reply.{reply_spelling, element_spelling};
 ghost use Rattle.resp2.specs.Parts.{parts_spelling, spelled_by};
 
-use crate::array::Element;
-use crate::reply::Reply;
 use byte_string::ByteString;
 use itoa::Buffer;
+use resp_values::{Element, Reply};
 
 /// What is written for a reply that is no array, or for an element.
 #[derive(Drop)]

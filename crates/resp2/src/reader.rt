@@ -2,14 +2,15 @@
 ghost use Rattle.std.specs.Bool.{OnTrue};
 ghost use Rattle.std.specs.Prelude.{◌≡◌, ◌≢◌, ◌+◌, ◌<◌, ◌≤◌, [], ◌++◌, length, take, Some, None, Ok, Err, IfOk, IfErr, IfSome, IfNone, OnOk, OnErr, unwrap_or};
 ghost use Rattle.resp2.specs.declared.fault.Fault.TheVariants.{Memory, TooLong};
-ghost use Rattle.resp2.specs.declared.words.TheConstants.{MOST_REQUEST_BYTES};
+ghost use Rattle.resp_values.specs.declared.words.TheConstants.{MOST_REQUEST_BYTES};
 ghost use Rattle.resp2.specs.Reading.{Wants, Bad, reading, reading_words};
 ghost use Rattle.resp2.specs.Reader.{HandsOut, Waits, FailsBy, remembered};
 ghost use Rattle.resp2.specs.Progress.{Takes, TakesAll, Refuses, IsProgress, IsWhole, IsCounted, IsCountedOrBroken, FaultOfFront, BeginsOr, partial_of, fault_of, pending_of, words_of};
 
 use crate::fault::Fault;
-use crate::words::{Frame, MOST_REQUEST_BYTES, Partial, Words};
+use crate::words::{Frame, Partial};
 use bytes::BytesMut;
+use resp_values::{MOST_REQUEST_BYTES, Words};
 use std::alloc::Global;
 use std::marker::Model;
 use std::mem;

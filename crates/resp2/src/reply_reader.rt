@@ -1,17 +1,16 @@
 //! Replies from bytes that come in any pieces.
 ghost use Rattle.std.specs.Prelude.{◌≡◌, ◌≢◌, ◌++◌, ◌∷◌, [], IsTrue, Some, None, IfOk, IfErr, IfSome, IfNone, OnOk, OnErr, unwrap_or};
 ghost use Rattle.resp2.specs.declared.fault.Fault.TheVariants.{Memory, Protocol};
-ghost use Rattle.resp2.specs.Reply.{elements_of, is_reply};
+ghost use Rattle.resp_values.specs.Reply.{elements_of, is_reply};
 ghost use Rattle.resp2.specs.ReplyProgress.{TakesReply, IsReading, HasHeader, is_lasting, part_front};
 ghost use Rattle.resp2.specs.ReplyReader.{HandsOutReply, WaitsForReply, FailsReplyBy};
 ghost use Rattle.resp2.specs.ReplyReading.{reply_at};
 
-use crate::array::Element;
 use crate::array_part::ArrayPart;
 use crate::fault::Fault;
 use crate::leaf::{Begun, take_leaf};
-use crate::reply::Reply;
 use bytes::BytesMut;
+use resp_values::{Element, Reply};
 use std::alloc::Global;
 use std::marker::Model;
 

@@ -2,14 +2,14 @@
 ghost use Rattle.std.specs.Prelude.{OnOk, OnErr};
 ghost use Rattle.std.specs.List.{flat_map};
 ghost use Rattle.std.specs.Io.KnownBytes.{Appends};
-ghost use Rattle.resp2.specs.Request.{bulk_spelling, request_spelling};
+ghost use Rattle.resp_values.specs.Request.{bulk_spelling, request_spelling};
 ghost use Rattle.resp2.specs.Writing.{AppendsBeginning};
 
 use crate::parts::{Parts, bulk};
-use crate::words::Words;
 use crate::writing::write_parts;
 use byte_string::ByteString;
 use itoa::Buffer;
+use resp_values::Words;
 use std::io;
 use std::io::Write;
 

@@ -1,6 +1,6 @@
 use Rattle.std.proofs.Common.{◌-◌, ◌<◌, ◌≤◌, drop, length, take}
 use Rattle.std.specs.Prelude.{IsTrue}
-use Rattle.resp2.specs.Line.{is_one_line}
+use Rattle.resp_values.specs.Line.{is_one_line}
 use Rattle.resp2.proofs.leaf.end_of_text.Given as goal
 
 abbrev pub invariant-text : goal.invariant-text

@@ -1,7 +1,7 @@
 use Rattle.std.proofs.Common.{take}
 use Rattle.std.specs.List.{flat_map}
 use Rattle.std.specs.Io.KnownBytes.{Appends}
-use Rattle.resp2.specs.Request.{bulk_spelling}
+use Rattle.resp_values.specs.Request.{bulk_spelling}
 use Rattle.resp2.proofs.sending.write_bulks.Given as goal
 
 -- the words so far are written

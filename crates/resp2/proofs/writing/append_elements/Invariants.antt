@@ -1,6 +1,6 @@
 use Rattle.std.proofs.Common.{◌≡◌, ◌++◌, take}
 use Rattle.std.specs.List.{flat_map}
-use Rattle.resp2.specs.Reply.{element_spelling}
+use Rattle.resp_values.specs.Reply.{element_spelling}
 use Rattle.resp2.proofs.writing.append_elements.Given as goal
 
 -- the elements so far are appended

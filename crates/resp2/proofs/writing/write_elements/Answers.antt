@@ -1,6 +1,6 @@
 use Rattle.std.proofs.Common.{arith, ap, ◌∙◌}
 use Rattle.std.proofs.lemmas.Result.{err_from_is_err_and}
-use Rattle.resp2.specs.Reply.{element_spelling}
+use Rattle.resp_values.specs.Reply.{element_spelling}
 use Rattle.resp2.proofs.Beginnings.{begun_at}
 use Rattle.resp2.proofs.writing.write_elements.Goals as goal
 

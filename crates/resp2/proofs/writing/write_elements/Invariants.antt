@@ -1,7 +1,7 @@
 use Rattle.std.proofs.Common.{take}
 use Rattle.std.specs.List.{flat_map}
 use Rattle.std.specs.Io.KnownBytes.{Appends}
-use Rattle.resp2.specs.Reply.{element_spelling}
+use Rattle.resp_values.specs.Reply.{element_spelling}
 use Rattle.resp2.proofs.writing.write_elements.Given as goal
 
 -- the elements so far are written

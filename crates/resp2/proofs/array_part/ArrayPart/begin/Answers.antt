@@ -1,6 +1,6 @@
 use Rattle.std.proofs.Common.{rules, ◌≡◌, ◌∙◌, ◌++◌, ◌∷◌, [], List, drop, sym, ap, refl}
 use Rattle.resp2.specs.ReplyProgress.{array_front, element_front}
-use Rattle.resp2.specs.declared.array.Element.TheVariants.{Array}
+use Rattle.resp_values.specs.declared.array.Element.TheVariants.{Array}
 use Rattle.resp2.proofs.ArraySteps.{first_taken, fresh, front_is, kept_after, none_in_front, reading_after}
 use Rattle.resp2.proofs.array_part.ArrayPart.begin.Goals as goal
 

@@ -1,7 +1,7 @@
 -- Which elements are an array (RESP protocol, "Arrays": the number of elements, then one after another).
 use Rattle.std.specs.Prelude.{ℕ, zero, suc, ◌+◌, max, List, [], ◌∷◌, ◌++◌, replicate, Bool, true, false}
-use Rattle.resp2.specs.declared.array.Element.{Element}
-use Rattle.resp2.specs.declared.array.Element.TheVariants.{Array}
+use Rattle.resp_values.specs.declared.array.Element.{Element}
+use Rattle.resp_values.specs.declared.array.Element.TheVariants.{Array}
 
 -- so many replies stand in the list, and nothing else
 abbrev pub has_replies : ℕ → List Element → Bool

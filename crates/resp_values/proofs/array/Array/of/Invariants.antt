@@ -1,9 +1,9 @@
 use Rattle.std.proofs.Common.{◌≡◌, ◌∷◌, length, true}
 use Rattle.std.specs.List.{flat_map}
-use Rattle.resp2.specs.Array.{has_replies}
-use Rattle.resp2.specs.Reply.{elements_of}
-use Rattle.resp2.specs.declared.array.Element.TheVariants.{Array}
-use Rattle.resp2.proofs.array.Array.of.Given as goal
+use Rattle.resp_values.specs.Array.{has_replies}
+use Rattle.resp_values.specs.Reply.{elements_of}
+use Rattle.resp_values.specs.declared.array.Element.TheVariants.{Array}
+use Rattle.resp_values.proofs.array.Array.of.Given as goal
 
 -- the replies so far stand behind the header
 abbrev pub invariant-loop-reply : goal.invariant-loop-reply

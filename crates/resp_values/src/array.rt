@@ -1,7 +1,7 @@
 //! An array of replies, in the order of its bytes.
 ghost use Rattle.std.specs.Prelude.{◌≡◌, ◌++◌, length, IfOk, OnOk, IsTrue};
-ghost use Rattle.resp2.specs.Array.{has_replies, is_array};
-ghost use Rattle.resp2.specs.Reply.{array_of, elements_of};
+ghost use Rattle.resp_values.specs.Array.{has_replies, is_array};
+ghost use Rattle.resp_values.specs.Reply.{array_of, elements_of};
 
 use crate::line::Line;
 use crate::reply::Reply;
@@ -38,8 +38,8 @@ pub struct Array {
 
 impl Model for Array {
     ghost use Rattle.std.specs.Prelude.{List, IsTrue};
-    ghost use Rattle.resp2.specs.Array.{is_array};
-    ghost use Rattle.resp2.specs.declared.array.Element.{Element as ArrayElement};
+    ghost use Rattle.resp_values.specs.Array.{is_array};
+    ghost use Rattle.resp_values.specs.declared.array.Element.{Element as ArrayElement};
 
     ghost Value = { List ArrayElement };
 
@@ -66,7 +66,7 @@ impl Array {
     }
 
     /// The array that has these elements.
-    pub(crate) fn of_elements(elements: Vec<Element>) -> Array
+    pub fn of_elements(elements: Vec<Element>) -> Array
         requires { IsTrue (is_array elements.items) }
         ensures { result ≡ elements.items }
     {
@@ -85,7 +85,7 @@ impl Array {
 impl PartialEq for Array {
     ghost use Rattle.std.specs.Cmp.{partial_equiv_from_equiv};
     ghost use Rattle.std.specs.Cmp.Lexicographic.{pointwise, lists_equiv};
-    ghost use Rattle.resp2.specs.contracts.array.ElementEq.TheImpl.Laws.{lawful};
+    ghost use Rattle.resp_values.specs.contracts.array.ElementEq.TheImpl.Laws.{lawful};
 
     ghost eq = { pointwise ⟦<Element as PartialEq>⟧.eq };
 
@@ -98,7 +98,7 @@ impl PartialEq for Array {
 
 impl Eq for Array {
     ghost use Rattle.std.specs.Cmp.Lexicographic.{lists_equiv};
-    ghost use Rattle.resp2.specs.contracts.array.ElementEq.TheImpl.Laws.{lawful};
+    ghost use Rattle.resp_values.specs.contracts.array.ElementEq.TheImpl.Laws.{lawful};
 
     ghost laws = { lists_equiv lawful.laws };
 }

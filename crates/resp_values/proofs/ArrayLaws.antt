@@ -3,15 +3,15 @@ use Rattle.std.proofs.Common.{◌≡◌, ℕ, zero, suc, ◌+◌, ◌≤◌, max
 use Rattle.std.specs.List.{AllByRecursion, flat_map}
 use Rattle.std.proofs.lemmas.List.{append-nil, length-append, length-replicate}
 use Rattle.std.proofs.lemmas.Grind.{flat_map-append}
-use Rattle.resp2.specs.Array.{has_replies, is_array, deepest, depth_of}
-use Rattle.resp2.specs.Law.{ArraysAreOfReplies, ArrayDeterminesReplies, ArrayIsOneDeeper}
-use Rattle.resp2.specs.Reply.{elements_of, array_of, is_reply, greatest_depth}
-use Rattle.resp2.specs.declared.array.Element.{Element}
-use Rattle.resp2.specs.declared.array.Element.TheVariants as element
-use Rattle.resp2.specs.declared.reply.Reply.{Reply}
-use Rattle.resp2.specs.declared.reply.Reply.TheVariants.{Simple, Error, Integer, Bulk, Null, Array}
-use Rattle.resp2.proofs.Arrays.{has_replies-append}
-use Rattle.resp2.proofs.Spellings.{each_by_recursion, each_by_index}
+use Rattle.resp_values.specs.Array.{has_replies, is_array, deepest, depth_of}
+use Rattle.resp_values.specs.Law.{ArraysAreOfReplies, ArrayDeterminesReplies, ArrayIsOneDeeper}
+use Rattle.resp_values.specs.Reply.{elements_of, array_of, is_reply, greatest_depth}
+use Rattle.resp_values.specs.declared.array.Element.{Element}
+use Rattle.resp_values.specs.declared.array.Element.TheVariants as element
+use Rattle.resp_values.specs.declared.reply.Reply.{Reply}
+use Rattle.resp_values.specs.declared.reply.Reply.TheVariants.{Simple, Error, Integer, Bulk, Null, Array}
+use Rattle.resp_values.proofs.Arrays.{has_replies-append}
+use Rattle.resp_values.proofs.Each.{each_by_recursion, each_by_index}
 
 -- each reply holds an array where it holds elements
 abbrev AreReplies : List Reply → Type 0

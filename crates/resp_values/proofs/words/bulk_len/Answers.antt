@@ -1,7 +1,7 @@
 use Rattle.std.proofs.Common.{◌∙◌, ap, length, arith}
-use Rattle.resp2.specs.Request.{header_spelling}
-use Rattle.resp2.proofs.Spellings.{bulk_len}
-use Rattle.resp2.proofs.words.bulk_len.Goals as goal
+use Rattle.resp_values.specs.Request.{header_spelling}
+use Rattle.resp_values.proofs.Spellings.{bulk_len}
+use Rattle.resp_values.proofs.words.bulk_len.Goals as goal
 
 pub returns-clause-len : goal.returns-clause-len
 returns-clause-len c =

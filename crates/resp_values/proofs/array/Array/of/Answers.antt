@@ -1,7 +1,7 @@
 use Rattle.std.proofs.Common.{arith}
 use Rattle.std.proofs.lemmas.Grind.{common_steps}
-use Rattle.resp2.proofs.Arrays.{has_replies_push}
-use Rattle.resp2.proofs.array.Array.of.Goals as goal
+use Rattle.resp_values.proofs.Arrays.{has_replies_push}
+use Rattle.resp_values.proofs.array.Array.of.Goals as goal
 
 pub loop-reply-preserved : goal.loop-reply-preserved
 loop-reply-preserved c =

@@ -2,12 +2,12 @@
 use Rattle.std.specs.Prelude.{ℕ, ℤ, max, List, [], ◌∷◌, ◌++◌, length, Bool, true}
 use Rattle.std.specs.Fmt.{signed_decimal}
 use Rattle.std.specs.List.{flat_map}
-use Rattle.resp2.specs.Array.{is_array, depth_of}
-use Rattle.resp2.specs.Request.{crlf, header_spelling, bulk_spelling}
-use Rattle.resp2.specs.declared.array.Element.{Element}
-use Rattle.resp2.specs.declared.array.Element.TheVariants as element
-use Rattle.resp2.specs.declared.reply.Reply.{Reply}
-use Rattle.resp2.specs.declared.reply.Reply.TheVariants.{Simple, Error, Integer, Bulk, Null, Array}
+use Rattle.resp_values.specs.Array.{is_array, depth_of}
+use Rattle.resp_values.specs.Request.{crlf, header_spelling, bulk_spelling}
+use Rattle.resp_values.specs.declared.array.Element.{Element}
+use Rattle.resp_values.specs.declared.array.Element.TheVariants as element
+use Rattle.resp_values.specs.declared.reply.Reply.{Reply}
+use Rattle.resp_values.specs.declared.reply.Reply.TheVariants.{Simple, Error, Integer, Bulk, Null, Array}
 
 -- `+<text>\r\n` and `-<text>\r\n`
 abbrev pub line_spelling : ℕ → List ℕ → List ℕ

@@ -2,7 +2,7 @@
 ghost use Rattle.std.specs.Prelude.{◌≡◌, IsTrue, IfSome, IfNone, IsSome, ◌↔◌, nat_eq};
 ghost use Rattle.std.specs.Cmp.{partial_equiv_from_equiv};
 ghost use Rattle.std.specs.Cmp.Lexicographic.{pointwise, nat_list_eq_equiv};
-ghost use Rattle.resp2.specs.Line.{is_one_line, is_text_byte};
+ghost use Rattle.resp_values.specs.Line.{is_one_line, is_text_byte};
 
 use bytes::Bytes;
 use std::alloc::AllocError;
@@ -16,7 +16,7 @@ pub struct Line {
 
 impl Model for Line {
     ghost use Rattle.std.specs.Prelude.{List, ℕ, IsTrue};
-    ghost use Rattle.resp2.specs.Line.{is_one_line};
+    ghost use Rattle.resp_values.specs.Line.{is_one_line};
 
     ghost Value = { List ℕ };
 
@@ -49,7 +49,7 @@ impl Line {
     }
 
     /// The line with this text, in which no line ends.
-    pub(crate) fn of(text: Bytes) -> Line
+    pub fn of(text: Bytes) -> Line
         requires { IsTrue (is_one_line text) }
         ensures { result ≡ text }
     {
@@ -94,7 +94,8 @@ fn is_one_line(text: &[u8]) -> bool
     text.iter().all(|byte| is_text_byte(*byte))
 }
 
-pub(crate) fn is_text_byte(byte: u8) -> bool
+/// Whether the byte ends no line.
+pub fn is_text_byte(byte: u8) -> bool
     ensures { result ≡ is_text_byte byte }
 {
     !matches!(byte, b'\r' | b'\n')

@@ -2,11 +2,11 @@
 use Rattle.std.proofs.Common.{◌≡◌, ℕ, zero, suc, ◌+◌, List, [], ◌∷◌, ◌++◌, length, true, ap, ◌∙◌, add-zero, add-suc, arith}
 use Rattle.std.proofs.lemmas.List.{flat_map_more, length_push}
 use Rattle.std.specs.List.{flat_map}
-use Rattle.resp2.specs.Array.{has_replies}
-use Rattle.resp2.specs.Reply.{elements_of}
-use Rattle.resp2.specs.declared.reply.Reply.{Reply}
-use Rattle.resp2.specs.declared.array.Element.{Element}
-use Rattle.resp2.specs.declared.array.Element.TheVariants.{Simple, Error, Integer, Bulk, Null, Array}
+use Rattle.resp_values.specs.Array.{has_replies}
+use Rattle.resp_values.specs.Reply.{elements_of}
+use Rattle.resp_values.specs.declared.reply.Reply.{Reply}
+use Rattle.resp_values.specs.declared.array.Element.{Element}
+use Rattle.resp_values.specs.declared.array.Element.TheVariants.{Simple, Error, Integer, Bulk, Null, Array}
 
 -- behind `count` replies, the rest has those that are left
 pub has_replies-append : (count left : ℕ) (front rest : List Element) → has_replies count front ≡ true → has_replies (left + count) (front ++ rest) ≡ has_replies left rest

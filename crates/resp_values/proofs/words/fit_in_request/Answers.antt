@@ -1,7 +1,7 @@
 use Rattle.std.proofs.Common.{ap, length, arith}
-use Rattle.resp2.specs.Request.{bulk_spelling}
-use Rattle.resp2.proofs.Spellings.{bulks_len-front, bulks_len-more, request_len}
-use Rattle.resp2.proofs.words.fit_in_request.Goals as goal
+use Rattle.resp_values.specs.Request.{bulk_spelling}
+use Rattle.resp_values.proofs.Spellings.{bulks_len-front, bulks_len-more, request_len}
+use Rattle.resp_values.proofs.words.fit_in_request.Goals as goal
 
 pub loop-word-init : goal.loop-word-init
 loop-word-init c =

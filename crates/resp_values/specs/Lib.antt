@@ -1,0 +1,5 @@
+pub mod Array
+pub mod Law
+pub mod Line
+pub mod Reply
+pub mod Request
