@@ -3,7 +3,7 @@ use Rattle.std.proofs.Common.{◌≡◌, ℕ, ◌+◌, ◌<◌, ◌^◌, ◌%◌
 use Rattle.std.specs.Prelude.{None, Some, decimal}
 use Rattle.std.proofs.lemmas.Fmt.{decimal_by_steps}
 use Rattle.std.proofs.lemmas.List.Folds.{list_all-append}
-use Rattle.resp2.specs.Line.{is_one_line, is_text_byte}
+use Rattle.resp_values.specs.Line.{is_one_line, is_text_byte}
 use Rattle.command.specs.ErrorLine.{ask_text, moved_text}
 
 one_line-append : (front rest : List ℕ) → is_one_line front ≡ true → is_one_line rest ≡ true → is_one_line (front ++ rest) ≡ true

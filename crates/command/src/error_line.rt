@@ -1,12 +1,12 @@
 //! The texts of the errors that a node sends.
 ghost use Rattle.std.specs.Prelude.{◌≡◌, ◌++◌, IfOk, IsTrue, OnOk};
 ghost use Rattle.command.specs.ErrorLine.{ask_text, error_text, moved_text, place_text};
-ghost use Rattle.resp2.specs.Line.{is_one_line};
+ghost use Rattle.resp_values.specs.Line.{is_one_line};
 
 use crate::names::Name;
 use bytes::Bytes;
 use itoa::Buffer;
-use resp2::{Line, Reply};
+use resp_values::{Line, Reply};
 use std::alloc::{AllocError, Global};
 
 /// An error reply.

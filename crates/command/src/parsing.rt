@@ -9,7 +9,7 @@ use crate::fault::CommandFault;
 use crate::names::Name;
 use crate::words::{PairList, Word, WordList};
 use byte_string::ByteString;
-use resp2::Words;
+use resp_values::Words;
 
 /// The command that the words ask for. It borrows them, and takes no memory.
 ///

@@ -14,7 +14,7 @@ use Rattle.node_step.specs.declared.response.Response.TheVariants.{Nothing, Open
 use Rattle.reply_meaning.proofs.Laws.{not_executed, tell}
 use Rattle.reply_meaning.specs.Law.{Answers}
 use Rattle.reply_meaning.specs.Refusal.{is_refusal}
-use Rattle.resp2.specs.declared.reply.Reply.{Reply}
+use Rattle.resp_values.specs.declared.reply.Reply.{Reply}
 use Rattle.smart_client.specs.Words.{is_refused}
 use Rattle.smart_client.specs.declared.action.Action.{Action}
 use Rattle.smart_client.specs.declared.action.Action.TheVariants as wanted

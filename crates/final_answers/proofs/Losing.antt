@@ -2,7 +2,7 @@
 use Rattle.std.proofs.Common.{◌≡◌, ◌⊎◌, ◌≤◌, ◌∙◌, ◌&&◌, ◌++◌, ◌∷◌, ℕ, Bool, true, true≢false, List, [], Option, None, Some, Err, is_none, refl, sym, ap, subst, inl, inr, arith}
 use Rattle.std.proofs.lemmas.Bool.{cases_Bool, eq-eqb}
 use Rattle.cluster_config.specs.declared.config.NodeConfig.{NodeConfig}
-use Rattle.resp2.specs.declared.reply.Reply.{Reply}
+use Rattle.resp_values.specs.declared.reply.Reply.{Reply}
 use Rattle.slot_decision.specs.declared.asked.Asking.{Asking}
 use Rattle.smart_client.specs.State.{ClientState}
 use Rattle.smart_client.specs.Step.{Answer, broken, without_call}

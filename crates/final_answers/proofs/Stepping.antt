@@ -6,7 +6,7 @@ use Rattle.cluster_config.specs.declared.config.NodeConfig.{NodeConfig}
 use Rattle.connections.specs.declared.conn.Conn.{Conn}
 use Rattle.node_step.specs.declared.outputs.Outputs.{Outputs as NodeOutputs}
 use Rattle.node_step.specs.declared.outputs.Release.{Release}
-use Rattle.resp2.specs.declared.reply.Reply.{Reply}
+use Rattle.resp_values.specs.declared.reply.Reply.{Reply}
 use Rattle.smart_client.specs.declared.action.Event.TheVariants as happened
 use Rattle.smart_client.specs.declared.call.Call.{Call}
 use Rattle.world_run.specs.Executed.{Answered as Execution}

@@ -9,8 +9,8 @@ use Rattle.redirection.specs.declared.redirection.Redirection.{Redirection}
 use Rattle.redirection.specs.declared.redirection.Redirection.TheVariants.{Moved, Ask}
 use Rattle.reply_meaning.proofs.Clients.{goes_on}
 use Rattle.reply_meaning.specs.Refusal.{begins_so, is_of_no_command, is_refusal}
-use Rattle.resp2.specs.declared.reply.Reply.{Reply}
-use Rattle.resp2.specs.declared.reply.Reply.TheVariants.{Simple, Error, Integer, Bulk, Null, Array}
+use Rattle.resp_values.specs.declared.reply.Reply.{Reply}
+use Rattle.resp_values.specs.declared.reply.Reply.TheVariants.{Simple, Error, Integer, Bulk, Null, Array}
 use Rattle.smart_client.proofs.TurnCases.{failed_so}
 use Rattle.smart_client.specs.ErrorKind.{kind_of}
 use Rattle.smart_client.specs.State.{ClientState}

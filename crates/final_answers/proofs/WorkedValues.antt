@@ -1,7 +1,7 @@
 -- What answers tell, by examples.
 use Rattle.std.proofs.Common.{None, Some, Ok, Err, refl}
 use Rattle.std.specs.Prelude.{codes, pos}
-use Rattle.resp2.specs.declared.reply.Reply.TheVariants.{Integer, Error, Null}
+use Rattle.resp_values.specs.declared.reply.Reply.TheVariants.{Integer, Error, Null}
 use Rattle.smart_client.specs.declared.fault.ClientFault.TheVariants.{Lost, Memory, NotConnected}
 use Rattle.final_answers.specs.Book.{Tells}
 

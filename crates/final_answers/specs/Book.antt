@@ -1,6 +1,6 @@
 -- The calls of a world's clients, and what becomes of them.
 use Rattle.std.specs.Prelude.{◌≡◌, ◌⊎◌, ◌++◌, ◌∷◌, ℕ, Bool, true, false, List, [], Option, Some, None, Ok, Err, slice_get, slice_set, if◌then◌else◌, ⊤}
-use Rattle.resp2.specs.declared.reply.Reply.{Reply}
+use Rattle.resp_values.specs.declared.reply.Reply.{Reply}
 use Rattle.reply_meaning.specs.Refusal.{is_refusal}
 use Rattle.smart_client.specs.Step.{Answer}
 use Rattle.smart_client.specs.declared.fault.ClientFault.TheVariants.{Lost, BadReply}

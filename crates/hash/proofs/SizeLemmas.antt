@@ -1,7 +1,7 @@
 -- How the size of a hash goes with its changes.
 use Rattle.std.proofs.Common.{◌≡◌, ℕ, ◌+◌, ◌-◌, ◌*◌, ◌<◌, ◌≤◌, ◌^◌, List, [], ◌∷◌, ◌++◌, length, length-append, Bool, true, false, cond, if◌then◌else◌, refl, sym, ap, subst, ◌∙◌, arith}
 use Rattle.indexmap.specs.IndexMap.{insert_entry}
-use Rattle.resp2.specs.Request.{bulk_spelling, bulks_spelling}
+use Rattle.resp_values.specs.Request.{bulk_spelling, bulks_spelling}
 use Rattle.std.specs.Cmp.Lexicographic.{pointwise, bytes_decides}
 use Rattle.std.specs.List.{IsDistinct}
 use Rattle.std.specs.Map.{remove_entry}

@@ -1,7 +1,7 @@
 -- How many bytes the pairs of a hash take in a request (Redis' command `HSET key field value [field value ...]`).
 use Rattle.std.specs.Prelude.{ℕ, List, [], ◌∷◌, length}
 use Rattle.hash.specs.Pairs.{Pairs}
-use Rattle.resp2.specs.Request.{bulks_spelling}
+use Rattle.resp_values.specs.Request.{bulks_spelling}
 
 -- the words that HGETALL lists: each field, followed by its value
 abbrev pub words_of : Pairs → List (List ℕ)

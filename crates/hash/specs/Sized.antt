@@ -3,7 +3,7 @@ use Rattle.std.specs.Prelude.{◌≡◌, ◌+◌, ◌≤◌, ◌^◌, ℕ, List,
 use Rattle.std.specs.List.{AllByRecursion}
 use Rattle.hash.specs.Pairs.{Pairs, HasDistinctFields}
 use Rattle.hash.specs.Size.{size_of}
-use Rattle.resp2.specs.Request.{bulk_spelling}
+use Rattle.resp_values.specs.Request.{bulk_spelling}
 
 -- the bytes of a field and its value, where it has one
 abbrev pub pair_size : List ℕ → Option (List ℕ) → ℕ

@@ -1,6 +1,6 @@
 //! How many bytes words take in a request.
 ghost use Rattle.std.specs.Prelude.{◌≡◌, ◌+◌, ◌<◌, ◌^◌, length};
-ghost use Rattle.resp2.specs.Request.{bulk_spelling};
+ghost use Rattle.resp_values.specs.Request.{bulk_spelling};
 
 use byte_string::ByteString;
 use itoa::Buffer;

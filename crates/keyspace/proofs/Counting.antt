@@ -2,8 +2,8 @@
 use Rattle.std.proofs.Common.{◌≡◌, ℕ, ℤ, List, [], ◌∷◌, Option, Some, Result, Ok, Err, IfOk, OnOk, sym, ap, ◌∙◌}
 use Rattle.std.specs.FinMap as map
 use Rattle.std.specs.Fmt.{signed_decimal}
-use Rattle.resp2.specs.declared.reply.Reply.{Reply}
-use Rattle.resp2.specs.declared.reply.Reply.TheVariants.{Integer}
+use Rattle.resp_values.specs.declared.reply.Reply.{Reply}
+use Rattle.resp_values.specs.declared.reply.Reply.TheVariants.{Integer}
 use Rattle.keyspace.proofs.Applied.{applied_insert}
 use Rattle.keyspace.specs.Commands.{taken_at}
 use Rattle.keyspace.specs.Strings.{number_at, number_left, sum_of}

@@ -5,7 +5,7 @@ use Rattle.std.proofs.lemmas.Bool.Decides.{leb_tells}
 use Rattle.std.specs.Prelude.{nat_le}
 use Rattle.hash.specs.Pairs.{Pairs}
 use Rattle.hash.specs.Size.{size_of, words_of}
-use Rattle.resp2.specs.Request.{bulk_spelling, bulks_spelling, header_spelling, request_spelling}
+use Rattle.resp_values.specs.Request.{bulk_spelling, bulks_spelling, header_spelling, request_spelling}
 use Rattle.keyspace.specs.Rebuilding.{fits_hash, fits_request, rebuilding}
 use Rattle.keyspace.specs.declared.value.Value.TheVariants.{Str, Hash}
 

@@ -9,8 +9,8 @@ use Rattle.command.specs.declared.error_line.ErrorLine.{ErrorLine}
 use Rattle.command.specs.declared.error_line.ErrorLine.TheVariants.{HashNotAnInteger, TooLong}
 use Rattle.hash.specs.Pairs.{Pairs, Changes, fields_changed, field_changed, value_of}
 use Rattle.indexmap.specs.IndexMap.{insert_entry}
-use Rattle.resp2.specs.declared.reply.Reply.{Reply}
-use Rattle.resp2.specs.declared.reply.Reply.TheVariants.{Integer}
+use Rattle.resp_values.specs.declared.reply.Reply.{Reply}
+use Rattle.resp_values.specs.declared.reply.Reply.TheVariants.{Integer}
 use Rattle.keyspace.specs.Effect.{error_reply, left, told}
 use Rattle.keyspace.specs.Commands.{taken_at}
 use Rattle.keyspace.specs.Hashes.{field_left, fields_of, hash_left, hdel_of, hsetnx_of, increased, on_fields, removals}

@@ -17,8 +17,8 @@ use Rattle.command.specs.declared.names.Name.TheVariants as name
 use Rattle.hash.specs.Pairs.{Pairs, HasDistinctFields, fields_changed}
 use Rattle.hash.specs.Size.{words_of}
 use Rattle.indexmap.specs.IndexMap.{insert_entry}
-use Rattle.resp2.specs.Request.{IsRequest}
-use Rattle.resp2.specs.declared.reply.Reply.TheVariants.{Integer}
+use Rattle.resp_values.specs.Request.{IsRequest}
+use Rattle.resp_values.specs.declared.reply.Reply.TheVariants.{Integer}
 use Rattle.keyspace.specs.Commands.{exec_words, execution_of, with_values}
 use Rattle.keyspace.specs.Effect.{left, refused}
 use Rattle.keyspace.specs.Hashes.{fields_of, hash_left, hset_of, on_fields, sets}

@@ -3,8 +3,8 @@ use Rattle.std.proofs.Common.{◌≡◌, refl, [], ◌∷◌, rules}
 use Rattle.std.specs.Prelude.{Some, None, codes, pos, negsuc}
 use Rattle.std.specs.FinMap.{gets}
 use Rattle.std.specs.Fmt.{digits}
-use Rattle.resp2.specs.Reply.{array_of}
-use Rattle.resp2.specs.declared.reply.Reply.TheVariants.{Simple, Error, Integer, Bulk, Null, Array}
+use Rattle.resp_values.specs.Reply.{array_of}
+use Rattle.resp_values.specs.declared.reply.Reply.TheVariants.{Simple, Error, Integer, Bulk, Null, Array}
 use Rattle.command.specs.Numbers.{number_of}
 use Rattle.keyspace.specs.Commands.{effect, replay}
 use Rattle.keyspace.specs.Effect.{left, told}

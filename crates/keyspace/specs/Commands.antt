@@ -1,9 +1,9 @@
 -- What each command replies, and what it leaves (Redis command reference).
 use Rattle.std.specs.Prelude.{ℕ, pos, neg_ℤ, List, [], ◌∷◌, map, length, count_by, Option, Some, is_some, Result, Ok, Err, codes}
 use Rattle.std.specs.FinMap as fin_map
-use Rattle.resp2.specs.declared.reply.Reply.{Reply}
-use Rattle.resp2.specs.declared.reply.Reply.TheVariants.{Simple, Error, Integer, Bulk, Array}
-use Rattle.resp2.specs.Reply.{array_of}
+use Rattle.resp_values.specs.declared.reply.Reply.{Reply}
+use Rattle.resp_values.specs.declared.reply.Reply.TheVariants.{Simple, Error, Integer, Bulk, Array}
+use Rattle.resp_values.specs.Reply.{array_of}
 use Rattle.command.specs.Keys.{data_keys}
 use Rattle.command.specs.Numbers.{number_of}
 use Rattle.command.specs.Table.{command_of}

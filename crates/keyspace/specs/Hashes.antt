@@ -1,9 +1,9 @@
 -- What the commands on hashes reply, and what they leave (Redis command reference, group "hash").
 use Rattle.std.specs.Prelude.{ℕ, ◌-◌, ℤ, pos, if◌then◌else◌, List, [], map, length, Option, Some, None, is_some, Result, Ok, Err}
 use Rattle.std.specs.Fmt.{signed_decimal}
-use Rattle.resp2.specs.declared.reply.Reply.{Reply}
-use Rattle.resp2.specs.declared.reply.Reply.TheVariants.{Integer, Bulk, Null, Array}
-use Rattle.resp2.specs.Reply.{array_of}
+use Rattle.resp_values.specs.declared.reply.Reply.{Reply}
+use Rattle.resp_values.specs.declared.reply.Reply.TheVariants.{Integer, Bulk, Null, Array}
+use Rattle.resp_values.specs.Reply.{array_of}
 use Rattle.command.specs.declared.error_line.ErrorLine.{ErrorLine}
 use Rattle.command.specs.declared.error_line.ErrorLine.TheVariants.{TooLong, WrongType, HashNotAnInteger}
 use Rattle.hash.specs.Pairs.{Pairs, Changes, value_of, field_changed, fields_changed}

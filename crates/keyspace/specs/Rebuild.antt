@@ -2,7 +2,7 @@
 use Rattle.std.specs.Prelude.{◌≡◌, ◌<◌, ℕ, List, [], ◌∷◌, length}
 use Rattle.std.specs.FinMap as map
 use Rattle.hash.specs.Pairs.{HasDistinctFields}
-use Rattle.resp2.specs.Request.{IsRequest}
+use Rattle.resp_values.specs.Request.{IsRequest}
 use Rattle.keyspace.specs.Commands.{replay}
 use Rattle.keyspace.specs.Rebuilding.{rebuilding}
 use Rattle.keyspace.specs.declared.value.Value.{Value}

@@ -2,8 +2,8 @@
 use Rattle.std.specs.Prelude.{ℕ, List, [], ◌∷◌, Bool, ◌&&◌, nat_le, length, codes}
 use Rattle.hash.specs.Pairs.{Pairs}
 use Rattle.hash.specs.Size.{words_of}
-use Rattle.resp2.specs.Request.{request_spelling}
-use Rattle.resp2.specs.declared.words.TheConstants.{MOST_WORDS, MOST_REQUEST_BYTES}
+use Rattle.resp_values.specs.Request.{request_spelling}
+use Rattle.resp_values.specs.declared.words.TheConstants.{MOST_WORDS, MOST_REQUEST_BYTES}
 use Rattle.keyspace.specs.declared.value.Value.{Value}
 use Rattle.keyspace.specs.declared.value.Value.TheVariants.{Str, Hash}
 

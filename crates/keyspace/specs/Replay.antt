@@ -7,7 +7,7 @@ use Rattle.command.specs.declared.command.Command.{Command}
 use Rattle.command.specs.declared.command.Command.TheVariants.{Data}
 use Rattle.command.specs.declared.command.DataCommand.{DataCommand}
 use Rattle.command.specs.declared.fault.CommandFault.{CommandFault}
-use Rattle.resp2.specs.Request.{IsRequest}
+use Rattle.resp_values.specs.Request.{IsRequest}
 use Rattle.keyspace.specs.Commands.{replay, replay_from, replies_of, keyspace_after}
 use Rattle.keyspace.specs.Keyspace.{Keyspace}
 use Rattle.keyspace.specs.Rebuild.{IsStored}

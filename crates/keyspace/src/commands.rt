@@ -10,7 +10,7 @@ use crate::plans::{Plan, commit};
 use crate::store::Store;
 use crate::{hashes, strings};
 use command::DataCommand;
-use resp2::Reply;
+use resp_values::Reply;
 use std::alloc::{AllocError, Global};
 
 #[tactic(auto, using(crate::proofs::Applied::applied_empty))]

@@ -18,7 +18,7 @@ use crate::plans::Plan;
 use byte_string::ByteString;
 use command::{ErrorLine, PairList, split_pair};
 use hash::{Extent, Hash};
-use resp2::Reply;
+use resp_values::Reply;
 use std::alloc::{AllocError, Global};
 
 /// Changes of a hash, what it takes after them, and the number that the command replies.

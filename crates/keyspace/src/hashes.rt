@@ -23,7 +23,7 @@ use crate::store::Store;
 use byte_string::ByteString;
 use command::{ErrorLine, PairList, number_in};
 use hash::Hash;
-use resp2::{Array, Reply};
+use resp_values::{Array, Reply};
 use std::alloc::{AllocError, Global};
 
 #[inline(never)]

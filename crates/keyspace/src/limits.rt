@@ -3,13 +3,13 @@ ghost use Rattle.std.specs.Prelude.{◌≡◌, ◌∷◌, ◌<◌, ◌^◌, [], 
 ghost use Rattle.hash.specs.Pairs.{Pairs};
 ghost use Rattle.hash.specs.Size.{size_of};
 ghost use Rattle.keyspace.specs.Rebuilding.{fits_hash, fits_request, rebuilding};
-ghost use Rattle.resp2.specs.Request.{header_spelling};
+ghost use Rattle.resp_values.specs.Request.{header_spelling};
 
 use crate::value::Value;
 use byte_string::ByteString;
 use hash::{Extent, Hash, bulk_size};
 use itoa::Buffer;
-use resp2::{MOST_REQUEST_BYTES, MOST_WORDS};
+use resp_values::{MOST_REQUEST_BYTES, MOST_WORDS};
 
 /// The most fields of a hash: its request has two words for each, beside HSET and the key.
 const MOST_FIELDS: usize = 32_767;

@@ -1,8 +1,8 @@
 //! Replies that many commands give.
 ghost use Rattle.std.specs.Prelude.{◌≡◌, ◌<◌, ◌^◌, IsTrue, pos};
-ghost use Rattle.resp2.specs.Line.{is_one_line};
+ghost use Rattle.resp_values.specs.Line.{is_one_line};
 
-use resp2::{Line, Reply};
+use resp_values::{Line, Reply};
 
 #[inline(never)]
 pub(crate) fn simple(text: &'static [u8]) -> Reply

@@ -10,8 +10,8 @@ ghost use Rattle.keyspace.specs.Commands.{exec, taken_at, values_at, with_values
 ghost use Rattle.keyspace.specs.Keyspace.{Keyspace};
 ghost use Rattle.keyspace.specs.Plan.{committed};
 ghost use Rattle.keyspace.specs.Strings.{all_removed, bulk_or_null, deleted, holds, is_hash, is_string, length_reply, number_at, number_left, string_of, string_reply, sum_of, type_of};
-ghost use Rattle.resp2.specs.Line.{is_one_line};
-ghost use Rattle.resp2.specs.Reply.{array_of};
+ghost use Rattle.resp_values.specs.Line.{is_one_line};
+ghost use Rattle.resp_values.specs.Reply.{array_of};
 
 use crate::changes::NewValues;
 use crate::number::{sum, text_of};
@@ -22,7 +22,7 @@ use crate::string_pairs::kept;
 use crate::value::Value;
 use byte_string::ByteString;
 use command::{Condition, ErrorLine, PairList, number_in};
-use resp2::{Array, MOST_WORD_BYTES, Reply};
+use resp_values::{Array, MOST_WORD_BYTES, Reply};
 use std::alloc::{AllocError, Global};
 
 #[inline(never)]

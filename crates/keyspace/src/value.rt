@@ -3,11 +3,11 @@ ghost use Rattle.std.specs.Prelude.{◌≡◌, ◌++◌, ◌∷◌, [], codes, I
 ghost use Rattle.hash.specs.Size.{words_of};
 ghost use Rattle.keyspace.specs.Rebuild.{Rebuilds};
 ghost use Rattle.keyspace.specs.Rebuilding.{rebuilding};
-ghost use Rattle.resp2.specs.Request.{IsRequest};
+ghost use Rattle.resp_values.specs.Request.{IsRequest};
 
 use byte_string::ByteString;
 use hash::{BoxedHash, Hash};
-use resp2::Words;
+use resp_values::Words;
 use std::alloc::{AllocError, Global};
 
 /// The value of a key.

@@ -8,12 +8,13 @@ use Rattle.std.specs.List.{flat_map}
 use Rattle.std.specs.Io.KnownBytes.{Consumes}
 use Rattle.std.proofs.KnownBytes.{Consumes-trans}
 use Rattle.resp2.specs.Counting.{HasRisen}
-use Rattle.resp2.specs.Reply.{reply_spelling}
-use Rattle.resp2.specs.declared.words.TheConstants.{MOST_WORD_BYTES}
-use Rattle.resp2.specs.Request.{IsRequest, IsUnfinished, request_spelling, stream_spelling, with_words}
+use Rattle.resp_values.specs.Reply.{reply_spelling}
+use Rattle.resp_values.specs.declared.words.TheConstants.{MOST_WORD_BYTES}
+use Rattle.resp_values.specs.Request.{IsRequest, request_spelling}
+use Rattle.resp2.specs.Stream.{IsUnfinished, stream_spelling, with_words}
 use Rattle.resp2.specs.Reader.{Breaks, HandsOut, PassesOver, ReaderState, empty_requests}
 use Rattle.resp2.specs.declared.fault.Fault.{Fault}
-use Rattle.resp2.specs.declared.reply.Reply.{Reply}
+use Rattle.resp_values.specs.declared.reply.Reply.{Reply}
 use Rattle.resp2.proofs.Callers.{none_with_words, stream_spelling-append, with_words-append}
 use Rattle.node_cell.specs.Asks.{Asked}
 use Rattle.node_cell.specs.Asks.Asked.{asking, waiting}

@@ -3,11 +3,12 @@ use Rattle.std.specs.Prelude.{◌≡◌, ◌≢◌, ◌≤◌, ◌-◌, ◌^◌,
 use Rattle.std.specs.List.{flat_map}
 use Rattle.std.specs.Io.KnownBytes.{Consumes, IsAtEnd}
 use Rattle.resp2.specs.Counting.{HasRisen}
-use Rattle.resp2.specs.Reply.{reply_spelling}
-use Rattle.resp2.specs.Request.{IsRequest, request_spelling, stream_spelling, with_words, IsUnfinished, HasFirstBadByte, HasNoRequest}
+use Rattle.resp_values.specs.Reply.{reply_spelling}
+use Rattle.resp_values.specs.Request.{IsRequest, request_spelling}
+use Rattle.resp2.specs.Stream.{stream_spelling, with_words, IsUnfinished, HasFirstBadByte, HasNoRequest}
 use Rattle.resp2.specs.declared.fault.Fault.{Fault}
-use Rattle.resp2.specs.declared.reply.Reply.{Reply}
-use Rattle.resp2.specs.declared.reply.Reply.TheVariants.{Error}
+use Rattle.resp_values.specs.declared.reply.Reply.{Reply}
+use Rattle.resp_values.specs.declared.reply.Reply.TheVariants.{Error}
 use Rattle.command.specs.ErrorLine.{error_text}
 use Rattle.command.specs.declared.error_line.ErrorLine.{ErrorLine}
 use Rattle.command.specs.declared.error_line.ErrorLine.TheVariants as line

@@ -3,7 +3,7 @@ use Rattle.std.specs.Prelude.{◌≡◌, ◌≢◌, ℕ, List, [], ◌∷◌, �
 use Rattle.std.specs.List.{flat_map}
 use Rattle.std.specs.Io.KnownBytes.{Appends, Consumes}
 use Rattle.resp2.specs.Counting.{HasRisen}
-use Rattle.resp2.specs.Request.{stream_spelling}
+use Rattle.resp2.specs.Stream.{stream_spelling}
 use Rattle.connections.specs.declared.conn.Conn.{Conn}
 use Rattle.node_step.specs.declared.event.Event.TheVariants.{Open, Close}
 use Rattle.node_core.specs.declared.fault.StepFault.{StepFault}

@@ -10,7 +10,7 @@ use Rattle.node_cell.specs.Asks.Asked.{asking, waiting}
 use Rattle.node_step.specs.declared.event.Event.{Event}
 use Rattle.node_core.specs.declared.fault.StepFault.{StepFault}
 use Rattle.node_step.specs.declared.outputs.Outputs.{Outputs}
-use Rattle.resp2.specs.declared.reply.Reply.{Reply}
+use Rattle.resp_values.specs.declared.reply.Reply.{Reply}
 
 -- something before a call, and after it
 pub record Change (A : Type 0) : Type 0 where

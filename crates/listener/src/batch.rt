@@ -1,6 +1,6 @@
 //! Replies on their way to a client: those of one read go out together.
 ghost use Rattle.std.specs.Prelude.{◌≡◌, ◌++◌, [], OnOk, OnErr, MatchBool};
-ghost use Rattle.resp2.specs.Reply.{reply_spelling};
+ghost use Rattle.resp_values.specs.Reply.{reply_spelling};
 ghost use Rattle.listener.specs.Conversation.{error_bytes};
 ghost use Rattle.listener.specs.Streams.{Fails, Sends, streams};
 

@@ -1,8 +1,8 @@
 //! Requests on a connection: read, asked, answered.
 ghost use Rattle.std.specs.Prelude.{◌≡◌, ◌≢◌, ◌<◌, ◌++◌, ◌∷◌, [], List, ℕ, length, Ok, None, IfOk, IfErr, OnOk, OnErr};
 ghost use Rattle.resp2.specs.Counting.{failures_of};
-ghost use Rattle.resp2.specs.Reply.{reply_spelling};
-ghost use Rattle.resp2.specs.Request.{IsRequest, request_spelling};
+ghost use Rattle.resp_values.specs.Reply.{reply_spelling};
+ghost use Rattle.resp_values.specs.Request.{IsRequest, request_spelling};
 ghost use Rattle.node_cell.specs.Asks.{outcome_of};
 ghost use Rattle.node_cell.specs.Asks.Asked.{asking, waiting};
 ghost use Rattle.node_cell.specs.Journal.{IsOwn};

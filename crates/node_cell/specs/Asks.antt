@@ -6,7 +6,7 @@ use Rattle.node_core.specs.declared.fault.StepFault.{StepFault}
 use Rattle.node_step.specs.declared.outputs.Outputs.{Outputs}
 use Rattle.node_cell.specs.declared.asks.Note.{Note}
 use Rattle.node_cell.specs.declared.asks.Note.TheVariants.{Stepped, Refused, Waited}
-use Rattle.resp2.specs.declared.reply.Reply.{Reply}
+use Rattle.resp_values.specs.declared.reply.Reply.{Reply}
 
 -- what was asked of a node, and what came of it: a step for an event, or the reply that a connection waited for
 pub data Asked : Type 0 where

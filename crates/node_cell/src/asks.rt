@@ -11,7 +11,7 @@ use crate::entered::Entered;
 use crate::log::Log;
 use history::History;
 use node_core::{Conn, Event, Outputs, StepFault};
-use resp2::Reply;
+use resp_values::Reply;
 use std::marker::Model;
 use std::snapshot::Snapshot;
 

@@ -18,7 +18,7 @@ use crate::log::Log;
 use bus::Message;
 use cluster_config::Config;
 use node_core::{Conn, Core, Event, Messages, Outputs, Releases, StepFault};
-use resp2::Reply;
+use resp_values::Reply;
 use slot_store::SlotStore;
 use slot_table::NodeNo;
 use std::alloc::{AllocError, Global};

@@ -7,7 +7,7 @@ ghost use Rattle.node_cell.specs.Journal.{IsOwn};
 use crate::deployment::Deployment;
 use crate::entered::Entered;
 use node_core::{Conn, Event, Response, StepFault};
-use resp2::Reply;
+use resp_values::Reply;
 
 /// A step that was made, as the one who asked for it sees it.
 pub trait Answered {
@@ -34,7 +34,7 @@ pub trait NodeGate {
     ghost use Rattle.node_step.specs.declared.outputs.Outputs.{Outputs as NodeOutputs};
     ghost use Rattle.node_core.specs.declared.fault.StepFault.{StepFault as Refusal};
     ghost use Rattle.connections.specs.declared.conn.Conn.{Conn as Connection};
-    ghost use Rattle.resp2.specs.declared.reply.Reply.{Reply as Given};
+    ghost use Rattle.resp_values.specs.declared.reply.Reply.{Reply as Given};
     ghost use Rattle.node_cell.specs.Asks.{Asked};
 
     ghost asked: { Self → List Asked };

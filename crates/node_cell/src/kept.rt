@@ -5,7 +5,7 @@ ghost use Rattle.node_step.specs.Kept.{of_others, reply_to, without_reply_to};
 ghost use Rattle.node_cell.specs.Kept.{has_for, joined, kept_after};
 
 use node_core::{Conn, Event, Releases};
-use resp2::Reply;
+use resp_values::Reply;
 
 /// Keeps the replies of the step for the event. A connection that it closed gets none any more. There has to be room.
 pub(crate) fn keep(kept: &mut Vec<Releases>, event: &Event, released: Releases)

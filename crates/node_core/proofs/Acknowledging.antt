@@ -17,7 +17,7 @@ use Rattle.slot_moves.specs.declared.running.Move.TheVariants.{Leaves, Comes}
 use Rattle.migrate.specs.Acknowledging.{acknowledged_key, after_ack, unfrozen}
 use Rattle.migrate.specs.Arriving.{changed_at}
 use Rattle.bus.specs.declared.message.Body.{Body}
-use Rattle.resp2.specs.declared.reply.Reply.{Reply}
+use Rattle.resp_values.specs.declared.reply.Reply.{Reply}
 use Rattle.connections.specs.Connections.{waiting}
 use Rattle.connections.specs.Waiting.{is_for}
 use Rattle.node_core.specs.Comes.{Drafts, at_epoch}

@@ -14,7 +14,7 @@ use Rattle.node_core.proofs.SlotLemmas.{committed_lies, committed_one}
 use Rattle.node_step.specs.Outcome.{replied, replied_sending, silent}
 use Rattle.node_step.specs.declared.response.Response.TheVariants.{Replied}
 use Rattle.node_step.specs.declared.response.Why.{Why}
-use Rattle.resp2.specs.declared.reply.Reply.{Reply}
+use Rattle.resp_values.specs.declared.reply.Reply.{Reply}
 use Rattle.node_step.specs.Copies.{acknowledged}
 use Rattle.node_step.specs.Requests.{using_up}
 use Rattle.node_step.specs.State.{NodeState}

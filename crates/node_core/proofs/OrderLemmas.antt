@@ -9,7 +9,7 @@ use Rattle.std.specs.List.{range_with_len}
 use Rattle.bus.specs.declared.message.Body.{Body}
 use Rattle.bus.specs.declared.message.Body.TheVariants.{Claim, Drained}
 use Rattle.connections.specs.declared.conn.Conn.{Conn}
-use Rattle.resp2.specs.declared.reply.Reply.{Reply}
+use Rattle.resp_values.specs.declared.reply.Reply.{Reply}
 use Rattle.slot_moves.specs.Importing.{import_verdict}
 use Rattle.slot_moves.specs.Migrating.{after_migrate, migrate_verdict}
 use Rattle.slot_moves.specs.Moves.{last_move_of, move_of}

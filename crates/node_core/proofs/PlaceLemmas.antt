@@ -12,7 +12,7 @@ use Rattle.keyspace.specs.Commands.{exec}
 use Rattle.keyspace.specs.Keyspace.{Keyspace}
 use Rattle.keyspace.specs.Plan.{leaves_keys}
 use Rattle.keyspace.specs.declared.plans.Plan.{Plan}
-use Rattle.resp2.specs.declared.reply.Reply.{Reply}
+use Rattle.resp_values.specs.declared.reply.Reply.{Reply}
 use Rattle.slot_decision.specs.declared.decision.Decision.{Decision}
 use Rattle.slot_store.specs.InSlot.{IsCommittedInSlot, in_slot}
 use Rattle.node_core.specs.Becomes.{Becomes}

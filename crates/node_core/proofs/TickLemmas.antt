@@ -10,7 +10,7 @@ use Rattle.node_step.specs.Outcome.{error, release, silent}
 use Rattle.node_step.specs.State.{NodeState}
 use Rattle.node_step.specs.Ticks.{older, sent_again, tick}
 use Rattle.node_step.specs.declared.outputs.Release.{Release}
-use Rattle.resp2.specs.declared.reply.Reply.{Reply}
+use Rattle.resp_values.specs.declared.reply.Reply.{Reply}
 use Rattle.slot_moves.specs.Moves.{running_moves}
 
 -- who waited as long as wanted is told, and copies are sent again

@@ -22,7 +22,7 @@ use command::{ClusterCommand, Positive, SlotOrder};
 use connections::Conn;
 use key_slot::{Slot, slot};
 use node_step::Why;
-use resp2::Reply;
+use resp_values::Reply;
 use slot_decision::Asking;
 use slot_moves::{MoveNo, Order};
 use slot_store::{SlotKeys, SlotParts};

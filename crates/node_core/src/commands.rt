@@ -21,7 +21,7 @@ use connections::{Conn, Connection};
 use key_slot::Slot;
 use keyspace::{Plan, leaves_keys, plan_command};
 use node_step::Why;
-use resp2::Reply;
+use resp_values::Reply;
 use slot_decision::Decision;
 use slot_store::{SlotKeys, SlotParts};
 use slot_table::NodeNo;

@@ -17,7 +17,7 @@ use bus::Body;
 use connections::{Conn, Waiting};
 use keyspace::Plan;
 use node_step::{Answer, Keep, Messages, Outputs, Releases, Response, Why};
-use resp2::Reply;
+use resp_values::Reply;
 use slot_store::{SlotKeys, SlotParts};
 use slot_table::{Epoch, NodeNo};
 use std::alloc::{AllocError, Global};

@@ -21,7 +21,7 @@ use key_slot::{Slot, slot};
 use keyspace::Store;
 use migrate::{CopyVerdict, copy_verdict};
 use node_step::{Response, Why};
-use resp2::{Line, Reply};
+use resp_values::{Line, Reply};
 use slot_moves::MoveNo;
 use slot_store::{SlotKeys, SlotParts};
 use slot_table::NodeNo;

@@ -22,7 +22,7 @@ use command::ErrorLine;
 use connections::Conn;
 use key_slot::Slot;
 use node_step::Why;
-use resp2::{Line, Reply};
+use resp_values::{Line, Reply};
 use slot_moves::{ImportVerdict, MigrateVerdict, MoveNo, NodeVerdict, Order, epoch_after_import};
 use slot_store::{SlotKeys, SlotParts};
 use slot_table::{Claim, Epoch, NodeNo, SlotEntry};

@@ -15,7 +15,7 @@ use crate::node::NodeCore;
 use command::{Command, parse};
 use connections::{Conn, Connection};
 use node_step::{Event, Why};
-use resp2::Words;
+use resp_values::Words;
 use slot_store::{SlotKeys, SlotParts};
 
 impl<S: SlotParts + SlotKeys> NodeCore<S> {

@@ -2,8 +2,8 @@
 -- "Multiple keys operations").
 use Rattle.std.specs.Prelude.{ℕ, Bool, List, [], ◌∷◌, map, is_some, Option, Some, None, slice_get, if◌then◌else◌}
 use Rattle.std.specs.FinMap as fin_map
-use Rattle.resp2.specs.declared.reply.Reply.{Reply}
-use Rattle.resp2.specs.declared.reply.Reply.TheVariants.{Error}
+use Rattle.resp_values.specs.declared.reply.Reply.{Reply}
+use Rattle.resp_values.specs.declared.reply.Reply.TheVariants.{Error}
 use Rattle.command.specs.Keys.{data_keys}
 use Rattle.command.specs.ErrorLine.{ask_text, moved_text}
 use Rattle.command.specs.declared.error_line.ErrorLine.TheVariants as line

@@ -1,7 +1,7 @@
 -- Replies to connections that waited, as long as they are kept.
 use Rattle.std.specs.Prelude.{◌∷◌, ◌&&◌, ◌==◌, Bool, not, List, [], Option, Some, None, if◌then◌else◌}
 use Rattle.std.specs.List.{filter}
-use Rattle.resp2.specs.declared.reply.Reply.{Reply}
+use Rattle.resp_values.specs.declared.reply.Reply.{Reply}
 use Rattle.connections.specs.declared.conn.Conn.{Conn}
 use Rattle.node_step.specs.declared.outputs.Release.{Release}
 

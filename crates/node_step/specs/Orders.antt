@@ -2,8 +2,8 @@
 -- conditions of NODE are ours).
 use Rattle.std.specs.Prelude.{ℕ, ◌+◌, ◌==◌, not, List, [], filter, map, length, Option, Some, max, slice_set, codes}
 use Rattle.std.specs.List.{range_with_len}
-use Rattle.resp2.specs.declared.reply.Reply.{Reply}
-use Rattle.resp2.specs.declared.reply.Reply.TheVariants.{Simple}
+use Rattle.resp_values.specs.declared.reply.Reply.{Reply}
+use Rattle.resp_values.specs.declared.reply.Reply.TheVariants.{Simple}
 use Rattle.command.specs.declared.error_line.ErrorLine.TheVariants as line
 use Rattle.slot_table.specs.declared.runs.Run.{Run}
 use Rattle.slot_moves.specs.Moves.{Moves, move_of, last_move_of, ended}

@@ -1,7 +1,7 @@
 -- What comes of an event at a node.
 use Rattle.std.specs.Prelude.{ℕ, List, [], map}
-use Rattle.resp2.specs.declared.reply.Reply.{Reply}
-use Rattle.resp2.specs.declared.reply.Reply.TheVariants.{Error}
+use Rattle.resp_values.specs.declared.reply.Reply.{Reply}
+use Rattle.resp_values.specs.declared.reply.Reply.TheVariants.{Error}
 use Rattle.command.specs.ErrorLine.{error_text}
 use Rattle.command.specs.declared.error_line.ErrorLine.{ErrorLine}
 use Rattle.bus.specs.declared.message.Body.{Body}

@@ -1,9 +1,9 @@
 -- What a node reports about the cluster and about itself (Redis command reference, "CLUSTER KEYSLOT", "CLUSTER MYID",
 -- "CLUSTER SLOTS", "CLUSTER COUNTKEYSINSLOT", "CLUSTER GETKEYSINSLOT"; SLOTSTATE is ours).
 use Rattle.std.specs.Prelude.{ℕ, pos, Bool, false, List, [], ◌∷◌, map, take, is_some, Option, Some, None, slice_get, codes, if◌then◌else◌}
-use Rattle.resp2.specs.Reply.{array_of}
-use Rattle.resp2.specs.declared.reply.Reply.{Reply}
-use Rattle.resp2.specs.declared.reply.Reply.TheVariants.{Integer, Bulk, Null, Array}
+use Rattle.resp_values.specs.Reply.{array_of}
+use Rattle.resp_values.specs.declared.reply.Reply.{Reply}
+use Rattle.resp_values.specs.declared.reply.Reply.TheVariants.{Integer, Bulk, Null, Array}
 use Rattle.slot_table.specs.declared.runs.Run.{Run}
 use Rattle.slot_table.specs.Table.{owner_at}
 use Rattle.slot_moves.specs.Moves.{move_of, last_move_of}

@@ -2,7 +2,7 @@
 use Rattle.std.specs.Prelude.{ℕ, ◌^◌, pos, nat_lt, Bool, false, true, List, Option, Some, None, Result, Ok, Err}
 use Rattle.std.specs.Str.{bytes_eq}
 use Rattle.std.specs.List.{position}
-use Rattle.resp2.specs.declared.reply.Reply.TheVariants.{Integer}
+use Rattle.resp_values.specs.declared.reply.Reply.TheVariants.{Integer}
 use Rattle.command.specs.ErrorLine.{line_of}
 use Rattle.command.specs.declared.command.Command.{Command}
 use Rattle.command.specs.declared.command.Command.TheVariants.{Data, Cluster}

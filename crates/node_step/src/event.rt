@@ -3,7 +3,7 @@ ghost use Rattle.std.specs.Prelude.{◌≡◌};
 
 use bus::Message;
 use connections::Conn;
-use resp2::Words;
+use resp_values::Words;
 use std::alloc::AllocError;
 
 /// What a node takes a step for.

@@ -7,7 +7,7 @@ ghost use Rattle.node_step.specs.Plain.{IsPlain};
 use crate::response::Response;
 use bus::{Body, Message};
 use connections::Conn;
-use resp2::Reply;
+use resp_values::Reply;
 use slot_table::{Epoch, NodeNo};
 use std::alloc::{AllocError, Global};
 use std::marker::Model;

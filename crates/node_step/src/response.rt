@@ -5,7 +5,7 @@ ghost use Rattle.node_step.specs.Plain.{HasNoReply};
 use command::CommandFault;
 use connections::Conn;
 use migrate::CopyVerdict;
-use resp2::Reply;
+use resp_values::Reply;
 use slot_decision::Decision;
 use slot_moves::{ImportVerdict, MigrateVerdict, NodeVerdict};
 use std::alloc::AllocError;

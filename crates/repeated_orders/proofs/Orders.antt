@@ -7,7 +7,7 @@ use Rattle.std.specs.Ordering.{nat_cmp, eq_by_cmp}
 use Rattle.command.specs.declared.command.SlotOrder.{SlotOrder}
 use Rattle.command.specs.declared.command.SlotOrder.TheVariants.{Importing, Migrating, Node}
 use Rattle.connections.specs.Connections.{ConnectionTable}
-use Rattle.resp2.specs.declared.reply.Reply.{Reply}
+use Rattle.resp_values.specs.declared.reply.Reply.{Reply}
 use Rattle.slot_table.specs.Table.{owner_at, owner_in}
 use Rattle.slot_table.specs.declared.runs.Run.{Run}
 use Rattle.slot_moves.specs.Ending.{node_verdict}

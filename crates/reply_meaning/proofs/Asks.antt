@@ -28,8 +28,8 @@ use Rattle.redirection.specs.Address.{Place, address_text}
 use Rattle.redirection.specs.Redirection.{IsRedirection}
 use Rattle.redirection.specs.Splitting.{is_without, number_text}
 use Rattle.redirection.specs.declared.redirection.Redirection.TheVariants as redirection
-use Rattle.resp2.specs.declared.reply.Reply.{Reply}
-use Rattle.resp2.specs.declared.reply.Reply.TheVariants.{Simple, Error, Bulk, Null}
+use Rattle.resp_values.specs.declared.reply.Reply.{Reply}
+use Rattle.resp_values.specs.declared.reply.Reply.TheVariants.{Simple, Error, Bulk, Null}
 use Rattle.slot_decision.specs.declared.decision.Decision.{Decision}
 use Rattle.slot_decision.specs.declared.decision.Decision.TheVariants.{Serve, ServeImport, CrossSlot, Down, TryAgain, Ask, Moved}
 use Rattle.slot_decision.specs.declared.decision.Reason.TheVariants.{Frozen, SomeAreMissing}

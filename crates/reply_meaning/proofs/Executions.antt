@@ -15,8 +15,8 @@ use Rattle.keyspace.specs.Rebuilding.{fits_hash}
 use Rattle.keyspace.specs.Strings.{append_of, getdel_of, getset_of, holds, length_reply, number_at, number_left, number_or, set_of, setnx_of, stored_number, string_left, string_of, string_reply, sum_of}
 use Rattle.keyspace.specs.declared.value.Value.{Value}
 use Rattle.keyspace.specs.declared.value.Value.TheVariants.{Str, Hash}
-use Rattle.resp2.specs.declared.reply.Reply.{Reply}
-use Rattle.resp2.specs.declared.reply.Reply.TheVariants.{Integer}
+use Rattle.resp_values.specs.declared.reply.Reply.{Reply}
+use Rattle.resp_values.specs.declared.reply.Reply.TheVariants.{Integer}
 use Rattle.reply_meaning.specs.Refusal.{is_refusal}
 
 abbrev IsTold : Reply → Type 0

@@ -1,7 +1,7 @@
 -- Worked values of the definitions (Redis Cluster specification, "MOVED Redirection"; Redis command reference, "INCR").
 use Rattle.std.proofs.Common.{◌≡◌, true, false, refl}
 use Rattle.std.specs.Prelude.{codes}
-use Rattle.resp2.specs.declared.reply.Reply.TheVariants.{Simple, Error}
+use Rattle.resp_values.specs.declared.reply.Reply.TheVariants.{Simple, Error}
 use Rattle.reply_meaning.specs.Refusal.{is_refusal}
 
 -- the example of the specification

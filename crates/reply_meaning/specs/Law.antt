@@ -1,7 +1,7 @@
 -- What a node's answers to requests tell.
 use Rattle.std.specs.Prelude.{◌≡◌, ◌⊎◌, ℕ, IsTrue, true, false, not, List, Option, Some, slice_get}
-use Rattle.resp2.specs.declared.reply.Reply.{Reply}
-use Rattle.resp2.specs.declared.reply.Reply.TheVariants.{Error}
+use Rattle.resp_values.specs.declared.reply.Reply.{Reply}
+use Rattle.resp_values.specs.declared.reply.Reply.TheVariants.{Error}
 use Rattle.cluster_config.specs.declared.config.NodeConfig.{NodeConfig}
 use Rattle.connections.specs.Connections.{connection_at, may_ask}
 use Rattle.connections.specs.declared.conn.Conn.{Conn}

@@ -1,7 +1,7 @@
 -- A list of masters, entry by entry.
 use Rattle.std.proofs.Common.{◌≡◌, ◌<◌, ◌≤◌, arith, length, take, drop, List, [], ◌∷◌, None, refl}
 use Rattle.std.specs.Prelude.{option_and_then}
-use Rattle.resp2.specs.declared.array.Element.{Element}
+use Rattle.resp_values.specs.declared.array.Element.{Element}
 use Rattle.resharder.specs.Replies.{Masters, master_in, masters_onto, with_master}
 
 -- too few elements are no entry

@@ -3,8 +3,8 @@ use Rattle.std.proofs.Common.{◌≡◌, ◌≤◌, ◌<◌, ◌+◌, ◌*◌, �
 use Rattle.std.specs.Prelude.{All, decimal}
 use Rattle.std.proofs.lemmas.Fmt.{length-decimal-le}
 use Rattle.std.proofs.lemmas.List.Elements.{All-cons, All-nil}
-use Rattle.resp2.specs.Request.{IsRequest, bulk_spelling, bulks_spelling, crlf, header_spelling}
-use Rattle.resp2.specs.declared.words.TheConstants.{MOST_WORD_BYTES}
+use Rattle.resp_values.specs.Request.{IsRequest, bulk_spelling, bulks_spelling, crlf, header_spelling}
+use Rattle.resp_values.specs.declared.words.TheConstants.{MOST_WORD_BYTES}
 use Rattle.resharder.specs.Orders.{AreShort}
 
 -- a number of a move, of a slot or of a port has few digits

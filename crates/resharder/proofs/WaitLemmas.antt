@@ -2,7 +2,7 @@
 use Rattle.std.proofs.Common.{◌==◌, ℕ, Bool, true, false, cond, List, [], ◌∷◌, Option, Some, None, Result, Ok, Err, inl, inr, refl, ap, sym, subst}
 use Rattle.std.specs.Prelude.{⊤, nat_le, slice_get}
 use Rattle.redirection.specs.Address.{Place}
-use Rattle.resp2.specs.declared.reply.Reply.{Reply}
+use Rattle.resp_values.specs.declared.reply.Reply.{Reply}
 use Rattle.resharder.specs.Nodes.{KnownNodes}
 use Rattle.resharder.specs.Replies.{answer_of, keys_in, nodes_in, owns, report_in}
 use Rattle.resharder.specs.State.{RunState}

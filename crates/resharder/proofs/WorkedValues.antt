@@ -3,9 +3,9 @@ use Rattle.std.proofs.Common.{◌≡◌, refl, ℕ, List, [], ◌∷◌, Some}
 use Rattle.std.specs.Prelude.{codes, map, pos}
 use Rattle.std.specs.Fmt.{digits}
 use Rattle.redirection.specs.Address.{Place}
-use Rattle.resp2.specs.Reply.{array_of}
-use Rattle.resp2.specs.declared.reply.Reply.{Reply as Answer}
-use Rattle.resp2.specs.declared.reply.Reply.TheVariants.{Simple, Error, Integer, Bulk, Array}
+use Rattle.resp_values.specs.Reply.{array_of}
+use Rattle.resp_values.specs.declared.reply.Reply.{Reply as Answer}
+use Rattle.resp_values.specs.declared.reply.Reply.TheVariants.{Simple, Error, Integer, Bulk, Array}
 use Rattle.resharder.specs.Step.{Turn, turn}
 use Rattle.resharder.specs.Step.Turn.{Goes, Ends, Reads}
 use Rattle.resharder.specs.declared.action.Action.{Action}

@@ -2,7 +2,7 @@
 -- SETSLOT", "MIGRATE"; SLOTSTATE and the numbers of moves are ours).
 use Rattle.std.specs.Prelude.{ℕ, ◌≤◌, List, [], ◌∷◌, Option, Some, None, codes, decimal, length, ⊤}
 use Rattle.redirection.specs.Address.{Place}
-use Rattle.resp2.specs.declared.words.TheConstants.{MOST_WORD_BYTES}
+use Rattle.resp_values.specs.declared.words.TheConstants.{MOST_WORD_BYTES}
 use Rattle.resharder.specs.declared.order.SlotOrder.{SlotOrder}
 use Rattle.resharder.specs.declared.order.SlotOrder.TheVariants.{Importing, Migrating, Node}
 

@@ -6,11 +6,11 @@ use Rattle.std.specs.Map.{lookup, remove_entry, values_of}
 use Rattle.std.specs.Ordering.{nat_cmp}
 use Rattle.std.specs.Cmp.Lexicographic.{slice_cmp}
 use Rattle.std.specs.Str.{bytes_eq}
-use Rattle.resp2.specs.declared.array.Element.{Element}
-use Rattle.resp2.specs.declared.array.Element.TheVariants as element
-use Rattle.resp2.specs.declared.words.TheConstants.{MOST_WORD_BYTES}
-use Rattle.resp2.specs.declared.reply.Reply.{Reply}
-use Rattle.resp2.specs.declared.reply.Reply.TheVariants.{Simple, Error, Array}
+use Rattle.resp_values.specs.declared.array.Element.{Element}
+use Rattle.resp_values.specs.declared.array.Element.TheVariants as element
+use Rattle.resp_values.specs.declared.words.TheConstants.{MOST_WORD_BYTES}
+use Rattle.resp_values.specs.declared.reply.Reply.{Reply}
+use Rattle.resp_values.specs.declared.reply.Reply.TheVariants.{Simple, Error, Array}
 use Rattle.command.specs.ErrorLine.{error_text}
 use Rattle.command.specs.Numbers.{natural, from_to}
 use Rattle.command.specs.declared.error_line.ErrorLine.TheVariants as line

@@ -3,7 +3,7 @@
 -- SLOTSTATE, the numbers of moves, and what is asked again are ours.
 use Rattle.std.specs.Prelude.{◌≡◌, ◌⊎◌, ◌+◌, ◌-◌, ◌==◌, ℕ, min, max, nat_le, Bool, true, false, List, [], ◌∷◌, Option, Some, None, Result, Ok, Err, slice_get, if◌then◌else◌, IsTrue, ⊤}
 use Rattle.std.specs.Option.{option_or}
-use Rattle.resp2.specs.declared.reply.Reply.{Reply}
+use Rattle.resp_values.specs.declared.reply.Reply.{Reply}
 use Rattle.redirection.specs.Address.{Place}
 use Rattle.resharder.specs.Nodes.{KnownNodes}
 use Rattle.resharder.specs.Orders.{keys_words, migrate_words, set_words, slots_words, state_words}

@@ -4,7 +4,7 @@ use crate::fault::ReshardFault;
 use command::Positive;
 use key_slot::Slot;
 use redirection::Address;
-use resp2::{Reply, Words};
+use resp_values::{Reply, Words};
 
 /// What a run is told.
 #[derive(Drop)]

@@ -4,7 +4,7 @@ ghost use Rattle.resharder.specs.Replies.{answer_of, error_kind, simple_kind};
 
 use command::ErrorLine;
 use redirection::first_word;
-use resp2::Reply;
+use resp_values::Reply;
 
 /// What a node answers to an order to move a slot or a key.
 #[derive(Clone, Copy)]

@@ -4,7 +4,7 @@ ghost use Rattle.resharder.specs.Runs.{Asks, told_of};
 
 use crate::action::Event;
 use redirection::Address;
-use resp2::Words;
+use resp_values::Words;
 use smart_client::{Action as Wanted, Event as Came, Network};
 
 /// Asks the node at the address, and gives what the run is told of it.

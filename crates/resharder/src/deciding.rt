@@ -17,7 +17,7 @@ use crate::stage::{Source, Stage, Step, Work};
 use command::Positive;
 use key_slot::Slot;
 use redirection::Address;
-use resp2::{Reply, Words};
+use resp_values::{Reply, Words};
 use std::alloc::{AllocError, Global};
 
 /// What a run waits for from now on, and what it wants done.

@@ -1,11 +1,11 @@
 //! A key that is to be moved, and those that wait for it.
 ghost use Rattle.std.specs.Bool.{OnFalse, OnTrue};
 ghost use Rattle.std.specs.Prelude.{◌≡◌, ◌≢◌, ◌≤◌, ◌∷◌, ◌++◌, [], length, IfOk, IfSome, IfNone, OnOk, SomeIff};
-ghost use Rattle.resp2.specs.declared.words.TheConstants.{MOST_WORD_BYTES};
+ghost use Rattle.resp_values.specs.declared.words.TheConstants.{MOST_WORD_BYTES};
 ghost use Rattle.resharder.specs.Replies.{key_of, keys_in, keys_onto};
 
 use byte_string::ByteString;
-use resp2::{Element, MOST_WORD_BYTES, Reply};
+use resp_values::{Element, MOST_WORD_BYTES, Reply};
 use std::alloc::{AllocError, Global};
 use std::collections::VecDeque;
 use std::marker::Model;
@@ -17,7 +17,7 @@ pub(crate) struct Key {
 
 impl Model for Key {
     ghost use Rattle.std.specs.Prelude.{List, ℕ, ◌≤◌, length};
-    ghost use Rattle.resp2.specs.declared.words.TheConstants.{MOST_WORD_BYTES};
+    ghost use Rattle.resp_values.specs.declared.words.TheConstants.{MOST_WORD_BYTES};
 
     ghost Value = { List ℕ };
 

@@ -6,7 +6,7 @@ use byte_string::ByteString;
 use bytes::Bytes;
 use cluster_config::Host;
 use redirection::Address;
-use resp2::{Element, Reply};
+use resp_values::{Element, Reply};
 use std::alloc::{AllocError, Global};
 use std::collections::BTreeMap;
 

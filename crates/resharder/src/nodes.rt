@@ -9,7 +9,7 @@ use crate::masters::read_masters;
 use byte_string::ByteString;
 use cluster_config::NodeId;
 use redirection::Address;
-use resp2::Reply;
+use resp_values::Reply;
 use std::alloc::{AllocError, Global};
 use std::collections::BTreeMap;
 use std::marker::Model;

@@ -10,7 +10,7 @@ use command::Positive;
 use itoa::Buffer;
 use key_slot::Slot;
 use redirection::Address;
-use resp2::Words;
+use resp_values::Words;
 use std::alloc::{AllocError, Global};
 
 /// What a node is to do with a slot.

@@ -4,7 +4,7 @@ ghost use Rattle.resharder.specs.Replies.{comes, leaves, names, next_number, own
 
 use cluster_config::NodeId;
 use command::Positive;
-use resp2::{Element, Reply};
+use resp_values::{Element, Reply};
 
 /// What a node does with a slot.
 #[derive(Clone, Copy)]

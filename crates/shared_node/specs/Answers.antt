@@ -9,7 +9,7 @@ use Rattle.node_core.specs.declared.fault.StepFault.{StepFault}
 use Rattle.node_step.specs.declared.outputs.Outputs.{Outputs}
 use Rattle.node_cell.specs.Journal.{CellView, IsGiven, IsHistory, IsRefused}
 use Rattle.node_cell.specs.declared.entry.Entry.{Entry}
-use Rattle.resp2.specs.declared.reply.Reply.{Reply}
+use Rattle.resp_values.specs.declared.reply.Reply.{Reply}
 
 -- a state that a node of the cluster comes to from its first one
 pub record IsReachable (config : ClusterConfig) (state : NodeState) : Type 0 where

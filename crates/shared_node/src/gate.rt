@@ -5,7 +5,7 @@ ghost use Rattle.shared_node.specs.Answers.{MayGive};
 use crate::shared::SharedNode;
 use node_cell::{Asks, Deployment, Entered, Log, NodeCell, NodeGate};
 use node_core::{Conn, Event, StepFault};
-use resp2::Reply;
+use resp_values::Reply;
 use std::sync::{MutexGuard, Wait};
 
 /// One conversation's way to a node of the cluster `K`, whose journal is an `L`. The handle `rt` is the leave to wait for the node's lock.

@@ -4,8 +4,8 @@ use Rattle.std.specs.Prelude.{suc, IfSome, IsSome}
 use Rattle.std.specs.List.{list_all}
 use Rattle.std.proofs.lemmas.List.Elements.{All-cons, All-nil}
 use Rattle.std.proofs.lemmas.Bool.{leb-true, ltb-true, le-leb, lt-ltb}
-use Rattle.resp2.specs.Request.{IsRequest}
-use Rattle.resp2.specs.declared.words.TheConstants.{MOST_WORD_BYTES}
+use Rattle.resp_values.specs.Request.{IsRequest}
+use Rattle.resp_values.specs.declared.words.TheConstants.{MOST_WORD_BYTES}
 use Rattle.simulator.specs.Script.{is_request, request_of}
 
 both : (a b : Bool) → (a && b) ≡ true → (a ≡ true) × (b ≡ true)

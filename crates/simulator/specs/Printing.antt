@@ -3,7 +3,7 @@ use Rattle.std.specs.Prelude.{◌++◌, ℕ, List, Result, Ok, Err, codes, decim
 use Rattle.std.specs.List.{flat_map}
 use Rattle.bus.specs.declared.message.Body.{Body}
 use Rattle.bus.specs.declared.message.Body.TheVariants.{Copy, Ack, Drained, Claim}
-use Rattle.resp2.specs.Reply.{reply_spelling}
+use Rattle.resp_values.specs.Reply.{reply_spelling}
 use Rattle.smart_client.specs.Faults.{code_of}
 use Rattle.world.specs.declared.output.Output.{Output}
 use Rattle.world.specs.declared.output.Output.TheVariants.{Answer, Admin, Sent, Nothing}

@@ -1,7 +1,7 @@
 //! What comes out of a world as a text, in the simulator's own format: a line an output.
 ghost use Rattle.std.specs.Prelude.{◌≡◌, ◌++◌, decimal, OnOk, codes};
 ghost use Rattle.std.specs.List.{flat_map};
-ghost use Rattle.resp2.specs.Reply.{reply_spelling};
+ghost use Rattle.resp_values.specs.Reply.{reply_spelling};
 ghost use Rattle.simulator.specs.Escaping.{escaped};
 ghost use Rattle.simulator.specs.Printing.{kind, printed, shown};
 ghost use Rattle.world.specs.declared.output.Output.TheVariants as output;

@@ -1,8 +1,8 @@
 -- A command is sent again only after the node refused it.
 use Rattle.std.proofs.Common.{◌≡◌, ◌⊎◌, ◌++◌, ◌∷◌, ℕ, Bool, true, false, cond, inl, inr, List, [], Option, Some, None, Err, arith, refl, ap, sym, subst, ◌∙◌}
 use Rattle.std.specs.Prelude.{IsTrue, ⊤}
-use Rattle.resp2.specs.declared.reply.Reply.{Reply}
-use Rattle.resp2.specs.declared.reply.Reply.TheVariants.{Simple, Error, Integer, Bulk, Null, Array}
+use Rattle.resp_values.specs.declared.reply.Reply.{Reply}
+use Rattle.resp_values.specs.declared.reply.Reply.TheVariants.{Simple, Error, Integer, Bulk, Null, Array}
 use Rattle.smart_client.specs.Calls.{AreWithin, IsDone, IsRefusal, IsRun, IsWithin, Moment, SendsOnce, is_refusing}
 use Rattle.smart_client.specs.ErrorKind.{kind_of}
 use Rattle.smart_client.specs.State.{ClientState}

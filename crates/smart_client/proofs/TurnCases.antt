@@ -1,6 +1,6 @@
 -- How a call goes on behind an error, by the error's kind.
 use Rattle.std.proofs.Common.{◌≡◌, ◌==◌, ap, refl, false, cond, ℕ, List, Ok, Err}
-use Rattle.resp2.specs.declared.reply.Reply.TheVariants.{Error}
+use Rattle.resp_values.specs.declared.reply.Reply.TheVariants.{Error}
 use Rattle.smart_client.specs.ErrorKind.{kind_of}
 use Rattle.smart_client.specs.State.{ClientState}
 use Rattle.smart_client.specs.Step.{Turn, again, failed, is_last, is_last_line, redirected}

@@ -1,6 +1,6 @@
 -- A client's call as a whole: how it goes on, and when a command is sent again.
 use Rattle.std.specs.Prelude.{◌≡◌, ◌≢◌, ◌+◌, ◌-◌, ◌*◌, ◌<◌, ◌++◌, ◌∷◌, ◌⊎◌, ℕ, Bool, List, [], Option, Some, None, ⊤, if◌then◌else◌}
-use Rattle.resp2.specs.declared.reply.Reply.TheVariants.{Error}
+use Rattle.resp_values.specs.declared.reply.Reply.TheVariants.{Error}
 use Rattle.smart_client.specs.ErrorKind.{kind_of}
 use Rattle.smart_client.specs.Kept.{Kept, closed, kept_after}
 use Rattle.smart_client.specs.State.{ClientState}

@@ -3,8 +3,8 @@
 use Rattle.std.specs.Prelude.{◌≡◌, ◌+◌, ◌==◌, ℕ, Bool, true, false, List, [], ◌∷◌, ◌++◌, length, Option, Some, None, Result, Ok, Err, slice_set, slice_index_or, if◌then◌else◌, codes, IsTrue, ◌⊎◌, ⊤}
 use Rattle.std.specs.Str.{bytes_eq}
 use Rattle.std.specs.List.{position_or_len}
-use Rattle.resp2.specs.declared.reply.Reply.{Reply}
-use Rattle.resp2.specs.declared.reply.Reply.TheVariants.{Simple, Error}
+use Rattle.resp_values.specs.declared.reply.Reply.{Reply}
+use Rattle.resp_values.specs.declared.reply.Reply.TheVariants.{Simple, Error}
 use Rattle.redirection.specs.Address.{Place}
 use Rattle.redirection.specs.Redirection.{IsNoRedirection, IsRedirection}
 use Rattle.redirection.specs.declared.redirection.Redirection.{Redirection}

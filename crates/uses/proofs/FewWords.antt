@@ -5,8 +5,8 @@ use Rattle.std.specs.Prelude.{All, codes, decimal}
 use Rattle.std.proofs.lemmas.Fmt.{length-decimal-le}
 use Rattle.std.proofs.lemmas.List.{length-append}
 use Rattle.std.proofs.lemmas.List.Elements.{All-from_recursion}
-use Rattle.resp2.specs.Request.{IsRequest, bulk_spelling, bulks_spelling, crlf, header_spelling}
-use Rattle.resp2.specs.declared.words.TheConstants.{MOST_WORD_BYTES}
+use Rattle.resp_values.specs.Request.{IsRequest, bulk_spelling, bulks_spelling, crlf, header_spelling}
+use Rattle.resp_values.specs.declared.words.TheConstants.{MOST_WORD_BYTES}
 
 abbrev IsShort : List ℕ → Type 0
 IsShort word = length word ≤ MOST_WORD_BYTES

@@ -3,7 +3,7 @@ use Rattle.std.proofs.Common.{◌≡◌, ℕ, zero, suc, ◌+◌, List, [], ◌�
 use Rattle.std.proofs.lemmas.Cmp.{nat_eq_equiv}
 use Rattle.std.specs.FinMap as map
 use Rattle.std.specs.Prelude.{Option, Some, None, Ok, codes, if◌then◌else◌, is_some, slice_index_or, slice_set}
-use Rattle.resp2.specs.declared.reply.Reply.TheVariants.{Bulk}
+use Rattle.resp_values.specs.declared.reply.Reply.TheVariants.{Bulk}
 use Rattle.command.specs.Table.{command_of}
 use Rattle.command.specs.Keys.{data_keys}
 use Rattle.command.specs.declared.command.Command.TheVariants.{Data}

@@ -4,10 +4,11 @@ use Rattle.std.specs.Prelude.{Some, All, Ok, Err, Result, map}
 use Rattle.std.specs.List.{AllByRecursion, flat_map}
 use Rattle.std.proofs.lemmas.List.Elements.{All-from_recursion, All-head, All-tail}
 use Rattle.resp2.specs.Law.{IsStream, NoUnfinishedIsWhole, StreamIsReadInOneWay}
-use Rattle.resp2.specs.Reply.{reply_spelling}
-use Rattle.resp2.specs.Request.{IsRequest, IsUnfinished, HasFirstBadByte, KeepsLimits, stream_spelling, with_words}
+use Rattle.resp_values.specs.Reply.{reply_spelling}
+use Rattle.resp_values.specs.Request.{IsRequest, KeepsLimits}
+use Rattle.resp2.specs.Stream.{IsUnfinished, HasFirstBadByte, stream_spelling, with_words}
 use Rattle.resp2.specs.declared.fault.Fault.{Fault}
-use Rattle.resp2.specs.declared.reply.Reply.{Reply}
+use Rattle.resp_values.specs.declared.reply.Reply.{Reply}
 use Rattle.node_cell.specs.Asks.{Asked}
 use Rattle.node_cell.specs.Asks.Asked.{asking}
 use Rattle.connections.specs.declared.conn.Conn.{Conn}

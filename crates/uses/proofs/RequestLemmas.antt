@@ -6,8 +6,9 @@ use Rattle.std.specs.Prelude.{All, replicate}
 use Rattle.std.proofs.lemmas.List.Elements.{All-from_recursion, All-nil}
 use Rattle.resp2.specs.Law.{IsStream, NoUnfinishedIsWhole, StreamIsReadInOneWay}
 use Rattle.resp2.specs.Reader.{ReaderState, Breaks, FailsBy, HandsOut, Waits, empty_requests}
-use Rattle.resp2.specs.Request.{request_spelling, stream_spelling, with_words, IsRequest, KeepsLimits}
-use Rattle.resp2.specs.declared.words.TheConstants.{MOST_WORD_BYTES}
+use Rattle.resp_values.specs.Request.{request_spelling, IsRequest, KeepsLimits}
+use Rattle.resp2.specs.Stream.{stream_spelling, with_words}
+use Rattle.resp_values.specs.declared.words.TheConstants.{MOST_WORD_BYTES}
 use Rattle.resp2.proofs.Callers.{none_with_words, stream_spelling-append, stream_spelling-push, with_words-append}
 use Rattle.resp2.specs.declared.fault.Fault.{Fault}
 use Rattle.resp2.specs.declared.fault.Fault.TheVariants.{Protocol, TooLong, Memory}

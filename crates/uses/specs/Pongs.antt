@@ -1,11 +1,12 @@
 -- A node with one possible answer for each event, and what its client reads.
 use Rattle.std.specs.Prelude.{◌≡◌, ◌++◌, ◌⊎◌, ℕ, zero, suc, List, [], length, All, codes}
 use Rattle.resp2.specs.Law.{IsStream}
-use Rattle.resp2.specs.Reply.{reply_spelling}
-use Rattle.resp2.specs.Request.{stream_spelling, with_words, IsRequest, IsUnfinished, HasFirstBadByte}
+use Rattle.resp_values.specs.Reply.{reply_spelling}
+use Rattle.resp2.specs.Stream.{stream_spelling, with_words, IsUnfinished, HasFirstBadByte}
+use Rattle.resp_values.specs.Request.{IsRequest}
 use Rattle.resp2.specs.declared.fault.Fault.{Fault}
-use Rattle.resp2.specs.declared.reply.Reply.{Reply}
-use Rattle.resp2.specs.declared.reply.Reply.TheVariants.{Simple}
+use Rattle.resp_values.specs.declared.reply.Reply.{Reply}
+use Rattle.resp_values.specs.declared.reply.Reply.TheVariants.{Simple}
 use Rattle.command.specs.declared.error_line.ErrorLine.TheVariants as line
 use Rattle.node_step.specs.declared.event.Event.{Event}
 use Rattle.node_step.specs.declared.event.Event.TheVariants.{Open, Close, Request, Deliver, Tick}

@@ -1,7 +1,7 @@
 -- Which commands a node serves, and how.
 use Rattle.std.specs.Prelude.{◌≡◌, ℕ, List, map, is_some}
 use Rattle.std.specs.FinMap as fin_map
-use Rattle.resp2.specs.declared.reply.Reply.{Reply}
+use Rattle.resp_values.specs.declared.reply.Reply.{Reply}
 use Rattle.node_step.specs.State.{NodeState}
 use Rattle.node_step.specs.declared.response.Response.{Response}
 use Rattle.node_step.specs.declared.response.Response.TheVariants.{Replied}

@@ -1,7 +1,7 @@
 -- What a slice of bytes is read as (RESP protocol, "Sending commands to a Redis server").
 use Rattle.std.specs.Prelude.{◌≡◌, ℕ, List}
 use Rattle.resp2.specs.Law.{IsStream}
-use Rattle.resp2.specs.Request.{IsUnfinished, HasFirstBadByte, with_words}
+use Rattle.resp2.specs.Stream.{IsUnfinished, HasFirstBadByte, with_words}
 use Rattle.resp2.specs.declared.fault.Fault.{Fault}
 use Rattle.resp2.specs.declared.fault.Fault.TheVariants.{Protocol, TooLong, Memory}
 

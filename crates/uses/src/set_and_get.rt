@@ -1,8 +1,8 @@
 //! A value that is set at a node is what the next GET is answered.
 ghost use Rattle.std.specs.Prelude.{◌≡◌, ◌≤◌, ◌∷◌, [], ℕ, List, length, ◌+◌, IfOk, OnOk, codes};
-ghost use Rattle.resp2.specs.Request.{IsRequest};
-ghost use Rattle.resp2.specs.declared.words.TheConstants.{MOST_WORD_BYTES};
-ghost use Rattle.resp2.specs.declared.reply.Reply.TheVariants.{Bulk};
+ghost use Rattle.resp_values.specs.Request.{IsRequest};
+ghost use Rattle.resp_values.specs.declared.words.TheConstants.{MOST_WORD_BYTES};
+ghost use Rattle.resp_values.specs.declared.reply.Reply.TheVariants.{Bulk};
 ghost use Rattle.uses.specs.Serving.{IsServedBy, served};
 
 use byte_string::ByteString;

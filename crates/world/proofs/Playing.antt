@@ -5,7 +5,7 @@ use Rattle.std.proofs.lemmas.List.Elements.{Contains-append_cases}
 use Rattle.std.specs.Prelude.{IfSome, MatchBool, filter, slice_set}
 use Rattle.cluster_config.specs.Config.{ClusterConfig, IsCluster}
 use Rattle.cluster_config.specs.declared.config.NodeConfig.{NodeConfig}
-use Rattle.resp2.specs.declared.reply.Reply.{Reply}
+use Rattle.resp_values.specs.declared.reply.Reply.{Reply}
 use Rattle.single_keyspace.proofs.Lists.{contains_first, contains_more, contains_one, first_or_more}
 use Rattle.slot_decision.specs.declared.asked.Asking.TheVariants.{No}
 use Rattle.smart_client.specs.State.{ClientState}

@@ -29,7 +29,7 @@ use Rattle.reply_meaning.proofs.Asks.{line_is_none, of_moves}
 use Rattle.reply_meaning.proofs.Laws.{asking_is}
 use Rattle.reply_meaning.proofs.Words.{IsOfData, data_words}
 use Rattle.reply_meaning.specs.Law.{Answers, IsOfMove}
-use Rattle.resp2.specs.declared.reply.Reply.{Reply}
+use Rattle.resp_values.specs.declared.reply.Reply.{Reply}
 use Rattle.single_keyspace.proofs.Lists.{each_element}
 use Rattle.single_keyspace.proofs.Seen.{set_here}
 use Rattle.slot_decision.specs.declared.asked.Asking.{Asking}

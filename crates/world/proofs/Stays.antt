@@ -5,7 +5,7 @@ use Rattle.std.proofs.lemmas.List.{get_or-set_other, length-set}
 use Rattle.std.specs.Prelude.{IfSome, slice_set}
 use Rattle.cluster_config.specs.declared.config.NodeConfig.{NodeConfig}
 use Rattle.connections.specs.declared.conn.Conn.{Conn}
-use Rattle.resp2.specs.declared.reply.Reply.{Reply}
+use Rattle.resp_values.specs.declared.reply.Reply.{Reply}
 use Rattle.single_keyspace.proofs.Seen.{no_some, same_some}
 use Rattle.slot_decision.specs.declared.asked.Asking.{Asking}
 use Rattle.slot_decision.specs.declared.asked.Asking.TheVariants.{No, Any, Of}

@@ -12,8 +12,8 @@ use Rattle.redirection.specs.Address.{Place}
 use Rattle.redirection.specs.Redirection.{IsMove}
 use Rattle.redirection.specs.declared.redirection.Redirection.{Redirection}
 use Rattle.redirection.specs.declared.redirection.Redirection.TheVariants.{Moved, Ask}
-use Rattle.resp2.specs.declared.reply.Reply.{Reply}
-use Rattle.resp2.specs.declared.reply.Reply.TheVariants.{Simple, Error, Integer, Bulk, Null, Array}
+use Rattle.resp_values.specs.declared.reply.Reply.{Reply}
+use Rattle.resp_values.specs.declared.reply.Reply.TheVariants.{Simple, Error, Integer, Bulk, Null, Array}
 use Rattle.slot_decision.specs.declared.asked.Asking.{Asking}
 use Rattle.slot_decision.specs.declared.asked.Asking.TheVariants.{No}
 use Rattle.smart_client.specs.ErrorKind.{kind_of}

@@ -2,7 +2,7 @@
 use Rattle.std.proofs.Common.{◌≡◌, ◌⊎◌, Bool, true, false, true≢false, cond, inl, inr, Option, None, Some, Err, List, ℕ, refl, ap, sym, subst, ◌∙◌}
 use Rattle.std.specs.Prelude.{IsTrue, ⊤}
 use Rattle.redirection.specs.declared.redirection.Redirection.{Redirection}
-use Rattle.resp2.specs.declared.reply.Reply.{Reply}
+use Rattle.resp_values.specs.declared.reply.Reply.{Reply}
 use Rattle.smart_client.specs.State.{ClientState}
 use Rattle.smart_client.specs.Step.{Answer, Follows, MayCome, Steps, Turn, broken, closes, connected, ended, loses, next, peer_at, takes_memory, uses_for, without_call}
 use Rattle.smart_client.specs.Step.Turn.{Goes, Ends, Reads}

@@ -15,8 +15,8 @@ use Rattle.node_step.specs.declared.event.Event.TheVariants.{Open, Close, Reques
 use Rattle.redirection.specs.Address.{Place}
 use Rattle.redirection.specs.Redirection.{IsMove, IsRedirection}
 use Rattle.redirection.specs.declared.redirection.Redirection.TheVariants as redirection
-use Rattle.resp2.specs.declared.reply.Reply.{Reply}
-use Rattle.resp2.specs.declared.reply.Reply.TheVariants.{Error}
+use Rattle.resp_values.specs.declared.reply.Reply.{Reply}
+use Rattle.resp_values.specs.declared.reply.Reply.TheVariants.{Error}
 use Rattle.slot_decision.specs.declared.asked.Asking.{Asking}
 use Rattle.slot_decision.specs.declared.asked.Asking.TheVariants.{No, Any, Of}
 use Rattle.smart_client.specs.State.{ClientState}

@@ -9,7 +9,7 @@ use Rattle.node_step.specs.declared.outputs.Outputs.{Outputs}
 use Rattle.node_step.specs.declared.response.Response.{Response}
 use Rattle.node_step.specs.declared.response.Response.TheVariants.{Nothing, Opened, Replied, Parked}
 use Rattle.redirection.specs.Address.{Place}
-use Rattle.resp2.specs.declared.reply.Reply.{Reply}
+use Rattle.resp_values.specs.declared.reply.Reply.{Reply}
 use Rattle.smart_client.specs.State.{ClientState}
 use Rattle.smart_client.specs.Step.{Steps}
 use Rattle.smart_client.specs.declared.action.Action.{Action}

@@ -15,7 +15,7 @@ use crate::serving::Served;
 use cluster_config::{Config, NodeConfig};
 use connections::Conn;
 use redirection::Address;
-use resp2::{Reply, Words};
+use resp_values::{Reply, Words};
 use smart_client::{Action, ClientCore, ClientFault, Event};
 use std::alloc::{AllocError, Global};
 use std::marker::Model;

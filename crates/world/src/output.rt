@@ -8,7 +8,7 @@ ghost use Rattle.world.specs.declared.output.Output.TheVariants.{Admin, Nothing}
 use bus::Message;
 use command::ErrorLine;
 use node_core::{Release, Response};
-use resp2::Reply;
+use resp_values::Reply;
 use smart_client::ClientFault;
 use std::alloc::{AllocError, Global};
 

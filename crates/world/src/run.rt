@@ -19,7 +19,7 @@ use bus::Message;
 use cluster_config::Config;
 use connections::Conn;
 use node_core::{Core, Event, Outputs, Release, Response};
-use resp2::Words;
+use resp_values::Words;
 use slot_store::SlotStore;
 use slot_table::NodeNo;
 use std::alloc::{AllocError, Global};

@@ -12,7 +12,7 @@ use crate::output::{Output, nothing};
 use crate::run::Run;
 use crate::step::Step;
 use cluster_config::Config;
-use resp2::Words;
+use resp_values::Words;
 use std::alloc::{AllocError, Global};
 use std::marker::Model;
 

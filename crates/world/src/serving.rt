@@ -14,7 +14,7 @@ use crate::run::Run;
 use command::ErrorLine;
 use connections::Conn;
 use node_core::{Event, Outputs, Response};
-use resp2::{Reply, Words};
+use resp_values::{Reply, Words};
 use std::alloc::AllocError;
 
 /// What comes of a request.

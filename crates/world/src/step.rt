@@ -1,6 +1,6 @@
 //! What is done to a world.
 
-use resp2::Words;
+use resp_values::Words;
 
 /// A step of a world. Nodes are numbered from 0 on, messages from 1 on, in the order in which they are sent. A client begins with
 /// its first call, at the node with the number 0.

@@ -10,7 +10,7 @@ use Rattle.keyspace.specs.Commands.{Execution, taken_at}
 use Rattle.keyspace.specs.Hashes.{fields_of, hash_left, known}
 use Rattle.keyspace.specs.Plan.{committed}
 use Rattle.keyspace.specs.Strings.{stored_number, sum_of}
-use Rattle.resp2.specs.declared.reply.Reply.TheVariants.{Integer}
+use Rattle.resp_values.specs.declared.reply.Reply.TheVariants.{Integer}
 use Rattle.keyspace.proofs.hashes.add_number.Goals as goal
 
 pub returns-in-Err-sum_in : goal.returns-in-Err-sum_in

@@ -1,5 +1,5 @@
 use Rattle.std.proofs.Common.{◌≡◌, ◌++◌, map}
-use Rattle.resp2.specs.declared.reply.Reply.TheVariants.{Bulk}
+use Rattle.resp_values.specs.declared.reply.Reply.TheVariants.{Bulk}
 use Rattle.keyspace.proofs.hashes.each_field.Given as goal
 
 -- the fields so far, and those that are left

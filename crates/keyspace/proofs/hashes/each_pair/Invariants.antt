@@ -1,6 +1,6 @@
 use Rattle.std.proofs.Common.{◌≡◌, ◌++◌, map}
 use Rattle.hash.specs.Size.{words_of}
-use Rattle.resp2.specs.declared.reply.Reply.TheVariants.{Bulk}
+use Rattle.resp_values.specs.declared.reply.Reply.TheVariants.{Bulk}
 use Rattle.keyspace.proofs.hashes.each_pair.Given as goal
 
 -- the pairs so far, and those that are left

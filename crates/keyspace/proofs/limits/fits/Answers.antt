@@ -1,6 +1,6 @@
 use Rattle.std.proofs.Common.{length, ap, refl, ◌∙◌}
 use Rattle.keyspace.proofs.Fitting.{too_many, too_long, fits_by_size}
-use Rattle.resp2.specs.Request.{bulk_spelling}
+use Rattle.resp_values.specs.Request.{bulk_spelling}
 use Rattle.keyspace.proofs.limits.fits.Goals as goal
 
 pub returns-then-extent-gt-MOST_FIELDS : goal.returns-then-extent-gt-MOST_FIELDS

@@ -1,6 +1,6 @@
 use Rattle.std.proofs.Common.{length, ap, refl, ◌∙◌}
 use Rattle.keyspace.proofs.Fitting.{string_fits}
-use Rattle.resp2.specs.Request.{bulk_spelling}
+use Rattle.resp_values.specs.Request.{bulk_spelling}
 use Rattle.keyspace.proofs.limits.string_fits.Goals as goal
 
 pub returns : goal.returns

@@ -1,6 +1,6 @@
 use Rattle.std.proofs.Common.{◌++◌, ap, ◌∙◌}
 use Rattle.std.proofs.lemmas.Result.{err_from_is_err_and}
-use Rattle.resp2.specs.Reply.{reply_spelling}
+use Rattle.resp_values.specs.Reply.{reply_spelling}
 use Rattle.listener.proofs.BatchLemmas.{fails_alone, fails_before, fails_behind, on_err_both, on_ok_both, sends_both}
 use Rattle.listener.proofs.batch.send.Goals as goal
 

@@ -1,7 +1,7 @@
 use Rattle.std.proofs.Common.{◌≡◌, ◌≤◌, ℕ, List, [], length, None}
 use Rattle.std.specs.Io.KnownBytes.{Consumes}
 use Rattle.resp2.specs.Counting.{inner_of, failures_of}
-use Rattle.resp2.specs.Request.{IsUnfinished}
+use Rattle.resp2.specs.Stream.{IsUnfinished}
 use Rattle.listener.specs.Progress.{Answers, desk}
 use Rattle.listener.specs.Streams.{IsAllowed, stream_of}
 use Rattle.listener.proofs.requests.converse.Given as goal

@@ -1,5 +1,5 @@
 use Rattle.std.proofs.Common.{refl, subst}
-use Rattle.resp2.specs.declared.reply.Reply.{Reply}
+use Rattle.resp_values.specs.declared.reply.Reply.{Reply}
 use Rattle.connections.specs.declared.conn.Connection.{Connection}
 use Rattle.node_core.specs.Comes.{Drafts}
 use Rattle.node_core.proofs.node.NodeCore.allow.Goals as goal

@@ -1,5 +1,5 @@
 use Rattle.std.proofs.Common.{refl, subst}
-use Rattle.resp2.specs.declared.reply.Reply.{Reply}
+use Rattle.resp_values.specs.declared.reply.Reply.{Reply}
 use Rattle.node_core.specs.Comes.{Drafts}
 use Rattle.node_core.proofs.node.NodeCore.number_asks.Goals as goal
 use Rattle.node_step.specs.Outcome.{replied}
