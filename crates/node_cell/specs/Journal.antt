@@ -1,5 +1,5 @@
 -- The journal of a node: what it did, in order, each step under the ticket that was drawn for it.
-use Rattle.std.specs.Prelude.{◌≡◌, ◌<◌, ◌≤◌, ◌^◌, ◌⊎◌, ℕ, nat_lt, Bool, true, false, List, [], ◌∷◌, ◌++◌, map, length, All, ⊤}
+use Rattle.std.specs.Prelude.{◌≡◌, ◌<◌, ◌≤◌, ◌^◌, ◌⊎◌, ℕ, nat_lt, Bool, true, false, List, [], ◌∷◌, ◌++◌, map, length, All}
 use Rattle.std.specs.List.{Contains, flat_map}
 use Rattle.cluster_config.specs.Config.{ClusterConfig}
 use Rattle.node_step.specs.Numbers.{NoNumberLeft}
@@ -7,8 +7,8 @@ use Rattle.node_step.specs.State.{NodeState}
 use Rattle.node_step.specs.Step.{NodeStep}
 use Rattle.node_step.specs.declared.event.Event.{Event}
 use Rattle.node_step.specs.declared.event.Event.TheVariants.{Deliver}
-use Rattle.node_core.specs.declared.fault.StepFault.{StepFault}
-use Rattle.node_core.specs.declared.fault.StepFault.TheVariants.{Memory, Exhausted}
+use Rattle.node_step.specs.declared.fault.StepFault.{StepFault}
+use Rattle.node_step.specs.declared.fault.StepFault.TheVariants.{Memory, Exhausted}
 use Rattle.node_step.specs.declared.outputs.Outputs.{Outputs}
 use Rattle.node_step.specs.declared.outputs.Release.{Release}
 use Rattle.bus.specs.declared.message.Message.{Message}
@@ -53,11 +53,6 @@ released_by (Skipped ticket) = []
 -- a step of the journal gave this reply to a connection that waited
 abbrev pub IsGiven : List Entry → Release → Type 0
 IsGiven journal release = Contains (flat_map released_by journal) release
-
--- the event is the node's own: no message that arrives
-abbrev pub IsOwn : Event → Type 0
-IsOwn (Deliver message) = ⊥
-IsOwn event = ⊤
 
 -- the event may take place under the ticket: a message comes under a greater one than that of the step that sent it
 abbrev pub comes_in_time : ℕ → Event → Bool

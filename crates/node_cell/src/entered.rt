@@ -3,6 +3,7 @@ ghost use Rattle.std.specs.Prelude.{◌≡◌};
 
 use crate::deployment::Deployment;
 use node_core::{Event, Outputs, Response};
+use node_gate::Answered;
 use std::marker::{Model, PhantomData};
 use std::snapshot::Snapshot;
 
@@ -69,5 +70,15 @@ impl<K: Deployment> Entered<K> {
         ensures { result.now.value ≡ self.now.outputs }
     {
         &self.outputs
+    }
+}
+
+impl<K: Deployment> Answered for Entered<K> {
+    ghost event = { λ entered. entered.event };
+
+    ghost gave = { λ entered. entered.outputs };
+
+    fn response(&self) -> &Response {
+        Entered::response(self)
     }
 }

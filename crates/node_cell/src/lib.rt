@@ -7,7 +7,6 @@ mod delivery;
 mod deployment;
 mod entered;
 mod entry;
-mod gate;
 mod kept;
 mod log;
 
@@ -17,5 +16,5 @@ pub use delivery::DeliveryFault;
 pub use deployment::Deployment;
 pub use entered::Entered;
 pub use entry::Entry;
-pub use gate::{Answered, NodeGate};
 pub use log::{GhostJournal, Journal, Log};
+pub use node_gate::{Answered, NodeGate};

@@ -1,12 +1,14 @@
-//! What a step of a node may be: events, outputs, states, and the relation between them.
+//! What a step of a node may be: events, outputs, states, and the relation between them; and why none is made.
 #![tactic(auto)]
 
 mod event;
+mod fault;
 mod keep;
 mod outputs;
 mod response;
 
 pub use event::Event;
+pub use fault::StepFault;
 pub use keep::Keep;
 pub use outputs::{Messages, Outputs, Release, Releases};
 pub use response::{Answer, Response, Why};

@@ -1,12 +1,10 @@
 //! How the threads of connections reach a node.
 ghost use Rattle.std.specs.Prelude.{◌≡◌, ◌++◌, ◌∷◌, [], IfOk, IfErr, IfSome};
-ghost use Rattle.node_cell.specs.Asks.{outcome_of};
-ghost use Rattle.node_cell.specs.Asks.Asked.{asking, waiting};
-ghost use Rattle.node_cell.specs.Journal.{IsOwn};
+ghost use Rattle.node_gate.specs.Asks.{outcome_of, IsOwn};
+ghost use Rattle.node_gate.specs.Asks.Asked.{asking, waiting};
 
-use crate::deployment::Deployment;
-use crate::entered::Entered;
-use node_core::{Conn, Event, Response, StepFault};
+use connections::Conn;
+use node_step::{Event, Response, StepFault};
 use resp_values::Reply;
 
 /// A step that was made, as the one who asked for it sees it.
@@ -32,10 +30,10 @@ pub trait NodeGate {
     ghost use Rattle.std.specs.Prelude.{List};
     ghost use Rattle.node_step.specs.declared.event.Event.{Event as NodeEvent};
     ghost use Rattle.node_step.specs.declared.outputs.Outputs.{Outputs as NodeOutputs};
-    ghost use Rattle.node_core.specs.declared.fault.StepFault.{StepFault as Refusal};
+    ghost use Rattle.node_step.specs.declared.fault.StepFault.{StepFault as Refusal};
     ghost use Rattle.connections.specs.declared.conn.Conn.{Conn as Connection};
     ghost use Rattle.resp_values.specs.declared.reply.Reply.{Reply as Given};
-    ghost use Rattle.node_cell.specs.Asks.{Asked};
+    ghost use Rattle.node_gate.specs.Asks.{Asked};
 
     ghost asked: { Self → List Asked };
 
@@ -64,14 +62,4 @@ pub trait NodeGate {
     /// Lets others ask the node. A step may keep them waiting until then, so it is called before anything is waited for.
     fn release(&mut self)
         ensures { asked self.new ≡ asked self.old };
-}
-
-impl<K: Deployment> Answered for Entered<K> {
-    ghost event = { λ entered. entered.event };
-
-    ghost gave = { λ entered. entered.outputs };
-
-    fn response(&self) -> &Response {
-        Entered::response(self)
-    }
 }
