@@ -8,7 +8,7 @@ use cluster_config::Config;
 use links::Inbox;
 use listener::serve_conn;
 use node_cell::{Deployment, Log, NodeCell, NodeGate};
-use node_core::Event;
+use node_step::Event;
 use resp2::Counting;
 use shared_node::{Gate, SharedNode};
 use slot_table::NodeNo;

@@ -16,12 +16,12 @@ use Rattle.resp2.specs.Reader.{Breaks, HandsOut, PassesOver, ReaderState, empty_
 use Rattle.resp2.specs.declared.fault.Fault.{Fault}
 use Rattle.resp_values.specs.declared.reply.Reply.{Reply}
 use Rattle.resp2.proofs.Callers.{none_with_words, stream_spelling-append, with_words-append}
-use Rattle.node_cell.specs.Asks.{Asked}
-use Rattle.node_cell.specs.Asks.Asked.{asking, waiting}
+use Rattle.node_gate.specs.Asks.{Asked}
+use Rattle.node_gate.specs.Asks.Asked.{asking, waiting}
 use Rattle.connections.specs.declared.conn.Conn.{Conn}
 use Rattle.node_step.specs.declared.event.Event.TheVariants.{Request}
-use Rattle.node_core.specs.declared.fault.StepFault.{StepFault}
-use Rattle.node_core.specs.declared.fault.StepFault.TheVariants as refused
+use Rattle.node_step.specs.declared.fault.StepFault.{StepFault}
+use Rattle.node_step.specs.declared.fault.StepFault.TheVariants as refused
 use Rattle.node_step.specs.declared.outputs.Outputs.{Outputs}
 use Rattle.node_step.specs.declared.response.Answer.{Answer}
 use Rattle.node_step.specs.declared.response.Response.{Response}

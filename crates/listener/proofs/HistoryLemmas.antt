@@ -1,7 +1,7 @@
 -- What is asked of a node, one after another.
 use Rattle.std.proofs.Common.{List, [], ◌++◌, append_assoc, append-nil, sym, ◌∙◌, ap}
 use Rattle.std.proofs.lemmas.List.Elements.{All-append, All-nil}
-use Rattle.node_cell.specs.Asks.{Asked}
+use Rattle.node_gate.specs.Asks.{Asked}
 use Rattle.listener.specs.Streams.{Adds, change}
 
 module _ (allowed : Asked → Type 0) where

@@ -14,14 +14,14 @@ use Rattle.command.specs.declared.error_line.ErrorLine.{ErrorLine}
 use Rattle.command.specs.declared.error_line.ErrorLine.TheVariants as line
 use Rattle.connections.specs.declared.conn.Conn.{Conn}
 use Rattle.node_step.specs.declared.event.Event.TheVariants.{Open, Close, Request}
-use Rattle.node_core.specs.declared.fault.StepFault.{StepFault}
-use Rattle.node_core.specs.declared.fault.StepFault.TheVariants as refused
+use Rattle.node_step.specs.declared.fault.StepFault.{StepFault}
+use Rattle.node_step.specs.declared.fault.StepFault.TheVariants as refused
 use Rattle.node_step.specs.declared.outputs.Outputs.{Outputs}
 use Rattle.node_step.specs.declared.response.Answer.{Answer}
 use Rattle.node_step.specs.declared.response.Response.{Response}
 use Rattle.node_step.specs.declared.response.Response.TheVariants.{Opened, Parked, Replied}
-use Rattle.node_cell.specs.Asks.{Asked}
-use Rattle.node_cell.specs.Asks.Asked.{asking, waiting}
+use Rattle.node_gate.specs.Asks.{Asked}
+use Rattle.node_gate.specs.Asks.Asked.{asking, waiting}
 use Rattle.listener.specs.declared.fault.ConnFault.{ConnFault}
 use Rattle.listener.specs.declared.fault.ConnFault.TheVariants.{Reader, Writer, Memory, Exhausted, Unanswered, Endless}
 use Rattle.listener.specs.declared.requests.Rest.{Rest}

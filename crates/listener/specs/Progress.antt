@@ -6,11 +6,11 @@ use Rattle.resp2.specs.Counting.{HasRisen}
 use Rattle.resp2.specs.Stream.{stream_spelling}
 use Rattle.connections.specs.declared.conn.Conn.{Conn}
 use Rattle.node_step.specs.declared.event.Event.TheVariants.{Open, Close}
-use Rattle.node_core.specs.declared.fault.StepFault.{StepFault}
+use Rattle.node_step.specs.declared.fault.StepFault.{StepFault}
 use Rattle.node_step.specs.declared.outputs.Outputs.{Outputs}
 use Rattle.node_step.specs.declared.response.Response.TheVariants.{Opened}
-use Rattle.node_cell.specs.Asks.{Asked}
-use Rattle.node_cell.specs.Asks.Asked.{asking}
+use Rattle.node_gate.specs.Asks.{Asked}
+use Rattle.node_gate.specs.Asks.Asked.{asking}
 use Rattle.listener.specs.declared.fault.ConnFault.{ConnFault}
 use Rattle.listener.specs.declared.fault.ConnFault.TheVariants.{Reader, Writer, Endless}
 use Rattle.listener.specs.declared.requests.Rest.{Rest}

@@ -5,10 +5,10 @@ use Rattle.resp2.specs.Counting.{inner_of, failures_of, HasRisen}
 use Rattle.resp2.specs.Writing.{AppendsBeginning}
 use Rattle.resp2.specs.declared.counting.Counting.{Counting}
 use Rattle.connections.specs.declared.conn.Conn.{Conn}
-use Rattle.node_cell.specs.Asks.{Asked}
-use Rattle.node_cell.specs.Asks.Asked.{asking, waiting}
+use Rattle.node_gate.specs.Asks.{Asked}
+use Rattle.node_gate.specs.Asks.Asked.{asking, waiting}
 use Rattle.node_step.specs.declared.event.Event.{Event}
-use Rattle.node_core.specs.declared.fault.StepFault.{StepFault}
+use Rattle.node_step.specs.declared.fault.StepFault.{StepFault}
 use Rattle.node_step.specs.declared.outputs.Outputs.{Outputs}
 use Rattle.resp_values.specs.declared.reply.Reply.{Reply}
 

@@ -1,5 +1,5 @@
 //! Why a conversation ended early.
-use node_core::StepFault;
+use node_step::StepFault;
 use thiserror::Error;
 
 /// Why a conversation ended before its client ended it.

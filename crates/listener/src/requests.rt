@@ -3,17 +3,17 @@ ghost use Rattle.std.specs.Prelude.{◌≡◌, ◌≢◌, ◌<◌, ◌++◌, ◌
 ghost use Rattle.resp2.specs.Counting.{failures_of};
 ghost use Rattle.resp_values.specs.Reply.{reply_spelling};
 ghost use Rattle.resp_values.specs.Request.{IsRequest, request_spelling};
-ghost use Rattle.node_cell.specs.Asks.{outcome_of};
-ghost use Rattle.node_cell.specs.Asks.Asked.{asking, waiting};
-ghost use Rattle.node_cell.specs.Journal.{IsOwn};
+ghost use Rattle.node_gate.specs.Asks.{outcome_of, IsOwn};
+ghost use Rattle.node_gate.specs.Asks.Asked.{asking, waiting};
 ghost use Rattle.listener.specs.Conversation.{IsRest};
 ghost use Rattle.listener.specs.Progress.{Answers, Halts, IsOfAnswering, Puts, Stops, desk};
 ghost use Rattle.listener.specs.Streams.{Adds, Fails, IsAllowed, Sends, change, stream_of, streams};
 
 use crate::batch::{fits_in, flush, send};
 use crate::fault::ConnFault;
-use node_cell::{Answered, NodeGate};
-use node_core::{Conn, Event, Response, StepFault};
+use connections::Conn;
+use node_gate::{Answered, NodeGate};
+use node_step::{Event, Response, StepFault};
 use resp2::{Counting, Fault, Reader, Reply, Words};
 use std::io;
 use std::io::{Read, Write};

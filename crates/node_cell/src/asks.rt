@@ -1,9 +1,10 @@
 //! What was asked of a node through one gate.
 ghost use Rattle.std.specs.Prelude.{◌≡◌, ◌++◌, ◌∷◌, [], IfOk, IfErr};
-ghost use Rattle.node_cell.specs.Asks.{noted, outcome_of};
-ghost use Rattle.node_cell.specs.Asks.Asked.{asking, waiting};
+ghost use Rattle.node_cell.specs.Asks.{noted};
+ghost use Rattle.node_gate.specs.Asks.{outcome_of, IsOwn};
+ghost use Rattle.node_gate.specs.Asks.Asked.{asking, waiting};
 ghost use Rattle.node_step.specs.State.{first_state};
-ghost use Rattle.node_cell.specs.Journal.{Enters, IsHistory, IsOwn, IsRefused};
+ghost use Rattle.node_cell.specs.Journal.{Enters, IsHistory, IsRefused};
 
 use crate::cell::NodeCell;
 use crate::deployment::Deployment;
@@ -29,7 +30,8 @@ struct Asking {
 }
 
 impl Model for Asking {
-    ghost use Rattle.node_cell.specs.Asks.{Asked, noted};
+    ghost use Rattle.node_gate.specs.Asks.{Asked};
+    ghost use Rattle.node_cell.specs.Asks.{noted};
 
     ghost Value = { Asked };
 
@@ -45,7 +47,7 @@ pub struct Asks {
 
 impl Model for Asks {
     ghost use Rattle.std.specs.Prelude.{List};
-    ghost use Rattle.node_cell.specs.Asks.{Asked};
+    ghost use Rattle.node_gate.specs.Asks.{Asked};
 
     ghost Value = { List Asked };
 

@@ -4,11 +4,12 @@ ghost use Rattle.std.specs.List.{list_any};
 ghost use Rattle.tickets.specs.Tickets.{drawn, table_of, seats_of, IsFresh};
 ghost use Rattle.node_step.specs.State.{first_state};
 ghost use Rattle.node_step.specs.Step.{NodeStep};
-ghost use Rattle.node_core.specs.declared.fault.StepFault.TheVariants.{Exhausted};
+ghost use Rattle.node_step.specs.declared.fault.StepFault.TheVariants.{Exhausted};
 ghost use Rattle.node_step.specs.Kept.{reply_to, without_reply_to};
 ghost use Rattle.node_cell.specs.Kept.{joined, kept_after};
 ghost use Rattle.node_step.specs.declared.event.Event.TheVariants.{Deliver};
-ghost use Rattle.node_cell.specs.Journal.{Advances, Enters, IsGiven, IsHistory, IsNotTaken, IsOwn, IsRefused, Makes, Rises, Skips, comes_in_time, tickets_of};
+ghost use Rattle.node_cell.specs.Journal.{Advances, Enters, IsGiven, IsHistory, IsNotTaken, IsRefused, Makes, Rises, Skips, comes_in_time, tickets_of};
+ghost use Rattle.node_gate.specs.Asks.{IsOwn};
 
 use crate::delivery::DeliveryFault;
 use crate::deployment::Deployment;

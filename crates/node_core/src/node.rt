@@ -6,16 +6,15 @@ ghost use Rattle.node_core.specs.Becomes.{Becomes, CanBeMade};
 ghost use Rattle.keyspace.specs.Keyspace.{Keyspace};
 ghost use Rattle.keyspace.specs.Plan.{committed};
 ghost use Rattle.node_core.specs.Comes.{HasNothing, IsDraftOf, at_epoch, is_drafted, stamped_draft};
-ghost use Rattle.node_core.specs.declared.fault.StepFault.TheVariants.{Exhausted};
+ghost use Rattle.node_step.specs.declared.fault.StepFault.TheVariants.{Exhausted};
 ghost use Rattle.node_step.specs.Numbers.{NoNumberLeft};
 ghost use Rattle.node_step.specs.State.{first_state};
 ghost use Rattle.node_step.specs.Step.{NodeStep};
 
 use crate::draft::{Draft, plain};
-use crate::fault::StepFault;
 use cluster_config::Config;
 use connections::{Conn, Connections};
-use node_step::{Event, Keep, Messages, Outputs, Releases, Response};
+use node_step::{Event, Keep, Messages, Outputs, Releases, Response, StepFault};
 use slot_moves::SlotMoves;
 use slot_store::{SlotKeys, SlotParts, SlotStore};
 use slot_table::{Epoch, NodeNo, SlotTable};

@@ -2,7 +2,7 @@
 ghost use Rattle.std.specs.Prelude.{◌≡◌, ◌<◌, ◌^◌, ◌∷◌, [], false, IfOk, OnOk, Some, SomeIff, Err, if◌then◌else◌, slice_set};
 ghost use Rattle.node_core.specs.Comes.{Drafts, HasNothing, bodies_of};
 ghost use Rattle.node_core.specs.Orders.{Gives};
-ghost use Rattle.node_core.specs.declared.fault.StepFault.TheVariants.{Exhausted};
+ghost use Rattle.node_step.specs.declared.fault.StepFault.TheVariants.{Exhausted};
 ghost use Rattle.node_step.specs.Orders.{done, drained_at_start, ending_reply, ending_verdict, import_reply, importing, migrate_reply, migrating, new_epoch, others, to_all, with_moves};
 ghost use Rattle.node_step.specs.Requests.{has_epoch, using_up};
 ghost use Rattle.node_step.specs.Slots.{has_keys, slot_epoch};
@@ -15,13 +15,12 @@ ghost use Rattle.slot_table.specs.Table.{claim_at};
 
 use crate::change::Change;
 use crate::draft::{Draft, listed};
-use crate::fault::StepFault;
 use crate::node::NodeCore;
 use bus::Body;
 use command::ErrorLine;
 use connections::Conn;
 use key_slot::Slot;
-use node_step::Why;
+use node_step::{StepFault, Why};
 use resp_values::{Line, Reply};
 use slot_moves::{ImportVerdict, MigrateVerdict, MoveNo, NodeVerdict, Order, epoch_after_import};
 use slot_store::{SlotKeys, SlotParts};

@@ -5,16 +5,15 @@ ghost use Rattle.connections.specs.Connections.{connection_at};
 ghost use Rattle.keyspace.specs.Keyspace.{Keyspace};
 ghost use Rattle.keyspace.specs.Plan.{committed};
 ghost use Rattle.node_core.specs.Comes.{AnswersSo, HasNothing, IsDraftOf};
-ghost use Rattle.node_core.specs.declared.fault.StepFault.TheVariants.{Exhausted};
+ghost use Rattle.node_step.specs.declared.fault.StepFault.TheVariants.{Exhausted};
 ghost use Rattle.node_step.specs.Numbers.{NoNumberLeft};
 ghost use Rattle.node_step.specs.Requests.{has_number, using_up};
 
 use crate::draft::Draft;
-use crate::fault::StepFault;
 use crate::node::NodeCore;
 use command::{Command, parse};
 use connections::{Conn, Connection};
-use node_step::{Event, Why};
+use node_step::{Event, StepFault, Why};
 use resp_values::Words;
 use slot_store::{SlotKeys, SlotParts};
 

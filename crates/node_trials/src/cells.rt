@@ -1,6 +1,6 @@
 //! A node with its journal: what it is asked, in order, and what is left of it.
 ghost use Rattle.std.specs.Prelude.{◌≡◌};
-ghost use Rattle.node_cell.specs.Journal.{IsOwn};
+ghost use Rattle.node_gate.specs.Asks.{IsOwn};
 ghost use Rattle.tickets.specs.Tickets.{IsFresh};
 
 use crate::acts::Act::{Ask, Close, Open, Tick};

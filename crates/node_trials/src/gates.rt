@@ -1,7 +1,7 @@
 //! Gates that hold a request up, or that wait for one lock round all nodes.
 
-use node_cell::NodeGate;
 use node_core::{Conn, Event, StepFault};
+use node_gate::NodeGate;
 use resp2::Reply;
 use std::sync::atomic::{AtomicBool, Ordering};
 use std::sync::{Mutex, Wait};

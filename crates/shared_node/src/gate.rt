@@ -3,8 +3,9 @@ ghost use Rattle.std.specs.Prelude.{◌≡◌, IfSome};
 ghost use Rattle.shared_node.specs.Answers.{MayGive};
 
 use crate::shared::SharedNode;
+use connections::Conn;
 use node_cell::{Asks, Deployment, Entered, Log, NodeCell, NodeGate};
-use node_core::{Conn, Event, StepFault};
+use node_step::{Event, StepFault};
 use resp_values::Reply;
 use std::sync::{MutexGuard, Wait};
 

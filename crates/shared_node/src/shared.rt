@@ -2,7 +2,7 @@
 
 use bus::Message;
 use node_cell::{Deployment, Log, NodeCell};
-use node_core::Messages;
+use node_step::Messages;
 use std::alloc::Global;
 use std::sync::atomic::{AtomicBool, Ordering};
 use std::sync::{Condvar, Mutex, MutexGuard, Wait};

@@ -9,12 +9,12 @@ use Rattle.resp_values.specs.Request.{IsRequest, KeepsLimits}
 use Rattle.resp2.specs.Stream.{IsUnfinished, HasFirstBadByte, stream_spelling, with_words}
 use Rattle.resp2.specs.declared.fault.Fault.{Fault}
 use Rattle.resp_values.specs.declared.reply.Reply.{Reply}
-use Rattle.node_cell.specs.Asks.{Asked}
-use Rattle.node_cell.specs.Asks.Asked.{asking}
+use Rattle.node_gate.specs.Asks.{Asked}
+use Rattle.node_gate.specs.Asks.Asked.{asking}
 use Rattle.connections.specs.declared.conn.Conn.{Conn}
 use Rattle.node_step.specs.declared.event.Event.{Event}
 use Rattle.node_step.specs.declared.event.Event.TheVariants.{Close, Request}
-use Rattle.node_core.specs.declared.fault.StepFault.{StepFault}
+use Rattle.node_step.specs.declared.fault.StepFault.{StepFault}
 use Rattle.node_step.specs.declared.outputs.Outputs.{Outputs}
 use Rattle.node_step.specs.declared.response.Response.{Response}
 use Rattle.node_step.specs.declared.response.Response.TheVariants.{Replied}

@@ -2,10 +2,11 @@
 ghost use Rattle.std.specs.Prelude.{◌≡◌, IfOk};
 ghost use Rattle.uses.specs.Pongs.{outputs_for, pong_answer, AreAnsweredExactly};
 
+use connections::Conn;
 use history::History;
 use listener::{ConnFault, serve_conn};
-use node_cell::{Answered, NodeGate};
-use node_core::{Answer, Conn, Event, Messages, Outputs, Releases, Response, StepFault, Why};
+use node_gate::{Answered, NodeGate};
+use node_step::{Answer, Event, Messages, Outputs, Releases, Response, StepFault, Why};
 use resp2::{Counting, Line, Reply, a_stream_is_read_in_one_way, no_unfinished_is_whole};
 use slot_decision::Decision;
 use std::alloc::Global;
@@ -31,7 +32,7 @@ struct Asking {
 }
 
 impl Model for Asking {
-    ghost use Rattle.node_cell.specs.Asks.{Asked};
+    ghost use Rattle.node_gate.specs.Asks.{Asked};
     ghost use Rattle.uses.specs.Notes.{noted};
 
     ghost Value = { Asked };

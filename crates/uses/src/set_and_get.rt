@@ -7,7 +7,7 @@ ghost use Rattle.uses.specs.Serving.{IsServedBy, served};
 
 use byte_string::ByteString;
 use node_cell::{Deployment, Entered, Log, NodeCell};
-use node_core::{Event, Response, StepFault};
+use node_step::{Event, Response, StepFault};
 use resp2::Words;
 use std::alloc::{AllocError, Global};
 
