@@ -1,5 +1,5 @@
 -- A fact of each element, by index and by recursion.
-use Rattle.std.proofs.Common.{ℕ, zero, suc, List, [], ◌∷◌, arith}
+use Rattle.std.proofs.Common.{zero, suc, List, [], ◌∷◌, arith}
 use Rattle.std.specs.Prelude.{All}
 use Rattle.std.specs.List.{AllByRecursion}
 
