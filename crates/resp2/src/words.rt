@@ -1,5 +1,5 @@
 //! The words of a request as they come: those that came whole, and a request of which some are still to come.
-ghost use Rattle.std.specs.Prelude.{◌≡◌, ◌+◌, ◌<◌, ◌≤◌, ◌↔◌, ◌^◌, [], ℕ, All, length, take, drop, slice_get, Some, None, IfOk, IfErr, IfSome, IsSome, IfNone, OnOk, OnErr, vec_len, vec_capacity};
+ghost use Rattle.std.specs.Prelude.{◌≡◌, ◌<◌, ◌≤◌, [], length, take, drop, Some, None, IfOk, IfErr, IfSome, IfNone, OnOk, OnErr, vec_len, vec_capacity};
 ghost use Rattle.std.specs.Bool.{OnTrue, OnFalse};
 ghost use Rattle.resp_values.specs.Request.{IsRequest, KeepsLimits};
 ghost use Rattle.resp2.specs.Reading.{Wants, Bad, Found, body_at, word_at, reading_words};
