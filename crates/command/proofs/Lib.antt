@@ -1,4 +1,1 @@
-pub mod LineLemmas
-pub mod NumberTexts
-pub mod PairLemmas
 mod WorkedValues

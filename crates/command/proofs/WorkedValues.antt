@@ -1,20 +1,16 @@
 -- Worked values of the definitions (Redis command reference).
-use Rattle.std.proofs.Common.{◌≡◌, [], ◌∷◌, refl, true, false}
+use Rattle.std.proofs.Common.{◌≡◌, [], ◌∷◌, refl}
 use Rattle.std.specs.Prelude.{Some, None, Ok, Err, codes, pos, negsuc}
 use Rattle.std.specs.Fmt.{digits}
-use Rattle.command.specs.ErrorLine.{ask_text, error_text, line_of, moved_text}
-use Rattle.command.specs.Keys.{is_write, keys_of, only_key}
-use Rattle.command.specs.Names.{name_of}
-use Rattle.command.specs.Numbers.{number_of}
-use Rattle.command.specs.Table.{command_of}
-use Rattle.command.specs.declared.names.Name.TheVariants as name
-use Rattle.command.specs.declared.command.Command.TheVariants.{Data, Cluster}
-use Rattle.command.specs.declared.command.DataCommand.TheVariants.{Ping, Echo, Get, Set, Mget, Mset, Setnx, Getset, Getdel, Append, Incr, Decr, Incrby, Strlen, Del, Exists, TypeOf, Hset, Hsetnx, Hget, Hmget, Hdel, Hlen, Hgetall, Hincrby}
-use Rattle.command.specs.declared.command.Condition.TheVariants.{Always, IfMissing, IfThere}
-use Rattle.command.specs.declared.command.ClusterCommand.TheVariants.{KeySlot, MyId, Slots, CountKeysInSlot, GetKeysInSlot, SlotState, SetSlot, Numbered, Asking, Migrate}
-use Rattle.command.specs.declared.command.SlotOrder.TheVariants.{Importing, Migrating, Node}
-use Rattle.command.specs.declared.fault.CommandFault.TheVariants.{Unknown, UnknownSubcommand, Arity, Syntax, InvalidSlot, NotAnInteger}
-use Rattle.command.specs.declared.error_line.ErrorLine.TheVariants.{HashNotAnInteger, WrongType}
+use Rattle.command_table.specs.Numbers.{number_of}
+use Rattle.command_table.specs.Table.{command_of}
+use Rattle.command_table.specs.declared.names.Name.TheVariants as name
+use Rattle.command_table.specs.declared.command.Command.TheVariants.{Data, Cluster}
+use Rattle.command_table.specs.declared.command.DataCommand.TheVariants.{Ping, Echo, Get, Set, Mget, Mset, Setnx, Getset, Getdel, Append, Incr, Decr, Incrby, Strlen, Del, Exists, TypeOf, Hset, Hsetnx, Hget, Hmget, Hdel, Hlen, Hgetall, Hincrby}
+use Rattle.command_table.specs.declared.command.Condition.TheVariants.{Always, IfMissing, IfThere}
+use Rattle.command_table.specs.declared.command.ClusterCommand.TheVariants.{KeySlot, MyId, Slots, CountKeysInSlot, GetKeysInSlot, SlotState, SetSlot, Numbered, Asking, Migrate}
+use Rattle.command_table.specs.declared.command.SlotOrder.TheVariants.{Importing, Migrating, Node}
+use Rattle.command_table.specs.declared.fault.CommandFault.TheVariants.{Unknown, UnknownSubcommand, Arity, Syntax, InvalidSlot, NotAnInteger}
 
 -- letters of any case
 get_a : command_of (codes "GeT" ∷ codes "a" ∷ []) ≡ Ok (Data (Get (codes "a")))
@@ -154,26 +150,9 @@ mget_a_b = refl
 mget : command_of (codes "MGET" ∷ []) ≡ Err (Arity name.Mget)
 mget = refl
 
--- a blank is part of the name
-get_blank : name_of (codes "GET ") ≡ None
-get_blank = refl
-
 -- one argument too many
 get_a_b : command_of (codes "GET" ∷ codes "a" ∷ codes "b" ∷ []) ≡ Err (Arity name.Get)
 get_a_b = refl
-
--- and its error reply
-get_a_b_reply : error_text (line_of (Arity name.Get)) ≡ codes "ERR wrong number of arguments for 'get' command"
-get_a_b_reply = refl
-
-syntax_reply : error_text (line_of Syntax) ≡ codes "ERR syntax error"
-syntax_reply = refl
-
-wrong_type_reply : error_text WrongType ≡ codes "WRONGTYPE Operation against a key holding the wrong kind of value"
-wrong_type_reply = refl
-
-hash_not_an_integer_reply : error_text HashNotAnInteger ≡ codes "ERR hash value is not an integer"
-hash_not_an_integer_reply = refl
 
 cluster_keyslot_foo : command_of (codes "CLUSTER" ∷ codes "KEYSLOT" ∷ codes "foo" ∷ []) ≡ Ok (Cluster (KeySlot (codes "foo")))
 cluster_keyslot_foo = refl
@@ -198,52 +177,6 @@ cluster_foo_a_b = refl
 -- a known one needs its own number of arguments
 cluster_keyslot : command_of (codes "CLUSTER" ∷ codes "KEYSLOT" ∷ []) ≡ Err (Arity name.Cluster)
 cluster_keyslot = refl
-
--- the last numbers of 64 bits are numbers, and the next ones are none
-greatest : number_of (codes "9223372036854775807") ≡ Some (pos 9223372036854775807)
-unfolding number_of digits
-greatest = refl
-
-past_the_greatest : number_of (codes "9223372036854775808") ≡ None
-unfolding number_of digits
-past_the_greatest = refl
-
-least : number_of (codes "-9223372036854775808") ≡ Some (negsuc 9223372036854775807)
-unfolding number_of digits
-least = refl
-
-past_the_least : number_of (codes "-9223372036854775809") ≡ None
-unfolding number_of digits
-past_the_least = refl
-
-zero_is_a_number : number_of (codes "0") ≡ Some (pos 0)
-unfolding number_of digits
-zero_is_a_number = refl
-
--- a number has one text
-leading_zero : number_of (codes "01") ≡ None
-unfolding number_of digits
-leading_zero = refl
-
-minus_zero : number_of (codes "-0") ≡ None
-unfolding number_of digits
-minus_zero = refl
-
-plus : number_of (codes "+1") ≡ None
-unfolding number_of digits
-plus = refl
-
-blank : number_of (codes " 1") ≡ None
-unfolding number_of digits
-blank = refl
-
-no_digits : number_of [] ≡ None
-unfolding number_of digits
-no_digits = refl
-
-letter : number_of (codes "1a") ≡ None
-unfolding number_of digits
-letter = refl
 
 -- the last slot is a slot, and the next number is none
 countkeysinslot_last : command_of (codes "CLUSTER" ∷ codes "CountKeysInSlot" ∷ codes "16383" ∷ []) ≡ Ok (Cluster (CountKeysInSlot 16383))
@@ -364,65 +297,3 @@ migrate_copy = refl
 -- a subcommand is no command
 keyslot_foo : command_of (codes "KEYSLOT" ∷ codes "foo" ∷ []) ≡ Err Unknown
 keyslot_foo = refl
-
--- the value is no key
-keys_of_set : keys_of (Data (Set (codes "a") (codes "1") Always)) ≡ codes "a" ∷ []
-keys_of_set = refl
-
-keys_of_mget : keys_of (Data (Mget (codes "a" ∷ codes "b" ∷ []))) ≡ codes "a" ∷ codes "b" ∷ []
-keys_of_mget = refl
-
--- the strings of pairs are no keys
-keys_of_mset : keys_of (Data (Mset ((codes "b", codes "1") ∷ (codes "a", codes "2") ∷ (codes "b", codes "3") ∷ []))) ≡ codes "b" ∷ codes "a" ∷ codes "b" ∷ []
-keys_of_mset = refl
-
--- nor are fields and values
-keys_of_hset : keys_of (Data (Hset (codes "a") ((codes "f", codes "1") ∷ []))) ≡ codes "a" ∷ []
-keys_of_hset = refl
-
--- a message is no key
-keys_of_echo : keys_of (Data (Echo (codes "a"))) ≡ []
-keys_of_echo = refl
-
--- MGET takes a list of keys, even where it has one
-only_key_of_set : only_key (Data (Set (codes "a") (codes "1") Always)) ≡ Some (codes "a")
-only_key_of_set = refl
-
-only_key_of_mget : only_key (Data (Mget (codes "a" ∷ []))) ≡ None
-only_key_of_mget = refl
-
--- fields are not keys, so HMGET has one key
-only_key_of_hmget : only_key (Data (Hmget (codes "a") (codes "f" ∷ codes "g" ∷ []))) ≡ Some (codes "a")
-only_key_of_hmget = refl
-
--- KEYSLOT neither reads nor writes the key
-keys_of_keyslot : keys_of (Cluster (KeySlot (codes "foo"))) ≡ []
-keys_of_keyslot = refl
-
-writes_set : is_write (Data (Set (codes "a") (codes "1") Always)) ≡ true
-writes_set = refl
-
-writes_mset : is_write (Data (Mset ((codes "a", codes "1") ∷ []))) ≡ true
-writes_mset = refl
-
-writes_hdel : is_write (Data (Hdel (codes "a") (codes "f" ∷ []))) ≡ true
-writes_hdel = refl
-
-writes_no_hgetall : is_write (Data (Hgetall (codes "a"))) ≡ false
-writes_no_hgetall = refl
-
-writes_no_mget : is_write (Data (Mget (codes "a" ∷ []))) ≡ false
-writes_no_mget = refl
-
-moved : moved_text 12182 (codes "127.0.0.1") 7002 ≡ codes "MOVED 12182 127.0.0.1:7002"
-unfolding digits
-moved = refl
-
-ask : ask_text 12182 (codes "127.0.0.1") 7001 None ≡ codes "ASK 12182 127.0.0.1:7001"
-unfolding digits
-ask = refl
-
--- with the number of the move
-ask_7 : ask_text 12182 (codes "127.0.0.1") 7001 (Some 7) ≡ codes "ASK 12182 127.0.0.1:7001 7"
-unfolding digits
-ask_7 = refl

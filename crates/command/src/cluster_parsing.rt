@@ -1,16 +1,15 @@
 //! From the words of a request to a command about the cluster, or to one that moves keys.
 ghost use Rattle.std.specs.Prelude.{◌≡◌, Some};
 ghost use Rattle.std.specs.Option.{option_copied};
-ghost use Rattle.command.specs.ClusterTable.{keys_in_slot, move_number, set_slot, slot_of, timeout_of, with_import, with_migration, with_subcommand, with_subcommands};
-ghost use Rattle.command.specs.Numbers.{count_of};
+ghost use Rattle.command_table.specs.ClusterTable.{keys_in_slot, move_number, set_slot, slot_of, timeout_of, with_import, with_migration, with_subcommand, with_subcommands};
+ghost use Rattle.command_table.specs.Numbers.{count_of};
 
-use crate::command::{ClusterCommand, Command, SlotOrder};
-use crate::fault::CommandFault;
-use crate::names::{Name, Subcommand};
-use crate::number::{Positive, count_in, number_in};
-use crate::words::Word;
 use byte_string::ByteString;
-use key_slot::Slot;
+use command_table::{
+    ClusterCommand, Command, CommandFault, Name, SlotOrder, Subcommand, Word, count_in, move_no_in,
+    number_in,
+};
+use key_slot::{MoveNo, Slot};
 
 /// CLUSTER takes a subcommand with its arguments.
 pub(crate) fn with_subcommands<'w>(words: &'w [ByteString]) -> Result<Command<'w>, CommandFault>
@@ -136,13 +135,13 @@ fn slot_of(word: &[u8]) -> Option<Slot>
 }
 
 // The number of a move, which may be left out.
-fn move_number(word: Option<&[u8]>) -> Result<Option<Positive>, CommandFault>
+fn move_number(word: Option<&[u8]>) -> Result<Option<MoveNo>, CommandFault>
     ensures { result ≡ move_number (option_copied word.entry) }
 {
     let Some(word) = word else {
         return Ok(None);
     };
-    match Positive::of(word) {
+    match move_no_in(word) {
         Some(number) => Ok(Some(number)),
         None => Err(CommandFault::NotAnInteger),
     }

@@ -1,19 +1,14 @@
-//! The commands of a node: how words are parsed into one, which keys it names, and the texts of the errors that a node sends.
+//! How the words of a request are parsed into a command, and which keys it names.
 #![tactic(auto)]
 
 mod cluster_parsing;
-mod command;
-mod error_line;
-mod fault;
-mod names;
-mod number;
+mod command_keys;
 mod parsing;
-mod words;
 
-pub use command::{ClusterCommand, Command, Condition, DataCommand, SlotOrder, keys};
-pub use error_line::{ErrorLine, ask_reply, moved_reply};
-pub use fault::CommandFault;
-pub use names::{Name, Subcommand};
-pub use number::{Positive, number_in};
+pub use command_keys::keys;
+pub use command_table::{
+    ClusterCommand, Command, CommandFault, Condition, DataCommand, ErrorLine, MoveNo, Name,
+    PairList, SlotOrder, Subcommand, Word, WordList, move_no_in, number_in, positive_in,
+    split_pair,
+};
 pub use parsing::parse;
-pub use words::{PairList, Word, WordList, split_pair};

@@ -1,14 +1,13 @@
 //! From the words of a request to a command.
 ghost use Rattle.std.specs.Prelude.{◌≡◌, ◌∷◌, [], IfOk, IfErr, Ok, Err, List, ℕ};
-ghost use Rattle.command.specs.Pairs.{pairs_of};
-ghost use Rattle.command.specs.Table.{command_of, with_arguments, with_field_pairs, with_fields, with_keys, with_message, with_one, with_option, with_pairs, with_three, with_two};
+ghost use Rattle.command_table.specs.Pairs.{pairs_of};
+ghost use Rattle.command_table.specs.Table.{command_of, with_arguments, with_field_pairs, with_fields, with_keys, with_message, with_one, with_option, with_pairs, with_three, with_two};
 
 use crate::cluster_parsing::{with_import, with_migration, with_subcommands};
-use crate::command::{Command, Condition, DataCommand};
-use crate::fault::CommandFault;
-use crate::names::Name;
-use crate::words::{PairList, Word, WordList};
 use byte_string::ByteString;
+use command_table::{
+    Command, CommandFault, Condition, DataCommand, Name, PairList, Word, WordList, commands,
+};
 use resp_values::Words;
 
 /// The command that the words ask for. It borrows them, and takes no memory.
@@ -27,51 +26,64 @@ pub fn parse<'w>(words: &'w Words) -> Result<Command<'w>, CommandFault>
     with_arguments(name, arguments)
 }
 
-// Makes a command of its arguments, in the order of the request.
-macro_rules! command {
-    ($command:ident($($argument:ident),+)) => {
-        |$($argument),+| DataCommand::$command { $($argument),+ }
+// A row for each name of the command table, and one for each command about the cluster.
+macro_rules! command_of {
+    (
+        ($name:expr, $words:expr)
+        data { $($data:ident $data_text:literal $kind:ident ($($word:tt)*);)* }
+        cluster { $($other:ident $other_text:literal;)* }
+    ) => {
+        match $name {
+            $(Name::$data => reading!($data $name, $words, $($word)*),)*
+            $(Name::$other => reading!($other $words),)*
+        }
     };
 }
 
-// The command table: a row for each name, with the arguments that it takes, which are the words behind the name.
+// How the words are read, which are those behind the name.
+macro_rules! reading {
+    (Set $name:expr, $words:expr, $($word:ident)*) => {
+        with_option($words)
+    };
+    (Ping $name:expr, $words:expr,) => {
+        with_message($words)
+    };
+    (Hset $name:expr, $words:expr, $key:ident pairs ..) => {
+        with_field_pairs($words)
+    };
+    (Cluster $words:expr) => {
+        with_subcommands($words)
+    };
+    (Asking $words:expr) => {
+        with_import($words)
+    };
+    (Migrate $words:expr) => {
+        with_migration($words)
+    };
+    ($data:ident $name:expr, $words:expr, keys ..) => {
+        with_keys($name, $words, |keys| DataCommand::$data { keys })
+    };
+    ($data:ident $name:expr, $words:expr, pairs ..) => {
+        with_pairs($name, $words, |pairs| DataCommand::$data { pairs })
+    };
+    ($data:ident $name:expr, $words:expr, $key:ident fields ..) => {
+        with_fields($name, $words, |$key, fields| DataCommand::$data { $key, fields })
+    };
+    ($data:ident $name:expr, $words:expr, $one:ident) => {
+        with_one($name, $words, |$one| DataCommand::$data { $one })
+    };
+    ($data:ident $name:expr, $words:expr, $one:ident $two:ident) => {
+        with_two($name, $words, |$one, $two| DataCommand::$data { $one, $two })
+    };
+    ($data:ident $name:expr, $words:expr, $one:ident $two:ident $three:ident) => {
+        with_three($name, $words, |$one, $two, $three| DataCommand::$data { $one, $two, $three })
+    };
+}
+
 fn with_arguments<'w>(name: Name, words: &'w [ByteString]) -> Result<Command<'w>, CommandFault>
     ensures { result ≡ with_arguments name words.now }
 {
-    match name {
-        Name::Get => with_one(name, words, command!(Get(key))),
-        Name::Set => with_option(words),
-        Name::Ping => with_message(words),
-        Name::Echo => with_one(name, words, command!(Echo(message))),
-        Name::Hget => with_two(name, words, command!(Hget(key, field))),
-        Name::Hset => with_field_pairs(words),
-        Name::Mget => with_keys(name, words, command!(Mget(keys))),
-        Name::Mset => with_pairs(name, words, command!(Mset(pairs))),
-        Name::Setnx => with_two(name, words, command!(Setnx(key, value))),
-        Name::Getset => with_two(name, words, command!(Getset(key, value))),
-        Name::Getdel => with_one(name, words, command!(Getdel(key))),
-        Name::Append => with_two(name, words, command!(Append(key, value))),
-        Name::Incr => with_one(name, words, command!(Incr(key))),
-        Name::Decr => with_one(name, words, command!(Decr(key))),
-        Name::Incrby => with_two(name, words, command!(Incrby(key, increment))),
-        Name::Strlen => with_one(name, words, command!(Strlen(key))),
-        Name::Del => with_keys(name, words, command!(Del(keys))),
-        Name::Exists => with_keys(name, words, command!(Exists(keys))),
-        Name::TypeOf => with_one(name, words, command!(TypeOf(key))),
-        Name::Hsetnx => with_three(name, words, command!(Hsetnx(key, field, value))),
-        Name::Hmget => with_fields(name, words, command!(Hmget(key, fields))),
-        Name::Hdel => with_fields(name, words, command!(Hdel(key, fields))),
-        Name::Hexists => with_two(name, words, command!(Hexists(key, field))),
-        Name::Hlen => with_one(name, words, command!(Hlen(key))),
-        Name::Hstrlen => with_two(name, words, command!(Hstrlen(key, field))),
-        Name::Hkeys => with_one(name, words, command!(Hkeys(key))),
-        Name::Hvals => with_one(name, words, command!(Hvals(key))),
-        Name::Hgetall => with_one(name, words, command!(Hgetall(key))),
-        Name::Hincrby => with_three(name, words, command!(Hincrby(key, field, increment))),
-        Name::Cluster => with_subcommands(words),
-        Name::Asking => with_import(words),
-        Name::Migrate => with_migration(words),
-    }
+    commands!(command_of(name, words))
 }
 
 fn with_message<'w>(arguments: &'w [ByteString]) -> Result<Command<'w>, CommandFault>

@@ -4,7 +4,7 @@ use Rattle.std.proofs.lemmas.List.Elements.{filter_map-append}
 use Rattle.std.specs.List.{cons_option}
 use Rattle.std.specs.Prelude.{MatchBool}
 use Rattle.cluster_config.specs.declared.config.NodeConfig.{NodeConfig}
-use Rattle.command.specs.declared.error_line.ErrorLine.TheVariants.{Exhausted}
+use Rattle.command_table.specs.declared.error_line.ErrorLine.TheVariants.{Exhausted}
 use Rattle.connections.specs.declared.conn.Conn.{Conn}
 use Rattle.node_step.specs.Outcome.{error}
 use Rattle.node_step.specs.declared.event.Event.TheVariants.{Open, Close, Request}

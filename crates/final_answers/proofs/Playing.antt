@@ -26,8 +26,8 @@ use Rattle.smart_client.specs.Words.{is_of_cluster}
 use Rattle.std.specs.Prelude.{codes}
 use Rattle.std.specs.Str.{bytes_eq}
 use Rattle.bus.specs.declared.message.Message.{Message}
-use Rattle.command.specs.Names.{name_text, names}
-use Rattle.command.specs.declared.names.Name.{Name}
+use Rattle.command_table.specs.Names.{name_text, names}
+use Rattle.command_table.specs.declared.names.Name.{Name}
 use Rattle.node_step.specs.declared.event.Event.{Event}
 use Rattle.node_step.specs.declared.event.Event.TheVariants.{Open, Request, Deliver, Tick}
 use Rattle.node_step.specs.declared.outputs.Outputs.{Outputs as NodeOutputs}

@@ -3,7 +3,9 @@
 
 mod crc16_table;
 mod hash_slot;
+mod move_no;
 mod slots;
 
 pub use hash_slot::{slot, tag};
+pub use move_no::MoveNo;
 pub use slots::{Slot, SlotRange};

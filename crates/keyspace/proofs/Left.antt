@@ -5,8 +5,8 @@ use Rattle.std.specs.Cmp.Lexicographic.{pointwise}
 use Rattle.std.specs.Fmt.{signed_decimal}
 use Rattle.std.specs.Map.{remove_entry}
 use Rattle.std.specs.Prelude.{is_some}
-use Rattle.command.specs.declared.error_line.ErrorLine.{ErrorLine}
-use Rattle.command.specs.declared.error_line.ErrorLine.TheVariants.{HashNotAnInteger, TooLong}
+use Rattle.command_table.specs.declared.error_line.ErrorLine.{ErrorLine}
+use Rattle.command_table.specs.declared.error_line.ErrorLine.TheVariants.{HashNotAnInteger, TooLong}
 use Rattle.hash.specs.Pairs.{Pairs, Changes, fields_changed, field_changed, value_of}
 use Rattle.indexmap.specs.IndexMap.{insert_entry}
 use Rattle.resp_values.specs.declared.reply.Reply.{Reply}

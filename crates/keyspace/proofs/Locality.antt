@@ -3,8 +3,8 @@ use Rattle.std.proofs.Common.{◌≡◌, ℕ, List, [], ◌∷◌, true, false, 
 use Rattle.std.proofs.lemmas.List.Elements.{All-head, All-tail, All-weaker, Contains-append_right, Contains-get_or}
 use Rattle.std.specs.FinMap as map
 use Rattle.std.specs.Prelude.{Option, Contains}
-use Rattle.command.specs.Keys.{data_keys}
-use Rattle.command.specs.declared.command.DataCommand.{DataCommand}
+use Rattle.command_table.specs.Keys.{data_keys}
+use Rattle.command_table.specs.declared.command.DataCommand.{DataCommand}
 use Rattle.keyspace.proofs.Applied.{is_key, is_key-same, get_changed}
 use Rattle.keyspace.specs.Commands.{exec, effect, effect_in, values_at, with_values}
 use Rattle.keyspace.specs.Keyspace.{Keyspace, changed}

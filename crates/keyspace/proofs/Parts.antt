@@ -4,8 +4,8 @@ use Rattle.std.proofs.lemmas.List.Elements.{All-weaker}
 use Rattle.std.proofs.lemmas.Map.Lookups.{exact_bytes}
 use Rattle.std.specs.FinMap as map
 use Rattle.std.specs.Prelude.{None, Contains}
-use Rattle.command.specs.Keys.{data_keys}
-use Rattle.command.specs.declared.command.DataCommand.{DataCommand}
+use Rattle.command_table.specs.Keys.{data_keys}
+use Rattle.command_table.specs.declared.command.DataCommand.{DataCommand}
 use Rattle.keyspace.proofs.Applied.{same}
 use Rattle.keyspace.proofs.Locality as locality
 use Rattle.keyspace.specs.Commands.{exec}

@@ -9,11 +9,11 @@ use Rattle.std.specs.Map.{keys_of}
 use Rattle.std.specs.Option.{option_map}
 use Rattle.std.specs.Ordering.{nat_cmp}
 use Rattle.std.specs.Prelude.{Some, None, if◌then◌else◌}
-use Rattle.command.specs.Pairs.{pairs_of}
-use Rattle.command.specs.Table.{with_pairs}
-use Rattle.command.specs.declared.command.DataCommand.TheVariants.{Hset}
-use Rattle.command.specs.declared.error_line.ErrorLine.TheVariants.{TooLong}
-use Rattle.command.specs.declared.names.Name.TheVariants as name
+use Rattle.command_table.specs.Pairs.{pairs_of}
+use Rattle.command_table.specs.Table.{with_pairs}
+use Rattle.command_table.specs.declared.command.DataCommand.TheVariants.{Hset}
+use Rattle.command_table.specs.declared.error_line.ErrorLine.TheVariants.{TooLong}
+use Rattle.command_table.specs.declared.names.Name.TheVariants as name
 use Rattle.hash.specs.Pairs.{Pairs, HasDistinctFields, fields_changed}
 use Rattle.hash.specs.Size.{words_of}
 use Rattle.indexmap.specs.IndexMap.{insert_entry}

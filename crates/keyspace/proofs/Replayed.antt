@@ -10,13 +10,13 @@ use Rattle.std.specs.Ordering.{is_lt, is_eq, nat_cmp, ordering_reverse}
 use Rattle.std.specs.Prelude.{All, Option, None, Some, Result, Ok, Err, map}
 use Rattle.std.specs.declared.cmp.Ordering.{Ordering}
 use Rattle.std.specs.declared.cmp.Ordering.TheVariants.{Less, Equal, Greater}
-use Rattle.command.specs.Keys.{data_keys, is_data_write}
-use Rattle.command.specs.Table.{command_of}
-use Rattle.command.specs.declared.command.Command.{Command}
-use Rattle.command.specs.declared.command.Command.TheVariants.{Data, Cluster}
-use Rattle.command.specs.declared.command.DataCommand.{DataCommand}
-use Rattle.command.specs.declared.command.DataCommand.TheVariants.{Set, Mset, Setnx, Getset, Getdel, Append, Incr, Decr, Incrby, Del, Hset, Hsetnx, Hdel, Hincrby}
-use Rattle.command.specs.declared.fault.CommandFault.{CommandFault}
+use Rattle.command_table.specs.Keys.{data_keys, is_data_write}
+use Rattle.command_table.specs.Table.{command_of}
+use Rattle.command_table.specs.declared.command.Command.{Command}
+use Rattle.command_table.specs.declared.command.Command.TheVariants.{Data, Cluster}
+use Rattle.command_table.specs.declared.command.DataCommand.{DataCommand}
+use Rattle.command_table.specs.declared.command.DataCommand.TheVariants.{Set, Mset, Setnx, Getset, Getdel, Append, Incr, Decr, Incrby, Del, Hset, Hsetnx, Hdel, Hincrby}
+use Rattle.command_table.specs.declared.fault.CommandFault.{CommandFault}
 use Rattle.keyspace.proofs.Applied.{same}
 use Rattle.keyspace.proofs.Rebuilt.{rebuilt}
 use Rattle.keyspace.specs.Commands.{effect, exec, exec_words, execution_of, replay_from, values_at, with_values, Replay}

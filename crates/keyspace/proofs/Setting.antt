@@ -1,7 +1,7 @@
 -- Pairs that are put one after another.
 use Rattle.std.proofs.Common.{◌≡◌, ℕ, List, ◌∷◌, Some, ap, ◌∙◌}
 use Rattle.std.specs.FinMap as map
-use Rattle.command.specs.Keys.{pair_keys}
+use Rattle.command_table.specs.Keys.{pair_keys}
 use Rattle.keyspace.proofs.Applied.{applied_insert}
 use Rattle.keyspace.specs.Commands.{with_values}
 use Rattle.keyspace.specs.Strings.{strings_left}

@@ -1,7 +1,7 @@
 -- Which sums fit.
 use Rattle.std.proofs.Common.{◌≡◌, true, false, cond, ℤ, FitsSigned, w64, Option, Some, None, SomeIff, refl, sym, ap, ◌∙◌}
-use Rattle.command.specs.Numbers.{fits}
-use Rattle.command.proofs.NumberTexts.{fits_if, fits_only_if}
+use Rattle.command_table.specs.Numbers.{fits}
+use Rattle.command_table.proofs.NumberTexts.{fits_if, fits_only_if}
 use Rattle.keyspace.specs.Numbers.{fitting_number}
 
 -- `checked_add` gives the number that fits

@@ -5,13 +5,13 @@ use Rattle.std.specs.FinMap.{gets}
 use Rattle.std.specs.Fmt.{digits}
 use Rattle.resp_values.specs.Reply.{array_of}
 use Rattle.resp_values.specs.declared.reply.Reply.TheVariants.{Simple, Error, Integer, Bulk, Null, Array}
-use Rattle.command.specs.Numbers.{number_of}
+use Rattle.command_table.specs.Numbers.{number_of}
 use Rattle.keyspace.specs.Commands.{effect, replay}
 use Rattle.keyspace.specs.Effect.{left, told}
 use Rattle.keyspace.specs.Numbers.{fitting_number}
 use Rattle.keyspace.specs.Replay.{writes_of}
 use Rattle.keyspace.specs.declared.value.Value.TheVariants.{Str}
-use Rattle.command.specs.declared.command.DataCommand.TheVariants.{Incr, Decr, Incrby}
+use Rattle.command_table.specs.declared.command.DataCommand.TheVariants.{Incr, Decr, Incrby}
 
 -- a string is set and read, with names in any case
 set_and_get : (replay ((codes "SET" ∷ codes "a" ∷ codes "1" ∷ []) ∷ (codes "get" ∷ codes "a" ∷ []) ∷ [])).replies

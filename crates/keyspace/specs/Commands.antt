@@ -4,16 +4,16 @@ use Rattle.std.specs.FinMap as fin_map
 use Rattle.resp_values.specs.declared.reply.Reply.{Reply}
 use Rattle.resp_values.specs.declared.reply.Reply.TheVariants.{Simple, Error, Integer, Bulk, Array}
 use Rattle.resp_values.specs.Reply.{array_of}
-use Rattle.command.specs.Keys.{data_keys}
-use Rattle.command.specs.Numbers.{number_of}
-use Rattle.command.specs.Table.{command_of}
-use Rattle.command.specs.ErrorLine.{error_text, line_of}
-use Rattle.command.specs.declared.command.Command.{Command}
-use Rattle.command.specs.declared.command.Command.TheVariants.{Data, Cluster}
-use Rattle.command.specs.declared.command.DataCommand.{DataCommand}
-use Rattle.command.specs.declared.command.DataCommand.TheVariants.{Ping, Echo, Get, Set, Mget, Mset, Setnx, Getset, Getdel, Append, Incr, Decr, Incrby, Strlen, Del, Exists, TypeOf, Hset, Hsetnx, Hget, Hmget, Hdel, Hexists, Hlen, Hstrlen, Hkeys, Hvals, Hgetall, Hincrby}
-use Rattle.command.specs.declared.fault.CommandFault.{CommandFault}
-use Rattle.command.specs.declared.fault.CommandFault.TheVariants.{Unknown}
+use Rattle.command_table.specs.Keys.{data_keys}
+use Rattle.command_table.specs.Numbers.{number_of}
+use Rattle.command_table.specs.Table.{command_of}
+use Rattle.command_table.specs.ErrorLine.{error_text, line_of}
+use Rattle.command_table.specs.declared.command.Command.{Command}
+use Rattle.command_table.specs.declared.command.Command.TheVariants.{Data, Cluster}
+use Rattle.command_table.specs.declared.command.DataCommand.{DataCommand}
+use Rattle.command_table.specs.declared.command.DataCommand.TheVariants.{Ping, Echo, Get, Set, Mget, Mset, Setnx, Getset, Getdel, Append, Incr, Decr, Incrby, Strlen, Del, Exists, TypeOf, Hset, Hsetnx, Hget, Hmget, Hdel, Hexists, Hlen, Hstrlen, Hkeys, Hvals, Hgetall, Hincrby}
+use Rattle.command_table.specs.declared.fault.CommandFault.{CommandFault}
+use Rattle.command_table.specs.declared.fault.CommandFault.TheVariants.{Unknown}
 use Rattle.hash.specs.Pairs.{value_of}
 use Rattle.hash.specs.Size.{words_of}
 use Rattle.keyspace.specs.Effect.{Effect, first_of, told}

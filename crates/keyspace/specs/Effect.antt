@@ -2,8 +2,8 @@
 use Rattle.std.specs.Prelude.{List, [], ◌∷◌, Option, None}
 use Rattle.resp_values.specs.declared.reply.Reply.{Reply}
 use Rattle.resp_values.specs.declared.reply.Reply.TheVariants.{Error}
-use Rattle.command.specs.ErrorLine.{error_text}
-use Rattle.command.specs.declared.error_line.ErrorLine.{ErrorLine}
+use Rattle.command_table.specs.ErrorLine.{error_text}
+use Rattle.command_table.specs.declared.error_line.ErrorLine.{ErrorLine}
 use Rattle.keyspace.specs.declared.value.Value.{Value}
 
 -- the reply to a command, and the values that it leaves at its keys, in their order; where the list is shorter, the other keys keep theirs

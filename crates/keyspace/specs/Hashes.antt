@@ -4,8 +4,8 @@ use Rattle.std.specs.Fmt.{signed_decimal}
 use Rattle.resp_values.specs.declared.reply.Reply.{Reply}
 use Rattle.resp_values.specs.declared.reply.Reply.TheVariants.{Integer, Bulk, Null, Array}
 use Rattle.resp_values.specs.Reply.{array_of}
-use Rattle.command.specs.declared.error_line.ErrorLine.{ErrorLine}
-use Rattle.command.specs.declared.error_line.ErrorLine.TheVariants.{TooLong, WrongType, HashNotAnInteger}
+use Rattle.command_table.specs.declared.error_line.ErrorLine.{ErrorLine}
+use Rattle.command_table.specs.declared.error_line.ErrorLine.TheVariants.{TooLong, WrongType, HashNotAnInteger}
 use Rattle.hash.specs.Pairs.{Pairs, Changes, value_of, field_changed, fields_changed}
 use Rattle.keyspace.specs.Effect.{Effect, told, left, error_reply, refused}
 use Rattle.keyspace.specs.Keyspace.{hash_of}

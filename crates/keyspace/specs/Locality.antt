@@ -1,8 +1,8 @@
 -- A command reads and changes its own keys, and no others.
 use Rattle.std.specs.Prelude.{◌≡◌, ℕ, List, All, Contains}
 use Rattle.std.specs.FinMap as map
-use Rattle.command.specs.Keys.{data_keys}
-use Rattle.command.specs.declared.command.DataCommand.{DataCommand}
+use Rattle.command_table.specs.Keys.{data_keys}
+use Rattle.command_table.specs.declared.command.DataCommand.{DataCommand}
 use Rattle.keyspace.specs.Commands.{exec}
 use Rattle.keyspace.specs.Keyspace.{Keyspace}
 

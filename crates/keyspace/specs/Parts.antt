@@ -1,8 +1,8 @@
 -- A keyspace in two parts: a command whose keys are in one of them executes there as in the whole.
 use Rattle.std.specs.Prelude.{◌≡◌, ℕ, Bool, true, not, List, All}
 use Rattle.std.specs.FinMap as map
-use Rattle.command.specs.Keys.{data_keys}
-use Rattle.command.specs.declared.command.DataCommand.{DataCommand}
+use Rattle.command_table.specs.Keys.{data_keys}
+use Rattle.command_table.specs.declared.command.DataCommand.{DataCommand}
 use Rattle.keyspace.specs.Commands.{exec}
 use Rattle.keyspace.specs.Keyspace.{Keyspace}
 

@@ -1,7 +1,7 @@
 -- A plan: changes that are decided and not made yet.
 use Rattle.std.specs.Prelude.{ℕ, nat_lt, Bool, List, Option, Some, None}
 use Rattle.std.specs.FinMap as map
-use Rattle.command.specs.Keys.{pair_keys}
+use Rattle.command_table.specs.Keys.{pair_keys}
 use Rattle.keyspace.specs.Commands.{with_values}
 use Rattle.keyspace.specs.Keyspace.{Keyspace, with_appended, with_fields}
 use Rattle.keyspace.specs.Changes.{applied}

@@ -1,12 +1,12 @@
 -- What the replay of requests leaves (Redis documentation, "Redis persistence": an append-only file holds the writes; rewritten, it holds the requests that make its keys).
 use Rattle.std.specs.Prelude.{◌≡◌, ℕ, Bool, false, List, All, filter, map, Result, Ok, Err}
 use Rattle.std.specs.FinMap as fin_map
-use Rattle.command.specs.Keys.{is_write}
-use Rattle.command.specs.Table.{command_of}
-use Rattle.command.specs.declared.command.Command.{Command}
-use Rattle.command.specs.declared.command.Command.TheVariants.{Data}
-use Rattle.command.specs.declared.command.DataCommand.{DataCommand}
-use Rattle.command.specs.declared.fault.CommandFault.{CommandFault}
+use Rattle.command_table.specs.Keys.{is_write}
+use Rattle.command_table.specs.Table.{command_of}
+use Rattle.command_table.specs.declared.command.Command.{Command}
+use Rattle.command_table.specs.declared.command.Command.TheVariants.{Data}
+use Rattle.command_table.specs.declared.command.DataCommand.{DataCommand}
+use Rattle.command_table.specs.declared.fault.CommandFault.{CommandFault}
 use Rattle.resp_values.specs.Request.{IsRequest}
 use Rattle.keyspace.specs.Commands.{replay, replay_from, replies_of, keyspace_after}
 use Rattle.keyspace.specs.Keyspace.{Keyspace}

@@ -7,11 +7,11 @@ use Rattle.std.specs.Fmt.{signed_decimal}
 use Rattle.resp_values.specs.declared.reply.Reply.{Reply}
 use Rattle.resp_values.specs.declared.reply.Reply.TheVariants.{Simple, Integer, Bulk, Null}
 use Rattle.resp_values.specs.declared.words.TheConstants.{MOST_WORD_BYTES}
-use Rattle.command.specs.Numbers.{number_of}
-use Rattle.command.specs.declared.error_line.ErrorLine.{ErrorLine}
-use Rattle.command.specs.declared.error_line.ErrorLine.TheVariants.{TooLong, NotAnInteger, Overflow, WrongType}
-use Rattle.command.specs.declared.command.Condition.{Condition}
-use Rattle.command.specs.declared.command.Condition.TheVariants.{Always, IfMissing, IfThere}
+use Rattle.command_table.specs.Numbers.{number_of}
+use Rattle.command_table.specs.declared.error_line.ErrorLine.{ErrorLine}
+use Rattle.command_table.specs.declared.error_line.ErrorLine.TheVariants.{TooLong, NotAnInteger, Overflow, WrongType}
+use Rattle.command_table.specs.declared.command.Condition.{Condition}
+use Rattle.command_table.specs.declared.command.Condition.TheVariants.{Always, IfMissing, IfThere}
 use Rattle.keyspace.specs.Effect.{Effect, told, left, error_reply, refused}
 use Rattle.keyspace.specs.Numbers.{fitting_number}
 use Rattle.keyspace.specs.declared.value.Value.{Value}

@@ -9,7 +9,7 @@ ghost use Rattle.keyspace.specs.Plan.{committed};
 use crate::plans::{Plan, commit};
 use crate::store::Store;
 use crate::{hashes, strings};
-use command::DataCommand;
+use command_table::DataCommand;
 use resp_values::Reply;
 use std::alloc::{AllocError, Global};
 

@@ -7,7 +7,7 @@ ghost use Rattle.keyspace.specs.Hashes.{fields_of, known};
 
 use crate::value::Value;
 use byte_string::ByteString;
-use command::ErrorLine;
+use command_table::ErrorLine;
 use hash::{Extent, Hash};
 use std::alloc::{AllocError, Global};
 

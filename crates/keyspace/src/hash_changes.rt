@@ -16,7 +16,7 @@ use crate::limits::fits;
 use crate::planned_fields::PlannedFields;
 use crate::plans::Plan;
 use byte_string::ByteString;
-use command::{ErrorLine, PairList, split_pair};
+use command_table::{ErrorLine, PairList, split_pair};
 use hash::{Extent, Hash};
 use resp_values::Reply;
 use std::alloc::{AllocError, Global};

@@ -3,7 +3,7 @@ ghost use Rattle.std.specs.Prelude.{◌≡◌, ◌∷◌, ◌-◌, ◌<◌, ◌^
 ghost use Rattle.std.specs.Prelude.{map as each};
 ghost use Rattle.std.specs.Option.{option_copied};
 ghost use Rattle.std.specs.FinMap as map;
-ghost use Rattle.command.specs.declared.command.DataCommand.{DataCommand};
+ghost use Rattle.command_table.specs.declared.command.DataCommand.{DataCommand};
 ghost use Rattle.hash.specs.Pairs.{value_of};
 ghost use Rattle.hash.specs.Size.{words_of};
 ghost use Rattle.keyspace.specs.Changes.{applied};
@@ -21,7 +21,7 @@ use crate::plans::Plan;
 use crate::replies::integer;
 use crate::store::Store;
 use byte_string::ByteString;
-use command::{ErrorLine, PairList, number_in};
+use command_table::{ErrorLine, PairList, number_in};
 use hash::Hash;
 use resp_values::{Array, Reply};
 use std::alloc::{AllocError, Global};

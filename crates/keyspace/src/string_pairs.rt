@@ -9,7 +9,7 @@ use crate::changes::{NewValues, change_key, put_placeholders};
 use crate::store::Store;
 use crate::value::Value;
 use byte_string::ByteString;
-use command::{PairList, split_pair};
+use command_table::{PairList, split_pair};
 use std::alloc::{AllocError, Global};
 
 /// Keys, each with the string that it gets. Of a repeated key the last string stays.

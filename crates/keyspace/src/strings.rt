@@ -4,7 +4,7 @@ ghost use Rattle.std.specs.Prelude.{map as each};
 ghost use Rattle.std.specs.Option.{option_copied};
 ghost use Rattle.std.specs.FinMap as map;
 ghost use Rattle.std.specs.Fmt.{signed_decimal};
-ghost use Rattle.command.specs.declared.command.DataCommand.{DataCommand};
+ghost use Rattle.command_table.specs.declared.command.DataCommand.{DataCommand};
 ghost use Rattle.keyspace.specs.Changes.{applied};
 ghost use Rattle.keyspace.specs.Commands.{exec, taken_at, values_at, with_values};
 ghost use Rattle.keyspace.specs.Keyspace.{Keyspace};
@@ -21,7 +21,7 @@ use crate::store::Store;
 use crate::string_pairs::kept;
 use crate::value::Value;
 use byte_string::ByteString;
-use command::{Condition, ErrorLine, PairList, number_in};
+use command_table::{Condition, ErrorLine, PairList, number_in};
 use resp_values::{Array, MOST_WORD_BYTES, Reply};
 use std::alloc::{AllocError, Global};
 

@@ -9,9 +9,9 @@ use Rattle.resp2.specs.Stream.{stream_spelling, with_words, IsUnfinished, HasFir
 use Rattle.resp2.specs.declared.fault.Fault.{Fault}
 use Rattle.resp_values.specs.declared.reply.Reply.{Reply}
 use Rattle.resp_values.specs.declared.reply.Reply.TheVariants.{Error}
-use Rattle.command.specs.ErrorLine.{error_text}
-use Rattle.command.specs.declared.error_line.ErrorLine.{ErrorLine}
-use Rattle.command.specs.declared.error_line.ErrorLine.TheVariants as line
+use Rattle.command_table.specs.ErrorLine.{error_text}
+use Rattle.command_table.specs.declared.error_line.ErrorLine.{ErrorLine}
+use Rattle.command_table.specs.declared.error_line.ErrorLine.TheVariants as line
 use Rattle.connections.specs.declared.conn.Conn.{Conn}
 use Rattle.node_step.specs.declared.event.Event.TheVariants.{Open, Close, Request}
 use Rattle.node_step.specs.declared.fault.StepFault.{StepFault}

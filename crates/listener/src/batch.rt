@@ -4,7 +4,7 @@ ghost use Rattle.resp_values.specs.Reply.{reply_spelling};
 ghost use Rattle.listener.specs.Conversation.{error_bytes};
 ghost use Rattle.listener.specs.Streams.{Fails, Sends, streams};
 
-use command::ErrorLine;
+use command_table::ErrorLine;
 use resp2::{Counting, Element, Reply, append_reply, send_reply};
 use std::io;
 use std::io::Write;

@@ -7,7 +7,7 @@ ghost use Rattle.listener.specs.Streams.{IsAllowed, change, streams};
 use crate::batch::{flush, say};
 use crate::fault::ConnFault;
 use crate::requests::{Rest, ask_alone, converse};
-use command::ErrorLine;
+use command_table::ErrorLine;
 use connections::Conn;
 use node_gate::{Answered, NodeGate};
 use node_step::{Event, Response};

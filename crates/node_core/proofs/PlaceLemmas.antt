@@ -3,8 +3,8 @@ use Rattle.slot_moves.specs.Moves.{move_of}
 use Rattle.std.proofs.Common.{◌≡◌, ℕ, Bool, true, false, List, [], ◌∷◌, Option, Some, None, All, IfSome, arith, cond, refl, sym, ap, ◌∙◌, subst}
 use Rattle.std.specs.FinMap as fin_map
 use Rattle.std.specs.Prelude.{nat_lt}
-use Rattle.command.specs.Keys.{data_keys}
-use Rattle.command.specs.declared.command.DataCommand.{DataCommand}
+use Rattle.command_table.specs.Keys.{data_keys}
+use Rattle.command_table.specs.declared.command.DataCommand.{DataCommand}
 use Rattle.bus.specs.declared.message.Body.{Body}
 use Rattle.connections.specs.declared.conn.Conn.{Conn}
 use Rattle.key_slot.specs.Slot.{hash_slot}

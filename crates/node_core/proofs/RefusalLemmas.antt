@@ -1,7 +1,7 @@
 -- What a command comes to that is served, and one that isn't.
 use Rattle.std.proofs.Common.{◌≡◌, ◌≢◌, Bool, true, false, true≢false, OnOk, sym, refl, ap, ◌∙◌, subst}
 use Rattle.std.specs.Prelude.{Result, Ok, Err}
-use Rattle.command.specs.declared.command.DataCommand.{DataCommand}
+use Rattle.command_table.specs.declared.command.DataCommand.{DataCommand}
 use Rattle.resp_values.specs.declared.reply.Reply.{Reply}
 use Rattle.slot_decision.specs.declared.decision.Decision.{Decision}
 use Rattle.slot_decision.specs.declared.decision.Decision.TheVariants.{Serve, ServeImport, CrossSlot, Down, TryAgain, Ask, Moved}

@@ -2,7 +2,7 @@
 use Rattle.std.proofs.Common.{◌≡◌, ℕ, List, map, refl, sym, ap, subst, ◌∙◌}
 use Rattle.std.specs.List.{flat_map}
 use Rattle.bus.specs.declared.message.Body.{Body}
-use Rattle.command.specs.declared.error_line.ErrorLine.TheVariants as line
+use Rattle.command_table.specs.declared.error_line.ErrorLine.TheVariants as line
 use Rattle.connections.specs.Connections.{is_over, waiting}
 use Rattle.node_core.specs.Comes.{Drafts, at_epoch}
 use Rattle.node_core.specs.declared.draft.Draft.{Draft}

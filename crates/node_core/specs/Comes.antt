@@ -1,7 +1,7 @@
 -- What a step comes to, as the parts of a node say it of themselves.
 use Rattle.std.specs.Prelude.{◌≡◌, ℕ, Bool, true, false, List, [], ◌∷◌, Option, Some, None, Result, map}
-use Rattle.command.specs.declared.command.Command.{Command}
-use Rattle.command.specs.declared.fault.CommandFault.{CommandFault}
+use Rattle.command_table.specs.declared.command.Command.{Command}
+use Rattle.command_table.specs.declared.fault.CommandFault.{CommandFault}
 use Rattle.bus.specs.declared.message.Body.{Body}
 use Rattle.connections.specs.declared.conn.Conn.{Conn}
 use Rattle.node_core.specs.Becomes.{Becomes}

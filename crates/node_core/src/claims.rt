@@ -10,7 +10,7 @@ ghost use Rattle.node_step.specs.Claiming.{claim, is_lost};
 use crate::change::Change;
 use crate::draft::Draft;
 use crate::node::NodeCore;
-use command::ErrorLine;
+use command_table::ErrorLine;
 use connections::Waiting;
 use key_slot::Slot;
 use slot_store::{SlotKeys, SlotParts};

@@ -1,6 +1,6 @@
 //! Commands about the cluster: reports, orders, and what a connection tells of its next requests.
 ghost use Rattle.std.specs.Prelude.{◌≡◌, IfOk, IsTrue, OnOk, Err, Ok, false};
-ghost use Rattle.command.specs.declared.command.Command.TheVariants.{Cluster};
+ghost use Rattle.command_table.specs.declared.command.Command.TheVariants.{Cluster};
 ghost use Rattle.connections.specs.declared.conn.Connection.{Connection};
 ghost use Rattle.node_core.specs.Comes.{AnswersSo, Drafts, HasNothing};
 ghost use Rattle.node_core.specs.Orders.{Obeys};
@@ -17,7 +17,7 @@ use crate::node::NodeCore;
 use crate::nodes::{node_at, node_with_id};
 use crate::orders::done;
 use crate::reports::slots_reply;
-use command::{ClusterCommand, Positive, SlotOrder};
+use command_table::{ClusterCommand, SlotOrder};
 use connections::Conn;
 use key_slot::{Slot, slot};
 use node_step::{StepFault, Why};
@@ -51,7 +51,7 @@ impl<S: SlotParts + SlotKeys> NodeCore<S> {
                 let named = Order {
                     slot: *slot,
                     node: node_with_id(&self.config, node.as_slice()),
-                    number: named_number(*number),
+                    number: *number,
                 };
                 Ok(self.obey(conn, *order, named, draft)?)
             }
@@ -160,26 +160,11 @@ impl<S: SlotParts + SlotKeys> NodeCore<S> {
     }
 }
 
-fn named_number(number: Option<Positive>) -> Option<MoveNo>
-    ensures { result ≡ number }
-{
-    match number {
-        Some(number) => Some(move_no(number)),
-        None => None,
-    }
-}
-
-fn asking_for(number: Option<Positive>) -> Asking
+fn asking_for(number: Option<MoveNo>) -> Asking
     ensures { result ≡ asking_for number }
 {
     match number {
         None => Asking::Any,
-        Some(number) => Asking::Of(move_no(number)),
+        Some(number) => Asking::Of(number),
     }
-}
-
-fn move_no(number: Positive) -> MoveNo
-    ensures { result ≡ number }
-{
-    MoveNo::new(number.get()).unwrap()
 }

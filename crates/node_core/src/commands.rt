@@ -1,6 +1,6 @@
 //! Commands on keys: served, redirected or refused, by the decision on them.
 ghost use Rattle.std.specs.Prelude.{◌≡◌, All, IfOk, IfSome, OnOk, Some};
-ghost use Rattle.command.specs.Keys.{data_keys};
+ghost use Rattle.command_table.specs.Keys.{data_keys};
 ghost use Rattle.key_slot.specs.Slot.{hash_slot};
 ghost use Rattle.keyspace.specs.Commands.{exec};
 ghost use Rattle.keyspace.specs.Keyspace.{Keyspace};
@@ -16,7 +16,7 @@ use crate::change::Change;
 use crate::draft::{Draft, listed};
 use crate::node::NodeCore;
 use bus::Body;
-use command::DataCommand;
+use command_table::DataCommand;
 use connections::{Conn, Connection};
 use key_slot::Slot;
 use keyspace::{Plan, leaves_keys, plan_command};

@@ -14,7 +14,7 @@ use crate::draft::{Draft, listed};
 use crate::node::NodeCore;
 use bus::Body;
 use byte_string::ByteString;
-use command::ErrorLine;
+use command_table::ErrorLine;
 use connections::{Conn, Wait};
 use key_slot::{Slot, slot};
 use keyspace::Store;

@@ -17,7 +17,7 @@ use crate::change::Change;
 use crate::draft::{Draft, listed};
 use crate::node::NodeCore;
 use bus::Body;
-use command::ErrorLine;
+use command_table::ErrorLine;
 use connections::Conn;
 use key_slot::Slot;
 use node_step::{StepFault, Why};

@@ -1,6 +1,6 @@
 //! Requests: what they ask for.
 ghost use Rattle.std.specs.Prelude.{◌≡◌, OnOk, Err, Ok, false, Some};
-ghost use Rattle.command.specs.Table.{command_of};
+ghost use Rattle.command_table.specs.Table.{command_of};
 ghost use Rattle.connections.specs.Connections.{connection_at};
 ghost use Rattle.keyspace.specs.Keyspace.{Keyspace};
 ghost use Rattle.keyspace.specs.Plan.{committed};
@@ -11,7 +11,8 @@ ghost use Rattle.node_step.specs.Requests.{has_number, using_up};
 
 use crate::draft::Draft;
 use crate::node::NodeCore;
-use command::{Command, parse};
+use command::parse;
+use command_table::Command;
 use connections::{Conn, Connection};
 use node_step::{Event, StepFault, Why};
 use resp_values::Words;

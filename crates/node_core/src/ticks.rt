@@ -9,7 +9,7 @@ use crate::change::Change;
 use crate::draft::Draft;
 use crate::node::NodeCore;
 use bus::Body;
-use command::ErrorLine;
+use command_table::ErrorLine;
 use connections::Waiting;
 use key_slot::Slot;
 use migrate::{Resend, resent};

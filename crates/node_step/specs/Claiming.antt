@@ -2,7 +2,7 @@
 -- what becomes of the keys of a slot that was lost is ours).
 use Rattle.std.specs.Prelude.{ℕ, ◌==◌, ◌&&◌, Bool, false, not, List, map, Option, Some, None, if◌then◌else◌}
 use Rattle.std.specs.FinMap as fin_map
-use Rattle.command.specs.declared.error_line.ErrorLine.TheVariants as line
+use Rattle.command_table.specs.declared.error_line.ErrorLine.TheVariants as line
 use Rattle.key_slot.specs.Slot.{hash_slot}
 use Rattle.slot_table.specs.declared.runs.Run.{Run}
 use Rattle.slot_table.specs.declared.entry.SlotEntry.{SlotEntry}

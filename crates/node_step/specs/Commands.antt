@@ -4,10 +4,10 @@ use Rattle.std.specs.Prelude.{ℕ, Bool, List, [], ◌∷◌, map, is_some, Opti
 use Rattle.std.specs.FinMap as fin_map
 use Rattle.resp_values.specs.declared.reply.Reply.{Reply}
 use Rattle.resp_values.specs.declared.reply.Reply.TheVariants.{Error}
-use Rattle.command.specs.Keys.{data_keys}
-use Rattle.command.specs.ErrorLine.{ask_text, moved_text}
-use Rattle.command.specs.declared.error_line.ErrorLine.TheVariants as line
-use Rattle.command.specs.declared.command.DataCommand.{DataCommand}
+use Rattle.command_table.specs.Keys.{data_keys}
+use Rattle.redirection.specs.Texts.{ask_text, moved_text}
+use Rattle.command_table.specs.declared.error_line.ErrorLine.TheVariants as line
+use Rattle.command_table.specs.declared.command.DataCommand.{DataCommand}
 use Rattle.key_slot.specs.Slot.{hash_slot}
 use Rattle.keyspace.specs.Commands.{exec}
 use Rattle.cluster_config.specs.declared.config.NodeConfig.{NodeConfig}

@@ -6,7 +6,7 @@ use Rattle.std.specs.FinMap as fin_map
 use Rattle.std.specs.Ordering.{int_eq}
 use Rattle.std.specs.Str.{bytes_eq}
 use Rattle.resp_values.specs.declared.reply.Reply.TheVariants.{Simple}
-use Rattle.command.specs.declared.error_line.ErrorLine.TheVariants as line
+use Rattle.command_table.specs.declared.error_line.ErrorLine.TheVariants as line
 use Rattle.key_slot.specs.Slot.{hash_slot}
 use Rattle.keyspace.specs.Keyspace.{Keyspace}
 use Rattle.keyspace.specs.Rebuilding.{rebuilding, fits_request}

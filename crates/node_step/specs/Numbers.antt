@@ -1,6 +1,6 @@
 -- Numbers that only grow, and have an end (ours).
 use Rattle.std.specs.Prelude.{◌≡◌, false}
-use Rattle.command.specs.Table.{command_of}
+use Rattle.command_table.specs.Table.{command_of}
 use Rattle.connections.specs.Connections.{IsUsedUp}
 use Rattle.node_step.specs.Requests.{has_number, using_up}
 use Rattle.node_step.specs.State.{NodeState}

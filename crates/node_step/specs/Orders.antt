@@ -4,7 +4,7 @@ use Rattle.std.specs.Prelude.{ℕ, ◌+◌, ◌==◌, not, List, [], filter, map
 use Rattle.std.specs.List.{range_with_len}
 use Rattle.resp_values.specs.declared.reply.Reply.{Reply}
 use Rattle.resp_values.specs.declared.reply.Reply.TheVariants.{Simple}
-use Rattle.command.specs.declared.error_line.ErrorLine.TheVariants as line
+use Rattle.command_table.specs.declared.error_line.ErrorLine.TheVariants as line
 use Rattle.slot_table.specs.declared.runs.Run.{Run}
 use Rattle.slot_moves.specs.Moves.{Moves, move_of, last_move_of, ended}
 use Rattle.slot_moves.specs.Importing.{import_verdict, after_import}

@@ -2,8 +2,8 @@
 use Rattle.std.specs.Prelude.{ℕ, List, [], map}
 use Rattle.resp_values.specs.declared.reply.Reply.{Reply}
 use Rattle.resp_values.specs.declared.reply.Reply.TheVariants.{Error}
-use Rattle.command.specs.ErrorLine.{error_text}
-use Rattle.command.specs.declared.error_line.ErrorLine.{ErrorLine}
+use Rattle.command_table.specs.ErrorLine.{error_text}
+use Rattle.command_table.specs.declared.error_line.ErrorLine.{ErrorLine}
 use Rattle.bus.specs.declared.message.Body.{Body}
 use Rattle.bus.specs.declared.message.Message.{Message}
 use Rattle.node_step.specs.State.{NodeState}

@@ -3,14 +3,14 @@ use Rattle.std.specs.Prelude.{ℕ, ◌^◌, pos, nat_lt, Bool, false, true, List
 use Rattle.std.specs.Str.{bytes_eq}
 use Rattle.std.specs.List.{position}
 use Rattle.resp_values.specs.declared.reply.Reply.TheVariants.{Integer}
-use Rattle.command.specs.ErrorLine.{line_of}
-use Rattle.command.specs.declared.command.Command.{Command}
-use Rattle.command.specs.declared.command.Command.TheVariants.{Data, Cluster}
-use Rattle.command.specs.declared.command.ClusterCommand.{ClusterCommand}
-use Rattle.command.specs.declared.command.ClusterCommand.TheVariants as cluster
-use Rattle.command.specs.declared.command.SlotOrder.{SlotOrder}
-use Rattle.command.specs.declared.command.SlotOrder.TheVariants.{Importing, Migrating, Node}
-use Rattle.command.specs.declared.fault.CommandFault.{CommandFault}
+use Rattle.command_table.specs.ErrorLine.{line_of}
+use Rattle.command_table.specs.declared.command.Command.{Command}
+use Rattle.command_table.specs.declared.command.Command.TheVariants.{Data, Cluster}
+use Rattle.command_table.specs.declared.command.ClusterCommand.{ClusterCommand}
+use Rattle.command_table.specs.declared.command.ClusterCommand.TheVariants as cluster
+use Rattle.command_table.specs.declared.command.SlotOrder.{SlotOrder}
+use Rattle.command_table.specs.declared.command.SlotOrder.TheVariants.{Importing, Migrating, Node}
+use Rattle.command_table.specs.declared.fault.CommandFault.{CommandFault}
 use Rattle.key_slot.specs.Slot.{hash_slot}
 use Rattle.slot_table.specs.Runs.{AreRunsOf}
 use Rattle.slot_table.specs.Table.{owner_at, claim_at}

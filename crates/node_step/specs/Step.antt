@@ -1,6 +1,6 @@
 -- What a step of a node may be.
 use Rattle.std.specs.Prelude.{◌≡◌, ℕ, true, List, is_some, MatchBool}
-use Rattle.command.specs.Table.{command_of}
+use Rattle.command_table.specs.Table.{command_of}
 use Rattle.connections.specs.Connections.{connection_at, may_ask, Opens, Closes}
 use Rattle.node_step.specs.Messages.{delivered}
 use Rattle.node_step.specs.Outcome.{Outcome, outputs_of, silent}

@@ -2,7 +2,7 @@
 ghost use Rattle.std.specs.Prelude.{◌≡◌, IfOk, IsOk};
 ghost use Rattle.node_step.specs.Plain.{HasNoReply};
 
-use command::CommandFault;
+use command_table::CommandFault;
 use connections::Conn;
 use migrate::CopyVerdict;
 use resp_values::Reply;

@@ -10,8 +10,8 @@ use crate::telling::{run_failure, unlisted_failure};
 use crate::watched::{Seen, Watched};
 use bytes::Bytes;
 use cluster_config::NodeId;
-use command::{Positive, number_in};
-use key_slot::{Slot, SlotRange};
+use command_table::number_in;
+use key_slot::{MoveNo, Slot, SlotRange};
 use redirection::Address;
 use resharder::{MovedSlot, Plan, ReshardFault, Resharder};
 use smart_client::{Connections, Network};
@@ -235,7 +235,7 @@ fn slot_in(text: &str) -> Option<Slot> {
 
 // It is written at once, so that a reader knows of each slot when it has moved.
 fn print<R: AllocGlobal + Print>(rt: &R, moved: &MovedSlot) -> Result<(), Failure> {
-    let number = moved.number.map_or(0, Positive::get);
+    let number = moved.number.map_or(0, MoveNo::get);
     let line = format!(in rt.alloc();
         "slot {} move {number} keys {}\n",
         moved.slot.get(),

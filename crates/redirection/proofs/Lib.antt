@@ -1,4 +1,6 @@
 pub mod Addresses
+pub mod HostLemmas
+pub mod LineLemmas
 pub mod Numbers
 pub mod Parts
 pub mod PlaceLemmas

@@ -8,8 +8,8 @@ use Rattle.std.proofs.lemmas.Bool.{and_from, and_parts, ne_eqb}
 use Rattle.std.proofs.lemmas.Fmt.{decimal_by_steps, decimal_is_IsNumeral}
 use Rattle.std.proofs.lemmas.List.Folds.{list_all-append}
 use Rattle.std.proofs.lemmas.Slice.Eq.{bytes_eq-Decides}
-use Rattle.command.proofs.NumberTexts.{is_number}
-use Rattle.command.specs.Numbers.{fits, number_of, is_text_of}
+use Rattle.command_table.proofs.NumberTexts.{is_number}
+use Rattle.command_table.specs.Numbers.{fits, number_of, is_text_of}
 use Rattle.redirection.specs.Splitting.{is_without}
 
 -- digits come behind the blank, and before the colon

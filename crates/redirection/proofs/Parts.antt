@@ -7,8 +7,8 @@ use Rattle.std.specs.Result.{result_ok}
 use Rattle.std.proofs.lemmas.Fmt.{decimal_injective}
 use Rattle.std.proofs.lemmas.Int.{to_z-of_z}
 use Rattle.std.proofs.lemmas.List.{append-nil}
-use Rattle.command.proofs.NumberTexts.{fits_only_if}
-use Rattle.command.specs.Numbers.{number_of, natural, positive_of, from_to, fits}
+use Rattle.command_table.proofs.NumberTexts.{fits_only_if}
+use Rattle.command_table.specs.Numbers.{number_of, natural, positive_of, from_to, fits}
 use Rattle.redirection.specs.Splitting.{IsSplit, IsNumber, IsNoNumber, IsNoHostAndPort, IsNumbered, IsNotNumbered, IsSlotAndRest, IsNoSlotAndRest, is_without}
 use Rattle.redirection.proofs.Numbers.{number_has_no_blank, read_is_written, written_is_read}
 use Rattle.redirection.proofs.Splits.{same_split, with_it}

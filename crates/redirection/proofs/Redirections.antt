@@ -1,7 +1,7 @@
 -- Which text is that of a redirection.
 use Rattle.std.proofs.Common.{◌≡◌, ℕ, List, [], ◌∷◌, ◌++◌, get_or, Option, Some, None, refl, sym, ap, subst, ◌∙◌, append_assoc, append-nil, arith}
 use Rattle.std.specs.Prelude.{decimal, codes}
-use Rattle.command.specs.ErrorLine.{place_text, moved_text, ask_text}
+use Rattle.redirection.specs.Texts.{place_text, moved_text, ask_text}
 use Rattle.redirection.specs.Address.{Place, IsAddress, IsNoAddress, address_text}
 use Rattle.redirection.specs.Law.{TextIsOfOneRedirection}
 use Rattle.redirection.specs.Redirection.{IsMove, IsRedirection, IsNoRedirection}

@@ -3,3 +3,4 @@ pub mod ErrorWord
 pub mod Law
 pub mod Redirection
 pub mod Splitting
+pub mod Texts

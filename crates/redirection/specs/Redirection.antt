@@ -1,7 +1,7 @@
 -- The errors by which a node sends a client to another one (Redis Cluster specification, "MOVED Redirection", "ASK
 -- redirection"). Their texts are those that nodes write.
 use Rattle.std.specs.Prelude.{◌≡◌, ◌<◌, ◌≤◌, ◌^◌, ℕ, List, Option, Some, None}
-use Rattle.command.specs.ErrorLine.{moved_text, ask_text}
+use Rattle.redirection.specs.Texts.{moved_text, ask_text}
 use Rattle.redirection.specs.Address.{Place, IsAddress}
 use Rattle.redirection.specs.declared.redirection.Redirection.{Redirection}
 use Rattle.redirection.specs.declared.redirection.Redirection.TheVariants.{Moved, Ask}

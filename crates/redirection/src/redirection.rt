@@ -5,8 +5,8 @@ ghost use Rattle.redirection.specs.Splitting.{IsNumber, IsNoNumber, IsNumbered, 
 
 use crate::address::Address;
 use crate::splitting::{short_in, split_at};
-use command::Positive;
-use key_slot::Slot;
+use command_table::move_no_in;
+use key_slot::{MoveNo, Slot};
 use std::alloc::{AllocError, Global};
 
 /// What a MOVED or an ASK tells.
@@ -22,7 +22,7 @@ pub enum Redirection {
     Ask {
         slot: Slot,
         to: Address,
-        number: Option<Positive>,
+        number: Option<MoveNo>,
     },
 }
 
@@ -88,12 +88,12 @@ fn slot_in(text: &[u8]) -> Option<Slot>
 }
 
 // What stands before the first blank, and the number of the move behind it, where a blank is there.
-fn split_number(text: &[u8]) -> Option<(&[u8], Option<Positive>)>
+fn split_number(text: &[u8]) -> Option<(&[u8], Option<MoveNo>)>
     ensures found { IfSome result (λ parts. IsNumbered text.now parts.0.now parts.1) }
     ensures none { IfNone result (IsNotNumbered text.now) }
 {
     match split_at(text, b' ') {
-        Some((address, number)) => Some((address, Some(Positive::of(number)?))),
+        Some((address, number)) => Some((address, Some(move_no_in(number)?))),
         None => Some((text, None)),
     }
 }

@@ -2,7 +2,7 @@
 ghost use Rattle.std.specs.Prelude.{◌≡◌, ◌<◌, ◌==◌, position, length, true, IfNone, IfSome};
 ghost use Rattle.redirection.specs.Splitting.{IsSplit, IsNumber, IsNoNumber, is_without};
 
-use command::number_in;
+use command_table::number_in;
 
 /// The bytes before the first such byte, and those behind it, or None where it isn't in the text.
 pub(crate) fn split_at(text: &[u8], byte: u8) -> Option<(&[u8], &[u8])>

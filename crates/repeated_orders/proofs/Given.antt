@@ -1,11 +1,11 @@
 -- What comes of a command that a node is given.
 use Rattle.std.proofs.Common.{◌≡◌, ℕ, Bool, true, false, List, ap, ◌∙◌}
 use Rattle.std.specs.Prelude.{MatchBool, Result, Ok}
-use Rattle.command.specs.Table.{command_of}
-use Rattle.command.specs.declared.command.ClusterCommand.{ClusterCommand}
-use Rattle.command.specs.declared.command.Command.{Command}
-use Rattle.command.specs.declared.command.Command.TheVariants.{Cluster}
-use Rattle.command.specs.declared.fault.CommandFault.{CommandFault}
+use Rattle.command_table.specs.Table.{command_of}
+use Rattle.command_table.specs.declared.command.ClusterCommand.{ClusterCommand}
+use Rattle.command_table.specs.declared.command.Command.{Command}
+use Rattle.command_table.specs.declared.command.Command.TheVariants.{Cluster}
+use Rattle.command_table.specs.declared.fault.CommandFault.{CommandFault}
 use Rattle.connections.specs.Connections.{connection_at, may_ask}
 use Rattle.connections.specs.declared.conn.Conn.{Conn}
 use Rattle.node_step.specs.Outcome.{Outcome, silent}

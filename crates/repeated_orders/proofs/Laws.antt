@@ -1,8 +1,8 @@
 -- What a step does with an order that the step before did.
 use Rattle.std.proofs.Common.{◌≡◌, ◌≢◌, ◌<◌, ℕ, ℤ, List, [], map, length, Option, refl, sym, ap, subst, ◌∙◌}
-use Rattle.command.specs.declared.command.ClusterCommand.{ClusterCommand}
-use Rattle.command.specs.declared.command.ClusterCommand.TheVariants.{Migrate, SetSlot}
-use Rattle.command.specs.declared.command.SlotOrder.{SlotOrder}
+use Rattle.command_table.specs.declared.command.ClusterCommand.{ClusterCommand}
+use Rattle.command_table.specs.declared.command.ClusterCommand.TheVariants.{Migrate, SetSlot}
+use Rattle.command_table.specs.declared.command.SlotOrder.{SlotOrder}
 use Rattle.connections.specs.declared.conn.Conn.{Conn}
 use Rattle.node_step.specs.Copies.{copy_outcome, copy_verdict_on, node_at}
 use Rattle.node_step.specs.Outcome.{Outcome, stamped}

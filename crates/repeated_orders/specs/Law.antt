@@ -1,11 +1,11 @@
 -- What a node does with an order that it was given before.
 use Rattle.std.specs.Prelude.{◌≡◌, ◌≢◌, ◌<◌, ℕ, ℤ, List, [], map, length, Option, Ok}
 use Rattle.bus.specs.declared.message.Message.{Message}
-use Rattle.command.specs.Table.{command_of}
-use Rattle.command.specs.declared.command.ClusterCommand.{ClusterCommand}
-use Rattle.command.specs.declared.command.ClusterCommand.TheVariants.{Migrate, SetSlot}
-use Rattle.command.specs.declared.command.Command.TheVariants.{Cluster}
-use Rattle.command.specs.declared.command.SlotOrder.{SlotOrder}
+use Rattle.command_table.specs.Table.{command_of}
+use Rattle.command_table.specs.declared.command.ClusterCommand.{ClusterCommand}
+use Rattle.command_table.specs.declared.command.ClusterCommand.TheVariants.{Migrate, SetSlot}
+use Rattle.command_table.specs.declared.command.Command.TheVariants.{Cluster}
+use Rattle.command_table.specs.declared.command.SlotOrder.{SlotOrder}
 use Rattle.connections.specs.declared.conn.Conn.{Conn}
 use Rattle.node_step.specs.State.{NodeState}
 use Rattle.node_step.specs.Step.{NodeStep}

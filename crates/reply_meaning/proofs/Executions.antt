@@ -1,11 +1,11 @@
 -- What executed commands reply is no refusal.
 use Rattle.std.proofs.Common.{◌≡◌, ℕ, Bool, true, false, cond, List, Option, Some, None, is_some, refl}
 use Rattle.std.specs.Prelude.{Result, Ok, Err, ℤ, pos, neg_ℤ}
-use Rattle.command.specs.Numbers.{number_of}
-use Rattle.command.specs.declared.command.DataCommand.{DataCommand}
-use Rattle.command.specs.declared.command.DataCommand.TheVariants.{Ping, Echo, Get, Set, Mget, Mset, Setnx, Getset, Getdel, Append, Incr, Decr, Incrby, Strlen, Del, Exists, TypeOf, Hset, Hsetnx, Hget, Hmget, Hdel, Hexists, Hlen, Hstrlen, Hkeys, Hvals, Hgetall, Hincrby}
-use Rattle.command.specs.declared.error_line.ErrorLine.{ErrorLine}
-use Rattle.command.specs.declared.error_line.ErrorLine.TheVariants.{TooLong, NotAnInteger, HashNotAnInteger, Overflow, WrongType}
+use Rattle.command_table.specs.Numbers.{number_of}
+use Rattle.command_table.specs.declared.command.DataCommand.{DataCommand}
+use Rattle.command_table.specs.declared.command.DataCommand.TheVariants.{Ping, Echo, Get, Set, Mget, Mset, Setnx, Getset, Getdel, Append, Incr, Decr, Incrby, Strlen, Del, Exists, TypeOf, Hset, Hsetnx, Hget, Hmget, Hdel, Hexists, Hlen, Hstrlen, Hkeys, Hvals, Hgetall, Hincrby}
+use Rattle.command_table.specs.declared.error_line.ErrorLine.{ErrorLine}
+use Rattle.command_table.specs.declared.error_line.ErrorLine.TheVariants.{TooLong, NotAnInteger, HashNotAnInteger, Overflow, WrongType}
 use Rattle.hash.specs.Pairs.{Pairs, field_changed, value_of}
 use Rattle.keyspace.specs.Commands.{effect}
 use Rattle.keyspace.specs.Effect.{Effect, error_reply, first_of, left, refused, told as unchanged}

@@ -1,7 +1,7 @@
 -- What a step answers.
 use Rattle.std.proofs.Common.{◌≡◌, ℕ, Bool, true, false, List, sym, ap, subst, ◌∙◌}
 use Rattle.std.specs.Prelude.{MatchBool, ⊤}
-use Rattle.command.specs.Table.{command_of}
+use Rattle.command_table.specs.Table.{command_of}
 use Rattle.connections.specs.Connections.{connection_at, may_ask}
 use Rattle.connections.specs.declared.conn.Conn.{Conn}
 use Rattle.node_step.specs.Outcome.{Outcome, silent}

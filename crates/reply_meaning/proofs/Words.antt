@@ -1,26 +1,26 @@
 -- Which words are a command on keys, and why others are none.
 use Rattle.std.proofs.Common.{◌≡◌, ℕ, true, false, List, [], ◌∷◌, Option, Some, None, refl, zero, suc}
 use Rattle.std.specs.Prelude.{Result, Ok, Err, ℤ}
-use Rattle.command.specs.ClusterTable.{asking, keys_in_slot, migration, move_number, on_slot, order_of, ordered, slot_of, timeout_of, with_import, with_migration, with_subcommand, with_subcommands, with_timeout}
-use Rattle.command.specs.ErrorLine.{line_of}
-use Rattle.command.specs.Names.{name_of, subcommand_of}
-use Rattle.command.specs.Numbers.{count_of, natural, number_of}
-use Rattle.command.specs.Pairs.{pairs_of}
-use Rattle.command.specs.Table.{command_of, condition_of, named_command, with_arguments, with_condition, with_field_pairs, with_fields, with_keys, with_message, with_one, with_option, with_pairs, with_three, with_two}
-use Rattle.command.specs.declared.command.ClusterCommand.{ClusterCommand}
-use Rattle.command.specs.declared.command.ClusterCommand.TheVariants as cluster
-use Rattle.command.specs.declared.command.Command.{Command}
-use Rattle.command.specs.declared.command.Command.TheVariants.{Data, Cluster}
-use Rattle.command.specs.declared.command.Condition.{Condition}
-use Rattle.command.specs.declared.command.DataCommand.{DataCommand}
-use Rattle.command.specs.declared.command.DataCommand.TheVariants as variant
-use Rattle.command.specs.declared.command.SlotOrder.{SlotOrder}
-use Rattle.command.specs.declared.fault.CommandFault.{CommandFault}
-use Rattle.command.specs.declared.fault.CommandFault.TheVariants.{Unknown, UnknownSubcommand, Arity, Syntax, InvalidSlot, NotAnInteger}
-use Rattle.command.specs.declared.names.Name.{Name}
-use Rattle.command.specs.declared.names.Name.TheVariants as name
-use Rattle.command.specs.declared.names.Subcommand.{Subcommand}
-use Rattle.command.specs.declared.names.Subcommand.TheVariants as subcommand
+use Rattle.command_table.specs.ClusterTable.{asking, keys_in_slot, migration, move_number, on_slot, order_of, ordered, slot_of, timeout_of, with_import, with_migration, with_subcommand, with_subcommands, with_timeout}
+use Rattle.command_table.specs.ErrorLine.{line_of}
+use Rattle.command_table.specs.Names.{name_of, subcommand_of}
+use Rattle.command_table.specs.Numbers.{count_of, natural, number_of}
+use Rattle.command_table.specs.Pairs.{pairs_of}
+use Rattle.command_table.specs.Table.{command_of, condition_of, named_command, with_arguments, with_condition, with_field_pairs, with_fields, with_keys, with_message, with_one, with_option, with_pairs, with_three, with_two}
+use Rattle.command_table.specs.declared.command.ClusterCommand.{ClusterCommand}
+use Rattle.command_table.specs.declared.command.ClusterCommand.TheVariants as cluster
+use Rattle.command_table.specs.declared.command.Command.{Command}
+use Rattle.command_table.specs.declared.command.Command.TheVariants.{Data, Cluster}
+use Rattle.command_table.specs.declared.command.Condition.{Condition}
+use Rattle.command_table.specs.declared.command.DataCommand.{DataCommand}
+use Rattle.command_table.specs.declared.command.DataCommand.TheVariants as variant
+use Rattle.command_table.specs.declared.command.SlotOrder.{SlotOrder}
+use Rattle.command_table.specs.declared.fault.CommandFault.{CommandFault}
+use Rattle.command_table.specs.declared.fault.CommandFault.TheVariants.{Unknown, UnknownSubcommand, Arity, Syntax, InvalidSlot, NotAnInteger}
+use Rattle.command_table.specs.declared.names.Name.{Name}
+use Rattle.command_table.specs.declared.names.Name.TheVariants as name
+use Rattle.command_table.specs.declared.names.Subcommand.{Subcommand}
+use Rattle.command_table.specs.declared.names.Subcommand.TheVariants as subcommand
 use Rattle.smart_client.specs.Words.{is_of_cluster, is_refused}
 use Rattle.node_step.specs.Outcome.{error}
 use Rattle.reply_meaning.specs.Refusal.{is_refusal}

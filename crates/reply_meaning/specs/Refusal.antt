@@ -4,10 +4,10 @@ use Rattle.std.specs.List.{list_any}
 use Rattle.std.specs.Str.{bytes_eq}
 use Rattle.resp_values.specs.declared.reply.Reply.{Reply}
 use Rattle.resp_values.specs.declared.reply.Reply.TheVariants.{Error}
-use Rattle.command.specs.ErrorLine.{error_text}
-use Rattle.command.specs.Names.{names}
-use Rattle.command.specs.declared.error_line.ErrorLine.{ErrorLine}
-use Rattle.command.specs.declared.error_line.ErrorLine.TheVariants.{UnknownCommand, WrongArity, Syntax}
+use Rattle.command_table.specs.ErrorLine.{error_text}
+use Rattle.command_table.specs.Names.{names}
+use Rattle.command_table.specs.declared.error_line.ErrorLine.{ErrorLine}
+use Rattle.command_table.specs.declared.error_line.ErrorLine.TheVariants.{UnknownCommand, WrongArity, Syntax}
 use Rattle.redirection.specs.ErrorWord.{first_word}
 
 -- another node is named, the same is to be asked again, the keys are in two slots or in one that nobody serves, or the node

@@ -1,10 +1,10 @@
 -- What a run asks (Redis Cluster specification, "Moving hash slots", "Cluster live reconfiguration"; Redis command reference, "CLUSTER
 -- SETSLOT", "MIGRATE"; SLOTSTATE and the numbers of moves are ours).
 use Rattle.std.specs.Prelude.{ℕ, ◌≤◌, List, [], ◌∷◌, Option, Some, None, codes, decimal, length, ⊤}
+use Rattle.command_table.specs.declared.command.SlotOrder.{SlotOrder}
+use Rattle.command_table.specs.declared.command.SlotOrder.TheVariants.{Importing, Migrating, Node}
 use Rattle.redirection.specs.Address.{Place}
 use Rattle.resp_values.specs.declared.words.TheConstants.{MOST_WORD_BYTES}
-use Rattle.resharder.specs.declared.order.SlotOrder.{SlotOrder}
-use Rattle.resharder.specs.declared.order.SlotOrder.TheVariants.{Importing, Migrating, Node}
 
 -- which masters there are
 abbrev pub slots_words : List (List ℕ)

@@ -11,9 +11,9 @@ use Rattle.resp_values.specs.declared.array.Element.TheVariants as element
 use Rattle.resp_values.specs.declared.words.TheConstants.{MOST_WORD_BYTES}
 use Rattle.resp_values.specs.declared.reply.Reply.{Reply}
 use Rattle.resp_values.specs.declared.reply.Reply.TheVariants.{Simple, Error, Array}
-use Rattle.command.specs.ErrorLine.{error_text}
-use Rattle.command.specs.Numbers.{natural, from_to}
-use Rattle.command.specs.declared.error_line.ErrorLine.TheVariants as line
+use Rattle.command_table.specs.ErrorLine.{error_text}
+use Rattle.command_table.specs.Numbers.{natural, from_to}
+use Rattle.command_table.specs.declared.error_line.ErrorLine.TheVariants as line
 use Rattle.cluster_config.specs.Texts.{is_host}
 use Rattle.redirection.specs.Address.{Place}
 use Rattle.redirection.specs.ErrorWord.{first_word}

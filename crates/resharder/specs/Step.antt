@@ -3,6 +3,7 @@
 -- SLOTSTATE, the numbers of moves, and what is asked again are ours.
 use Rattle.std.specs.Prelude.{◌≡◌, ◌⊎◌, ◌+◌, ◌-◌, ◌==◌, ℕ, min, max, nat_le, Bool, true, false, List, [], ◌∷◌, Option, Some, None, Result, Ok, Err, slice_get, if◌then◌else◌, IsTrue, ⊤}
 use Rattle.std.specs.Option.{option_or}
+use Rattle.command_table.specs.declared.command.SlotOrder.TheVariants as order
 use Rattle.resp_values.specs.declared.reply.Reply.{Reply}
 use Rattle.redirection.specs.Address.{Place}
 use Rattle.resharder.specs.Nodes.{KnownNodes}
@@ -17,7 +18,6 @@ use Rattle.resharder.specs.declared.answer.Answer.{Answer}
 use Rattle.resharder.specs.declared.answer.Answer.TheVariants as answer
 use Rattle.resharder.specs.declared.fault.ReshardFault.{ReshardFault}
 use Rattle.resharder.specs.declared.fault.ReshardFault.TheVariants.{TooOften, NotReached, BadReply, NoNextNumber, Memory}
-use Rattle.resharder.specs.declared.order.SlotOrder.TheVariants as order
 use Rattle.resharder.specs.declared.plan.Plan.{Plan}
 use Rattle.resharder.specs.declared.report.Report.{Report}
 use Rattle.resharder.specs.declared.stage.Source.{Source}

@@ -1,8 +1,7 @@
 //! What a run is told, and what it wants done.
 
 use crate::fault::ReshardFault;
-use command::Positive;
-use key_slot::Slot;
+use key_slot::{MoveNo, Slot};
 use redirection::Address;
 use resp_values::{Reply, Words};
 
@@ -35,7 +34,7 @@ pub enum Action {
         /// The slot.
         slot: Slot,
         /// The number of the move. There is none where the slot was there before any move of it.
-        number: Option<Positive>,
+        number: Option<MoveNo>,
         /// How many keys were moved in this run.
         keys: u64,
     },

@@ -2,7 +2,7 @@
 ghost use Rattle.std.specs.Prelude.{◌≡◌};
 ghost use Rattle.resharder.specs.Replies.{answer_of, error_kind, simple_kind};
 
-use command::ErrorLine;
+use command_table::ErrorLine;
 use redirection::first_word;
 use resp_values::Reply;
 

@@ -10,12 +10,12 @@ use crate::answer::Answer;
 use crate::fault::ReshardFault;
 use crate::key::Waiting;
 use crate::nodes::Nodes;
-use crate::order::{SlotOrder, keys_words, migrate_words, set_words, slots_words, state_words};
+use crate::order::{keys_words, migrate_words, set_words, slots_words, state_words};
 use crate::plan::Plan;
 use crate::report::{Report, next_number, positive};
 use crate::stage::{Source, Stage, Step, Work};
-use command::Positive;
-use key_slot::Slot;
+use command_table::SlotOrder;
+use key_slot::{MoveNo, Slot};
 use redirection::Address;
 use resp_values::{Reply, Words};
 use std::alloc::{AllocError, Global};
@@ -178,7 +178,7 @@ impl Plan {
         &self,
         alloc: Global,
         work: Work,
-        number: Option<Positive>,
+        number: Option<MoveNo>,
     ) -> Result<Made, ReshardFault>
         ensures { Makes (numbered self.now work number) result }
     {
@@ -367,7 +367,7 @@ fn place_at<'a>(nodes: &'a Nodes, step: &'a Step) -> &'a Address
 }
 
 // The number of the move: that of the one under way, or the next one.
-fn number_of(source: Source, report: &Report) -> Option<Positive>
+fn number_of(source: Source, report: &Report) -> Option<MoveNo>
     ensures { result ≡ number_of source report.now }
 {
     let leaving = source.number;

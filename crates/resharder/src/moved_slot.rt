@@ -1,7 +1,6 @@
 //! A slot that was moved.
 
-use command::Positive;
-use key_slot::Slot;
+use key_slot::{MoveNo, Slot};
 
 /// A slot that is at its new master.
 #[derive(Clone, Copy, PartialEq, Eq)]
@@ -9,7 +8,7 @@ pub struct MovedSlot {
     /// The slot.
     pub slot: Slot,
     /// The number of the move. There is none where the slot was there before any move of it.
-    pub number: Option<Positive>,
+    pub number: Option<MoveNo>,
     /// How many keys were moved in this run.
     pub keys: u64,
 }

@@ -6,36 +6,12 @@ use crate::key::Key;
 use crate::nodes::word_of;
 use byte_string::ByteString;
 use cluster_config::NodeId;
-use command::Positive;
+use command_table::SlotOrder;
 use itoa::Buffer;
-use key_slot::Slot;
+use key_slot::{MoveNo, Slot};
 use redirection::Address;
 use resp_values::Words;
 use std::alloc::{AllocError, Global};
-
-/// What a node is to do with a slot.
-#[derive(Clone, Copy)]
-pub(crate) enum SlotOrder {
-    /// It comes to the node.
-    Importing,
-    /// It leaves the node.
-    Migrating,
-    /// It has come to its new owner.
-    Node,
-}
-
-impl SlotOrder {
-    fn word(self) -> ByteString
-        ensures word { result ≡ order_word self }
-        ensures short { length result ≤ 20 }
-    {
-        match self {
-            SlotOrder::Importing => ByteString::inline(b"IMPORTING"),
-            SlotOrder::Migrating => ByteString::inline(b"MIGRATING"),
-            SlotOrder::Node => ByteString::inline(b"NODE"),
-        }
-    }
-}
 
 /// `CLUSTER SLOTS`.
 pub(crate) fn slots_words(alloc: Global) -> Result<Words, AllocError>
@@ -81,7 +57,7 @@ pub(crate) fn set_words(
     order: SlotOrder,
     slot: Slot,
     id: &NodeId,
-    number: Option<Positive>,
+    number: Option<MoveNo>,
 ) -> Result<Words, AllocError>
     ensures { IfOk result (λ words. words ≡ set_words order slot id.now number) }
 {
@@ -91,7 +67,7 @@ pub(crate) fn set_words(
         ByteString::inline(b"CLUSTER"),
         ByteString::inline(b"SETSLOT"),
         slot,
-        order.word(),
+        order_word(order),
         id,
     ]?;
     if let Some(number) = number {
@@ -117,6 +93,18 @@ pub(crate) fn migrate_words(alloc: Global, to: &Address, key: &Key) -> Result<Wo
         ByteString::inline(b"100"),
     ]?;
     Ok(request(words))
+}
+
+// The order as a node reads it.
+fn order_word(order: SlotOrder) -> ByteString
+    ensures word { result ≡ order_word order }
+    ensures short { length result ≤ 20 }
+{
+    match order {
+        SlotOrder::Importing => ByteString::inline(b"IMPORTING"),
+        SlotOrder::Migrating => ByteString::inline(b"MIGRATING"),
+        SlotOrder::Node => ByteString::inline(b"NODE"),
+    }
 }
 
 // A few short words.

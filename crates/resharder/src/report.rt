@@ -3,7 +3,7 @@ ghost use Rattle.std.specs.Prelude.{◌≡◌, ◌≤◌, ◌<◌, ◌^◌, IfOk
 ghost use Rattle.resharder.specs.Replies.{comes, leaves, names, next_number, owns, peer_number, positive, report_in, reported, standing_of};
 
 use cluster_config::NodeId;
-use command::Positive;
+use key_slot::MoveNo;
 use resp_values::{Element, Reply};
 
 /// What a node does with a slot.
@@ -46,7 +46,7 @@ pub(crate) struct Report {
     /// What it does with the slot.
     pub standing: Standing,
     /// The number of the move between it and the other node of the plan, where one is under way.
-    pub number: Option<Positive>,
+    pub number: Option<MoveNo>,
     /// The greatest number of a move of the slot in which it took part, or 0.
     pub last: u64,
 }
@@ -70,7 +70,7 @@ impl Report {
     }
 
     /// The number of the move by which the slot leaves the node for the other one.
-    pub(crate) fn leaves(&self) -> Option<Positive>
+    pub(crate) fn leaves(&self) -> Option<MoveNo>
         ensures { result ≡ leaves self.now.standing self.now.number }
     {
         match self.standing {
@@ -80,7 +80,7 @@ impl Report {
     }
 
     /// The number of the move by which the slot comes to the node from the other one.
-    pub(crate) fn comes(&self) -> Option<Positive>
+    pub(crate) fn comes(&self) -> Option<MoveNo>
         ensures { result ≡ comes self.now.standing self.now.number }
     {
         match self.standing {
@@ -128,7 +128,7 @@ fn names(element: &Element, node: &NodeId) -> Option<bool>
     }
 }
 
-fn peer_number(is_peer: bool, number: u64) -> Option<Positive>
+fn peer_number(is_peer: bool, number: u64) -> Option<MoveNo>
     ensures { result ≡ peer_number is_peer number }
 {
     if !is_peer {
@@ -138,15 +138,18 @@ fn peer_number(is_peer: bool, number: u64) -> Option<Positive>
 }
 
 /// The number of a move, or None where it is 0.
-pub(crate) fn positive(number: u64) -> Option<Positive>
+pub(crate) fn positive(number: u64) -> Option<MoveNo>
     ensures { result ≡ positive number }
 {
-    Positive::new(number)
+    if number == 0 {
+        return None;
+    }
+    MoveNo::new(number)
 }
 
 /// The number of the next move after those up to this number, if there is one.
-pub(crate) fn next_number(last: u64) -> Option<Positive>
+pub(crate) fn next_number(last: u64) -> Option<MoveNo>
     ensures { result ≡ next_number last }
 {
-    Positive::new(last.checked_add(1)?)
+    positive(last.checked_add(1)?)
 }

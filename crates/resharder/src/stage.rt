@@ -2,8 +2,7 @@
 
 use crate::key::{Key, Waiting};
 use crate::nodes::Nodes;
-use command::Positive;
-use key_slot::Slot;
+use key_slot::{MoveNo, Slot};
 use redirection::Address;
 
 /// What a run waits for.
@@ -29,7 +28,7 @@ pub(crate) struct Work {
     /// The slot.
     pub slot: Slot,
     /// The number of the move, once it is known, where there is one.
-    pub number: Option<Positive>,
+    pub number: Option<MoveNo>,
     /// How many keys were moved in this run.
     pub keys: u64,
     /// The keys that are to be moved after the one that is being moved.
@@ -72,7 +71,7 @@ pub(crate) enum Step {
 #[derive(Clone, Copy)]
 pub(crate) struct Source {
     /// The number of the move by which the slot leaves it for the destination.
-    pub number: Option<Positive>,
+    pub number: Option<MoveNo>,
     /// The greatest number of a move of the slot in which it took part, or 0.
     pub last: u64,
 }

@@ -2,7 +2,7 @@
 use Rattle.std.specs.Prelude.{◌≡◌, ◌+◌, ◌++◌, ◌∷◌, ◌&&◌, ℕ, nat_lt, nat_le, Bool, List, [], length, All, IsSome, Option, Some, None, option_map, option_and_then, codes, if◌then◌else◌}
 use Rattle.std.specs.List.{list_all}
 use Rattle.std.specs.Str.{bytes_eq}
-use Rattle.command.specs.Numbers.{count_of, positive_of}
+use Rattle.command_table.specs.Numbers.{count_of, positive_of}
 use Rattle.resp_values.specs.Request.{request_spelling}
 use Rattle.resp_values.specs.declared.words.TheConstants.{MOST_WORDS, MOST_WORD_BYTES, MOST_REQUEST_BYTES}
 use Rattle.world.specs.declared.step.Step.{Step}

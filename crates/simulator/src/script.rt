@@ -2,7 +2,7 @@
 //! `admin N WORD..`, `tick N`, `stop N` or `deliver M`.
 ghost use Rattle.std.specs.Prelude.{◌≡◌, ◌+◌, ◌++◌, ◌∷◌, [], ℕ, vec_len, map, option_map, Some, Err, IfOk};
 ghost use Rattle.std.specs.List.{list_all};
-ghost use Rattle.command.specs.Numbers.{count_of};
+ghost use Rattle.command_table.specs.Numbers.{count_of};
 ghost use Rattle.simulator.specs.Lines.{is_plain, lines, words};
 ghost use Rattle.simulator.specs.Script.{IsFirstUnreadable, admin_of, call_of, node_of, number_of, only, request_of, step_in, step_of};
 ghost use Rattle.simulator.specs.Splitting.{words_behind};
@@ -12,7 +12,7 @@ ghost use Rattle.world.specs.declared.step.Step.TheVariants as step;
 use crate::fault::ScriptFault;
 use crate::lines::{split_line, split_word};
 use byte_string::ByteString;
-use command::{Positive, number_in};
+use command_table::{number_in, positive_in};
 use resp2::Words;
 use std::alloc::{AllocError, Global};
 use world::Step;
@@ -106,10 +106,9 @@ fn call_of(alloc: Global, arguments: &[u8]) -> Result<Option<Step>, AllocError>
     let (client, Some(request)) = split_word(arguments) else {
         return Ok(None);
     };
-    let Some(client) = Positive::of(client) else {
+    let Some(client) = positive_in(client) else {
         return Ok(None);
     };
-    let client = client.get();
     match request_of(alloc, request)? {
         Some(words) => Ok(Some(Step::Call { client, words })),
         None => Ok(None),
@@ -205,7 +204,7 @@ fn late_of(arguments: &[u8]) -> Option<Step>
 fn number_of(arguments: &[u8]) -> Option<u64>
     ensures { result ≡ number_of (words arguments.now) }
 {
-    Some(Positive::of(only_word(arguments)?)?.get())
+    positive_in(only_word(arguments)?)
 }
 
 // The word, where it is the only one.

@@ -1,7 +1,7 @@
 -- Steps of a node, whatever happens to it.
 use Rattle.std.proofs.Common.{◌≡◌, ℕ, List, Bool, true, false, None, refl, sym, subst}
 use Rattle.std.specs.Prelude.{MatchBool, is_some}
-use Rattle.command.specs.Table.{command_of}
+use Rattle.command_table.specs.Table.{command_of}
 use Rattle.keyspace.specs.Keyspace.{Keyspace}
 use Rattle.keyspace.specs.Locality.{CommandsAreLocal}
 use Rattle.connections.specs.Connections.{connection_at, may_ask}

@@ -1,16 +1,16 @@
 -- Steps that answer requests.
 use Rattle.std.proofs.Common.{◌≡◌, ℕ, List, [], ◌∷◌, Bool, Option, Some, None, Contains, refl, sym, ap, subst, ◌∙◌}
 use Rattle.std.specs.Prelude.{Result, Ok, Err}
-use Rattle.command.specs.Keys.{data_keys}
-use Rattle.command.specs.Table.{command_of}
-use Rattle.command.specs.declared.command.ClusterCommand.{ClusterCommand}
-use Rattle.command.specs.declared.command.ClusterCommand.TheVariants as cluster
-use Rattle.command.specs.declared.command.Command.{Command}
-use Rattle.command.specs.declared.command.Command.TheVariants.{Data, Cluster}
-use Rattle.command.specs.declared.command.DataCommand.{DataCommand}
-use Rattle.command.specs.declared.command.SlotOrder.{SlotOrder}
-use Rattle.command.specs.declared.command.SlotOrder.TheVariants.{Importing, Migrating, Node}
-use Rattle.command.specs.declared.fault.CommandFault.{CommandFault}
+use Rattle.command_table.specs.Keys.{data_keys}
+use Rattle.command_table.specs.Table.{command_of}
+use Rattle.command_table.specs.declared.command.ClusterCommand.{ClusterCommand}
+use Rattle.command_table.specs.declared.command.ClusterCommand.TheVariants as cluster
+use Rattle.command_table.specs.declared.command.Command.{Command}
+use Rattle.command_table.specs.declared.command.Command.TheVariants.{Data, Cluster}
+use Rattle.command_table.specs.declared.command.DataCommand.{DataCommand}
+use Rattle.command_table.specs.declared.command.SlotOrder.{SlotOrder}
+use Rattle.command_table.specs.declared.command.SlotOrder.TheVariants.{Importing, Migrating, Node}
+use Rattle.command_table.specs.declared.fault.CommandFault.{CommandFault}
 use Rattle.key_slot.specs.Slot.{hash_slot}
 use Rattle.keyspace.specs.Commands.{exec, execution_of}
 use Rattle.keyspace.specs.Keyspace.{Keyspace}

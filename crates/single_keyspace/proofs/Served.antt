@@ -6,8 +6,8 @@ use Rattle.std.specs.Cmp.Lexicographic.{pointwise}
 use Rattle.std.specs.FinMap as fin_map
 use Rattle.std.specs.List.{list_any, list_all}
 use Rattle.std.specs.Prelude.{is_some, nat_eq, slice_index_or}
-use Rattle.command.specs.Keys.{data_keys}
-use Rattle.command.specs.declared.command.DataCommand.{DataCommand}
+use Rattle.command_table.specs.Keys.{data_keys}
+use Rattle.command_table.specs.declared.command.DataCommand.{DataCommand}
 use Rattle.key_slot.specs.Slot.{hash_slot}
 use Rattle.keyspace.specs.Commands.{exec}
 use Rattle.keyspace.specs.Keyspace.{Keyspace}

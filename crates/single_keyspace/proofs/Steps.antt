@@ -1,6 +1,6 @@
 -- What a step of a node leaves of all slots.
 use Rattle.std.proofs.Common.{◌≡◌, ℕ, List, [], Option, Some, None, refl, sym, subst}
-use Rattle.command.specs.Table.{command_of}
+use Rattle.command_table.specs.Table.{command_of}
 use Rattle.keyspace.specs.Commands.{exec_words}
 use Rattle.keyspace.specs.Keyspace.{Keyspace}
 use Rattle.one_slot.specs.Events.{IsAsked}

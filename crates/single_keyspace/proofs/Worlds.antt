@@ -6,7 +6,7 @@ use Rattle.std.proofs.lemmas.List.Elements.{Contains-append_cases}
 use Rattle.std.specs.FinMap as fin_map
 use Rattle.std.specs.List.{cons_option}
 use Rattle.std.specs.Prelude.{slice_get, slice_set}
-use Rattle.command.specs.Table.{command_of}
+use Rattle.command_table.specs.Table.{command_of}
 use Rattle.keyspace.proofs.Locality.{commands_are_local}
 use Rattle.keyspace.specs.Commands.{replay_from}
 use Rattle.keyspace.specs.Keyspace.{Keyspace}

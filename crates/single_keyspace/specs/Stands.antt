@@ -1,9 +1,9 @@
 -- What holds of a cluster in a run, slot by slot.
 use Rattle.std.specs.Prelude.{◌≡◌, ℕ, List, [], ◌∷◌, length, Contains, Some, Result, Ok, Err, slice_get}
-use Rattle.command.specs.Keys.{keys_of}
-use Rattle.command.specs.Table.{command_of}
-use Rattle.command.specs.declared.command.Command.{Command}
-use Rattle.command.specs.declared.fault.CommandFault.{CommandFault}
+use Rattle.command_table.specs.Keys.{keys_of}
+use Rattle.command_table.specs.Table.{command_of}
+use Rattle.command_table.specs.declared.command.Command.{Command}
+use Rattle.command_table.specs.declared.fault.CommandFault.{CommandFault}
 use Rattle.key_slot.specs.Slot.{hash_slot}
 use Rattle.keyspace.specs.Keyspace.{Keyspace}
 use Rattle.keyspace.specs.declared.value.Value.{Value}

@@ -3,10 +3,10 @@ ghost use Rattle.std.specs.Prelude.{◌≡◌};
 ghost use Rattle.std.specs.Option.{option_copied};
 ghost use Rattle.slot_moves.specs.Importing.{import_verdict, new_import};
 
-use crate::move_no::MoveNo;
 use crate::numbering::{is_named, new_number};
 use crate::order::{Order, Standing};
 use crate::running::Move;
+use key_slot::MoveNo;
 use slot_table::NodeNo;
 
 /// What becomes of CLUSTER SETSLOT slot IMPORTING node. All but `Begins` change nothing.

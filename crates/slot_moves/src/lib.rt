@@ -4,7 +4,6 @@
 mod ending;
 mod importing;
 mod migrating;
-mod move_no;
 mod numbering;
 mod order;
 mod running;
@@ -13,8 +12,8 @@ mod state;
 
 pub use ending::{NodeVerdict, epoch_after_import};
 pub use importing::ImportVerdict;
+pub use key_slot::MoveNo;
 pub use migrating::MigrateVerdict;
-pub use move_no::MoveNo;
 pub use order::{Order, Standing};
 pub use running::Move;
 pub use slot_moves::SlotMoves;

@@ -2,7 +2,7 @@
 ghost use Rattle.std.specs.Prelude.{◌≡◌};
 ghost use Rattle.slot_moves.specs.Numbers.{new_number, is_named};
 
-use crate::move_no::MoveNo;
+use key_slot::MoveNo;
 use slot_table::NodeNo;
 
 // The number of a new move of a slot, or `None` where there is none above the last one.

@@ -1,6 +1,5 @@
 //! Orders to move a slot, and what a node has to know to answer one.
-use crate::move_no::MoveNo;
-use key_slot::Slot;
+use key_slot::{MoveNo, Slot};
 use slot_table::NodeNo;
 
 /// The words behind CLUSTER SETSLOT, without the one for IMPORTING, MIGRATING or NODE.

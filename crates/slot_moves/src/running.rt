@@ -1,6 +1,6 @@
 //! A move of a slot that is under way.
-use crate::move_no::MoveNo;
 use byte_string::ByteString;
+use key_slot::MoveNo;
 use slot_table::{Epoch, NodeNo};
 
 /// A node's part in a move of a slot.

@@ -1,13 +1,13 @@
 -- The words that a client sends, and where they go (Redis Cluster specification, "Keys distribution model", "ASK redirection").
 use Rattle.std.specs.Prelude.{ℕ, List, [], ◌∷◌, Bool, true, false, Option, Some, None, Result, Ok, Err, codes, decimal, option_map, slice_get, slice_index_or, unwrap_or}
 use Rattle.key_slot.specs.Slot.{hash_slot}
-use Rattle.command.specs.Keys.{keys_of}
-use Rattle.command.specs.Names.{name_of}
-use Rattle.command.specs.Table.{command_of}
-use Rattle.command.specs.declared.command.Command.{Command}
-use Rattle.command.specs.declared.fault.CommandFault.{CommandFault}
-use Rattle.command.specs.declared.names.Name.{Name}
-use Rattle.command.specs.declared.names.Name.TheVariants.{Cluster, Asking, Migrate}
+use Rattle.command_table.specs.Keys.{keys_of}
+use Rattle.command_table.specs.Names.{name_of}
+use Rattle.command_table.specs.Table.{command_of}
+use Rattle.command_table.specs.declared.command.Command.{Command}
+use Rattle.command_table.specs.declared.fault.CommandFault.{CommandFault}
+use Rattle.command_table.specs.declared.names.Name.{Name}
+use Rattle.command_table.specs.declared.names.Name.TheVariants.{Cluster, Asking, Migrate}
 use Rattle.smart_client.specs.State.{ClientState}
 
 -- `CLUSTER NUMBERED`: this project's own command, after which ASK names the number of the move

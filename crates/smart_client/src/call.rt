@@ -1,6 +1,6 @@
 //! A call that is under way.
 
-use command::Positive;
+use key_slot::MoveNo;
 use resp2::Words;
 
 /// What a call waits for.
@@ -24,7 +24,7 @@ pub(crate) struct Call {
     /// The place of the node, among the known ones, to which the command goes.
     pub to: usize,
     /// The number of the move for which ASK sent it there.
-    pub asking: Option<Positive>,
+    pub asking: Option<MoveNo>,
     /// How many redirections were followed.
     pub redirections: usize,
     /// How often the call began again for TRYAGAIN.

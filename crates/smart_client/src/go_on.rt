@@ -10,8 +10,7 @@ use crate::ended::{Ended, is_last_line};
 use crate::error_kind::ErrorKind;
 use crate::fault::ClientFault;
 use crate::requests::{asking_words, numbered_words};
-use command::Positive;
-use key_slot::Slot;
+use key_slot::{MoveNo, Slot};
 use redirection::{Address, Redirection, read_redirection};
 use resp2::{Line, Reply};
 
@@ -156,12 +155,7 @@ impl ClientCore {
     }
 
     // The command is to be asked at the address. Without the number of the move it can't be.
-    fn asked_at(
-        &mut self,
-        call: Call,
-        to: Address,
-        number: Option<Positive>,
-    ) -> Result<Action, Ended>
+    fn asked_at(&mut self, call: Call, to: Address, number: Option<MoveNo>) -> Result<Action, Ended>
         requires none { self.old.call ≡ None }
         requires call { IsCall self.old call }
         requires more { call.redirections < MOST_REDIRECTIONS }
@@ -191,7 +185,7 @@ impl ClientCore {
         &mut self,
         call: Call,
         address: Address,
-        number: Option<Positive>,
+        number: Option<MoveNo>,
     ) -> Result<Action, Ended>
         requires none { self.old.call ≡ None }
         requires call { IsCall self.old call }

@@ -1,12 +1,12 @@
 //! The requests that a client sends, and where they go.
 ghost use Rattle.std.specs.Prelude.{◌≡◌, ◌≤◌, ◌∷◌, [], IfOk, None, length, option_copied, slice_get};
-ghost use Rattle.command.specs.Keys.{data_keys, keys_of, only_data_key};
+ghost use Rattle.command_table.specs.Keys.{data_keys, keys_of, only_data_key};
 ghost use Rattle.smart_client.specs.Words.{asking_words, first_slot, is_refused, numbered_words};
 
 use byte_string::ByteString;
-use command::{Command, DataCommand, Name, Positive, split_pair};
+use command_table::{Command, DataCommand, Name, split_pair};
 use itoa::Buffer;
-use key_slot::{Slot, slot};
+use key_slot::{MoveNo, Slot, slot};
 use resp2::Words;
 use std::alloc::{AllocError, Global};
 
@@ -70,7 +70,7 @@ pub(crate) fn numbered_words(alloc: Global) -> Result<Words, AllocError>
 }
 
 /// `ASKING number`, which stands in front of a command that ASK sent to the node.
-pub(crate) fn asking_words(alloc: Global, number: Positive) -> Result<Words, AllocError>
+pub(crate) fn asking_words(alloc: Global, number: MoveNo) -> Result<Words, AllocError>
     ensures { IfOk result (λ words. words ≡ asking_words number) }
 {
     let mut buffer = Buffer::new();

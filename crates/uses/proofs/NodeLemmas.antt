@@ -4,12 +4,12 @@ use Rattle.std.proofs.lemmas.Cmp.{nat_eq_equiv}
 use Rattle.std.specs.FinMap as map
 use Rattle.std.specs.Prelude.{Option, Some, None, Ok, codes, if◌then◌else◌, is_some, slice_index_or, slice_set}
 use Rattle.resp_values.specs.declared.reply.Reply.TheVariants.{Bulk}
-use Rattle.command.specs.Table.{command_of}
-use Rattle.command.specs.Keys.{data_keys}
-use Rattle.command.specs.declared.command.Command.TheVariants.{Data}
-use Rattle.command.specs.declared.command.DataCommand.{DataCommand}
-use Rattle.command.specs.declared.command.DataCommand.TheVariants.{Get, Set}
-use Rattle.command.specs.declared.command.Condition.TheVariants.{Always}
+use Rattle.command_table.specs.Table.{command_of}
+use Rattle.command_table.specs.Keys.{data_keys}
+use Rattle.command_table.specs.declared.command.Command.TheVariants.{Data}
+use Rattle.command_table.specs.declared.command.DataCommand.{DataCommand}
+use Rattle.command_table.specs.declared.command.DataCommand.TheVariants.{Get, Set}
+use Rattle.command_table.specs.declared.command.Condition.TheVariants.{Always}
 use Rattle.keyspace.specs.Strings.{string_reply}
 use Rattle.keyspace.specs.declared.value.Value.TheVariants.{Str}
 use Rattle.slot_table.specs.declared.entry.SlotEntry.{SlotEntry}

@@ -7,7 +7,7 @@ use Rattle.resp_values.specs.Request.{IsRequest}
 use Rattle.resp2.specs.declared.fault.Fault.{Fault}
 use Rattle.resp_values.specs.declared.reply.Reply.{Reply}
 use Rattle.resp_values.specs.declared.reply.Reply.TheVariants.{Simple}
-use Rattle.command.specs.declared.error_line.ErrorLine.TheVariants as line
+use Rattle.command_table.specs.declared.error_line.ErrorLine.TheVariants as line
 use Rattle.node_step.specs.declared.event.Event.{Event}
 use Rattle.node_step.specs.declared.event.Event.TheVariants.{Open, Close, Request, Deliver, Tick}
 use Rattle.node_step.specs.declared.outputs.Outputs.{Outputs}

@@ -4,7 +4,7 @@ ghost use Rattle.std.specs.FinMap as map;
 ghost use Rattle.keyspace.specs.declared.value.Value.TheVariants.{Str};
 
 use byte_string::ByteString;
-use command::{Condition, DataCommand, Word};
+use command_table::{Condition, DataCommand, Word};
 use keyspace::{Store, commit, plan};
 use std::alloc::{AllocError, Global};
 

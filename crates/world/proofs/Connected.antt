@@ -7,16 +7,16 @@ use Rattle.std.specs.Prelude.{MatchBool, Result, Ok, Err, ⊤}
 use Rattle.bus.specs.declared.message.Body.{Body}
 use Rattle.bus.specs.declared.message.Body.TheVariants.{Copy, Ack, Drained, Claim}
 use Rattle.bus.specs.declared.message.Message.{Message}
-use Rattle.command.specs.Keys.{data_keys}
-use Rattle.command.specs.Table.{command_of}
-use Rattle.command.specs.declared.command.ClusterCommand.{ClusterCommand}
-use Rattle.command.specs.declared.command.ClusterCommand.TheVariants as cluster
-use Rattle.command.specs.declared.command.Command.{Command}
-use Rattle.command.specs.declared.command.Command.TheVariants.{Data, Cluster}
-use Rattle.command.specs.declared.command.DataCommand.{DataCommand}
-use Rattle.command.specs.declared.command.SlotOrder.{SlotOrder}
-use Rattle.command.specs.declared.command.SlotOrder.TheVariants.{Importing, Migrating, Node}
-use Rattle.command.specs.declared.fault.CommandFault.{CommandFault}
+use Rattle.command_table.specs.Keys.{data_keys}
+use Rattle.command_table.specs.Table.{command_of}
+use Rattle.command_table.specs.declared.command.ClusterCommand.{ClusterCommand}
+use Rattle.command_table.specs.declared.command.ClusterCommand.TheVariants as cluster
+use Rattle.command_table.specs.declared.command.Command.{Command}
+use Rattle.command_table.specs.declared.command.Command.TheVariants.{Data, Cluster}
+use Rattle.command_table.specs.declared.command.DataCommand.{DataCommand}
+use Rattle.command_table.specs.declared.command.SlotOrder.{SlotOrder}
+use Rattle.command_table.specs.declared.command.SlotOrder.TheVariants.{Importing, Migrating, Node}
+use Rattle.command_table.specs.declared.fault.CommandFault.{CommandFault}
 use Rattle.connections.specs.Connections.{ConnectionTable, aged, all_aged, all_freed, connection_at, freed, is_over, may_ask, open_at, opens_at, shortened, updated, waits_so, with_change, with_generation}
 use Rattle.connections.specs.declared.conn.Conn.{Conn}
 use Rattle.connections.specs.declared.conn.Connection.{Connection}

@@ -8,12 +8,12 @@ use Rattle.std.specs.List.{list_all}
 use Rattle.std.specs.Prelude.{IfSome, slice_get}
 use Rattle.cluster_config.specs.Config.{ClusterConfig, IsCluster, all_pairs, is_elsewhere}
 use Rattle.cluster_config.specs.declared.config.NodeConfig.{NodeConfig}
-use Rattle.command.specs.Table.{command_of}
-use Rattle.command.specs.declared.command.ClusterCommand.TheVariants as cluster
-use Rattle.command.specs.declared.command.Command.{Command}
-use Rattle.command.specs.declared.command.Command.TheVariants.{Cluster}
-use Rattle.command.specs.declared.error_line.ErrorLine.TheVariants.{Exhausted}
-use Rattle.command.specs.declared.fault.CommandFault.{CommandFault}
+use Rattle.command_table.specs.Table.{command_of}
+use Rattle.command_table.specs.declared.command.ClusterCommand.TheVariants as cluster
+use Rattle.command_table.specs.declared.command.Command.{Command}
+use Rattle.command_table.specs.declared.command.Command.TheVariants.{Cluster}
+use Rattle.command_table.specs.declared.error_line.ErrorLine.TheVariants.{Exhausted}
+use Rattle.command_table.specs.declared.fault.CommandFault.{CommandFault}
 use Rattle.connections.specs.declared.conn.Conn.{Conn}
 use Rattle.node_step.specs.Outcome.{error}
 use Rattle.node_step.specs.Requests.{asking_for}

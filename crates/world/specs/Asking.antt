@@ -4,7 +4,7 @@ use Rattle.std.specs.Prelude.{◌≡◌, ◌<◌, ◌⊎◌, ◌∷◌, ℕ, fal
 use Rattle.std.specs.List.{AllByRecursion}
 use Rattle.cluster_config.specs.Config.{ClusterConfig}
 use Rattle.cluster_config.specs.declared.config.NodeConfig.{NodeConfig}
-use Rattle.command.specs.declared.error_line.ErrorLine.TheVariants.{Exhausted}
+use Rattle.command_table.specs.declared.error_line.ErrorLine.TheVariants.{Exhausted}
 use Rattle.connections.specs.Connections.{connection_at, opens_at}
 use Rattle.connections.specs.declared.conn.Conn.{Conn}
 use Rattle.node_step.specs.Outcome.{error}

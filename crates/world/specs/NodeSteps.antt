@@ -2,7 +2,7 @@
 use Rattle.std.specs.Prelude.{◌≡◌, ◌⊎◌, ◌++◌, ◌&&◌, ◌||◌, ◌∷◌, ℕ, zero, suc, Bool, false, List, [], map, Option, Some, None, MatchBool, slice_get, codes}
 use Rattle.std.specs.Str.{str_eq_ignore_ascii_case}
 use Rattle.bus.specs.declared.message.Message.{Message}
-use Rattle.command.specs.declared.error_line.ErrorLine.TheVariants.{Exhausted}
+use Rattle.command_table.specs.declared.error_line.ErrorLine.TheVariants.{Exhausted}
 use Rattle.connections.specs.declared.conn.Conn.{Conn}
 use Rattle.node_step.specs.Outcome.{error}
 use Rattle.node_step.specs.declared.event.Event.{Event}

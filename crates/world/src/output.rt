@@ -1,12 +1,12 @@
 //! What comes out of a step of a world.
 ghost use Rattle.std.specs.Prelude.{◌≡◌, ◌≤◌, ◌++◌, ◌∷◌, [], map, length, drop, IfOk, OnOk};
 ghost use Rattle.node_step.specs.Outcome.{error};
-ghost use Rattle.command.specs.declared.error_line.ErrorLine.TheVariants.{Exhausted};
+ghost use Rattle.command_table.specs.declared.error_line.ErrorLine.TheVariants.{Exhausted};
 ghost use Rattle.world.specs.Outputs.{numbered, own_reply, released_reply};
 ghost use Rattle.world.specs.declared.output.Output.TheVariants.{Admin, Nothing};
 
 use bus::Message;
-use command::ErrorLine;
+use command_table::ErrorLine;
 use node_core::{Release, Response};
 use resp_values::Reply;
 use smart_client::ClientFault;

@@ -1,6 +1,6 @@
 //! Requests of clients, on connections that stay open.
 ghost use Rattle.std.specs.Prelude.{◌≡◌, ◌<◌, ◌≤◌, [], Some, drop, length, IfOk, OnOk};
-ghost use Rattle.command.specs.declared.error_line.ErrorLine.TheVariants.{Exhausted};
+ghost use Rattle.command_table.specs.declared.error_line.ErrorLine.TheVariants.{Exhausted};
 ghost use Rattle.node_step.specs.Outcome.{error};
 ghost use Rattle.node_step.specs.declared.event.Event.TheVariants.{Request};
 ghost use Rattle.world.specs.Asking.{MayTake};
@@ -11,7 +11,7 @@ ghost use Rattle.world.specs.View.{GoesOn, IsKept};
 
 use crate::output::Output;
 use crate::run::Run;
-use command::ErrorLine;
+use command_table::ErrorLine;
 use connections::Conn;
 use node_core::{Event, Outputs, Response};
 use resp_values::{Reply, Words};

@@ -1,5 +1,5 @@
 use Rattle.std.proofs.Common.{◌≡◌, ◌++◌, length}
-use Rattle.command.specs.Pairs.{pairs_in}
+use Rattle.command_table.specs.Pairs.{pairs_in}
 use Rattle.keyspace.specs.Hashes.{sets}
 use Rattle.keyspace.proofs.hash_changes.sets.Given as goal
 

@@ -1,7 +1,7 @@
 use Rattle.std.proofs.Common.{◌≡◌, [], ◌∷◌, IfOk, Some, Ok, Err, rules, to_z, of_z, w64, sym, ap, subst, ◌∙◌}
 use Rattle.std.specs.Fmt.{signed_decimal}
 use Rattle.std.specs.Option.{option_copied}
-use Rattle.command.specs.declared.error_line.ErrorLine.TheVariants.{HashNotAnInteger}
+use Rattle.command_table.specs.declared.error_line.ErrorLine.TheVariants.{HashNotAnInteger}
 use Rattle.hash.specs.Pairs.{fields_changed, value_of}
 use Rattle.keyspace.proofs.Committed.{committed_values}
 use Rattle.keyspace.proofs.Left.{sum_left, sum_refused}

@@ -1,5 +1,5 @@
 use Rattle.std.proofs.Common.{◌≡◌, ◌++◌, length}
-use Rattle.command.specs.Pairs.{pairs_in}
+use Rattle.command_table.specs.Pairs.{pairs_in}
 use Rattle.keyspace.proofs.string_pairs.kept.Given as goal
 
 -- the pairs so far, and those of the rest

@@ -1,5 +1,5 @@
 use Rattle.std.proofs.Common.{rules, ◌≡◌, Some, None}
-use Rattle.command.specs.Numbers.{count_of}
+use Rattle.command_table.specs.Numbers.{count_of}
 use Rattle.world.specs.declared.step.Step.TheVariants.{Admin}
 use Rattle.simulator.specs.Lines.{words}
 use Rattle.simulator.specs.Script.{request_of}

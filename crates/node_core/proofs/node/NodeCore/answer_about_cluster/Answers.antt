@@ -1,14 +1,13 @@
-use Rattle.std.proofs.Common.{rules, ◌≡◌, ℕ, Option, List, Ok, true, false, sym, ap, subst, ◌∙◌, to_z, of_z, w64}
+use Rattle.std.proofs.Common.{rules, ◌≡◌, List, Ok, true, false, sym, ap, subst, ◌∙◌, to_z, of_z, w64}
 use Rattle.std.specs.List.{position}
 use Rattle.std.specs.Str.{bytes_eq}
 use Rattle.cluster_config.specs.declared.config.NodeConfig.{NodeConfig}
-use Rattle.command.specs.declared.command.ClusterCommand.{ClusterCommand}
-use Rattle.command.specs.declared.command.Command.TheVariants.{Cluster}
+use Rattle.command_table.specs.declared.command.ClusterCommand.{ClusterCommand}
+use Rattle.command_table.specs.declared.command.Command.TheVariants.{Cluster}
 use Rattle.node_core.specs.Comes.{AnswersSo, Drafts}
-use Rattle.node_core.specs.Orders.{Obeys}
 use Rattle.node_core.proofs.AnswerLemmas.{asking_answered, migration_answered, migration_exhausted, order_answered, order_exhausted}
 use Rattle.node_step.specs.Copies.{copy_outcome, copy_verdict_on, is_at}
-use Rattle.node_step.specs.Requests.{has_copy_number, has_number, has_order_number, using_up}
+use Rattle.node_step.specs.Requests.{has_copy_number, has_number, using_up}
 use Rattle.node_step.specs.State.{NodeState}
 use Rattle.node_core.proofs.node.NodeCore.answer_about_cluster.Goals as goal
 
@@ -18,8 +17,7 @@ returns-in_err-obey-in-SetSlot-clause-exhausted g c = λ exhausted.
     (order_exhausted c.args.self.now c.args.conn c.in-SetSlot.slot c.in-SetSlot.order c.in-SetSlot.node c.node_with_id.result c.in-SetSlot.number c.self.inside.config.nodes
     (ap (λ (node : NodeState). node.config.nodes) c.self.view_is)
     (c.node_with_id.ensures ∙ ap (λ id. position (λ (node : NodeConfig). bytes_eq node.id id) c.self.inside.config.nodes) (c.as_slice.ensures ∙ c.deref.ensures))
-    (subst (λ (number : Option ℕ). has_order_number c.args.self.now c.in-SetSlot.slot c.in-SetSlot.order c.node_with_id.result number ≡ false) c.named_number.ensures
-    (c.in_err-obey-in-SetSlot.ensures.exhausted (search rules))))
+    (c.in_err-obey-in-SetSlot.ensures.exhausted (search rules)))
 
 pub returns-in_ok-obey-in-SetSlot-clause-answer : goal.returns-in_ok-obey-in-SetSlot-clause-answer
 returns-in_ok-obey-in-SetSlot-clause-answer g c =
@@ -28,8 +26,7 @@ returns-in_ok-obey-in-SetSlot-clause-answer g c =
     (order_answered c.args.self.now c.args.conn c.in-SetSlot.slot c.in-SetSlot.order c.in-SetSlot.node c.node_with_id.result c.in-SetSlot.number c.self.inside.config.nodes
     draft (ap (λ (node : NodeState). node.config.nodes) c.self.view_is)
     (c.node_with_id.ensures ∙ ap (λ id. position (λ (node : NodeConfig). bytes_eq node.id id) c.self.inside.config.nodes) (c.as_slice.ensures ∙ c.deref.ensures))
-    (subst (λ (number : Option ℕ). Obeys c.args.self.now c.args.conn c.in-SetSlot.slot c.in-SetSlot.order c.node_with_id.result number draft) c.named_number.ensures
-    c.in_ok-obey-in-SetSlot.ensures.obeys))
+    c.in_ok-obey-in-SetSlot.ensures.obeys)
 
 pub returns-in_err-migrate_key-in-Migrate-clause-exhausted : goal.returns-in_err-migrate_key-in-Migrate-clause-exhausted
 returns-in_err-migrate_key-in-Migrate-clause-exhausted g c = λ exhausted.

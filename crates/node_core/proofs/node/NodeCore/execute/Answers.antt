@@ -1,5 +1,5 @@
 use Rattle.std.proofs.Common.{◌∙◌}
-use Rattle.command.specs.Keys.{data_keys}
+use Rattle.command_table.specs.Keys.{data_keys}
 use Rattle.keyspace.specs.Commands.{exec}
 use Rattle.node_core.proofs.PlaceLemmas.{all_in_place, says}
 use Rattle.node_core.proofs.node.NodeCore.execute.Goals as goal

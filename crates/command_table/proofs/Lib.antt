@@ -1,0 +1,3 @@
+pub mod NumberTexts
+pub mod PairLemmas
+mod WorkedValues
