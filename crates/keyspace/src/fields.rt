@@ -7,7 +7,7 @@ ghost use Rattle.keyspace.specs.Keyspace.{fields_left, hash_of, keyspace_of, wit
 
 use crate::value::Value;
 use byte_string::ByteString;
-use hash::{BoxedHash, Hash};
+use hash::{Hash, SharedHash};
 use key_map::KeyMap;
 use std::alloc::{AllocError, Global};
 
@@ -106,5 +106,5 @@ fn new_hash(changes: FieldChanges) -> Result<Option<Value>, AllocError>
     if hash.len() == 0 {
         return Ok(None);
     }
-    Ok(Some(Value::Hash(BoxedHash::new(alloc, hash)?)))
+    Ok(Some(Value::Hash(SharedHash::new(alloc, hash)?)))
 }

@@ -15,17 +15,17 @@ use std::alloc::{AllocError, Global};
 /// Keys, each with the string that it gets. Of a repeated key the last string stays.
 pub(crate) type StringPairs = Vec<(ByteString, ByteString)>;
 
-/// The pairs, kept beyond their request.
-pub(crate) fn kept(alloc: Global, pairs: &PairList) -> Result<StringPairs, AllocError>
-    ensures { IfOk result (λ kept. kept.items ≡ pairs.now) }
+/// Copies of the pairs, which stay when their request is gone.
+pub(crate) fn copied_pairs(alloc: Global, pairs: &PairList) -> Result<StringPairs, AllocError>
+    ensures { IfOk result (λ copied. copied.items ≡ pairs.now) }
 {
     let mut rest = pairs.words();
-    let mut kept = Vec::with_capacity(alloc, rest.len() / 2)?;
+    let mut copied = Vec::with_capacity(alloc, rest.len() / 2)?;
     while let Some((key, value, others)) = split_pair(rest) {
-        kept.push((key.clone()?, value.clone()?))?;
+        copied.push((key.clone()?, value.clone()?))?;
         rest = others;
     }
-    Ok(kept)
+    Ok(copied)
 }
 
 /// Puts the strings among other new values.

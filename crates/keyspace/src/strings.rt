@@ -18,7 +18,7 @@ use crate::number::{sum, text_of};
 use crate::plans::Plan;
 use crate::replies::{integer, simple};
 use crate::store::Store;
-use crate::string_pairs::kept;
+use crate::string_pairs::copied_pairs;
 use crate::value::Value;
 use byte_string::ByteString;
 use command_table::{Condition, ErrorLine, PairList, number_in};
@@ -116,7 +116,7 @@ pub(crate) fn set_each(
         record { reply = reply; after = committed keyspace plan.new }
         ≡ exec (applied keyspace plan.old.values) (DataCommand.Mset pairs.now)) }
 {
-    plan.put_strings(kept(alloc, pairs)?);
+    plan.put_strings(copied_pairs(alloc, pairs)?);
     Ok(simple(b"OK"))
 }
 
@@ -449,7 +449,7 @@ fn type_of(value: Option<&Value>) -> &'static [u8]
     }
 }
 
-// The reply shares the bytes of the string.
+// The reply shares a long string with the store.
 fn string_reply(value: Option<&Value>) -> Result<Reply, AllocError>
     ensures { IfOk result (λ reply. reply ≡ string_reply (option_copied value.entry)) }
 {

@@ -6,7 +6,7 @@ ghost use Rattle.keyspace.specs.Rebuilding.{rebuilding};
 ghost use Rattle.resp_values.specs.Request.{IsRequest};
 
 use byte_string::ByteString;
-use hash::{BoxedHash, Hash};
+use hash::{Hash, SharedHash};
 use resp_values::Words;
 use std::alloc::{AllocError, Global};
 
@@ -16,7 +16,7 @@ pub enum Value {
     /// A string: any bytes.
     Str(ByteString),
     /// A hash: fields with their values, in the order in which the fields came. One without fields is kept at no key.
-    Hash(BoxedHash),
+    Hash(SharedHash),
 }
 
 impl Clone for Value {
@@ -30,7 +30,7 @@ impl Clone for Value {
     }
 }
 
-/// The request that makes this key with this value where the key is not there. Its words share the bytes of both.
+/// The request that makes this key with this value where the key is not there. Its words share long strings with both.
 pub fn rebuild(alloc: Global, key: &ByteString, value: &Value) -> Result<Words, AllocError>
     requires { IsRequest (rebuilding key.now value.now) }
     ensures { IfOk result (λ words. words ≡ rebuilding key.now value.now) }
