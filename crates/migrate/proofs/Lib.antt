@@ -1,2 +1,3 @@
 mod Changes
 mod Losses
+pub mod Verdicts

@@ -11,6 +11,12 @@ acknowledged_key (Some (Leaves to number copies frozen)) from move copy = if to 
 acknowledged_key (Some (Comes source number last drained)) from move copy = None
 acknowledged_key None from move copy = None
 
+-- the key whose copy is outstanding, if there is one
+abbrev pub frozen_key : Option Move → Option (List ℕ)
+frozen_key (Some (Leaves to number copies frozen)) = frozen
+frozen_key (Some (Comes from number last drained)) = None
+frozen_key None = None
+
 -- no copy is outstanding any more
 abbrev pub unfrozen : Move → Move
 unfrozen (Leaves to number copies frozen) = Leaves to number copies None

@@ -29,3 +29,11 @@ abbrev pub after_arrival : Moves → ℕ → ArrivalVerdict → Moves
 after_arrival moves slot Installs = changed_at moves slot one_more (move_of moves slot)
 after_arrival moves slot Repeats = moves
 after_arrival moves slot Ignored = moves
+
+-- the copy with that number is the last one that was installed
+abbrev pub with_last : ℕ → Move → Move
+with_last copy (Comes from number last drained) = Comes from number copy drained
+with_last copy (Leaves to number copies frozen) = Leaves to number copies frozen
+
+abbrev pub counted : Moves → ℕ → ℕ → Moves
+counted moves slot copy = changed_at moves slot (with_last copy) (move_of moves slot)

@@ -2,9 +2,10 @@
 use Rattle.std.specs.Prelude.{ℕ, ◌+◌, ◌==◌, ◌^◌, ◌-◌, nat_eq, nat_lt, Bool, if◌then◌else◌, List, Option, Some, None}
 use Rattle.std.specs.Cmp.Lexicographic.{pointwise}
 use Rattle.std.specs.FinMap as map
-use Rattle.slot_moves.specs.Moves.{Moves}
+use Rattle.slot_moves.specs.Moves.{Moves, move_of}
 use Rattle.slot_moves.specs.declared.running.Move.{Move}
 use Rattle.slot_moves.specs.declared.running.Move.TheVariants.{Leaves, Comes}
+use Rattle.migrate.specs.Arriving.{changed_at}
 use Rattle.migrate.specs.declared.sending.CopyVerdict.{CopyVerdict}
 use Rattle.migrate.specs.declared.sending.CopyVerdict.TheVariants.{WrongTarget, NoKey, CopyOutstanding, Exhausted, SendAgain, Copies}
 
@@ -39,3 +40,11 @@ after_copy_order moves slot key NoKey = moves
 after_copy_order moves slot key CopyOutstanding = moves
 after_copy_order moves slot key Exhausted = moves
 after_copy_order moves slot key (SendAgain to number copy) = moves
+
+-- the key whose copy has that number is frozen, where the slot leaves
+abbrev pub with_frozen : ℕ → List ℕ → Move → Move
+with_frozen copy key (Leaves to number copies frozen) = Leaves to number copy (Some key)
+with_frozen copy key (Comes from number last drained) = Comes from number last drained
+
+abbrev pub frozen : Moves → ℕ → ℕ → List ℕ → Moves
+frozen moves slot copy key = changed_at moves slot (with_frozen copy key) (move_of moves slot)

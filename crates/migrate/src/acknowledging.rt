@@ -2,7 +2,7 @@
 ghost use Rattle.std.specs.Prelude.{◌≡◌, IfNone, IfSome, Some};
 ghost use Rattle.std.specs.Option.{option_copied};
 ghost use Rattle.slot_moves.specs.Moves.{move_of};
-ghost use Rattle.migrate.specs.Acknowledging.{acknowledged_key, after_ack, unfrozen};
+ghost use Rattle.migrate.specs.Acknowledging.{acknowledged_key, after_ack, frozen_key, unfrozen};
 
 use byte_string::ByteString;
 use key_slot::Slot;
@@ -34,6 +34,7 @@ pub fn acknowledged_key<'m>(
 /// Takes an acknowledgement, and hands out the key whose copy it is, if that copy is outstanding. It takes no memory.
 ///
 /// The key is not frozen any more. To delete it is left to the caller.
+#[tactic(auto, using(crate::proofs::Verdicts::acknowledged_is_frozen))]
 pub fn on_ack(
     moves: &mut SlotMoves,
     slot: Slot,
@@ -45,15 +46,22 @@ pub fn on_ack(
     ensures some { IfSome result (λ key. moves.new ≡ after_ack moves.old slot) }
     ensures none { IfNone result (moves.new ≡ moves.old) }
 {
-    acknowledge(moves.get_mut(slot)?, from, number, copy)
+    acknowledged_key(moves.get(slot), from, number, copy)?;
+    unfreeze(moves, slot)
 }
 
-fn acknowledge(running: &mut Move, from: NodeNo, number: MoveNo, copy: u64) -> Option<ByteString>
-    ensures key { result ≡ acknowledged_key (Some running.old) from number copy }
-    ensures some { IfSome result (λ key. running.new ≡ unfrozen running.old) }
-    ensures none { IfNone result (running.new ≡ running.old) }
+/// Hands out the key whose copy is outstanding, if there is one. The key is not frozen any more. It takes no memory.
+pub fn unfreeze(moves: &mut SlotMoves, slot: Slot) -> Option<ByteString>
+    ensures key { result ≡ frozen_key (move_of moves.old slot) }
+    ensures moves { moves.new ≡ after_ack moves.old slot }
 {
-    acknowledged_key(Some(&*running), from, number, copy)?;
+    take_frozen(moves.get_mut(slot)?)
+}
+
+fn take_frozen(running: &mut Move) -> Option<ByteString>
+    ensures key { result ≡ frozen_key (Some running.old) }
+    ensures left { running.new ≡ unfrozen running.old }
+{
     match running {
         Move::Leaves { frozen, .. } => frozen.take(),
         Move::Comes { .. } => None,

@@ -1,8 +1,8 @@
 //! What becomes of a copy that arrives.
-ghost use Rattle.std.specs.Prelude.{◌≡◌, ◌≢◌, Some};
+ghost use Rattle.std.specs.Prelude.{◌≡◌};
 ghost use Rattle.std.specs.Option.{option_copied};
 ghost use Rattle.slot_moves.specs.Moves.{move_of};
-ghost use Rattle.migrate.specs.Arriving.{arrival_verdict, after_arrival, by_number, one_more};
+ghost use Rattle.migrate.specs.Arriving.{arrival_verdict, after_arrival, by_number, counted, with_last};
 
 use key_slot::Slot;
 use slot_moves::{Move, MoveNo, SlotMoves};
@@ -60,6 +60,7 @@ fn by_number(last: u64, copy: u64) -> ArrivalVerdict
 /// Counts a copy that arrives, if it is to be installed. It takes no memory.
 ///
 /// To install its key and to acknowledge it is left to the caller.
+#[tactic(auto, using(crate::proofs::Verdicts::installs_count))]
 pub fn on_copy(
     moves: &mut SlotMoves,
     slot: Slot,
@@ -71,28 +72,27 @@ pub fn on_copy(
     ensures verdict { result ≡ arrival_verdict (move_of moves.old slot) from number copy fits }
     ensures moves { moves.new ≡ after_arrival moves.old slot result }
 {
-    match moves.get_mut(slot) {
-        None => ArrivalVerdict::Ignored,
-        Some(running) => receive(running, from, number, copy, fits),
+    let verdict = arrival_verdict(moves.get(slot), from, number, copy, fits);
+    if verdict == ArrivalVerdict::Installs {
+        count_copy(moves, slot, copy);
+    }
+    verdict
+}
+
+/// Notes that the copy with that number is the last one that was installed of the slot, if the slot comes to this node.
+/// It takes no memory.
+pub fn count_copy(moves: &mut SlotMoves, slot: Slot, copy: u64)
+    ensures { moves.new ≡ counted moves.old slot copy }
+{
+    if let Some(running) = moves.get_mut(slot) {
+        put_last(running, copy);
     }
 }
 
-fn receive(
-    running: &mut Move,
-    from: NodeNo,
-    number: MoveNo,
-    copy: u64,
-    fits: bool,
-) -> ArrivalVerdict
-    ensures verdict { result ≡ arrival_verdict (Some running.old) from number copy fits }
-    ensures installs { result ≡ ArrivalVerdict.Installs → running.new ≡ one_more running.old }
-    ensures same { result ≢ ArrivalVerdict.Installs → running.new ≡ running.old }
+fn put_last(running: &mut Move, copy: u64)
+    ensures { running.new ≡ with_last copy running.old }
 {
-    let verdict = arrival_verdict(Some(&*running), from, number, copy, fits);
-    if verdict == ArrivalVerdict::Installs {
-        if let Move::Comes { last, .. } = running {
-            *last = copy;
-        }
+    if let Move::Comes { last, .. } = running {
+        *last = copy;
     }
-    verdict
 }

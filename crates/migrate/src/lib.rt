@@ -8,9 +8,9 @@ mod losing;
 mod resending;
 mod sending;
 
-pub use acknowledging::{acknowledged_key, on_ack};
-pub use arriving::{ArrivalVerdict, arrival_verdict, on_copy};
+pub use acknowledging::{acknowledged_key, on_ack, unfreeze};
+pub use arriving::{ArrivalVerdict, arrival_verdict, count_copy, on_copy};
 pub use draining::on_drained;
 pub use losing::on_lost;
 pub use resending::{Resend, resent};
-pub use sending::{CopyVerdict, begin, copy_verdict};
+pub use sending::{CopyVerdict, begin, copy_verdict, freeze};

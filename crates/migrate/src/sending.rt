@@ -1,8 +1,8 @@
 //! What becomes of an order to copy a key to the node that its slot goes to.
-ghost use Rattle.std.specs.Prelude.{◌≡◌, Some};
+ghost use Rattle.std.specs.Prelude.{◌≡◌};
 ghost use Rattle.std.specs.Option.{option_copied};
 ghost use Rattle.slot_moves.specs.Moves.{move_of};
-ghost use Rattle.migrate.specs.Sending.{copy_verdict, after_copy_order, beside_copy, next_copy};
+ghost use Rattle.migrate.specs.Sending.{copy_verdict, after_copy_order, beside_copy, frozen, next_copy, with_frozen};
 
 use byte_string::ByteString;
 use key_slot::Slot;
@@ -105,6 +105,7 @@ fn beside_copy(to: NodeNo, number: MoveNo, copies: u64, frozen: &[u8], key: &[u8
 /// Obeys an order to copy the key to the target, if nothing stands against it. It takes no memory.
 ///
 /// A key that is copied is frozen until its copy is acknowledged. To send the copy is left to the caller.
+#[tactic(auto, using(crate::proofs::Verdicts::copies_freeze))]
 pub fn begin(
     moves: &mut SlotMoves,
     slot: Slot,
@@ -116,22 +117,26 @@ pub fn begin(
     ensures moves { moves.new ≡ after_copy_order moves.old slot key result }
 {
     let verdict = copy_verdict(moves.get(slot), target, key.as_slice(), is_there);
-    if let CopyVerdict::Copies { to, number, copy } = verdict {
-        if let Some(running) = moves.get_mut(slot) {
-            *running = with_frozen(to, number, copy, key);
-        }
+    if let CopyVerdict::Copies { copy, .. } = verdict {
+        freeze(moves, slot, copy, key);
     }
     verdict
 }
 
-// The move once the copy with that number is made of the key.
-fn with_frozen(to: NodeNo, number: MoveNo, copy: u64, key: ByteString) -> Move
-    ensures { result ≡ Move.Leaves to number copy (Some key) }
+/// Freezes the key, whose copy has that number, if the slot leaves this node. It takes no memory.
+pub fn freeze(moves: &mut SlotMoves, slot: Slot, copy: u64, key: ByteString)
+    ensures { moves.new ≡ frozen moves.old slot copy key }
 {
-    Move::Leaves {
-        to,
-        number,
-        copies: copy,
-        frozen: Some(key),
+    if let Some(running) = moves.get_mut(slot) {
+        put_frozen(running, copy, key);
+    }
+}
+
+fn put_frozen(running: &mut Move, copy: u64, key: ByteString)
+    ensures { running.new ≡ with_frozen copy key running.old }
+{
+    if let Move::Leaves { copies, frozen, .. } = running {
+        *copies = copy;
+        *frozen = Some(key);
     }
 }

@@ -134,15 +134,29 @@ impl SlotMoves {
         let slot = order.slot;
         let verdict = self.import_verdict(at, order);
         if let ImportVerdict::Begins { from, number } = verdict {
-            let comes = Move::Comes {
-                from,
-                number,
-                last: 0,
-                drained: None,
-            };
-            self.begin(slot, number, comes)?;
+            self.begin_import(slot, from, number)?;
         }
         Ok(verdict)
+    }
+
+    /// The slot, which has no move, comes from that node under that number.
+    pub fn begin_import(
+        &mut self,
+        slot: Slot,
+        from: NodeNo,
+        number: MoveNo,
+    ) -> Result<(), AllocError>
+        requires { move_of self.old slot ≡ None }
+        ensures ok { OnOk result (self.new ≡ begun self.old slot number (Move.Comes from number 0 None)) }
+        ensures err { OnErr result (self.new ≡ self.old) }
+    {
+        let comes = Move::Comes {
+            from,
+            number,
+            last: 0,
+            drained: None,
+        };
+        self.begin(slot, number, comes)
     }
 
     /// Obeys CLUSTER SETSLOT slot MIGRATING node, if nothing stands against it.
@@ -158,15 +172,29 @@ impl SlotMoves {
         let slot = order.slot;
         let verdict = self.migrate_verdict(at, order);
         if let MigrateVerdict::Begins { to, number } = verdict {
-            let leaves = Move::Leaves {
-                to,
-                number,
-                copies: 0,
-                frozen: None,
-            };
-            self.begin(slot, number, leaves)?;
+            self.begin_migration(slot, to, number)?;
         }
         Ok(verdict)
+    }
+
+    /// The slot, which has no move, leaves to that node under that number.
+    pub fn begin_migration(
+        &mut self,
+        slot: Slot,
+        to: NodeNo,
+        number: MoveNo,
+    ) -> Result<(), AllocError>
+        requires { move_of self.old slot ≡ None }
+        ensures ok { OnOk result (self.new ≡ begun self.old slot number (Move.Leaves to number 0 None)) }
+        ensures err { OnErr result (self.new ≡ self.old) }
+    {
+        let leaves = Move::Leaves {
+            to,
+            number,
+            copies: 0,
+            frozen: None,
+        };
+        self.begin(slot, number, leaves)
     }
 
     /// Obeys CLUSTER SETSLOT slot NODE node as far as moves are concerned, and takes no memory.
