@@ -5,9 +5,11 @@ mod clients;
 mod finish;
 mod mail;
 mod node;
+mod runtime;
 mod server;
 mod stop;
 
 pub use finish::{Journals, finish_nodes};
+pub use runtime::Runtime;
 pub use server::{Place, ServeFault, serve_nodes};
 pub use shared_node::{Gate, SharedNode};

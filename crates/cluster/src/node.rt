@@ -3,6 +3,7 @@ ghost use Rattle.std.specs.Prelude.{◌≡◌};
 ghost use Rattle.tickets.specs.Tickets.{IsFresh};
 
 use crate::clients::{Clients, Refused};
+use crate::runtime::Runtime;
 use crate::stop::Stop;
 use cluster_config::Config;
 use links::Inbox;
@@ -16,7 +17,6 @@ use std::alloc::{AllocError, Global};
 use std::net::{Net, TcpListener, TcpStream};
 use std::sync::{Arc, Wait};
 use std::thread;
-use std::thread::Threads;
 use std::time::Duration;
 use tickets::Seat;
 
@@ -75,10 +75,10 @@ impl<K: Deployment, L: Log> Node<K, L> {
 pub(crate) fn accept_clients<
     K: Deployment + Send + Sync + 'static,
     L: Log + Drop + Send + 'static,
-    R: Threads + Wait + Copy + Drop + Send + Sync + 'static,
+    R: Runtime,
 >(rt: R, alloc: Global, node: &Arc<Node<K, L>, Global>, clients: &Arc<Clients, Global>, stop: &Stop)
 where
-    L::Kept: Send + 'static,
+    L::Record: Send + 'static,
 {
     for stream in node.listener.incoming() {
         if stop.has_ended() {
@@ -95,11 +95,7 @@ where
 }
 
 // Starts the thread of a client. Where that fails its connection is closed.
-fn accept<
-    K: Deployment + Send + Sync + 'static,
-    L: Log + Drop + Send + 'static,
-    R: Threads + Wait + Copy + Drop + Send + Sync + 'static,
->(
+fn accept<K: Deployment + Send + Sync + 'static, L: Log + Drop + Send + 'static, R: Runtime>(
     rt: R,
     alloc: Global,
     node: &Arc<Node<K, L>, Global>,
@@ -107,7 +103,7 @@ fn accept<
     stream: TcpStream,
 ) -> Result<(), Refused>
 where
-    L::Kept: Send + 'static,
+    L::Record: Send + 'static,
 {
     let stream = Arc::new(alloc, stream).map_err(AllocError::from)?;
     let client = clients.add(&rt, &stream)?;
@@ -118,11 +114,7 @@ where
     Ok(())
 }
 
-fn start_client<
-    K: Deployment + Send + Sync + 'static,
-    L: Log + Drop + Send + 'static,
-    R: Threads + Wait + Copy + Drop + Send + Sync + 'static,
->(
+fn start_client<K: Deployment + Send + Sync + 'static, L: Log + Drop + Send + 'static, R: Runtime>(
     rt: R,
     alloc: Global,
     node: &Arc<Node<K, L>, Global>,
@@ -131,7 +123,7 @@ fn start_client<
     client: usize,
 ) -> Result<(), Refused>
 where
-    L::Kept: Send + 'static,
+    L::Record: Send + 'static,
 {
     let Ok(node) = Arc::try_clone(node) else {
         return Err(Refused);

@@ -5,15 +5,16 @@ ghost use Rattle.tickets.specs.Tickets.{IsFresh};
 use crate::clients::Clients;
 use crate::mail::Carrier;
 use crate::node::{Node, accept_clients, pass_time};
+use crate::runtime::Runtime;
 use crate::stop::Stop;
 use cluster_config::Config;
 use node_cell::{Deployment, Log, NodeCell};
 use slot_table::NodeNo;
 use std::alloc::{AllocError, Global};
-use std::net::{Net, TcpListener, TcpStream};
-use std::sync::{Arc, Wait};
+use std::net::TcpListener;
+use std::sync::Arc;
 use std::thread;
-use std::thread::{JoinHandle, Threads};
+use std::thread::JoinHandle;
 use std::time::Duration;
 use tickets::Seat;
 
@@ -51,14 +52,7 @@ pub struct Place {
 pub fn serve_nodes<
     K: Deployment + Send + Sync + 'static,
     L: Log + Drop + Send + 'static,
-    R: Threads
-        + Wait
-        + Net<Listener = TcpListener, Stream = TcpStream>
-        + Copy
-        + Drop
-        + Send
-        + Sync
-        + 'static,
+    R: Runtime,
 >(
     rt: R,
     alloc: Global,
@@ -67,7 +61,7 @@ pub fn serve_nodes<
     ticks: Option<u64>,
 ) -> Result<Vec<NodeCell<K, L>>, ServeFault>
 where
-    L::Kept: Send + 'static,
+    L::Record: Send + 'static,
     requires cluster { config.now ≡ K.config }
     requires seats { All (λ place. IsFresh K.table K.seats place.seat) places.items }
     ensures { IfOk result (λ cells. vec_len cells ≡ length places.items) }
@@ -79,18 +73,7 @@ where
 }
 
 // Runs the nodes until the first of them has made `ticks` ticks, or for ever.
-fn run_all<
-    K: Deployment + Send + Sync + 'static,
-    L: Log + Drop + Send + 'static,
-    R: Threads
-        + Wait
-        + Net<Listener = TcpListener, Stream = TcpStream>
-        + Copy
-        + Drop
-        + Send
-        + Sync
-        + 'static,
->(
+fn run_all<K: Deployment + Send + Sync + 'static, L: Log + Drop + Send + 'static, R: Runtime>(
     rt: R,
     alloc: Global,
     nodes: &[Arc<Node<K, L>, Global>],
@@ -98,25 +81,14 @@ fn run_all<
     ticks: Option<u64>,
 ) -> Result<(), ServeFault>
 where
-    L::Kept: Send + 'static,
+    L::Record: Send + 'static,
 {
     let clients = Arc::new(alloc, Clients::new(alloc)).map_err(AllocError::from)?;
     let stop = Arc::new(alloc, Stop::new()).map_err(AllocError::from)?;
     run_with(rt, alloc, nodes, &clients, &stop, interval, ticks)
 }
 
-fn run_with<
-    K: Deployment + Send + Sync + 'static,
-    L: Log + Drop + Send + 'static,
-    R: Threads
-        + Wait
-        + Net<Listener = TcpListener, Stream = TcpStream>
-        + Copy
-        + Drop
-        + Send
-        + Sync
-        + 'static,
->(
+fn run_with<K: Deployment + Send + Sync + 'static, L: Log + Drop + Send + 'static, R: Runtime>(
     rt: R,
     alloc: Global,
     nodes: &[Arc<Node<K, L>, Global>],
@@ -126,7 +98,7 @@ fn run_with<
     ticks: Option<u64>,
 ) -> Result<(), ServeFault>
 where
-    L::Kept: Send + 'static,
+    L::Record: Send + 'static,
 {
     let mut threads = Vec::with_capacity(alloc, 3 * nodes.len())?;
     let started = start_all(
@@ -148,11 +120,12 @@ where
 }
 
 // Ends all connections and all threads.
-fn end_all<
-    K: Deployment,
-    L: Log + Drop,
-    R: Threads + Wait + Net<Listener = TcpListener, Stream = TcpStream>,
->(rt: &R, nodes: &[Arc<Node<K, L>, Global>], clients: &Clients, threads: Vec<JoinHandle<()>>) {
+fn end_all<K: Deployment, L: Log + Drop, R: Runtime>(
+    rt: &R,
+    nodes: &[Arc<Node<K, L>, Global>],
+    clients: &Clients,
+    threads: Vec<JoinHandle<()>>,
+) {
     for node in nodes {
         node.shared.close(rt);
     }
@@ -203,11 +176,7 @@ fn node_at<K: Deployment, L: Log + Drop>(
 }
 
 // Starts the threads of all nodes. The ticks of the first node alone are counted.
-fn start_all<
-    K: Deployment + Send + Sync + 'static,
-    L: Log + Drop + Send + 'static,
-    R: Threads + Wait + Copy + Drop + Send + Sync + 'static,
->(
+fn start_all<K: Deployment + Send + Sync + 'static, L: Log + Drop + Send + 'static, R: Runtime>(
     rt: R,
     alloc: Global,
     nodes: &[Arc<Node<K, L>, Global>],
@@ -218,20 +187,20 @@ fn start_all<
     threads: &mut Vec<JoinHandle<()>>,
 ) -> Result<(), ServeFault>
 where
-    L::Kept: Send + 'static,
+    L::Record: Send + 'static,
 {
     let mut most = ticks.unwrap_or(u64::MAX);
     for node in nodes {
-        keep(threads, start_clock(rt, node, stop, interval, most))?;
-        keep(threads, start_accepting(rt, alloc, node, clients, stop))?;
-        keep(threads, start_carrying(rt, alloc, node, nodes))?;
+        add_thread(threads, start_clock(rt, node, stop, interval, most))?;
+        add_thread(threads, start_accepting(rt, alloc, node, clients, stop))?;
+        add_thread(threads, start_carrying(rt, alloc, node, nodes))?;
         most = u64::MAX;
     }
     Ok(())
 }
 
-// Keeps a thread that was started, to be joined.
-fn keep(
+// Adds a thread that was started, to be joined.
+fn add_thread(
     threads: &mut Vec<JoinHandle<()>>,
     started: Result<JoinHandle<()>, ServeFault>,
 ) -> Result<(), ServeFault> {
@@ -241,11 +210,7 @@ fn keep(
 }
 
 // Starts the thread that lets the time of the node pass. Once there were so many ticks, the cluster ends.
-fn start_clock<
-    K: Deployment + Send + Sync + 'static,
-    L: Log + Drop + Send + 'static,
-    R: Threads + Wait + Copy + Drop + Send + Sync + 'static,
->(
+fn start_clock<K: Deployment + Send + Sync + 'static, L: Log + Drop + Send + 'static, R: Runtime>(
     rt: R,
     node: &Arc<Node<K, L>, Global>,
     stop: &Arc<Stop, Global>,
@@ -253,7 +218,7 @@ fn start_clock<
     most: u64,
 ) -> Result<JoinHandle<()>, ServeFault>
 where
-    L::Kept: Send + 'static,
+    L::Record: Send + 'static,
 {
     let Ok(node) = Arc::try_clone(node) else {
         return Err(ServeFault::Memory);
@@ -272,7 +237,7 @@ where
 fn start_accepting<
     K: Deployment + Send + Sync + 'static,
     L: Log + Drop + Send + 'static,
-    R: Threads + Wait + Copy + Drop + Send + Sync + 'static,
+    R: Runtime,
 >(
     rt: R,
     alloc: Global,
@@ -281,7 +246,7 @@ fn start_accepting<
     stop: &Arc<Stop, Global>,
 ) -> Result<JoinHandle<()>, ServeFault>
 where
-    L::Kept: Send + 'static,
+    L::Record: Send + 'static,
 {
     let Ok(node) = Arc::try_clone(node) else {
         return Err(ServeFault::Memory);
@@ -302,7 +267,7 @@ where
 fn start_carrying<
     K: Deployment + Send + Sync + 'static,
     L: Log + Drop + Send + 'static,
-    R: Threads + Wait + Copy + Drop + Send + Sync + 'static,
+    R: Runtime,
 >(
     rt: R,
     alloc: Global,
@@ -310,7 +275,7 @@ fn start_carrying<
     nodes: &[Arc<Node<K, L>, Global>],
 ) -> Result<JoinHandle<()>, ServeFault>
 where
-    L::Kept: Send + 'static,
+    L::Record: Send + 'static,
 {
     let mut carrier = Carrier::new(alloc, node, nodes)?;
     let started = thread::spawn(&rt, move || {

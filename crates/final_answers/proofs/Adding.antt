@@ -75,15 +75,15 @@ opened_adds : (old new : RunView) (node : ℕ) (conn : Option Conn) → IsOpened
 opened_adds old new node None skips = enters_adds old new node Skipped skips
 opened_adds old new node (Some conn) opened = enters_adds old new node (Made Open opened.0) opened.1
 
-connected_adds : (old new : RunView) (node : ℕ) (kept conn : Option Conn) → IsConnected old node kept conn new → Adds old new []
-connected_adds old new node kept conn = by_up (is_up old node)
+connected_adds : (old new : RunView) (node : ℕ) (before conn : Option Conn) → IsConnected old node before conn new → Adds old new []
+connected_adds old new node before conn = by_up (is_up old node)
   where
-    used_adds : (kept : Option Conn) → IsUsed old node kept conn new → Adds old new []
+    used_adds : (before : Option Conn) → IsUsed old node before conn new → Adds old new []
     used_adds None opened = opened_adds old new node conn opened
     used_adds (Some one) used = adds_nothing old new used.0
 
-    by_up : (up : Bool) → MatchBool up (IsUsed old node kept conn new) ((new ≡ old) × (conn ≡ None)) → Adds old new []
-    by_up true used = used_adds kept used
+    by_up : (up : Bool) → MatchBool up (IsUsed old node before conn new) ((new ≡ old) × (conn ≡ None)) → Adds old new []
+    by_up true used = used_adds before used
     by_up false gone = adds_nothing old new gone.0
 
 pub acts_adds : (nodes : List NodeConfig) (old : RunView) (client : ClientView) (link : Option Link) (action : Action) (outputs : List Output) (new : RunView) (after : ClientView)

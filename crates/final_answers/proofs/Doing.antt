@@ -10,7 +10,7 @@ use Rattle.smart_client.specs.declared.action.Action.TheVariants as wanted
 use Rattle.smart_client.specs.declared.call.Call.{Call}
 use Rattle.smart_client.specs.declared.call.Stage.{Stage}
 use Rattle.world.specs.Calls.{Acts, Connects, GivesUp, Tells, Uses, link_to, told_of}
-use Rattle.world.specs.Clients.{ClientView, node_at, with_kept}
+use Rattle.world.specs.Clients.{ClientView, node_at, with_connection}
 use Rattle.world.specs.View.{RunView}
 use Rattle.world.specs.declared.client.Late.{Late}
 use Rattle.world.specs.declared.client.Link.{Link}
@@ -77,14 +77,14 @@ module _ (words : List (List ℕ)) (execution : Option Reply) (nodes : List Node
   connects_then old client address outputs new after (call, is, same) nothing connects = by_conn connects.conn connects.tells
     where
       by_conn : (conn : Option Conn)
-          → Tells connects.run (with_kept client (node_at nodes address) conn) (link_to (node_at nodes address) conn) (told_of (link_to (node_at nodes address) conn)) outputs new after
+          → Tells connects.run (with_connection client (node_at nodes address) conn) (link_to (node_at nodes address) conn) (told_of (link_to (node_at nodes address) conn)) outputs new after
           → Comes client.number client.late words execution outputs after
       by_conn None tells =
           let may = fails_so words execution client.core tells.core call tells.action is nothing tells.steps in
-          uses_so words execution connects.run (record (with_kept client (node_at nodes address) None) { core = tells.core }) None tells.action outputs new after may tells.uses
+          uses_so words execution connects.run (record (with_connection client (node_at nodes address) None) { core = tells.core }) None tells.action outputs new after may tells.uses
       by_conn (Some conn) tells =
           let may = connects_so words execution client.core tells.core call tells.action is same nothing tells.steps in
-          uses_so words execution connects.run (record (with_kept client (node_at nodes address) (Some conn)) { core = tells.core }) (Some (record { node = node_at nodes address; conn = conn })) tells.action
+          uses_so words execution connects.run (record (with_connection client (node_at nodes address) (Some conn)) { core = tells.core }) (Some (record { node = node_at nodes address; conn = conn })) tells.action
           outputs new after may tells.uses
 
   -- whatever it wants

@@ -25,7 +25,7 @@ use Rattle.final_answers.proofs.Stepping.{Told, of_call_so, writes_so}
 use Rattle.final_answers.proofs.Tallies.{one_if, tally}
 use Rattle.std.specs.List.{flat_map}
 use Rattle.cluster_config.specs.Config.{IsCluster}
-use Rattle.smart_client.proofs.PlaceLemmas.{position-le}
+use Rattle.redirection.proofs.PlaceLemmas.{position-le}
 use Rattle.std.specs.Prelude.{nat_le}
 use Rattle.single_keyspace.proofs.Seen.{same_some}
 use Rattle.final_answers.proofs.Tallies.Touches.{stays}
@@ -57,13 +57,13 @@ answers-append (output.Admin node reply ∷ first) rest old mid new one more = a
 answers-append (output.Sent number message ∷ first) rest old mid new one more = answers-append first rest old mid new one more
 answers-append (output.Nothing ∷ first) rest old mid new one more = answers-append first rest old mid new one more
 
-fewer_late : (test : Late → Bool) (keeps : Late → Bool) (late : List Late) → tally test (filter keeps late) ≤ tally test late
-fewer_late test keeps [] = omega arith
-fewer_late test keeps (request ∷ late) = by_kept (fewer_late test keeps late) (keeps request)
+fewer_late : (test : Late → Bool) (passes : Late → Bool) (late : List Late) → tally test (filter passes late) ≤ tally test late
+fewer_late test passes [] = omega arith
+fewer_late test passes (request ∷ late) = by_passed (fewer_late test passes late) (passes request)
   where
-    by_kept : tally test (filter keeps late) ≤ tally test late → (kept : Bool) → tally test (cond kept (request ∷ filter keeps late) (filter keeps late)) ≤ one_if (test request) + tally test late
-    by_kept less true = omega (arith, less)
-    by_kept less false = omega (arith, less)
+    by_passed : tally test (filter passes late) ≤ tally test late → (passed : Bool) → tally test (cond passed (request ∷ filter passes late) (filter passes late)) ≤ one_if (test request) + tally test late
+    by_passed less true = omega (arith, less)
+    by_passed less false = omega (arith, less)
 
 -- what is written of the clients of the node, one after another
 record Stopped (node : ℕ) (book : Book) (clients : List ClientView) : Type 0 where
@@ -175,7 +175,7 @@ module _ (old : SceneView) (book : Book) (stands : Stands old book) (cluster_is 
           → (executions : List Execution) × Adds old.run of.run executions × Booked (step.Call number words) shown executions book of.client of.after
       by_found (Some client) is at booked =
           calls_so (numbered_at number old.clients client of.client is at) booked
-          (λ quiet. subst (λ (t : Traffic). IsOfCall old.config.nodes old.run of.client.core of.client.kept t of.client.core.call) quiet (asks_at old.config.nodes old.run old.clients (place_of number old.clients) of.client at stands.rule.clients).call)
+          (λ quiet. subst (λ (t : Traffic). IsOfCall old.config.nodes old.run of.client.core of.client.pool t of.client.core.call) quiet (asks_at old.config.nodes old.run old.clients (place_of number old.clients) of.client at stands.rule.clients).call)
       by_found None is at booked =
           let within : place_of number old.clients ≤ length old.clients = position-le (λ (client : ClientView). nat_le number client.number) old.clients in
           let same : new_client old.config number ≡ of.client = same_some (inserted_at old.clients (place_of number old.clients) (new_client old.config number) within) at in

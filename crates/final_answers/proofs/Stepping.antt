@@ -178,9 +178,9 @@ call_so book client traffic is booked under called =
     subst (HasLine book client.number traffic) called (subst (λ (t : Traffic). HasLine book client.number t client.core.call) is booked.calls)
 
 pub of_call_so : (nodes : List NodeConfig) (run : RunView) (client : ClientView) (traffic : Traffic) → client.traffic ≡ traffic → AsksWell nodes run client → (under : Option Call) → client.core.call ≡ under
-    → IsOfCall nodes run client.core client.kept traffic under
+    → IsOfCall nodes run client.core client.pool traffic under
 of_call_so nodes run client traffic is asks under called =
-    subst (IsOfCall nodes run client.core client.kept traffic) called (subst (λ (t : Traffic). IsOfCall nodes run client.core client.kept t client.core.call) is asks.call)
+    subst (IsOfCall nodes run client.core client.pool traffic) called (subst (λ (t : Traffic). IsOfCall nodes run client.core client.pool t client.core.call) is asks.call)
 
 pub told_booked : (made : Step) (outputs : List Output) (book : Book) (client after : ClientView) → begun made outputs ≡ [] → after.number ≡ client.number → Told outputs book client.number after
     → Booked made outputs [] book client after

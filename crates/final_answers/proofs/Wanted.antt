@@ -14,7 +14,7 @@ use Rattle.resp_values.specs.declared.reply.Reply.TheVariants.{Simple, Error, In
 use Rattle.smart_client.proofs.TurnCases.{failed_so}
 use Rattle.smart_client.specs.ErrorKind.{kind_of}
 use Rattle.smart_client.specs.State.{ClientState}
-use Rattle.smart_client.specs.Step.{Answer, Steps, Tells, Turn, again, allowed, answered, begun, closes, connected, ended, failed, follows, introduced, is_beyond, is_last_line, is_ok, loses, next, peer_at, place_of, redirected, replied, takes_memory, unwelcome, uses, uses_for, with_address, with_connection, with_owner, without_call}
+use Rattle.smart_client.specs.Step.{Answer, Steps, Tells, Turn, again, allowed, answered, begun, closes, connected, ended, failed, follows, introduced, is_beyond, is_last_line, is_ok, loses, next, peer_at, place_of, redirected, replied, takes_memory, unwelcome, uses, uses_for, with_address, with_connected, with_owner, without_call}
 use Rattle.smart_client.specs.Step as client
 use Rattle.smart_client.specs.Step.Turn.{Goes, Ends, Reads}
 use Rattle.smart_client.specs.Words.{is_refused, place_for}
@@ -101,7 +101,7 @@ module _ (words : List (List ℕ)) (execution : Option Reply) where
 
   connected_to : (core : ClientState) (call : Call) → call.words ≡ words → execution ≡ None → IsFine (connected core call)
   connected_to core call is nothing =
-      fine_if (peer_at core.peers call.to).is_kept _ _ (uses_to core call is nothing) (((record call { stage = stage.Introducing }, refl, is), nothing), λ takes. nothing)
+      fine_if (peer_at core.peers call.to).is_connected _ _ (uses_to core call is nothing) (((record call { stage = stage.Introducing }, refl, is), nothing), λ takes. nothing)
 
   unwelcome_tells : (reply : Reply) → execution ≡ None → book.Tells execution (unwelcome reply)
   unwelcome_tells reply nothing = by_last (is_last_line reply) refl
@@ -112,7 +112,7 @@ module _ (words : List (List ℕ)) (execution : Option Reply) where
 
   introduced_to : (core : ClientState) (call : Call) (reply : Reply) → call.words ≡ words → execution ≡ None → IsFine (introduced core call reply)
   introduced_to core call reply is nothing =
-      fine_if (is_ok reply) _ _ (uses_to (record core { peers = with_connection core.peers call.to true }) call is nothing) (fine_end (unwelcome reply) (unwelcome_tells reply nothing))
+      fine_if (is_ok reply) _ _ (uses_to (record core { peers = with_connected core.peers call.to true }) call is nothing) (fine_end (unwelcome reply) (unwelcome_tells reply nothing))
 
   allowed_to : (core : ClientState) (call : Call) (reply : Reply) → call.words ≡ words → execution ≡ None → IsFine (allowed core call reply)
   allowed_to core call reply is nothing = fine_if (is_ok reply) _ _ (sends_to core call is nothing) (fine_end (unwelcome reply) (unwelcome_tells reply nothing))

@@ -37,12 +37,12 @@ puts_out a b x y p sent empty =
 
 -- first these and then those bytes went out
 pub sends_both : (a b c : Stream) (x p : List ℕ) → Sends (change a b) x → Appends b.bytes c.bytes p → c.failures ≡ b.failures → Sends (change a c) (x ++ p)
-sends_both a b c x p sent wrote kept = record { appends = Appends-trans _ _ _ x p sent.appends wrote; kept = kept ∙ sent.kept }
+sends_both a b c x p sent wrote same = record { appends = Appends-trans _ _ _ x p sent.appends wrote; same = same ∙ sent.same }
 
 -- what waited went out, and a beginning of these bytes
 pub fails_behind : (a b c : Stream) (x p : List ℕ) → Sends (change a b) x → AppendsBeginning b.bytes c.bytes p → HasRisen b.failures c.failures → Fails (change a c) (x ++ p)
 fails_behind a b c x p sent begun risen =
-    record { begun = begun_behind _ _ _ x p sent.appends begun; risen = subst (λ n. HasRisen n c.failures) sent.kept risen }
+    record { begun = begun_behind _ _ _ x p sent.appends begun; risen = subst (λ n. HasRisen n c.failures) sent.same risen }
 
 -- a beginning of what waited went out, and nothing of these bytes
 pub fails_before : (a b : Stream) (x p : List ℕ) → Fails (change a b) x → Fails (change a b) (x ++ p)
@@ -50,18 +50,18 @@ fails_before a b x p fails = record { begun = begun_before _ _ x p fails.begun; 
 
 -- bytes were put, and then a beginning of what waits went out
 pub fails_after : (a b c : Stream) (x y p : List ℕ) → Puts (change a b) (change x y) p → b.failures ≡ a.failures → Fails (change b c) y → Fails (change a c) (x ++ p)
-fails_after a b c x y p puts kept fails =
+fails_after a b c x y p puts same fails =
     record {
       begun = subst (λ w. AppendsBeginning a.bytes c.bytes w) puts.all (begun_behind _ _ _ puts.sent y puts.appends fails.begun);
-      risen = subst (λ n. HasRisen n c.failures) kept fails.risen;
+      risen = subst (λ n. HasRisen n c.failures) same fails.risen;
     }
 
 -- bytes were put, and then all that waits went out
 pub sends_after : (a b c : Stream) (x y p : List ℕ) → Puts (change a b) (change x y) p → b.failures ≡ a.failures → Sends (change b c) y → Sends (change a c) (x ++ p)
-sends_after a b c x y p puts kept sends =
+sends_after a b c x y p puts same sends =
     record {
       appends = subst (λ w. Appends a.bytes c.bytes w) puts.all (Appends-trans _ _ _ puts.sent y puts.appends sends.appends);
-      kept = sends.kept ∙ kept;
+      same = sends.same ∙ same;
     }
 
 -- more bytes were put behind those that wait

@@ -57,11 +57,11 @@ replies_bytes-append xs ys = flat_map-append (λ (exchange : Exchange). reply_sp
 
 -- where the writer didn't fail, its count is what it was
 pub writes_on : (ended : Result Rest ConnFault) (n : ℕ) → ended ≢ Err Writer → WriterCount ended n n
-writes_on ended n other = record { failed = λ e. absurd (other e); kept = λ _. refl }
+writes_on ended n other = record { failed = λ e. absurd (other e); same = λ _. refl }
 
 -- and where it did, it has risen
 writes_no_more : (old new : ℕ) → HasRisen old new → WriterCount (Err Writer) old new
-writes_no_more old new risen = record { failed = λ _. risen; kept = λ other. absurd (other refl) }
+writes_no_more old new risen = record { failed = λ _. risen; same = λ other. absurd (other refl) }
 
 module _ (allowed : Asked → Type 0) (conn : Conn) where
   -- no request was answered yet
@@ -74,7 +74,7 @@ module _ (allowed : Asked → Type 0) (conn : Conn) where
         answered = refl;
         spelled = refl;
         puts = puts_nothing a.out a.waiting;
-        kept = refl;
+        same = refl;
       }
 
   -- first these and then those requests were answered
@@ -87,7 +87,7 @@ module _ (allowed : Asked → Type 0) (conn : Conn) where
         answered = answered_again p.requests q.requests p.exchanges q.exchanges p.answered q.answered;
         spelled = spelled_again _ _ _ p.requests q.requests p.spelled q.spelled;
         puts = rw (replies_bytes-append p.exchanges q.exchanges) (puts_again _ _ _ _ _ _ _ _ p.puts q.puts);
-        kept = q.kept ∙ p.kept;
+        same = q.same ∙ p.same;
       }
 
   -- requests without words were passed over
@@ -102,7 +102,7 @@ module _ (allowed : Asked → Type 0) (conn : Conn) where
             ∙ append-nil (with_words p.requests) ∙ p.answered;
         spelled = spelled_again _ _ _ p.requests (replicate count []) p.spelled over;
         puts = p.puts;
-        kept = p.kept;
+        same = p.same;
       }
 
   pub answers_over : (a b : Desk) (old new : ReaderState) → Answers allowed conn a b → old.pending ≡ b.pending → PassesOver old new → Answers allowed conn a (record b { pending = new.pending })
@@ -127,7 +127,7 @@ module _ (allowed : Asked → Type 0) (conn : Conn) where
         spelled = ap (λ w. w ++ bytes) p.spelled ∙ append_assoc (stream_spelling p.requests) b.pending bytes
             ∙ ap (λ w. stream_spelling p.requests ++ w) (sym same);
         puts = p.puts;
-        kept = p.kept;
+        same = p.same;
       }
 
   -- what waited went out
@@ -142,7 +142,7 @@ module _ (allowed : Asked → Type 0) (conn : Conn) where
         spelled = p.spelled;
         puts = subst (λ w. Puts (change a.out out) (change a.waiting left) w) (append-nil (replies_bytes p.exchanges))
             (puts_again _ _ _ _ _ _ _ _ p.puts (puts_waiting _ _ _ _ sent empty));
-        kept = sent.kept ∙ p.kept;
+        same = sent.same ∙ p.same;
       }
 
   -- requests were answered, and then this ended the conversation
@@ -158,7 +158,7 @@ module _ (allowed : Asked → Type 0) (conn : Conn) where
         spelled = spelled_again _ _ _ p.requests q.requests p.spelled q.spelled;
         puts = rw (replies_bytes-append p.exchanges q.exchanges) (puts_again _ _ _ _ _ _ _ _ p.puts q.puts);
         waits = q.waits;
-        count = subst (λ n. WriterCount ended n c.out.failures) p.kept q.count;
+        count = subst (λ n. WriterCount ended n c.out.failures) p.same q.count;
         ends = q.ends;
       }
 
@@ -209,7 +209,7 @@ module _ (allowed : Asked → Type 0) (conn : Conn) where
       → a.pending ≡ request_spelling words ++ b.pending
       → Adds allowed (change a.asked b.asked) (asking (Request conn words) (Ok outputs) ∷ awaited conn outputs.response (Some reply))
       → Puts (change a.out b.out) (change a.waiting b.waiting) (reply_spelling reply) → b.out.failures ≡ a.out.failures → Answers allowed conn a b
-  answers_one words outputs reply a b is_request replied spelled history puts kept =
+  answers_one words outputs reply a b is_request replied spelled history puts same =
       let exchange : Exchange = record { words = words; outputs = outputs; reply = reply; is_request = is_request; replied = replied } in
       record {
         exchanges = exchange ∷ [];
@@ -218,7 +218,7 @@ module _ (allowed : Asked → Type 0) (conn : Conn) where
         answered = one_answered words is_request;
         spelled = spelled ∙ ap (λ w. w ++ b.pending) (sym (append-nil (request_spelling words)));
         puts = rw append-nil puts;
-        kept = kept;
+        same = same;
       }
 
   -- a request was asked, and its reply went out in part
@@ -276,8 +276,8 @@ module _ (allowed : Asked → Type 0) (conn : Conn) where
   pub answers_at_once : (words : List (List ℕ)) (outputs : Outputs) (answer : Answer) (a b : Desk) → IsRequest words → outputs.response ≡ Replied answer
       → a.pending ≡ request_spelling words ++ b.pending → Adds allowed (change a.asked b.asked) (asking (Request conn words) (Ok outputs) ∷ [])
       → Puts (change a.out b.out) (change a.waiting b.waiting) (reply_spelling answer.reply) → b.out.failures ≡ a.out.failures → Answers allowed conn a b
-  answers_at_once words outputs answer a b is_request replied spelled asked puts kept =
-      answers_one words outputs answer.reply a b is_request (comes_at_once outputs answer replied) spelled (not_waited _ _ words outputs answer replied asked) puts kept
+  answers_at_once words outputs answer a b is_request replied spelled asked puts same =
+      answers_one words outputs answer.reply a b is_request (comes_at_once outputs answer replied) spelled (not_waited _ _ words outputs answer replied asked) puts same
 
   pub halts_at_once : (words : List (List ℕ)) (outputs : Outputs) (answer : Answer) (a b : Desk) (behind : List ℕ) → IsRequest words
       → outputs.response ≡ Replied answer → a.pending ≡ request_spelling words ++ behind
@@ -291,9 +291,9 @@ module _ (allowed : Asked → Type 0) (conn : Conn) where
       → a.pending ≡ request_spelling words ++ b.pending → Adds allowed (change a.asked between) (asking (Request conn words) (Ok outputs) ∷ [])
       → Adds allowed (change between b.asked) (waiting conn (Some reply) ∷ [])
       → Puts (change a.out b.out) (change a.waiting b.waiting) (reply_spelling reply) → b.out.failures ≡ a.out.failures → Answers allowed conn a b
-  answers_later words outputs reply a b between is_request parked spelled asked waited puts kept =
+  answers_later words outputs reply a b between is_request parked spelled asked waited puts same =
       answers_one words outputs reply a b is_request (comes_later outputs reply parked) spelled
-      (waits_too _ between _ words outputs (Some reply) parked asked waited) puts kept
+      (waits_too _ between _ words outputs (Some reply) parked asked waited) puts same
 
   pub halts_later : (words : List (List ℕ)) (outputs : Outputs) (reply : Reply) (a b : Desk) (between : List Asked) (behind : List ℕ) → IsRequest words
       → outputs.response ≡ Parked → a.pending ≡ request_spelling words ++ behind

@@ -37,9 +37,9 @@ writer_or_not (Err Endless) = inr (λ e. cc)
 -- what was told last stands behind all replies
 tells_last : (result : Result (Unit {0}) ConnFault) (ended : Result Rest ConnFault) (a b c : Stream) (left replies line : List ℕ) → Puts (change a b) (change [] left) replies
     → b.failures ≡ a.failures → Tells result ended (change b c) (left ++ line) → Tells result ended (change a c) (replies ++ line)
-tells_last (Err Writer) ended a b c left replies line puts kept fails = fails_after a b c [] _ _ (puts_longer _ _ _ _ _ line puts) kept fails
-tells_last result ended a b c left replies line puts kept told =
-    (told.0, sends_after a b c [] _ _ (puts_longer _ _ _ _ _ line puts) kept told.1)
+tells_last (Err Writer) ended a b c left replies line puts same fails = fails_after a b c [] _ _ (puts_longer _ _ _ _ _ line puts) same fails
+tells_last result ended a b c left replies line puts same told =
+    (told.0, sends_after a b c [] _ _ (puts_longer _ _ _ _ _ line puts) same told.1)
 
 module _ (allowed : Asked → Type 0) where
   -- there was no connection
@@ -117,4 +117,4 @@ module _ (allowed : Asked → Type 0) where
       in_full : ended ≢ Err Writer → Tells result ended (change a c) (talks.replies ++ line_of ended)
       in_full other =
           tells_last result ended a b c waiting talks.replies (line_of ended) (rw (talks.waits other) at talks.puts)
-          (talks.count.kept other) (told other)
+          (talks.count.same other) (told other)

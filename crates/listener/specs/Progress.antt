@@ -41,12 +41,12 @@ pub record Answers (allowed : Asked → Type 0) (conn : Conn) (old new : Desk) :
   pub answered : AreAnswered requests exchanges
   pub spelled : old.pending ≡ stream_spelling requests ++ new.pending
   pub puts : Puts (change old.out new.out) (change old.waiting new.waiting) (replies_bytes exchanges)
-  pub kept : new.out.failures ≡ old.out.failures
+  pub same : new.out.failures ≡ old.out.failures
 
 -- the writer's count has risen where that ended the conversation, and else is what it was
 pub record WriterCount (ended : Result Rest ConnFault) (old new : ℕ) : Type 0 where
   pub failed : ended ≡ Err Writer → HasRisen old new
-  pub kept : ended ≢ Err Writer → new ≡ old
+  pub same : ended ≢ Err Writer → new ≡ old
 
 -- whole requests were answered, and then this ended the conversation. Where the writer failed, it may have taken any part of what waits
 pub record Halts (allowed : Asked → Type 0) (conn : Conn) (ended : Result Rest ConnFault) (old new : Desk) : Type 0 where

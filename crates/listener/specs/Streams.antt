@@ -34,7 +34,7 @@ streams bytes old new = change (stream_of bytes old) (stream_of bytes new)
 -- the bytes were written, and no call failed
 pub record Sends (out : Change Stream) (bytes : List ℕ) : Type 0 where
   pub appends : Appends out.old.bytes out.new.bytes bytes
-  pub kept : out.new.failures ≡ out.old.failures
+  pub same : out.new.failures ≡ out.old.failures
 
 -- a call failed, and of the bytes a beginning was written
 pub record Fails (out : Change Stream) (bytes : List ℕ) : Type 0 where

@@ -91,7 +91,7 @@ fn answer_all<W: Write, G: NodeGate>(
 {
     'requests: loop {
         match requests.next() {
-            Ok(Some(words)) => answer(gate, conn, words, batch, writer)?,
+            Ok(Some(words)) => answer_request(gate, conn, words, batch, writer)?,
             Ok(None) => return Ok(Rest::Unfinished),
             Err(Fault::Memory) => return Err(ConnFault::Memory),
             Err(Fault::Protocol) => return Ok(Rest::BadByte),
@@ -101,7 +101,7 @@ fn answer_all<W: Write, G: NodeGate>(
 }
 
 // Asks the node, waits for its reply where that comes later, and puts the reply behind those that wait. This holds whatever bytes come behind the request.
-fn answer<W: Write, G: NodeGate>(
+fn answer_request<W: Write, G: NodeGate>(
     gate: &mut G,
     conn: Conn,
     words: Words,
@@ -117,7 +117,7 @@ fn answer<W: Write, G: NodeGate>(
         (desk (G.asked gate.new) [] batch.new.items (stream_of W.contents writer.new))) }
     ensures fault { IfErr result IsOfAnswering }
 {
-    let step = ask(gate, Event::Request(conn, words))?;
+    let step = ask_node(gate, Event::Request(conn, words))?;
     match step.response() {
         Response::Replied(answer) => {
             let Ok(()) = hand_over(gate, &answer.reply, batch, writer) else {
@@ -149,7 +149,7 @@ fn hand_over<W: Write, G: NodeGate>(
     ensures asked { G.asked gate.new ≡ G.asked gate.old }
     ensures put { OnOk result (Puts (streams W.contents writer.old writer.new)
         (change batch.old.items batch.new.items) (reply_spelling reply.now)) }
-    ensures kept { OnOk result (failures_of writer.new ≡ failures_of writer.old) }
+    ensures same { OnOk result (failures_of writer.new ≡ failures_of writer.old) }
     ensures err { OnErr result (Fails (streams W.contents writer.old writer.new)
         (batch.old.items ++ reply_spelling reply.now)) }
 {
@@ -181,13 +181,13 @@ pub fn ask_alone<G: NodeGate>(gate: &mut G, event: Event) -> Result<G::Answer, S
     ensures { Adds (IsAllowed G.may G.may_refuse G.may_give) (change (G.asked gate.old) (G.asked gate.new))
         (asking event (outcome_of G.Answer.gave result) ∷ []) }
 {
-    let answer = ask(gate, event);
+    let answer = ask_node(gate, event);
     gate.release();
     answer
 }
 
 // Asks the node once. Others wait until they are let in.
-fn ask<G: NodeGate>(gate: &mut G, event: Event) -> Result<G::Answer, StepFault>
+fn ask_node<G: NodeGate>(gate: &mut G, event: Event) -> Result<G::Answer, StepFault>
     requires { IsOwn event }
     ensures { Adds (IsAllowed G.may G.may_refuse G.may_give) (change (G.asked gate.old) (G.asked gate.new))
         (asking event (outcome_of G.Answer.gave result) ∷ []) }

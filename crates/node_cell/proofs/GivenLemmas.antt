@@ -1,4 +1,4 @@
--- Replies that are kept were given by steps of the journal.
+-- Replies that wait were given by steps of the journal.
 use Rattle.std.proofs.Common.{◌≡◌, ◌==◌, ◌||◌, ◌&&◌, ℕ, Bool, true, false, cond, not, List, [], ◌∷◌, ◌++◌, Some, length, refl, sym, ap, subst, ◌∙◌, arith}
 use Rattle.std.specs.Prelude.{All, IfSome}
 use Rattle.std.specs.List.{Contains, flat_map, list_any}
@@ -6,13 +6,13 @@ use Rattle.std.proofs.lemmas.Bool.{eqb-true}
 use Rattle.std.proofs.lemmas.Grind.{flat_map-append}
 use Rattle.std.proofs.lemmas.List.Elements.{All-append, All-cons, All-contains_itself, All-filter, All-head, All-nil, All-tail, Contains-append_left, Contains-append_right}
 use Rattle.connections.specs.declared.conn.Conn.{Conn}
-use Rattle.node_step.specs.Kept.{is_for, of_others, reply_to, without_reply_to}
+use Rattle.node_step.specs.Released.{is_for, of_others, reply_to, without_reply_to}
 use Rattle.node_step.specs.declared.event.Event.{Event}
 use Rattle.node_step.specs.declared.event.Event.TheVariants.{Open, Close, Request, Deliver, Tick}
 use Rattle.node_step.specs.declared.outputs.Outputs.{Outputs}
 use Rattle.node_step.specs.declared.outputs.Release.{Release}
 use Rattle.node_cell.specs.Journal.{IsGiven, released_by}
-use Rattle.node_cell.specs.Kept.{joined, kept_after}
+use Rattle.node_cell.specs.Undelivered.{joined, undelivered_after}
 use Rattle.node_cell.specs.declared.entry.Entry.{Entry}
 use Rattle.node_cell.specs.declared.entry.Entry.TheVariants.{Step, Skipped}
 
@@ -23,11 +23,11 @@ still_given journal entry release given =
     subst (λ (releases : List Release). Contains releases release) (sym (flat_map-append released_by journal (entry ∷ [])))
     (Contains-append_left (flat_map released_by journal) (flat_map released_by (entry ∷ [])) release given)
 
-all_still_given : (journal : List Entry) (entry : Entry) (kept : List Release) → All (IsGiven journal) kept → All (IsGiven (journal ++ entry ∷ [])) kept
+all_still_given : (journal : List Entry) (entry : Entry) (undelivered : List Release) → All (IsGiven journal) undelivered → All (IsGiven (journal ++ entry ∷ [])) undelivered
 all_still_given journal entry [] given = All-nil (IsGiven (journal ++ entry ∷ []))
-all_still_given journal entry (release ∷ kept) given =
-    All-cons (IsGiven (journal ++ entry ∷ [])) release kept (still_given journal entry release (All-head (IsGiven journal) release kept given))
-    (all_still_given journal entry kept (All-tail (IsGiven journal) release kept given))
+all_still_given journal entry (release ∷ undelivered) given =
+    All-cons (IsGiven (journal ++ entry ∷ [])) release undelivered (still_given journal entry release (All-head (IsGiven journal) release undelivered given))
+    (all_still_given journal entry undelivered (All-tail (IsGiven journal) release undelivered given))
 
 all_in : (before some : List Release) (rest : List Release) → All (Contains some) rest → All (Contains (before ++ (some ++ []))) rest
 all_in before some [] each = All-nil (Contains (before ++ (some ++ [])))
@@ -41,33 +41,33 @@ given_by_the_last journal event outputs =
     subst (λ (releases : List Release). All (Contains releases) outputs.released) (sym (flat_map-append released_by journal (Step event outputs ∷ [])))
     (all_in (flat_map released_by journal) outputs.released outputs.released (All-contains_itself outputs.released))
 
-both : (journal : List Entry) (event : Event) (outputs : Outputs) (kept : List Release) → All (IsGiven journal) kept
-    → All (IsGiven (journal ++ Step event outputs ∷ [])) (kept ++ outputs.released)
-both journal event outputs kept given =
-    All-append (IsGiven (journal ++ Step event outputs ∷ [])) kept outputs.released (all_still_given journal (Step event outputs) kept given)
+both : (journal : List Entry) (event : Event) (outputs : Outputs) (undelivered : List Release) → All (IsGiven journal) undelivered
+    → All (IsGiven (journal ++ Step event outputs ∷ [])) (undelivered ++ outputs.released)
+both journal event outputs undelivered given =
+    All-append (IsGiven (journal ++ Step event outputs ∷ [])) undelivered outputs.released (all_still_given journal (Step event outputs) undelivered given)
     (given_by_the_last journal event outputs)
 
-pub given_after : (journal : List Entry) (event : Event) (outputs : Outputs) (kept : List Release) → All (IsGiven journal) kept
-    → All (IsGiven (journal ++ Step event outputs ∷ [])) (kept_after event kept outputs.released)
-given_after journal Open outputs kept given = both journal Open outputs kept given
-given_after journal (Close conn) outputs kept given =
-    both journal (Close conn) outputs (of_others conn kept) (All-filter (λ release. not (is_for conn release)) (IsGiven journal) kept given)
-given_after journal (Request conn words) outputs kept given = both journal (Request conn words) outputs kept given
-given_after journal (Deliver message) outputs kept given = both journal (Deliver message) outputs kept given
-given_after journal Tick outputs kept given = both journal Tick outputs kept given
+pub given_after : (journal : List Entry) (event : Event) (outputs : Outputs) (undelivered : List Release) → All (IsGiven journal) undelivered
+    → All (IsGiven (journal ++ Step event outputs ∷ [])) (undelivered_after event undelivered outputs.released)
+given_after journal Open outputs undelivered given = both journal Open outputs undelivered given
+given_after journal (Close conn) outputs undelivered given =
+    both journal (Close conn) outputs (of_others conn undelivered) (All-filter (λ release. not (is_for conn release)) (IsGiven journal) undelivered given)
+given_after journal (Request conn words) outputs undelivered given = both journal (Request conn words) outputs undelivered given
+given_after journal (Deliver message) outputs undelivered given = both journal (Deliver message) outputs undelivered given
+given_after journal Tick outputs undelivered given = both journal Tick outputs undelivered given
 
-pub given_after_skip : (journal : List Entry) (ticket : ℕ) (kept : List Release) → All (IsGiven journal) kept
-    → All (IsGiven (journal ++ Skipped ticket ∷ [])) kept
-given_after_skip journal ticket kept given = all_still_given journal (Skipped ticket) kept given
+pub given_after_skip : (journal : List Entry) (ticket : ℕ) (undelivered : List Release) → All (IsGiven journal) undelivered
+    → All (IsGiven (journal ++ Skipped ticket ∷ [])) undelivered
+given_after_skip journal ticket undelivered given = all_still_given journal (Skipped ticket) undelivered given
 
 -- ---- one reply that is taken
 
-pub given_left : (conn : Conn) (P : Release → Type 0) (kept : List Release) → All P kept → All P (without_reply_to conn kept)
+pub given_left : (conn : Conn) (P : Release → Type 0) (undelivered : List Release) → All P undelivered → All P (without_reply_to conn undelivered)
 given_left conn P [] given = given
-given_left conn P (release ∷ kept) given =
-    elim (is_for conn release) as (λ b. All P (cond b kept (release ∷ without_reply_to conn kept))) [
-      | true ↦ All-tail P release kept given
-      | false ↦ All-cons P release (without_reply_to conn kept) (All-head P release kept given) (given_left conn P kept (All-tail P release kept given))
+given_left conn P (release ∷ undelivered) given =
+    elim (is_for conn release) as (λ b. All P (cond b undelivered (release ∷ without_reply_to conn undelivered))) [
+      | true ↦ All-tail P release undelivered given
+      | false ↦ All-cons P release (without_reply_to conn undelivered) (All-head P release undelivered given) (given_left conn P undelivered (All-tail P release undelivered given))
     ]
 
 first_of : (a b : Bool) → (a && b) ≡ true → a ≡ true
@@ -86,12 +86,12 @@ same_conn conn release is =
     ap (λ (k : ℕ). record { conn = record { key = k; generation = release.conn.generation }; reply = release.reply }) key in
     first ∙ ap (λ (n : ℕ). record { conn = record { key = conn.key; generation = n }; reply = release.reply }) generation
 
-pub taken_is_given : (conn : Conn) (P : Release → Type 0) (kept : List Release) → All P kept → IfSome (reply_to conn kept) (λ reply. P (record { conn = conn; reply = reply }))
+pub taken_is_given : (conn : Conn) (P : Release → Type 0) (undelivered : List Release) → All P undelivered → IfSome (reply_to conn undelivered) (λ reply. P (record { conn = conn; reply = reply }))
 taken_is_given conn P [] given = tt
-taken_is_given conn P (release ∷ kept) given =
-    elim (is_for conn release) as (λ b. is_for conn release ≡ b → IfSome (cond b (Some release.reply) (reply_to conn kept)) (λ reply. P (record { conn = conn; reply = reply }))) [
-      | true ↦ λ is. subst P (same_conn conn release is) (All-head P release kept given)
-      | false ↦ λ is. taken_is_given conn P kept (All-tail P release kept given)
+taken_is_given conn P (release ∷ undelivered) given =
+    elim (is_for conn release) as (λ b. is_for conn release ≡ b → IfSome (cond b (Some release.reply) (reply_to conn undelivered)) (λ reply. P (record { conn = conn; reply = reply }))) [
+      | true ↦ λ is. subst P (same_conn conn release is) (All-head P release undelivered given)
+      | false ↦ λ is. taken_is_given conn P undelivered (All-tail P release undelivered given)
     ] refl
 
 -- ---- whether there is something at all

@@ -1,4 +1,4 @@
 pub mod DeliveryLemmas
 pub mod GivenLemmas
 pub mod JournalLemmas
-pub mod KeptLemmas
+pub mod UndeliveredLemmas

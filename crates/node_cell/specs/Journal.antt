@@ -12,7 +12,7 @@ use Rattle.node_step.specs.declared.fault.StepFault.TheVariants.{Memory, Exhaust
 use Rattle.node_step.specs.declared.outputs.Outputs.{Outputs}
 use Rattle.node_step.specs.declared.outputs.Release.{Release}
 use Rattle.bus.specs.declared.message.Message.{Message}
-use Rattle.node_cell.specs.Kept.{kept_after}
+use Rattle.node_cell.specs.Undelivered.{undelivered_after}
 use Rattle.node_cell.specs.declared.delivery.DeliveryFault.{DeliveryFault}
 use Rattle.node_cell.specs.declared.delivery.DeliveryFault.TheVariants as delivery
 use Rattle.node_cell.specs.declared.entry.Entry.{Entry}
@@ -34,7 +34,7 @@ pub record CellView : Type 0 where
   pub node : ℕ
   pub state : NodeState
   pub journal : List Entry
-  pub kept : List Release
+  pub undelivered : List Release
   pub outbox : List Message
 
 -- the ticket of an entry
@@ -114,9 +114,9 @@ pub record Skips (old : NodeState) (before : List Entry) (ticket : ℕ) (event :
 -- a step was made: it stands at the end of the journal, and is a step of the node
 pub record Enters (old : CellView) (event : Event) (entered : EnteredView) (new : CellView) : Type 0 where
   pub makes : Makes old.state old.journal entered.outputs.ticket event entered new.state new.journal
-  pub kept : new.kept ≡ kept_after event old.kept entered.outputs.released
+  pub undelivered : new.undelivered ≡ undelivered_after event old.undelivered entered.outputs.released
   pub outbox : new.outbox ≡ old.outbox ++ entered.outputs.sent
-  pub rest : new ≡ record old { state = new.state; journal = new.journal; kept = new.kept; outbox = new.outbox }
+  pub rest : new ≡ record old { state = new.state; journal = new.journal; undelivered = new.undelivered; outbox = new.outbox }
 
 -- nothing was drawn, since memory was refused or all numbers of the seat are drawn
 pub record IsTurnedAway (old : CellView) (fault : StepFault) (new : CellView) : Type 0 where

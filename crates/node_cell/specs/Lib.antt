@@ -1,5 +1,5 @@
 pub mod Asks
 pub mod Delivery
 pub mod Journal
-pub mod Kept
 pub mod Log
+pub mod Undelivered

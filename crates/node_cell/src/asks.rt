@@ -65,7 +65,7 @@ impl Asks {
     }
 
     /// Has the node make its step for an event that is no message, as [`NodeCell::apply`] does, and notes what came of it.
-    pub fn ask<K: Deployment, L: Log>(
+    pub fn ask_node<K: Deployment, L: Log>(
         &mut self,
         cell: &mut NodeCell<K, L>,
         event: Event,

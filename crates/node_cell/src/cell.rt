@@ -5,8 +5,8 @@ ghost use Rattle.tickets.specs.Tickets.{drawn, table_of, seats_of, IsFresh};
 ghost use Rattle.node_step.specs.State.{first_state};
 ghost use Rattle.node_step.specs.Step.{NodeStep};
 ghost use Rattle.node_step.specs.declared.fault.StepFault.TheVariants.{Exhausted};
-ghost use Rattle.node_step.specs.Kept.{reply_to, without_reply_to};
-ghost use Rattle.node_cell.specs.Kept.{joined, kept_after};
+ghost use Rattle.node_step.specs.Released.{reply_to, without_reply_to};
+ghost use Rattle.node_cell.specs.Undelivered.{joined, undelivered_after};
 ghost use Rattle.node_step.specs.declared.event.Event.TheVariants.{Deliver};
 ghost use Rattle.node_cell.specs.Journal.{Advances, Enters, IsGiven, IsHistory, IsNotTaken, IsRefused, Makes, Rises, Skips, comes_in_time, tickets_of};
 ghost use Rattle.node_gate.specs.Asks.{IsOwn};
@@ -14,8 +14,8 @@ ghost use Rattle.node_gate.specs.Asks.{IsOwn};
 use crate::delivery::DeliveryFault;
 use crate::deployment::Deployment;
 use crate::entered::Entered;
-use crate::kept::{has_some, keep, take};
 use crate::log::Log;
+use crate::undelivered::{add_released, has_some, take_reply_to};
 use bus::Message;
 use cluster_config::Config;
 use node_core::{Conn, Core, Event, Messages, Outputs, Releases, StepFault};
@@ -36,7 +36,7 @@ pub struct NodeCell<K: Deployment, L: Log> {
     core: Core,
     log: L,
     // An item for each step that gave some, until they are taken.
-    kept: Vec<Releases>,
+    undelivered: Vec<Releases>,
     outbox: Vec<Messages>,
     seat: Seat,
     cluster: PhantomData<K>,
@@ -53,16 +53,16 @@ impl<K: Deployment, L: Log> Model for NodeCell<K, L> {
     ghost use Rattle.tickets.specs.Tickets.{drawn, table_of, seats_of};
     ghost use Rattle.node_step.specs.State.{first_state};
     ghost use Rattle.node_cell.specs.Journal.{CellView, IsGiven, IsJournal};
-    ghost use Rattle.node_cell.specs.Kept.{joined};
+    ghost use Rattle.node_cell.specs.Undelivered.{joined};
 
     ghost Value = { CellView };
 
     ghost coded = { Prim.hlevel (codes, let stored : Coded Stored = Prim.hlevel codes in map.code {R = slice_cmp nat_cmp} (coded_list coded_ℕ) stored, let move : Coded Move = Prim.hlevel codes in map.code {R = nat_cmp} coded_ℕ move, map.code {R = nat_cmp} coded_ℕ coded_ℕ) };
 
-    ghost view = { λ cell. record { config = cell.config; node = cell.node; state = cell.core; journal = L.entries cell.log; kept = joined cell.kept.items; outbox = joined cell.outbox.items } };
+    ghost view = { λ cell. record { config = cell.config; node = cell.node; state = cell.core; journal = L.entries cell.log; undelivered = joined cell.undelivered.items; outbox = joined cell.outbox.items } };
 
     ghost invariant = { λ cell. IsJournal (first_state cell.config cell.node) (L.entries cell.log) cell.core (drawn cell.seat)
-        × All (IsGiven (L.entries cell.log)) (joined cell.kept.items)
+        × All (IsGiven (L.entries cell.log)) (joined cell.undelivered.items)
         × (cell.config ≡ K.config) × (table_of cell.seat ≡ K.table) × (seats_of cell.seat ≡ K.seats) };
 }
 
@@ -76,7 +76,7 @@ impl<K: Deployment, L: Log> NodeCell<K, L> {
     ) -> Result<NodeCell<K, L>, AllocError>
         requires cluster { config.now ≡ K.config }
         requires seat { IsFresh K.table K.seats seat }
-        ensures { IfOk result (λ cell. cell ≡ record { config = config.now; node = node; state = first_state config.now node; journal = []; kept = []; outbox = [] }) }
+        ensures { IfOk result (λ cell. cell ≡ record { config = config.now; node = node; state = first_state config.now node; journal = []; undelivered = []; outbox = [] }) }
     {
         let core = Core::new(alloc, config.clone()?, node, SlotStore::new(alloc)?)?;
         Ok(NodeCell {
@@ -84,7 +84,7 @@ impl<K: Deployment, L: Log> NodeCell<K, L> {
             node,
             core,
             log: L::new(alloc),
-            kept: Vec::new(alloc),
+            undelivered: Vec::new(alloc),
             outbox: Vec::new(alloc),
             seat,
             cluster: PhantomData,
@@ -102,7 +102,7 @@ impl<K: Deployment, L: Log> NodeCell<K, L> {
         ensures ok { IfOk result (λ entered. Enters self.old event entered self.new) }
         ensures err { IfErr result (λ fault. IsRefused self.old event fault self.new) }
     {
-        match self.take(event) {
+        match self.take_event(event) {
             Ok(entered) => Ok(entered),
             Err(DeliveryFault::Memory) => Err(StepFault::Memory),
             Err(DeliveryFault::Exhausted) => Err(StepFault::Exhausted),
@@ -118,17 +118,17 @@ impl<K: Deployment, L: Log> NodeCell<K, L> {
         ensures ok { IfOk result (λ entered. Enters self.old (Deliver message) entered self.new) }
         ensures err { IfErr result (λ fault. IsNotTaken self.old (Deliver message) fault self.new) }
     {
-        self.take(Event::Deliver(message))
+        self.take_event(Event::Deliver(message))
     }
 
-    fn take(&mut self, event: Event) -> Result<Entered<K>, DeliveryFault>
+    fn take_event(&mut self, event: Event) -> Result<Entered<K>, DeliveryFault>
         ensures cluster { self.old.config ≡ K.config }
         ensures history { IsHistory (first_state self.old.config self.old.node) self.old.journal self.old.state }
         ensures ok { IfOk result (λ entered. Enters self.old event entered self.new) }
         ensures err { IfErr result (λ fault. IsNotTaken self.old event fault self.new) }
     {
         // Room comes before the ticket: one that is drawn has to be entered.
-        make_room(&mut self.log, &mut self.kept, &mut self.outbox)?;
+        make_room(&mut self.log, &mut self.undelivered, &mut self.outbox)?;
         let Some(ticket) = self.seat.draw() else {
             return Err(DeliveryFault::Exhausted);
         };
@@ -139,7 +139,7 @@ impl<K: Deployment, L: Log> NodeCell<K, L> {
         match advance(
             &mut self.core,
             &mut self.log,
-            &mut self.kept,
+            &mut self.undelivered,
             &mut self.outbox,
             ticket,
             event,
@@ -149,22 +149,22 @@ impl<K: Deployment, L: Log> NodeCell<K, L> {
         }
     }
 
-    /// Takes the first reply that is kept for the connection.
+    /// Takes the first reply that waits for the connection.
     pub fn take_reply(&mut self, conn: Conn) -> Option<Reply>
         ensures cluster { self.old.config ≡ K.config }
         ensures history { IsHistory (first_state self.old.config self.old.node) self.old.journal self.old.state }
         ensures given { IfSome result (λ reply. IsGiven self.old.journal (record { conn = conn; reply = reply })) }
-        ensures reply { result ≡ reply_to conn self.old.kept }
-        ensures left { self.new ≡ record self.old { kept = without_reply_to conn self.old.kept } }
+        ensures reply { result ≡ reply_to conn self.old.undelivered }
+        ensures left { self.new ≡ record self.old { undelivered = without_reply_to conn self.old.undelivered } }
     {
-        take(&mut self.kept, conn)
+        take_reply_to(&mut self.undelivered, conn)
     }
 
-    /// Whether replies are kept that nobody has taken yet.
-    pub fn has_kept(&self) -> bool
-        ensures { result ≡ not (length self.now.kept == 0) }
+    /// Whether there are replies that nobody has taken yet.
+    pub fn has_undelivered(&self) -> bool
+        ensures { result ≡ not (length self.now.undelivered == 0) }
     {
-        has_some(self.kept.as_slice())
+        has_some(self.undelivered.as_slice())
     }
 
     /// Whether messages were sent that nobody has taken yet.
@@ -194,7 +194,7 @@ impl<K: Deployment, L: Log> NodeCell<K, L> {
             node,
             core: _,
             log,
-            kept: _,
+            undelivered: _,
             outbox: _,
             seat,
             cluster: _,
@@ -206,18 +206,18 @@ impl<K: Deployment, L: Log> NodeCell<K, L> {
 // Makes room for what one step adds.
 fn make_room<L: Log>(
     log: &mut L,
-    kept: &mut Vec<Releases>,
+    undelivered: &mut Vec<Releases>,
     outbox: &mut Vec<Messages>,
 ) -> Result<(), AllocError>
     ensures room { OnOk result (L.has_room log.new) }
-    ensures kept_room { OnOk result (vec_len kept.new < vec_capacity kept.new) }
+    ensures undelivered_room { OnOk result (vec_len undelivered.new < vec_capacity undelivered.new) }
     ensures outbox_room { OnOk result (vec_len outbox.new < vec_capacity outbox.new) }
     ensures log { L.entries log.new ≡ L.entries log.old }
-    ensures kept { kept.new.items ≡ kept.old.items }
+    ensures undelivered { undelivered.new.items ≡ undelivered.old.items }
     ensures outbox { outbox.new.items ≡ outbox.old.items }
 {
     log.reserve()?;
-    kept.reserve(1)?;
+    undelivered.reserve(1)?;
     outbox.reserve(1)
 }
 
@@ -235,22 +235,22 @@ fn comes_in_time(ticket: u64, event: &Event) -> bool
 fn advance<K: Deployment, L: Log>(
     core: &mut Core,
     log: &mut L,
-    kept: &mut Vec<Releases>,
+    undelivered: &mut Vec<Releases>,
     outbox: &mut Vec<Messages>,
     ticket: u64,
     event: Event,
 ) -> Result<Entered<K>, StepFault>
     requires in_time { comes_in_time ticket event ≡ true }
     requires log { L.has_room log.old }
-    requires kept { vec_len kept.old < vec_capacity kept.old }
+    requires undelivered { vec_len undelivered.old < vec_capacity undelivered.old }
     requires outbox { vec_len outbox.old < vec_capacity outbox.old }
     ensures entered { Advances core.old (L.entries log.old) ticket core.new (L.entries log.new) }
     ensures ok { IfOk result (λ entered. Makes core.old (L.entries log.old) ticket event entered core.new (L.entries log.new)) }
-    ensures kept { IfOk result (λ entered. joined kept.new.items ≡ kept_after event (joined kept.old.items) entered.outputs.released) }
+    ensures undelivered { IfOk result (λ entered. joined undelivered.new.items ≡ undelivered_after event (joined undelivered.old.items) entered.outputs.released) }
     ensures outbox { IfOk result (λ entered. joined outbox.new.items ≡ joined outbox.old.items ++ entered.outputs.sent) }
     ensures err { IfErr result (λ fault. Skips core.old (L.entries log.old) ticket event fault core.new (L.entries log.new)) }
-    ensures given { All (IsGiven (L.entries log.old)) (joined kept.old.items) → All (IsGiven (L.entries log.new)) (joined kept.new.items) }
-    ensures rest { OnErr result ((joined kept.new.items ≡ joined kept.old.items) × (joined outbox.new.items ≡ joined outbox.old.items)) }
+    ensures given { All (IsGiven (L.entries log.old)) (joined undelivered.old.items) → All (IsGiven (L.entries log.new)) (joined undelivered.new.items) }
+    ensures rest { OnErr result ((joined undelivered.new.items ≡ joined undelivered.old.items) × (joined outbox.new.items ≡ joined outbox.old.items)) }
 {
     let asked = Snapshot::of(&event);
     match core.step::<L>(ticket, &event) {
@@ -262,7 +262,7 @@ fn advance<K: Deployment, L: Log>(
                 released,
                 sent,
             } = outputs;
-            keep(kept, &event, released);
+            add_released(undelivered, &event, released);
             put_out(outbox, sent);
             log.enter_step(event, seen);
             Ok(Entered::new(asked, gave, ticket, response))

@@ -7,8 +7,8 @@ mod delivery;
 mod deployment;
 mod entered;
 mod entry;
-mod kept;
 mod log;
+mod undelivered;
 
 pub use asks::Asks;
 pub use cell::NodeCell;

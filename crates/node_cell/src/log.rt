@@ -5,13 +5,13 @@ ghost use Rattle.node_cell.specs.declared.entry.Entry.TheVariants.{Step, Skipped
 
 use crate::entry::Entry;
 use history::History;
-use node_core::{Event, Keep, Outputs};
+use node_core::{Event, Outputs, Recorder};
 use std::alloc::{AllocError, Global};
 use std::marker::Model;
 use std::snapshot::Snapshot;
 
 /// What keeps the journal of a node. Clauses see its entries, whether the program keeps them or not.
-pub trait Log: Keep {
+pub trait Log: Recorder {
     ghost use Rattle.std.specs.Prelude.{List};
     ghost use Rattle.node_cell.specs.declared.entry.Entry.{Entry as JournalEntry};
 
@@ -29,9 +29,9 @@ pub trait Log: Keep {
         ensures same { entries self.new ≡ entries self.old };
 
     /// Enters a step that was made. There has to be room.
-    fn enter_step(&mut self, event: Event, outputs: Self::Kept)
+    fn enter_step(&mut self, event: Event, outputs: Self::Record)
         requires { has_room self.old }
-        ensures { entries self.new ≡ entries self.old ++ Step event (Self.kept outputs) ∷ [] };
+        ensures { entries self.new ≡ entries self.old ++ Step event (Self.recorded outputs) ∷ [] };
 
     /// Enters a ticket under which no step was made. There has to be room.
     fn enter_skip(&mut self, ticket: u64)
@@ -54,12 +54,12 @@ impl Journal {
     }
 }
 
-impl Keep for Journal {
-    type Kept = Outputs;
+impl Recorder for Journal {
+    type Record = Outputs;
 
-    ghost kept = { λ outputs. outputs };
+    ghost recorded = { λ outputs. outputs };
 
-    fn keep(outputs: &Outputs) -> Result<Outputs, AllocError> {
+    fn record(outputs: &Outputs) -> Result<Outputs, AllocError> {
         outputs.copy()
     }
 }
@@ -126,12 +126,12 @@ impl Model for GhostEntry {
     ghost view = { λ entry. entry_of entry.line };
 }
 
-impl Keep for GhostJournal {
-    type Kept = Snapshot<Outputs>;
+impl Recorder for GhostJournal {
+    type Record = Snapshot<Outputs>;
 
-    ghost kept = { λ outputs. outputs.value };
+    ghost recorded = { λ outputs. outputs.value };
 
-    fn keep(outputs: &Outputs) -> Result<Snapshot<Outputs>, AllocError> {
+    fn record(outputs: &Outputs) -> Result<Snapshot<Outputs>, AllocError> {
         Ok(Snapshot::of(outputs))
     }
 }

@@ -25,7 +25,7 @@ use Rattle.node_step.specs.Outcome.{outputs_of, replied, silent}
 use Rattle.node_step.specs.Commands.{command_outcome, decision_on}
 use Rattle.node_step.specs.Copies.{copy_outcome, copy_verdict_on, is_at, noted}
 use Rattle.node_step.specs.Messages.{delivered, knowing, taken}
-use Rattle.node_step.specs.Orders.{done, ending_verdict, importing, migrating}
+use Rattle.node_step.specs.Orders.{done}
 use Rattle.node_step.specs.Outcome.{error}
 use Rattle.node_step.specs.Requests.{Listing, asking_for, asking_of, at_connection, has_copy_number, has_number, has_order_number, is_numbered, node_with_id, request_outcome, using_up, with_numbers}
 use Rattle.node_step.specs.Ticks.{tick}
@@ -35,10 +35,11 @@ use Rattle.node_step.specs.declared.event.Event.TheVariants.{Close, Deliver, Ope
 use Rattle.node_step.specs.declared.outputs.Outputs.{Outputs}
 use Rattle.node_step.specs.declared.response.Response.TheVariants.{Opened}
 use Rattle.node_step.specs.declared.response.Why.TheVariants.{NotACommand, Reported, Told}
-use Rattle.node_core.specs.Comes.{AnswersSo, Drafts, IsDraftOf, at_epoch}
-use Rattle.node_core.specs.declared.draft.Draft.{Draft}
-use Rattle.node_core.specs.Orders.{Gives, Obeys}
-use Rattle.node_core.specs.Questions.{IsReport, is_question}
+use Rattle.node_core.specs.Comes.{AnswersSo}
+use Rattle.node_parts.specs.Drafts.{Drafts, IsDraftOf, at_epoch}
+use Rattle.node_parts.specs.declared.draft.Draft.{Draft}
+use Rattle.move_rows.specs.Orders.{Obeys}
+use Rattle.report_rows.specs.Questions.{IsReport, is_question}
 
 -- no listing is needed
 none : Listing
@@ -60,20 +61,6 @@ module _ (old : NodeState) (conn : Conn) (reply : Reply) (draft : Draft) (drafts
   question_answered Numbered asks is = absurd is
   question_answered (Asking number) asks is = absurd is
   question_answered (Migrate host port key timeout) asks is = absurd is
-
--- orders, by their kind
-pub importing_obeys : (old : NodeState) (conn : Conn) (slot : ℕ) (target number : Option ℕ) (draft : Draft)
-    → Drafts old (importing (using_up old conn) slot target number) draft → Obeys old conn slot Importing target number draft
-importing_obeys old conn slot target number draft drafts = record { listing = none; may_claim = tt; has_number = refl; drafts = drafts }
-
-pub migrating_obeys : (old : NodeState) (conn : Conn) (slot : ℕ) (target number : Option ℕ) (draft : Draft)
-    → Drafts old (migrating (using_up old conn) slot target number) draft → Obeys old conn slot Migrating target number draft
-migrating_obeys old conn slot target number draft drafts = record { listing = none; may_claim = tt; has_number = refl; drafts = drafts }
-
-pub giving_obeys : (old : NodeState) (conn : Conn) (slot : ℕ) (target number : Option ℕ) (draft : Draft)
-    → Gives old conn slot (ending_verdict old slot target number) draft → Obeys old conn slot Node target number draft
-giving_obeys old conn slot target number draft gives =
-    record { listing = record { owners = []; claim = gives.claim }; may_claim = gives.is_claim; has_number = gives.epoch; drafts = gives.drafts }
 
 -- SETSLOT is answered as its order is obeyed
 pub order_answered : (old : NodeState) (conn : Conn) (slot : ℕ) (order : SlotOrder) (id : List ℕ) (target number : Option ℕ) (nodes : List NodeConfig) (draft : Draft)

@@ -4,69 +4,67 @@ ghost use Rattle.command_table.specs.Table.{command_of};
 ghost use Rattle.connections.specs.Connections.{connection_at};
 ghost use Rattle.keyspace.specs.Keyspace.{Keyspace};
 ghost use Rattle.keyspace.specs.Plan.{committed};
-ghost use Rattle.node_core.specs.Comes.{AnswersSo, HasNothing, IsDraftOf};
+ghost use Rattle.node_core.specs.Comes.{AnswersSo};
+ghost use Rattle.node_parts.specs.Drafts.{HasNothing, IsDraftOf};
 ghost use Rattle.node_step.specs.declared.fault.StepFault.TheVariants.{Exhausted};
 ghost use Rattle.node_step.specs.Numbers.{NoNumberLeft};
 ghost use Rattle.node_step.specs.Requests.{has_number, using_up};
 
-use crate::draft::Draft;
-use crate::node::NodeCore;
+use crate::cluster_commands::answer_about_cluster;
 use command::parse;
 use command_table::Command;
 use connections::{Conn, Connection};
+use key_rows::answer_on_keys;
+use node_parts::{Draft, NodeParts};
 use node_step::{Event, StepFault, Why};
 use resp_values::Words;
 use slot_store::{SlotKeys, SlotParts};
 
-impl<S: SlotParts + SlotKeys> NodeCore<S> {
-    /// Drafts the answer to a request. One on a connection that isn't open, or waits for a reply, is not answered.
-    #[inline(never)]
-    #[tactic(auto, using(crate::proofs::AnswerLemmas::answer_is_drafted))]
-    pub(crate) fn request(
-        &self,
-        conn: Conn,
-        words: &Words,
-        draft: &mut Draft,
-    ) -> Result<(), StepFault>
-        requires nothing { HasNothing self.now draft.old }
-        requires plan { (keyspace : Keyspace) → committed keyspace draft.old.plan ≡ keyspace }
-        ensures draft { OnOk result (IsDraftOf self.now (Event.Request conn words.now) draft.new) }
-        ensures exhausted { result ≡ Err Exhausted → NoNumberLeft self.now (Event.Request conn words.now) }
-    {
-        let Some(connection) = self.connections.get(conn) else {
-            return Ok(());
-        };
-        if let Some(_wait) = connection.waits {
+/// Drafts the answer to a request. One on a connection that isn't open, or waits for a reply, is not answered.
+#[inline(never)]
+#[tactic(auto, using(crate::proofs::AnswerLemmas::answer_is_drafted))]
+pub(crate) fn request<S: SlotParts + SlotKeys>(
+    node: &NodeParts<S>,
+    conn: Conn,
+    words: &Words,
+    draft: &mut Draft,
+) -> Result<(), StepFault>
+    requires nothing { HasNothing node.now draft.old }
+    requires plan { (keyspace : Keyspace) → committed keyspace draft.old.plan ≡ keyspace }
+    ensures draft { OnOk result (IsDraftOf node.now (Event.Request conn words.now) draft.new) }
+    ensures exhausted { result ≡ Err Exhausted → NoNumberLeft node.now (Event.Request conn words.now) }
+{
+    let Some(connection) = node.connections.get(conn) else {
+        return Ok(());
+    };
+    if let Some(_wait) = connection.waits {
+        return Ok(());
+    }
+    answer_words(node, conn, connection, words, draft)
+}
+
+// Answers the words of a connection that may ask.
+#[tactic(auto, using(crate::proofs::AnswerLemmas::data_answered, crate::proofs::AnswerLemmas::fault_answered))]
+fn answer_words<S: SlotParts + SlotKeys>(
+    node: &NodeParts<S>,
+    conn: Conn,
+    connection: Connection,
+    words: &Words,
+    draft: &mut Draft,
+) -> Result<(), StepFault>
+    requires connection { connection_at node.now.connections conn ≡ Some connection }
+    requires nothing { HasNothing node.now draft.old }
+    requires plan { (keyspace : Keyspace) → committed keyspace draft.old.plan ≡ keyspace }
+    ensures answer { OnOk result (AnswersSo node.now conn (command_of words.now) draft.new) }
+    ensures exhausted { result ≡ Err Exhausted → has_number (using_up node.now conn) (command_of words.now) ≡ false }
+{
+    let command = match parse(words) {
+        Ok(Command::Data(command)) => command,
+        Ok(Command::Cluster(command)) => return answer_about_cluster(node, conn, &command, draft),
+        Err(fault) => {
+            node.tell(draft, conn, Why::NotACommand(fault), fault.line().reply());
             return Ok(());
         }
-        self.answer(conn, connection, words, draft)
-    }
-
-    // Answers the words of a connection that may ask.
-    #[tactic(auto, using(crate::proofs::AnswerLemmas::data_answered, crate::proofs::AnswerLemmas::fault_answered))]
-    fn answer(
-        &self,
-        conn: Conn,
-        connection: Connection,
-        words: &Words,
-        draft: &mut Draft,
-    ) -> Result<(), StepFault>
-        requires connection { connection_at self.now.connections conn ≡ Some connection }
-        requires nothing { HasNothing self.now draft.old }
-        requires plan { (keyspace : Keyspace) → committed keyspace draft.old.plan ≡ keyspace }
-        ensures answer { OnOk result (AnswersSo self.now conn (command_of words.now) draft.new) }
-        ensures exhausted { result ≡ Err Exhausted → has_number (using_up self.now conn) (command_of words.now) ≡ false }
-    {
-        let command = match parse(words) {
-            Ok(Command::Data(command)) => command,
-            Ok(Command::Cluster(command)) => return self.answer_about_cluster(
-                conn, &command, draft,
-            ),
-            Err(fault) => {
-                self.tell(draft, conn, Why::NotACommand(fault), fault.line().reply());
-                return Ok(());
-            }
-        };
-        Ok(self.answer_on_keys(conn, connection, &command, draft)?)
-    }
+    };
+    Ok(answer_on_keys(node, conn, connection, &command, draft)?)
 }

@@ -6,7 +6,7 @@ use Rattle.std.proofs.lemmas.Bool.{ltb-false}
 use Rattle.std.proofs.lemmas.List.Quantifiers.{position-Some}
 use Rattle.std.proofs.lemmas.List.Sums.{prefix_len_passes}
 use Rattle.connections.specs.declared.conn.Conn.{Conn}
-use Rattle.node_step.specs.Kept.{is_for, reply_to, without_reply_to}
+use Rattle.node_step.specs.Released.{is_for, reply_to, without_reply_to}
 use Rattle.node_step.specs.declared.outputs.Release.{Release}
 
 -- what is taken, and what is left

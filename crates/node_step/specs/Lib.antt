@@ -14,4 +14,4 @@ pub mod Numbers
 pub mod Step
 pub mod Fault
 pub mod Few
-pub mod Kept
+pub mod Released

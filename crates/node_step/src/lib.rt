@@ -3,12 +3,12 @@
 
 mod event;
 mod fault;
-mod keep;
 mod outputs;
+mod recorder;
 mod response;
 
 pub use event::Event;
 pub use fault::StepFault;
-pub use keep::Keep;
 pub use outputs::{Messages, Outputs, Release, Releases};
+pub use recorder::Recorder;
 pub use response::{Answer, Response, Why};

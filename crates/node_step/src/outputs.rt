@@ -1,6 +1,6 @@
 //! What a step gives to the world outside its node.
 ghost use Rattle.std.specs.Prelude.{◌≡◌, ◌<◌, [], map, length, position, IfOk, IfSome, IsOk};
-ghost use Rattle.node_step.specs.Kept.{is_for, of_others, reply_to, without_reply_to};
+ghost use Rattle.node_step.specs.Released.{is_for, of_others, reply_to, without_reply_to};
 ghost use Rattle.node_step.specs.Outcome.{release, stamped};
 ghost use Rattle.node_step.specs.Plain.{IsPlain};
 

@@ -9,7 +9,7 @@ use std::alloc::{AllocError, Global};
 const MANY: u8 = 10;
 
 /// Whether a field that is refused leaves a hash as it was, and is set at a second try.
-pub fn hash_is_kept(alloc: Global) -> Result<bool, AllocError> {
+pub fn hash_is_unchanged(alloc: Global) -> Result<bool, AllocError> {
     let mut hash = Hash::new(alloc);
     for number in 0..MANY {
         if set(alloc, &mut hash, number).is_err() {
@@ -42,7 +42,7 @@ fn has_fields(hash: &Hash, count: u8) -> bool {
 }
 
 /// Whether a key that is refused leaves a map as it was, and is put there at a second try. The last key comes first.
-pub fn map_is_kept(alloc: Global) -> Result<bool, AllocError> {
+pub fn map_is_unchanged(alloc: Global) -> Result<bool, AllocError> {
     let mut map = KeyMap::new(alloc);
     for count in 0..MANY {
         let number = MANY - count;

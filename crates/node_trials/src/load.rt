@@ -5,7 +5,7 @@ ghost use Rattle.tickets.specs.Tickets.{IsFresh, id_of};
 use crate::clusters::three_masters;
 use crate::telling::say;
 use anyhow::Result;
-use cluster::{Journals, Place, finish_nodes, serve_nodes};
+use cluster::{Journals, Place, Runtime, finish_nodes, serve_nodes};
 use cluster_config::Config;
 use node_cell::{Deployment, Entry, Journal};
 use node_core::Event;
@@ -51,16 +51,7 @@ struct Seen {
 /// Says what the journals hold of nodes that were under load.
 pub fn try_out<R>(rt: R) -> Result<()>
 where
-    R: AllocGlobal
-        + Net<Listener = TcpListener, Stream = TcpStream>
-        + Print
-        + Threads
-        + Wait
-        + Copy
-        + Drop
-        + Send
-        + Sync
-        + 'static,
+    R: AllocGlobal + Print + Runtime,
 {
     let config = three_masters(rt.alloc())?;
     let (table, seats) = open(rt.alloc(), 3)?;
@@ -86,15 +77,7 @@ fn serve_under_load<K: Deployment + Send + Sync + 'static, R>(
     seats: Vec<Seat>,
 ) -> io::Result<Seen>
 where
-    R: AllocGlobal
-        + Net<Listener = TcpListener, Stream = TcpStream>
-        + Threads
-        + Wait
-        + Copy
-        + Drop
-        + Send
-        + Sync
-        + 'static,
+    R: AllocGlobal + Runtime,
     requires cluster { config.now ≡ K.config }
     requires table { id_of table.now ≡ K.table }
     requires whole { vec_len seats ≡ K.seats }
@@ -149,14 +132,7 @@ where
 // The clients of all places.
 fn start_all<R>(rt: R, places: &[Place]) -> io::Result<Vec<JoinHandle<u64>>>
 where
-    R: AllocGlobal
-        + Net<Listener = TcpListener, Stream = TcpStream>
-        + Threads
-        + Copy
-        + Drop
-        + Send
-        + Sync
-        + 'static,
+    R: AllocGlobal + Runtime,
 {
     let mut clients = Vec::new(rt.alloc());
     for (place, request) in places.iter().zip(REQUESTS) {
@@ -172,14 +148,7 @@ fn start_clients<R>(
     clients: &mut Vec<JoinHandle<u64>>,
 ) -> io::Result<()>
 where
-    R: AllocGlobal
-        + Net<Listener = TcpListener, Stream = TcpStream>
-        + Threads
-        + Copy
-        + Drop
-        + Send
-        + Sync
-        + 'static,
+    R: AllocGlobal + Runtime,
 {
     for _ in 0..CLIENTS {
         let Ok(client) = thread::spawn(

@@ -174,10 +174,10 @@ impl World {
         if place == "deliver" {
             return self.deliver(alloc, act.parse::<usize>()?);
         }
-        self.ask(alloc, place.parse::<usize>()?, act)
+        self.ask_node(alloc, place.parse::<usize>()?, act)
     }
 
-    fn ask(&mut self, alloc: Global, node: usize, act: &str) -> Result<Vec<u8>> {
+    fn ask_node(&mut self, alloc: Global, node: usize, act: &str) -> Result<Vec<u8>> {
         let event = act_of(act).event(alloc)?;
         self.step(alloc, node, &event)
     }
@@ -196,11 +196,11 @@ impl World {
     fn step(&mut self, alloc: Global, node: usize, event: &Event) -> Result<Vec<u8>> {
         let node = self.nodes.get_mut(node).context("there is no such node")?;
         let outputs = outputs_of(node, event)?;
-        Ok(self.take(alloc, &outputs)?)
+        Ok(self.take_outputs(alloc, &outputs)?)
     }
 
     // Keeps the messages, and tells the outputs.
-    fn take(&mut self, alloc: Global, outputs: &Outputs) -> Result<Vec<u8>, AllocError> {
+    fn take_outputs(&mut self, alloc: Global, outputs: &Outputs) -> Result<Vec<u8>, AllocError> {
         for message in outputs.sent.as_slice() {
             self.messages.push(message.clone()?)?;
         }
@@ -240,6 +240,6 @@ fn outputs_of(node: &mut Core, event: &Event) -> Result<Outputs, StepFault> {
         Err(StepFault::Memory) => node.step::<Journal>(0, event),
         outcome => outcome,
     };
-    let (outputs, _kept) = outcome?;
+    let (outputs, _recorded) = outcome?;
     Ok(outputs)
 }

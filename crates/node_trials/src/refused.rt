@@ -3,8 +3,8 @@
 
 use crate::clusters::three_masters;
 use crate::conversation::{Client, hold};
-use crate::growth::{hash_is_kept, map_is_kept};
-use crate::second_tries::{buffer_is_kept, reader_loses_nothing};
+use crate::growth::{hash_is_unchanged, map_is_unchanged};
+use crate::second_tries::{buffer_is_unchanged, reader_loses_nothing};
 use crate::telling::tell;
 use anyhow::{Result, bail};
 use std::sync::Wait;
@@ -55,13 +55,13 @@ fn other_answer<R: Wait + AllocGlobal + Copy + Drop>(rt: R) -> Result<Option<Str
     if !reader_loses_nothing(rt.alloc()) {
         bail!("a reader lost a request");
     }
-    if matches!(buffer_is_kept(rt.alloc()), Ok(false)) {
+    if matches!(buffer_is_unchanged(rt.alloc()), Ok(false)) {
         bail!("a reply that was refused changed a buffer");
     }
-    if matches!(hash_is_kept(rt.alloc()), Ok(false)) {
+    if matches!(hash_is_unchanged(rt.alloc()), Ok(false)) {
         bail!("a field that was refused changed a hash");
     }
-    if matches!(map_is_kept(rt.alloc()), Ok(false)) {
+    if matches!(map_is_unchanged(rt.alloc()), Ok(false)) {
         bail!("a key that was refused changed a map");
     }
     let answers = answers(rt)?;

@@ -36,13 +36,13 @@ fn is_request(words: &Words) -> bool {
 /// Whether a buffer is as it was where an array is refused, and has it behind that once the call succeeds.
 ///
 /// Before the array is made, memory may be refused.
-pub fn buffer_is_kept(alloc: Global) -> Result<bool, AllocError> {
+pub fn buffer_is_unchanged(alloc: Global) -> Result<bool, AllocError> {
     let slots = slots(alloc)?;
     let mut out = Vec::from_slice(alloc, BEFORE)?;
-    Ok(is_kept(&slots, &mut out))
+    Ok(is_unchanged(&slots, &mut out))
 }
 
-fn is_kept(slots: &Reply, out: &mut Vec<u8>) -> bool {
+fn is_unchanged(slots: &Reply, out: &mut Vec<u8>) -> bool {
     let refused = append_reply(slots, out).is_err();
     if refused && (out.as_slice() != BEFORE || append_reply(slots, out).is_err()) {
         return false;

@@ -111,7 +111,7 @@ fn ask_both<
     let signals = Arc::new(alloc, Signals::new())?;
     let theirs = Arc::try_clone(&signals)?;
     let other = thread::spawn(&rt, move || {
-        ask(rt, alloc, &*third, &*theirs, locks);
+        ask_meanwhile(rt, alloc, &*third, &*theirs, locks);
     })?;
     hold_up(rt, alloc, second, &*signals, locks);
     other.join(&rt);
@@ -142,7 +142,7 @@ fn hold_up<K: Deployment, R: Wait + Copy + Drop>(
 }
 
 // A conversation that asks its node meanwhile.
-fn ask<K: Deployment, R: Wait + Copy + Drop>(
+fn ask_meanwhile<K: Deployment, R: Wait + Copy + Drop>(
     rt: R,
     alloc: Global,
     node: &SharedNode<K, GhostJournal>,

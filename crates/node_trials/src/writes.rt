@@ -235,7 +235,7 @@ fn all_written<R: Wait + AllocGlobal + Copy + Drop>(
 ) -> Result<bool, AllocError> {
     for row in rows {
         let held = read(rt, config, *row, MANY)?;
-        let answer = answer(rt.alloc(), *row)?;
+        let answer = replies(rt.alloc(), *row)?;
         if held.written.bytes != answer || (held.written.calls == 1) != at_once {
             return Ok(false);
         }
@@ -246,7 +246,7 @@ fn all_written<R: Wait + AllocGlobal + Copy + Drop>(
 // What was written of a long value ends where the writer fails, and isn't begun again.
 fn is_cut<R: Wait + AllocGlobal + Copy + Drop>(rt: R, config: &Config) -> Result<bool, AllocError> {
     let held = read(rt, config, LONG, ROOM)?;
-    let answer = answer(rt.alloc(), LONG)?;
+    let answer = replies(rt.alloc(), LONG)?;
     Ok(
         held.ended == Err(ConnFault::Writer)
             && held.written.bytes.len() == ROOM
@@ -279,7 +279,7 @@ fn requests(alloc: Global, reads: Reads) -> Result<Vec<u8>, AllocError> {
     Ok(bytes)
 }
 
-fn answer(alloc: Global, reads: Reads) -> Result<Vec<u8>, AllocError> {
+fn replies(alloc: Global, reads: Reads) -> Result<Vec<u8>, AllocError> {
     let mut bytes = Vec::from_slice(alloc, b"+OK\r\n")?;
     for _ in 0..reads.times {
         if reads.twice {

@@ -23,7 +23,7 @@ pub enum Call<'a> {
         /// After how many ticks of the first node the program ends, or None where it goes on.
         ticks: Option<u64>,
         /// Whether each node keeps its journal in memory.
-        keeps_journal: bool,
+        records_journal: bool,
     },
     /// To have a cluster execute one command.
     Cli {
@@ -174,14 +174,14 @@ fn serve_call<'a>(serve: Option<&ArgMatches<'a>>) -> Call<'a> {
             source: source_of(serve),
             only_checks: serve.get_flag("check"),
             ticks: serve.get_one::<u64>("ticks"),
-            keeps_journal: serve.get_flag("journal"),
+            records_journal: serve.get_flag("journal"),
         },
         // The command line has a verb, and it is none of the others.
         None => Call::Serve {
             source: Source::File(""),
             only_checks: false,
             ticks: None,
-            keeps_journal: false,
+            records_journal: false,
         },
     }
 }

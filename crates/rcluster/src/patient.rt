@@ -30,7 +30,7 @@ impl<R: Drop, N: Network + Drop> Patient<R, N> {
 impl<R: Clock + Drop, N: Network + Drop> Network for Patient<R, N> {
     ghost deeds = { λ patient. N.deeds patient.network };
 
-    ghost kept = { λ patient. N.kept patient.network };
+    ghost pool = { λ patient. N.pool patient.network };
 
     fn perform(&mut self, action: Action) -> Event {
         if matches!(&action, Action::Send(_)) {

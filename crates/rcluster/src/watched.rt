@@ -155,10 +155,10 @@ fn is_word(words: &[ByteString], place: usize, wanted: &[u8]) -> bool {
 }
 
 // Keeps the text, or nothing where there is no memory for it.
-fn note<D: Display + Drop>(kept: &mut String, text: D) {
-    kept.clear();
-    if write!(kept, "{text}").is_err() {
-        kept.clear();
+fn note<D: Display + Drop>(noted: &mut String, text: D) {
+    noted.clear();
+    if write!(noted, "{text}").is_err() {
+        noted.clear();
     }
 }
 
@@ -179,7 +179,7 @@ impl<'a, N: Network + Drop> Watched<'a, N> {
 impl<N: Network + Drop> Network for Watched<'_, N> {
     ghost deeds = { λ watched. N.deeds watched.network };
 
-    ghost kept = { λ watched. N.kept watched.network };
+    ghost pool = { λ watched. N.pool watched.network };
 
     fn perform(&mut self, action: Action) -> Event {
         if let Ok(mut seen) = self.seen.try_borrow_mut() {

@@ -8,7 +8,7 @@ use resp_values::Words;
 use smart_client::{Action as Wanted, Event as Came, Network};
 
 /// Asks the node at the address, and gives what the run is told of it.
-pub(crate) fn ask<N: Network>(network: &mut N, to: Address, words: Words) -> Event
+pub(crate) fn ask_node<N: Network>(network: &mut N, to: Address, words: Words) -> Event
     ensures { Asks to words (N.deeds network.old) result (N.deeds network.new) }
 {
     match network.perform(Wanted::Connect(to)) {

@@ -29,7 +29,7 @@ pub(crate) struct Made {
 
 impl Plan {
     /// What the run does with the event.
-    pub(crate) fn turn(
+    pub(crate) fn next_action(
         &self,
         alloc: Global,
         stage: Stage,
@@ -102,7 +102,7 @@ impl Plan {
         let Some(slot) = Slot::new(slot) else {
             unreachable!();
         };
-        self.ask(
+        self.ask_step(
             alloc,
             Work {
                 nodes,
@@ -150,7 +150,7 @@ impl Plan {
             number: report.leaves(),
             last: report.last,
         };
-        self.take(alloc, work, Step::ReadsDestination(source))
+        self.take_step(alloc, work, Step::ReadsDestination(source))
     }
 
     // The destination reported.
@@ -168,7 +168,7 @@ impl Plan {
         };
         if report.owns() {
             let number = positive(report.last);
-            return self.take(alloc, Work { number, ..work }, Step::EndsAtSource);
+            return self.take_step(alloc, Work { number, ..work }, Step::EndsAtSource);
         }
         self.numbered(alloc, work, number_of(source, &report))
     }
@@ -185,7 +185,7 @@ impl Plan {
         match number {
             Some(number) => {
                 let number = Some(number);
-                self.take(alloc, Work { number, ..work }, Step::Imports)
+                self.take_step(alloc, Work { number, ..work }, Step::Imports)
             }
             None => Err(ReshardFault::NoNextNumber),
         }
@@ -202,7 +202,7 @@ impl Plan {
         ensures { Makes (then_takes self.now work step (answer_of reply.now)) result }
     {
         match Answer::of(reply) {
-            Answer::Done => self.take(alloc, work, step),
+            Answer::Done => self.take_step(alloc, work, step),
             _ => Err(ReshardFault::BadReply),
         }
     }
@@ -222,7 +222,7 @@ impl Plan {
         ensures { Makes (keys_listed self.now work (Some waiting)) result }
     {
         if waiting.is_empty() {
-            return self.take(alloc, work, Step::EndsAtDestination);
+            return self.take_step(alloc, work, Step::EndsAtDestination);
         }
         self.next_key(alloc, Work { waiting, ..work })
     }
@@ -232,9 +232,9 @@ impl Plan {
         ensures { Makes (next_key self.now work work.waiting) result }
     {
         let mut work = work;
-        match work.waiting.take() {
-            Some(key) => self.take(alloc, work, Step::MovesKey(key)),
-            None => self.take(alloc, work, Step::ListsKeys),
+        match work.waiting.take_first() {
+            Some(key) => self.take_step(alloc, work, Step::MovesKey(key)),
+            None => self.take_step(alloc, work, Step::ListsKeys),
         }
     }
 
@@ -260,7 +260,7 @@ impl Plan {
         ensures { Makes (ended_at_destination self.now work answer) result }
     {
         match answer {
-            Answer::Done => self.take(alloc, work, Step::EndsAtSource),
+            Answer::Done => self.take_step(alloc, work, Step::EndsAtSource),
             Answer::NotDrained => self.again(alloc, work),
             _ => Err(ReshardFault::BadReply),
         }
@@ -292,15 +292,15 @@ impl Plan {
         };
         let at = at.clone()?;
         let next = place + 1;
-        self.take(alloc, work, Step::EndsAtOther { at, next })
+        self.take_step(alloc, work, Step::EndsAtOther { at, next })
     }
 
     // Asks what the step asks.
-    fn take(&self, alloc: Global, work: Work, step: Step) -> Result<Made, ReshardFault>
+    fn take_step(&self, alloc: Global, work: Work, step: Step) -> Result<Made, ReshardFault>
         ensures { Makes (takes self.now work step) result }
     {
         let repeats = self.limit;
-        self.ask(
+        self.ask_step(
             alloc,
             Work {
                 repeats,
@@ -318,10 +318,10 @@ impl Plan {
             return Err(ReshardFault::TooOften);
         }
         let repeats = work.repeats - 1;
-        self.ask(alloc, Work { repeats, ..work })
+        self.ask_step(alloc, Work { repeats, ..work })
     }
 
-    fn ask(&self, alloc: Global, work: Work) -> Result<Made, ReshardFault>
+    fn ask_step(&self, alloc: Global, work: Work) -> Result<Made, ReshardFault>
         ensures { Makes (asks self.now work) result }
     {
         let to = place_at(&work.nodes, &work.step).clone()?;

@@ -107,7 +107,7 @@ impl Waiting {
     }
 
     /// Takes the first key.
-    pub(crate) fn take(&mut self) -> Option<Key>
+    pub(crate) fn take_first(&mut self) -> Option<Key>
         ensures some { IfSome result (λ key. self.old ≡ key ∷ self.new) }
         ensures none { IfNone result ((self.old ≡ []) × (self.new ≡ [])) }
     {

@@ -63,7 +63,7 @@ impl ReshardCore {
         ensures waits { IsWaiting result self.new.stage }
     {
         let stage = mem::replace(&mut self.stage, Stage::Over);
-        match self.plan.turn(self.alloc, stage, event) {
+        match self.plan.next_action(self.alloc, stage, event) {
             Ok(made) => {
                 self.wait_for(made.stage);
                 made.action

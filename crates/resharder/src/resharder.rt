@@ -5,7 +5,7 @@ ghost use Rattle.resharder.specs.Step.{MayCome};
 ghost use Rattle.resharder.specs.declared.action.Event.TheVariants.{Start};
 
 use crate::action::{Action, Event};
-use crate::asking::ask;
+use crate::asking::ask_node;
 use crate::fault::ReshardFault;
 use crate::moved_slot::MovedSlot;
 use crate::plan::Plan;
@@ -83,7 +83,7 @@ fn go_on<N: Network>(
     'requests: for _ in 0..u64::MAX {
         match action {
             Action::Ask { to, words } => {
-                let event = ask(network, to, words);
+                let event = ask_node(network, to, words);
                 action = core.on(event);
             }
             Action::Line { slot, number, keys } => {

@@ -37,12 +37,12 @@ pub may_refuse_if_refused : (old new : CellView) (event : Event) (result : Resul
 may_refuse_if_refused old new event (Ok entered) refused = tt
 may_refuse_if_refused old new event (Err fault) refused = record { old = old; new = new; refused = refused }
 
--- a reply that a cell of the cluster kept is one that a node of it may give
-pub may_give_if_kept : (config own : ClusterConfig) (node : ℕ) (journal : List Entry) (state : NodeState) (conn : Conn) (result : Option Reply) → own ≡ config
+-- a reply that was taken from a cell of the cluster is one that a node of it may give
+pub may_give_if_taken : (config own : ClusterConfig) (node : ℕ) (journal : List Entry) (state : NodeState) (conn : Conn) (result : Option Reply) → own ≡ config
     → IsHistory (first_state own node) journal state → IfSome result (λ reply. IsGiven journal (record { conn = conn; reply = reply }))
     → IfSome result (λ reply. MayGive config conn reply)
-may_give_if_kept config own node journal state conn None same history given = tt
-may_give_if_kept config own node journal state conn (Some reply) same history given =
+may_give_if_taken config own node journal state conn None same history given = tt
+may_give_if_taken config own node journal state conn (Some reply) same history given =
     record {
       number = node;
       journal = journal;

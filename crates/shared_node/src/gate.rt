@@ -56,7 +56,7 @@ impl<'n, K: Deployment, L: Log, R: Wait> NodeGate for Gate<'n, K, L, R> {
 
     fn step(&mut self, event: Event) -> Result<Entered<K>, StepFault> {
         let mut cell = self.take_or_lock();
-        let answer = self.asks.ask(&mut cell, event);
+        let answer = self.asks.ask_node(&mut cell, event);
         self.node.ring(&cell);
         self.held = Some(cell);
         answer

@@ -57,7 +57,7 @@ impl<K: Deployment, L: Log> SharedNode<K, L> {
 
     /// Tells those who wait what the last step left for them in the cell.
     pub(crate) fn ring(&self, cell: &NodeCell<K, L>) {
-        if cell.has_kept() {
+        if cell.has_undelivered() {
             self.replies.notify_all();
         }
         if cell.has_sent() {

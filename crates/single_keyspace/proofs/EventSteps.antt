@@ -39,7 +39,7 @@ module _ {past : List Entry} {n : ℕ} {before : NodeState} {one : Keyspace} (wa
       (command_of words) answering.listing refl answering.may_list (subst (λ (o : Outcome). MayAsk past n (answered_with words o.response)) answering.comes_to may) in
       let asked : Outcome = request_outcome before conn (command_of words) answering.listing in
       let answered_so : StepStands was (answered_with words asked.response) asked =
-      record { node = inner.node; keeps = inner.keeps; sent = inner.sent; told = inner.told; replies = inner.replies } in
+      record { node = inner.node; holds = inner.holds; sent = inner.sent; told = inner.told; replies = inner.replies } in
       subst (λ (o : Outcome). StepStands was (answered_with words o.response) o) (sym answering.comes_to) answered_so
 
   request_stands : (conn : Conn) (words : List (List ℕ)) (asks : Bool) (outcome : Outcome) → MatchBool asks (IsAnswering before conn words outcome) (outcome ≡ silent before)

@@ -6,7 +6,7 @@ pub mod Laws
 pub mod Seen
 pub mod Moved
 pub mod Running
-pub mod Kept
+pub mod MovesHold
 pub mod Lost
 pub mod Served
 pub mod Sendings

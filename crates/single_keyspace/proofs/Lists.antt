@@ -44,9 +44,9 @@ from_flat_map f (x ∷ xs) y among =
       | inr more ↦ let rest = from_flat_map f xs y more in (rest.0, contains_more x rest.0 xs rest.1, rest.2)
     ]
 
--- one more that is kept, if it is
-pub first_kept_or_more : {X Y : Type 0} (h : X → Option Y) (x : X) (xs : List X) (y : Y) → Contains (filter_map h (x ∷ xs)) y → (h x ≡ Some y) ⊎ Contains (filter_map h xs) y
-first_kept_or_more {Y = Y} h x xs y among = by_first (h x) refl among
+-- one more that is found, if it is
+pub first_found_or_more : {X Y : Type 0} (h : X → Option Y) (x : X) (xs : List X) (y : Y) → Contains (filter_map h (x ∷ xs)) y → (h x ≡ Some y) ⊎ Contains (filter_map h xs) y
+first_found_or_more {Y = Y} h x xs y among = by_first (h x) refl among
   where
     by_first : (o : Option Y) → h x ≡ o → Contains (filter_map h (x ∷ xs)) y → (h x ≡ Some y) ⊎ Contains (filter_map h xs) y
     by_first None is among = inr (subst (λ o. Contains (cons_option o (filter_map h xs)) y) is among)

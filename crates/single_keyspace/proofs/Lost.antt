@@ -1,4 +1,4 @@
--- What is kept of a slot as claims are taken.
+-- What holds of a slot as claims are taken.
 use Rattle.std.proofs.Common.{◌≡◌, ◌≢◌, ◌<◌, ◌≤◌, ◌&&◌, ◌⊎◌, ℕ, List, [], ◌∷◌, Bool, true, false, cond, not, Option, Some, None, length, refl, sym, ap, subst, ◌∙◌, inl, inr, arith}
 use Rattle.std.proofs.lemmas.Bool.{cases_lt, cases_Bool, cond-true, cond-false, eq-eqb, ne_eqb, eqb-true}
 use Rattle.std.proofs.lemmas.List.{get_or_past}
@@ -22,8 +22,8 @@ use Rattle.node_step.specs.State.{NodeState}
 use Rattle.world_run.specs.Run.{Entry}
 use Rattle.single_keyspace.specs.Slots.{values_in, view_of}
 use Rattle.single_keyspace.proofs.Laws.{events_at}
-use Rattle.single_keyspace.proofs.Maps.{kept_here}
-use Rattle.single_keyspace.proofs.Seen.{no_some, same_some, same_view, same_values, SlotWas, KeepsSlot, keeps_untouched}
+use Rattle.single_keyspace.proofs.Maps.{retained_here}
+use Rattle.single_keyspace.proofs.Seen.{no_some, same_some, same_view, same_values, SlotWas, HoldsAfter, holds_untouched}
 use Rattle.single_keyspace.proofs.Values.{values_alike}
 
 -- ---- the table
@@ -85,7 +85,7 @@ both_cancel false = refl
 
 module _ (node : NodeState) (table : List (Option SlotEntry)) (slot : ℕ) where
   move_left : map.get (with_table node table).moves.running slot ≡ cond (not (is_lost node table slot && is_leaving (move_of node.moves slot))) (move_of node.moves slot) None
-  move_left = kept_here node.moves.running slot (λ s. not (is_lost node table s && is_leaving (move_of node.moves s)))
+  move_left = retained_here node.moves.running slot (λ s. not (is_lost node table s && is_leaving (move_of node.moves s)))
 
   value_left : (key : List ℕ) → map.get (with_table node table).keyspace key ≡ cond (not (is_lost node table (hash_slot key))) (map.get node.keyspace key) None
   value_left key =
@@ -95,13 +95,13 @@ module _ (node : NodeState) (table : List (Option SlotEntry)) (slot : ℕ) where
   lost_here : (key : List ℕ) (b : Bool) → is_lost node table slot ≡ b → is_in_slot slot key ≡ true → is_lost node table (hash_slot key) ≡ b
   lost_here key b lost here = ap (is_lost node table) (eqb-true (hash_slot key) slot here) ∙ lost
 
-  move_kept : is_lost node table slot ≡ false → map.get (with_table node table).moves.running slot ≡ move_of node.moves slot
-  move_kept kept = move_left ∙ ap (λ b. cond (not (b && is_leaving (move_of node.moves slot))) (move_of node.moves slot) None) kept
+  move_same : is_lost node table slot ≡ false → map.get (with_table node table).moves.running slot ≡ move_of node.moves slot
+  move_same not_lost = move_left ∙ ap (λ b. cond (not (b && is_leaving (move_of node.moves slot))) (move_of node.moves slot) None) not_lost
 
-  values_kept : is_lost node table slot ≡ false → (key : List ℕ) → values_in (with_table node table).keyspace slot key ≡ values_in node.keyspace slot key
-  values_kept kept key =
+  values_same : is_lost node table slot ≡ false → (key : List ℕ) → values_in (with_table node table).keyspace slot key ≡ values_in node.keyspace slot key
+  values_same not_lost key =
       values_alike (with_table node table).keyspace node.keyspace slot key
-      (λ here. value_left key ∙ ap (λ b. cond (not b) (map.get node.keyspace key) None) (lost_here key false kept here))
+      (λ here. value_left key ∙ ap (λ b. cond (not b) (map.get node.keyspace key) None) (lost_here key false not_lost here))
 
   move_gone : is_lost node table slot ≡ true → is_leaving (move_of node.moves slot) ≡ true → map.get (with_table node table).moves.running slot ≡ None
   move_gone lost leaving =
@@ -119,17 +119,17 @@ module _ (node : NodeState) (table : List (Option SlotEntry)) (slot : ℕ) where
 
 module _ {past : List Entry} {n : ℕ} {before : NodeState} {one : Keyspace} {slot : ℕ} (was : SlotWas past n before one slot) where
   -- claims of another node are taken
-  pub claims_kept : (runs : List (Run ℕ)) (from : ℕ) → from ≢ n → before.number ≡ n → length before.table ≡ 16384
+  pub claims_hold : (runs : List (Run ℕ)) (from : ℕ) → from ≢ n → before.number ≡ n → length before.table ≡ 16384
       → ((epoch : ℕ) → claimed runs from slot ≡ Some (record { epoch = epoch; owner = from }) → IsSent was.top was.seen (Claimed from epoch))
-      → KeepsSlot was (with_table before (merged before.table runs from)) one
-  claims_kept runs from other at whole sent =
+      → HoldsAfter was (with_table before (merged before.table runs from)) one
+  claims_hold runs from other at whole sent =
       let table : List (Option SlotEntry) = merged before.table runs from in
       elim (merged_cases before.table runs from slot whole) [
         | inl stays ↦
-            let kept : is_lost before table slot ≡ false =
+            let not_lost : is_lost before table slot ≡ false =
             ap (λ e. is_owner (owner_at before.table slot) before.number && not (is_owner (owner_in e) before.number)) stays ∙ both_cancel (is_owner (owner_at before.table slot) before.number) in
-            keeps_untouched was (with_table before table) one
-            (same_view stays (move_kept before table slot kept) refl (same_values (values_kept before table slot kept)))
+            holds_untouched was (with_table before table) one
+            (same_view stays (move_same before table slot not_lost) refl (same_values (values_same before table slot not_lost)))
             (λ key. refl)
         | inr taken ↦ λ new changes.
             let claim : SlotEntry = taken.0 in
@@ -139,14 +139,14 @@ module _ {past : List Entry} {n : ℕ} {before : NodeState} {one : Keyspace} {sl
             ap (λ e. is_owner (owner_in e) before.number) taken.3 ∙ not_owned_by (Some claim.owner) before.number n at (λ same. not_mine (same_some refl same)) in
             let lost : owner_at before.table slot ≡ Some n → is_lost before table slot ≡ true =
             λ named. ap (λ b. b && not (is_owner (owner_at table slot) before.number)) (owned_by (owner_at before.table slot) before.number n at named) ∙ ap not not_now in
-            let kept : owner_at before.table slot ≢ Some n → is_lost before table slot ≡ false =
+            let not_lost : owner_at before.table slot ≢ Some n → is_lost before table slot ≡ false =
             λ unnamed. ap (λ b. b && not (is_owner (owner_at table slot) before.number)) (not_owned_by (owner_at before.table slot) before.number n at unnamed) in
             let said : IsSent was.top was.seen (Claimed claim.owner claim.epoch) =
             subst (λ (o : ℕ). IsSent was.top was.seen (Claimed o claim.epoch)) (sym owner)
             (sent claim.epoch (taken.1 ∙ ap (λ (o : ℕ). Some (record { epoch = claim.epoch; owner = o })) owner)) in
             record {
               newest = was.top;
-              keeps = (events_at was.top was.seen new (values_in one slot) n (view_of before slot) was.holds was.here).claim_taken claim (view_of (with_table before table) slot)
+              holds = (events_at was.top was.seen new (values_in one slot) n (view_of before slot) was.holds was.here).claim_taken claim (view_of (with_table before table) slot)
                   (record {
                     other = not_mine;
                     above = taken.2;
@@ -154,8 +154,8 @@ module _ {past : List Entry} {n : ℕ} {before : NodeState} {one : Keyspace} {sl
                     last = refl;
                     lost = λ named to number leaving. move_gone before table slot (lost named) (ap is_leaving leaving.is);
                     deleted = λ named. value_gone before table slot (lost named);
-                    move = λ unnamed. move_kept before table slot (kept unnamed);
-                    value = λ unnamed. same_values (values_kept before table slot (kept unnamed));
+                    move = λ unnamed. move_same before table slot (not_lost unnamed);
+                    value = λ unnamed. same_values (values_same before table slot (not_lost unnamed));
                   })
                   said changes;
             }

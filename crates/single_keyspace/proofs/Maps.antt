@@ -27,6 +27,6 @@ module _ {V : Type 0} (m : map.FinMap nat_cmp V) (k : ℕ) where
   pub gone_apart : (q : ℕ) → q ≢ k → map.get (map.remove m k) q ≡ map.get m q
   gone_apart q apart = map.get-remove nat_cmp_total m k q ∙ ap (λ b. cond b None (map.get m q)) (two_numbers q k apart)
 
-  -- what is kept by a test
-  pub kept_here : (test : ℕ → Bool) → map.get (map.retain_keys m test) k ≡ cond (test k) (map.get m k) None
-  kept_here test = map.get-retain_keys m test k (λ x same. ap test (sym (nat_cmp-IsAntisymmetric k x same)))
+  -- what is retained by a test
+  pub retained_here : (test : ℕ → Bool) → map.get (map.retain_keys m test) k ≡ cond (test k) (map.get m k) None
+  retained_here test = map.get-retain_keys m test k (λ x same. ap test (sym (nat_cmp-IsAntisymmetric k x same)))

@@ -37,14 +37,14 @@ use Rattle.node_step.specs.Ticks.{older, sent_again, tick}
 use Rattle.world_run.specs.Run.{Entry, sent_by}
 use Rattle.single_keyspace.specs.Slots.{view_of}
 use Rattle.single_keyspace.specs.Stands.{NodeStands, Says}
-use Rattle.single_keyspace.proofs.Kept.{arriving_is_there, frozen_is_there, valued_in_slot, copy_installed_kept, copy_acknowledged_kept, drained_noted_kept}
 use Rattle.single_keyspace.proofs.Lists.{contains_nothing, contains_one, from_flat_map}
-use Rattle.single_keyspace.proofs.Lost.{claims_kept, length_merged}
+use Rattle.single_keyspace.proofs.Lost.{claims_hold, length_merged}
 use Rattle.single_keyspace.proofs.Maps.{put_here}
 use Rattle.single_keyspace.proofs.Moved.{with_move, moved_here, moved_apart}
+use Rattle.single_keyspace.proofs.MovesHold.{arriving_is_there, frozen_is_there, valued_in_slot, copy_installed_holds, copy_acknowledged_holds, drained_noted_holds}
 use Rattle.single_keyspace.proofs.OrderSteps.{copy_justified}
 use Rattle.single_keyspace.proofs.Running.{got_from_entry}
-use Rattle.single_keyspace.proofs.Seen.{SlotWas, again, keeps_but, same_values, same_view}
+use Rattle.single_keyspace.proofs.Seen.{SlotWas, again, holds_but, same_values, same_view}
 use Rattle.single_keyspace.proofs.Sendings.{AreJustified, IsJustified, IsInstalled, drained_if_empty_justified, drained_since_justified}
 use Rattle.single_keyspace.proofs.Steps.{StepStands, nothing_sent, quiet, quiet_still}
 use Rattle.single_keyspace.proofs.Values.{is_key, puts_here, puts_elsewhere}
@@ -120,8 +120,8 @@ module _ {past : List Entry} {n : ℕ} {before : NodeState} {one : Keyspace} (wa
         subst (λ (m : Moves). StepStands was None (record (silent (record before { keyspace = keyspace; moves = m })) { sent = (message.from, body.Ack slot number copy) ∷ [] }))
         (sym (ap (changed_at before.moves slot one_more) facts.2))
         (quiet was None refl refl (record (silent after) { sent = (message.from, body.Ack slot number copy) ∷ [] }) (record { number_is = stands.number_is; slots = stands.slots })
-        (keeps_but was after one slot
-        (copy_installed_kept (was slot) message.from number copied drained key value keyspace facts.2 next_said (puts_here before.keyspace keyspace slot key (Some value) inside put))
+        (holds_but was after one slot
+        (copy_installed_holds (was slot) message.from number copied drained key value keyspace facts.2 next_said (puts_here before.keyspace keyspace slot key (Some value) inside put))
         (λ other apart. moved_apart before keyspace slot move other apart (same_values (puts_elsewhere before.keyspace keyspace other key (Some value) (in_one_slot slot other key inside apart) put)))
         (λ other apart q. refl))
         (ack_justified after (copied + 1) drained (put_here before.moves.running slot move) reached))
@@ -147,8 +147,8 @@ module _ {past : List Entry} {n : ℕ} {before : NodeState} {one : Keyspace} (wa
       (sym (ap (changed_at before.moves slot unfrozen) counted))
       (quiet was None refl refl (record (silent after) { released = map (release done) (waiting before.connections (is_for slot number copy)); sent = drained_since before.keyspace after slot })
       (record { number_is = stands.number_is; slots = stands.slots })
-      (keeps_but was after one slot
-      (copy_acknowledged_kept (was slot) message.from number copy key keyspace counted acked (puts_here before.keyspace keyspace slot key None inside put))
+      (holds_but was after one slot
+      (copy_acknowledged_holds (was slot) message.from number copy key keyspace counted acked (puts_here before.keyspace keyspace slot key None inside put))
       (λ other apart. moved_apart before keyspace slot move other apart (same_values (puts_elsewhere before.keyspace keyspace other key None (in_one_slot slot other key inside apart) put)))
       (λ other apart q. refl))
       (drained_since_justified past n after slot before.keyspace))
@@ -175,7 +175,7 @@ module _ {past : List Entry} {n : ℕ} {before : NodeState} {one : Keyspace} (wa
           let move : Move = Comes source other copied (Some epoch) in
           let after : NodeState = record before { moves = with_move before.moves slot move } in
           quiet was None refl refl (silent after) (record { number_is = stands.number_is; slots = stands.slots })
-          (keeps_but was after one slot (drained_noted_kept (was slot) source other copied known epoch same drained_said)
+          (holds_but was after one slot (drained_noted_holds (was slot) source other copied known epoch same drained_said)
           (λ s apart. moved_apart before before.keyspace slot move s apart refl) (λ s apart q. refl))
           (nothing_sent past n after)
 
@@ -194,7 +194,7 @@ module _ {past : List Entry} {n : ℕ} {before : NodeState} {one : Keyspace} (wa
       by_sender false other =
           quiet was None refl refl (claimed_by before (merged before.table runs message.from)) (record { number_is = stands.number_is; slots = length_merged before.table runs message.from })
           (λ slot.
-          claims_kept (was slot) runs message.from (λ same. eqb-false message.from before.number other (same ∙ sym stands.number_is)) stands.number_is stands.slots
+          claims_hold (was slot) runs message.from (λ same. eqb-false message.from before.number other (same ∙ sym stands.number_is)) stands.number_is stands.slots
           (λ epoch claims. said slot (body.Claim runs) (Claimed message.from epoch) is (epoch, claims, refl)))
           (nothing_sent past n (with_table before (merged before.table runs message.from)))
 
@@ -216,7 +216,7 @@ module _ {past : List Entry} {n : ℕ} {before : NodeState} {one : Keyspace} (wa
       by_target true mine =
           let inner = taken_stands (λ slot. again (was slot) (knowing before message.epoch) refl) (record { number_is = stands.number_is; slots = stands.slots }) message sent
           (eqb-true message.to before.number mine ∙ stands.number_is) message.body refl in
-          record { node = inner.node; keeps = inner.keeps; sent = inner.sent; told = inner.told; replies = inner.replies }
+          record { node = inner.node; holds = inner.holds; sent = inner.sent; told = inner.told; replies = inner.replies }
 
   -- ---- a tick
 

@@ -36,11 +36,11 @@ use Rattle.world_run.specs.Executed.{answered_with, if_served, redirection_in}
 use Rattle.world_run.specs.Run.{Entry}
 use Rattle.single_keyspace.specs.Slots.{view_of}
 use Rattle.single_keyspace.specs.Stands.{NodeStands}
-use Rattle.single_keyspace.proofs.Kept.{import_begun_kept, migration_begun_kept, copy_ordered_kept, import_ended_kept, with_entry, ended_apart}
 use Rattle.single_keyspace.proofs.Lists.{contains_nothing, contains_one, from_map}
 use Rattle.single_keyspace.proofs.Maps.{put_here}
 use Rattle.single_keyspace.proofs.Moved.{with_move, begun_apart, moved_apart}
-use Rattle.single_keyspace.proofs.Seen.{SlotWas, KeepsSlot, keeps_but}
+use Rattle.single_keyspace.proofs.MovesHold.{import_begun_holds, migration_begun_holds, copy_ordered_holds, import_ended_holds, with_entry, ended_apart}
+use Rattle.single_keyspace.proofs.Seen.{SlotWas, HoldsAfter, holds_but}
 use Rattle.single_keyspace.proofs.Sendings.{AreJustified, IsJustified, claim_justified, drained_if_empty_justified}
 use Rattle.single_keyspace.proofs.Steps.{StepStands, nothing_sent, quiet, quiet_still}
 use Rattle.single_keyspace.proofs.Values.{some_value, value_here}
@@ -84,7 +84,7 @@ module _ {past : List Entry} {n : ℕ} {before : NodeState} {one : Keyspace} (wa
       let facts = import_begins (standing before slot) (move_of before.moves slot) (last_move_of before.moves slot) other asked from number is in
       let after : NodeState = record before { moves = begun before.moves slot number (Comes from number 0 None) } in
       quiet was _ refl refl (import_outcome before slot (import.Begins from number)) (record { number_is = stands.number_is; slots = stands.slots })
-      (keeps_but was after one slot (import_begun_kept (was slot) from number facts.0 facts.1 (λ same. facts.2 (same ∙ sym stands.number_is)) facts.3)
+      (holds_but was after one slot (import_begun_holds (was slot) from number facts.0 facts.1 (λ same. facts.2 (same ∙ sym stands.number_is)) facts.3)
       (begun_apart before slot number (Comes from number 0 None)) (λ other apart key. refl))
       (nothing_sent past n after)
 
@@ -101,8 +101,8 @@ module _ {past : List Entry} {n : ℕ} {before : NodeState} {one : Keyspace} (wa
       let facts = migration_begins (standing before slot) (move_of before.moves slot) (last_move_of before.moves slot) other asked to number is in
       let after : NodeState = record before { moves = begun before.moves slot number (Leaves to number 0 None) } in
       quiet was _ refl refl (migrate_outcome before slot (migrate.Begins to number)) (record { number_is = stands.number_is; slots = stands.slots })
-      (keeps_but was after one slot
-      (migration_begun_kept (was slot) to number facts.0 (facts.1 ∙ ap Some stands.number_is) (λ same. facts.2 (same ∙ sym stands.number_is)) facts.3)
+      (holds_but was after one slot
+      (migration_begun_holds (was slot) to number facts.0 (facts.1 ∙ ap Some stands.number_is) (λ same. facts.2 (same ∙ sym stands.number_is)) facts.3)
       (begun_apart before slot number (Leaves to number 0 None)) (λ other apart key. refl))
       (drained_if_empty_justified past n after slot)
 
@@ -127,9 +127,9 @@ module _ {past : List Entry} {n : ℕ} {before : NodeState} {one : Keyspace} (wa
       let after : NodeState = with_slot before slot newer in
       quiet was _ refl refl (ending_outcome before slot claim (ending.Ends drained))
       (record { number_is = stands.number_is; slots = length-set before.table slot (Some (record { epoch = newer; owner = before.number })) ∙ stands.slots })
-      (keeps_but was after one slot
-      (subst (λ (o : ℕ). KeepsSlot (was slot) (with_entry before slot (record { epoch = newer; owner = o }) newer) one) (sym stands.number_is)
-      (import_ended_kept (was slot) facts.0 facts.1 facts.2 drained newer facts.3 (epoch_above slot drained) stands.slots))
+      (holds_but was after one slot
+      (subst (λ (o : ℕ). HoldsAfter (was slot) (with_entry before slot (record { epoch = newer; owner = o }) newer) one) (sym stands.number_is)
+      (import_ended_holds (was slot) facts.0 facts.1 facts.2 drained newer facts.3 (epoch_above slot drained) stands.slots))
       (ended_apart before slot (record { epoch = newer; owner = before.number }) newer) (λ other apart key. refl))
       (λ to said among.
       let found = from_map (λ (number : ℕ). (number, body.Claim claim)) (others before) (to, said) among in
@@ -158,9 +158,9 @@ module _ {past : List Entry} {n : ℕ} {before : NodeState} {one : Keyspace} (wa
       let moved : NodeState = record before { moves = with_move before.moves slot (Leaves to number copy (Some key)) } in
       let after : NodeState = parked moved conn slot number copy ticks in
       quiet was _ refl refl (copy_outcome before conn key ticks (copies.Copies to number copy)) (record { number_is = stands.number_is; slots = stands.slots })
-      (keeps_but was after one slot
-      (subst (λ (c : ℕ). KeepsSlot (was slot) (record before { moves = with_move before.moves slot (Leaves to number c (Some key)) }) one) (sym facts.2)
-      (copy_ordered_kept (was slot) to number facts.0 key there.0 facts.1 (value_here before.keyspace slot key inside ∙ there.1)))
+      (holds_but was after one slot
+      (subst (λ (c : ℕ). HoldsAfter (was slot) (record before { moves = with_move before.moves slot (Leaves to number c (Some key)) }) one) (sym facts.2)
+      (copy_ordered_holds (was slot) to number facts.0 key there.0 facts.1 (value_here before.keyspace slot key inside ∙ there.1)))
       (λ other apart. moved_apart before before.keyspace slot (Leaves to number copy (Some key)) other apart refl) (λ other apart key. refl))
       (copy_justified past n after slot to number copy key
       (put_here before.moves.running slot (Leaves to number copy (Some key))) inside)

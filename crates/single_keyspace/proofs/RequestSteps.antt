@@ -38,9 +38,9 @@ use Rattle.world_run.specs.Run.{Entry}
 use Rattle.single_keyspace.specs.Slots.{view_of}
 use Rattle.single_keyspace.specs.Stands.{BeginsIn, NodeStands, keys_in}
 use Rattle.single_keyspace.proofs.OrderSteps.{import_stands, migration_stands, ending_stands, copy_stands}
-use Rattle.single_keyspace.proofs.Seen.{no_some, same_some, SlotWas, KeepsSlot}
+use Rattle.single_keyspace.proofs.Seen.{no_some, same_some, SlotWas, HoldsAfter}
 use Rattle.single_keyspace.proofs.Sendings.{AreJustified, drained_since_justified}
-use Rattle.single_keyspace.proofs.Served.{CommandKept, serve_kept, import_kept, asked_there}
+use Rattle.single_keyspace.proofs.Served.{CommandHolds, serve_holds, import_holds, asked_there}
 use Rattle.single_keyspace.proofs.Steps.{StepStands, RepliesAs, next_of, nothing_sent, quiet_still}
 
 module _ {past : List Entry} {n : ℕ} {before : NodeState} {one : Keyspace} (was : (slot : ℕ) → SlotWas past n before one slot) (stands : NodeStands n before)
@@ -55,17 +55,17 @@ module _ {past : List Entry} {n : ℕ} {before : NodeState} {one : Keyspace} (wa
     drained_justified [] = nothing_sent past n (executed before command)
     drained_justified (key ∷ others) = drained_since_justified past n (executed before command) (hash_slot key) before.keyspace
 
-    executed_stands : (why : Decision) → CommandKept was command
+    executed_stands : (why : Decision) → CommandHolds was command
         → if_served (answered_with words (served before command why).response) ≡ Some (record { words = words; answer = record { why = Decided why; reply = (exec before.keyspace command).reply } })
         → redirection_in (answered_with words (served before command why).response) ≡ None → Answers (served before command why)
-    executed_stands why kept is_served not_sent_on = record {
+    executed_stands why holding is_served not_sent_on = record {
       node = record { number_is = stands.number_is; slots = stands.slots };
-      keeps = λ slot.
-          subst (λ (o : Option Answered). KeepsSlot (was slot) (executed before command) (next_of one o)) (sym is_served)
-          (subst (λ (r : Result Command CommandFault). KeepsSlot (was slot) (executed before command) (execution_of one r).after) (sym reads) (kept.keeps slot));
+      holds = λ slot.
+          subst (λ (o : Option Answered). HoldsAfter (was slot) (executed before command) (next_of one o)) (sym is_served)
+          (subst (λ (r : Result Command CommandFault). HoldsAfter (was slot) (executed before command) (execution_of one r).after) (sym reads) (holding.holds slot));
       sent = drained_justified (data_keys command);
       told = λ redirection is. absurd (no_some not_sent_on is);
-      replies = subst (RepliesAs one) (sym is_served) (kept.reply ∙ ap (λ (r : Result Command CommandFault). (execution_of one r).reply) (sym reads));
+      replies = subst (RepliesAs one) (sym is_served) (holding.reply ∙ ap (λ (r : Result Command CommandFault). (execution_of one r).reply) (sym reads));
     }
 
     told_before : (number : ℕ) → Contains (redirections past) (record { words = words; to = n; number = number }) → (slot : ℕ) → BeginsIn slot (data_keys command)
@@ -77,9 +77,9 @@ module _ {past : List Entry} {n : ℕ} {before : NodeState} {one : Keyspace} (wa
 
     pub data_stands : (numbered : Bool) (why : Decision) → decision_on before command asking ≡ why → MayAsk past n (answered_with words (command_outcome before numbered command why).response)
         → Answers (command_outcome before numbered command why)
-    data_stands numbered Serve is may = executed_stands Serve (serve_kept was command (local command) stands.number_is asking is) refl refl
+    data_stands numbered Serve is may = executed_stands Serve (serve_holds was command (local command) stands.number_is asking is) refl refl
     data_stands numbered (ServeImport number) is may =
-        executed_stands (ServeImport number) (import_kept was command (local command) stands.number_is asking number is (told_before number may)) refl refl
+        executed_stands (ServeImport number) (import_holds was command (local command) stands.number_is asking number is (told_before number may)) refl refl
     data_stands numbered CrossSlot is may = quiet_still was _ refl refl (command_outcome before numbered command CrossSlot) stands (λ slot. refl) (nothing_sent past n before)
     data_stands numbered Down is may = quiet_still was _ refl refl (command_outcome before numbered command Down) stands (λ slot. refl) (nothing_sent past n before)
     data_stands numbered (TryAgain reason) is may = quiet_still was _ refl refl (command_outcome before numbered command (TryAgain reason)) stands (λ slot. refl) (nothing_sent past n before)
@@ -88,7 +88,7 @@ module _ {past : List Entry} {n : ℕ} {before : NodeState} {one : Keyspace} (wa
         let still = quiet_still was None refl refl (silent before) stands (λ slot. refl) (nothing_sent past n before) in
         record {
           node = stands;
-          keeps = still.keeps;
+          holds = still.holds;
           sent = nothing_sent past n before;
           told = λ redirection told slot begins.
               let same : record { words = words; to = to; number = number } ≡ redirection = same_some refl told in

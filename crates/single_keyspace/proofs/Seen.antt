@@ -62,8 +62,8 @@ unchanged old new n view here changes = λ i j. each j i
           | inr apart ↦ changes.there j apart
         ]
 
-pub keeps_still : (top : SlotEntry) (old new : Views Value) (one : List ℕ → Option Value) (n : ℕ) (view : View Value) → Holds top old one → old n ≡ view → Changes old new n view → Keeps top top old new one
-keeps_still top old new one n view holds here changes =
+pub holds_still : (top : SlotEntry) (old new : Views Value) (one : List ℕ → Option Value) (n : ℕ) (view : View Value) → Holds top old one → old n ≡ view → Changes old new n view → Keeps top top old new one
+holds_still top old new one n view holds here changes =
     let still : Keeps top top old old one = record { holds = holds; sent = λ sent is. is } in
     subst (λ seen. Keeps top top old seen one) (sym (unchanged old new n view here changes)) still
 
@@ -81,28 +81,28 @@ pub record SlotWas (past : List Entry) (n : ℕ) (before : NodeState) (one : Key
 abbrev pub again : {past : List Entry} {n : ℕ} {before : NodeState} {one : Keyspace} {slot : ℕ} → SlotWas past n before one slot → (after : NodeState) → view_of after slot ≡ view_of before slot → SlotWas past n after one slot
 again was after same = record { top = was.top; seen = was.seen; holds = was.holds; here = was.here ∙ sym same; history = was.history; below = was.below }
 
--- what a step leaves of the slot
-pub record SlotKept (old : Views Value) (top : SlotEntry) (new : Views Value) (next : List ℕ → Option Value) : Type 0 where
+-- what holds of the slot after a step
+pub record SlotHolds (old : Views Value) (top : SlotEntry) (new : Views Value) (next : List ℕ → Option Value) : Type 0 where
   pub newest : SlotEntry
-  pub keeps : Keeps top newest old new next
+  pub holds : Keeps top newest old new next
 
--- a step that leads the node to the next state, and the one keyspace to the next one, keeps the slot
-abbrev pub KeepsSlot : {past : List Entry} {n : ℕ} {before : NodeState} {one : Keyspace} {slot : ℕ} → SlotWas past n before one slot → NodeState → Keyspace → Type 0
-KeepsSlot {n = n} {slot = slot} was after next = (new : Views Value) → Changes was.seen new n (view_of after slot) → SlotKept was.seen was.top new (values_in next slot)
+-- what holds of the slot stays true by a step that leads the node to the next state, and the one keyspace to the next one
+abbrev pub HoldsAfter : {past : List Entry} {n : ℕ} {before : NodeState} {one : Keyspace} {slot : ℕ} → SlotWas past n before one slot → NodeState → Keyspace → Type 0
+HoldsAfter {n = n} {slot = slot} was after next = (new : Views Value) → Changes was.seen new n (view_of after slot) → SlotHolds was.seen was.top new (values_in next slot)
 
 module _ {past : List Entry} {n : ℕ} {before : NodeState} {one : Keyspace} where
   -- the slot stays as it is, at the node and in the one keyspace
-  pub keeps_untouched : {slot : ℕ} (was : SlotWas past n before one slot) (after : NodeState) (next : Keyspace) → view_of after slot ≡ view_of before slot → ((key : List ℕ) → values_in next slot key ≡ values_in one slot key) → KeepsSlot was after next
-  keeps_untouched {slot = slot} was after next same alike new changes =
-      let kept : Keeps was.top was.top was.seen new (values_in one slot) = keeps_still was.top was.seen new (values_in one slot) n (view_of after slot) was.holds (was.here ∙ sym same) changes in
-      record { newest = was.top; keeps = subst (Keeps was.top was.top was.seen new) (sym (same_values alike)) kept }
+  pub holds_untouched : {slot : ℕ} (was : SlotWas past n before one slot) (after : NodeState) (next : Keyspace) → view_of after slot ≡ view_of before slot → ((key : List ℕ) → values_in next slot key ≡ values_in one slot key) → HoldsAfter was after next
+  holds_untouched {slot = slot} was after next same alike new changes =
+      let stands : Keeps was.top was.top was.seen new (values_in one slot) = holds_still was.top was.seen new (values_in one slot) n (view_of after slot) was.holds (was.here ∙ sym same) changes in
+      record { newest = was.top; holds = subst (Keeps was.top was.top was.seen new) (sym (same_values alike)) stands }
 
   -- one slot is touched, and the others stay
-  pub keeps_but : (was : (slot : ℕ) → SlotWas past n before one slot) (after : NodeState) (next : Keyspace) (touched : ℕ) → KeepsSlot (was touched) after next
+  pub holds_but : (was : (slot : ℕ) → SlotWas past n before one slot) (after : NodeState) (next : Keyspace) (touched : ℕ) → HoldsAfter (was touched) after next
       → ((slot : ℕ) → slot ≢ touched → view_of after slot ≡ view_of before slot) → ((slot : ℕ) → slot ≢ touched → (key : List ℕ) → values_in next slot key ≡ values_in one slot key)
-      → (slot : ℕ) → KeepsSlot (was slot) after next
-  keeps_but was after next touched here same alike slot =
+      → (slot : ℕ) → HoldsAfter (was slot) after next
+  holds_but was after next touched here same alike slot =
       elim (cases_eq slot touched) [
-        | inl is ↦ subst (λ s. KeepsSlot (was s) after next) (sym is) here
-        | inr apart ↦ keeps_untouched (was slot) after next (same slot apart) (alike slot apart)
+        | inl is ↦ subst (λ s. HoldsAfter (was s) after next) (sym is) here
+        | inr apart ↦ holds_untouched (was slot) after next (same slot apart) (alike slot apart)
       ]

@@ -1,4 +1,4 @@
--- What is kept of the slots, and what is replied, as a command is executed.
+-- What holds of the slots, and what is replied, as a command is executed.
 use Rattle.std.proofs.Common.{◌≡◌, ◌≢◌, ◌⊎◌, ◌==◌, ℕ, List, [], ◌∷◌, map, Bool, true, false, not, Option, Some, None, Contains, refl, sym, ap, subst, ◌∙◌, inl, inr, arith}
 use Rattle.std.proofs.lemmas.Bool.{both_ways, cases_Bool, cond-true, cond-false, eqb-true, eq-eqb, not-true, not-false}
 use Rattle.std.proofs.lemmas.List.Elements.{All-contains, Contains-get_or}
@@ -31,7 +31,7 @@ use Rattle.world_run.specs.Run.{Entry}
 use Rattle.single_keyspace.specs.Slots.{values_in, view_of}
 use Rattle.single_keyspace.proofs.Laws.{EventLaws, ViewLaws, ImportServes, events_at, laws_at}
 use Rattle.single_keyspace.proofs.Lists.{first_or_more, contains_first, contains_nothing, no_element, each_element, mapped}
-use Rattle.single_keyspace.proofs.Seen.{no_some, SlotWas, KeepsSlot, keeps_but, keeps_untouched, same_values, same_view}
+use Rattle.single_keyspace.proofs.Seen.{no_some, SlotWas, HoldsAfter, holds_but, holds_untouched, same_values, same_view}
 use Rattle.single_keyspace.proofs.Values.{no_value, some_value, values_alike, value_here}
 use Rattle.single_keyspace.specs.Stands.{BeginsIn}
 use Rattle.single_keyspace.proofs.Verdicts.{bytes_themselves, serves, serves_import, asks}
@@ -106,10 +106,10 @@ module _ (command : DataCommand) (local : IsLocal command) where
           (λ here. All-contains (λ (q : List ℕ). fin_map.get (exec one command).after q ≡ fin_map.get (exec m command).after q) keys key (local.inside one m agree) among);
     }
 
--- what is kept of all slots, and the reply
-pub record CommandKept {past : List Entry} {n : ℕ} {before : NodeState} {one : Keyspace} (was : (slot : ℕ) → SlotWas past n before one slot) (command : DataCommand) : Type 0 where
+-- what holds of all slots, and the reply
+pub record CommandHolds {past : List Entry} {n : ℕ} {before : NodeState} {one : Keyspace} (was : (slot : ℕ) → SlotWas past n before one slot) (command : DataCommand) : Type 0 where
   pub reply : (exec before.keyspace command).reply ≡ (exec one command).reply
-  pub keeps : (slot : ℕ) → KeepsSlot (was slot) (executed before command) (exec one command).after
+  pub holds : (slot : ℕ) → HoldsAfter (was slot) (executed before command) (exec one command).after
 
 module _ {past : List Entry} {n : ℕ} {before : NodeState} {one : Keyspace} (was : (slot : ℕ) → SlotWas past n before one slot) (command : DataCommand) (local : IsLocal command) where
   abbrev after : NodeState
@@ -120,11 +120,11 @@ module _ {past : List Entry} {n : ℕ} {before : NodeState} {one : Keyspace} (wa
       → ((key : List ℕ) → Contains (data_keys command) key → values_in one slot key ≡ values_in before.keyspace slot key)
       → ((new : Views Value) → IsServed (values_in before.keyspace slot) (values_in (exec before.keyspace command).after slot) (values_in one slot) (values_in (exec one command).after slot) (data_keys command)
       → Changes (was slot).seen new n (view_of after slot) → Keeps (was slot).top (was slot).top (was slot).seen new (values_in (exec one command).after slot))
-      → CommandKept was command
-  in_one_slot slot inside same keeps = record {
+      → CommandHolds was command
+  in_one_slot slot inside same holds = record {
     reply = one_reply command local before.keyspace one slot inside same;
-    keeps = keeps_but was after (exec one command).after slot
-        (λ new changes. record { newest = (was slot).top; keeps = keeps new (is_served command local before.keyspace one slot inside same) changes })
+    holds = holds_but was after (exec one command).after slot
+        (λ new changes. record { newest = (was slot).top; holds = holds new (is_served command local before.keyspace one slot inside same) changes })
         (λ other apart. same_view refl refl refl (same_values (other_slots command local before.keyspace slot other inside apart)))
         (λ other apart. other_slots command local one slot other inside apart);
   }
@@ -133,11 +133,11 @@ module _ {past : List Entry} {n : ℕ} {before : NodeState} {one : Keyspace} (wa
   nothing_among none key among = contains_nothing key (subst (λ (keys : List (List ℕ)). Contains keys key) none among)
 
   -- without keys
-  pub without_keys : data_keys command ≡ [] → CommandKept was command
+  pub without_keys : data_keys command ≡ [] → CommandHolds was command
   without_keys none = record {
     reply = one_reply command local before.keyspace one 0 (λ key among. absurd (nothing_among none key among)) (λ key among. absurd (nothing_among none key among));
-    keeps = λ slot.
-        keeps_untouched (was slot) after (exec one command).after (same_view refl refl refl (same_values (stays before.keyspace slot))) (stays one slot);
+    holds = λ slot.
+        holds_untouched (was slot) after (exec one command).after (same_view refl refl refl (same_values (stays before.keyspace slot))) (stays one slot);
   } where
     stays : (m : Keyspace) (slot : ℕ) (key : List ℕ) → values_in (exec m command).after slot key ≡ values_in m slot key
     stays m slot key = values_alike (exec m command).after m slot key (λ here. local.outside m key (nothing_among none key))
@@ -209,8 +209,8 @@ module _ {past : List Entry} {n : ℕ} {before : NodeState} {one : Keyspace} (wa
   laws : (slot : ℕ) → ViewLaws (was slot).top (was slot).seen (values_in one slot) n (view_of before slot)
   laws slot = laws_at (was slot).top (was slot).seen (values_in one slot) n (view_of before slot) (was slot).holds (was slot).here
 
-  pub serve_kept : decision_on before command asking ≡ Serve → CommandKept was command
-  serve_kept is =
+  pub serve_holds : decision_on before command asking ≡ Serve → CommandHolds was command
+  serve_holds is =
       elim (decided_in before command asking Serve is) [
         | inl none ↦ without_keys was command local none
         | inr (inl cross) ↦ absurd (grind arith)
@@ -243,10 +243,10 @@ module _ {past : List Entry} {n : ℕ} {before : NodeState} {one : Keyspace} (wa
             ]
       ]
 
-  pub import_kept : (number : ℕ) → decision_on before command asking ≡ ServeImport number
+  pub import_holds : (number : ℕ) → decision_on before command asking ≡ ServeImport number
       → ((slot : ℕ) → BeginsIn slot (data_keys command) → (by : ℕ) × IsSent (was slot).top (was slot).seen (Told by n number (data_keys command)))
-      → CommandKept was command
-  import_kept number is told =
+      → CommandHolds was command
+  import_holds number is told =
       elim (decided_in before command asking (ServeImport number) is) [
         | inl none ↦ without_keys was command local none
         | inr (inl cross) ↦ absurd (grind arith)

@@ -11,7 +11,7 @@ use Rattle.world_run.specs.Run.{Entry}
 use Rattle.single_keyspace.specs.Slots.{view_of}
 use Rattle.single_keyspace.specs.Stands.{BeginsIn, NodeStands, keys_in}
 use Rattle.single_keyspace.proofs.Lists.{contains_nothing}
-use Rattle.single_keyspace.proofs.Seen.{no_some, SlotWas, KeepsSlot, keeps_untouched}
+use Rattle.single_keyspace.proofs.Seen.{no_some, SlotWas, HoldsAfter, holds_untouched}
 use Rattle.single_keyspace.proofs.Sendings.{AreJustified}
 
 -- the one keyspace after a request, if that was executed
@@ -26,7 +26,7 @@ RepliesAs one (Some answered) = answered.answer.reply ≡ (exec_words one answer
 
 pub record StepStands {past : List Entry} {n : ℕ} {before : NodeState} {one : Keyspace} (was : (slot : ℕ) → SlotWas past n before one slot) (answer : Option Answered) (outcome : Outcome) : Type 0 where
   pub node : NodeStands n outcome.state
-  pub keeps : (slot : ℕ) → KeepsSlot (was slot) outcome.state (next_of one (if_served answer))
+  pub holds : (slot : ℕ) → HoldsAfter (was slot) outcome.state (next_of one (if_served answer))
   pub sent : AreJustified past n outcome.state outcome.sent
   pub told : (redirection : Redirection) → redirection_in answer ≡ Some redirection → (slot : ℕ) → BeginsIn slot (keys_in (command_of redirection.words))
       → IsAsked (view_of outcome.state slot) redirection.to redirection.number (keys_in (command_of redirection.words))
@@ -38,10 +38,10 @@ nothing_sent past n node to body among = absurd (contains_nothing (to, body) amo
 module _ {past : List Entry} {n : ℕ} {before : NodeState} {one : Keyspace} (was : (slot : ℕ) → SlotWas past n before one slot) where
   -- nothing is executed, and nobody is sent on
   pub quiet : (answer : Option Answered) → if_served answer ≡ None → redirection_in answer ≡ None → (outcome : Outcome) → NodeStands n outcome.state
-      → ((slot : ℕ) → KeepsSlot (was slot) outcome.state one) → AreJustified past n outcome.state outcome.sent → StepStands was answer outcome
-  quiet answer not_served not_sent_on outcome node keeps sent = record {
+      → ((slot : ℕ) → HoldsAfter (was slot) outcome.state one) → AreJustified past n outcome.state outcome.sent → StepStands was answer outcome
+  quiet answer not_served not_sent_on outcome node holds sent = record {
     node = node;
-    keeps = λ slot. subst (λ o. KeepsSlot (was slot) outcome.state (next_of one o)) (sym not_served) (keeps slot);
+    holds = λ slot. subst (λ o. HoldsAfter (was slot) outcome.state (next_of one o)) (sym not_served) (holds slot);
     sent = sent;
     told = λ redirection is. absurd (no_some not_sent_on is);
     replies = subst (RepliesAs one) (sym not_served) tt;
@@ -51,4 +51,4 @@ module _ {past : List Entry} {n : ℕ} {before : NodeState} {one : Keyspace} (wa
   pub quiet_still : (answer : Option Answered) → if_served answer ≡ None → redirection_in answer ≡ None → (outcome : Outcome) → NodeStands n outcome.state
       → ((slot : ℕ) → view_of outcome.state slot ≡ view_of before slot) → AreJustified past n outcome.state outcome.sent → StepStands was answer outcome
   quiet_still answer not_served not_sent_on outcome node same sent =
-      quiet answer not_served not_sent_on outcome node (λ slot. keeps_untouched (was slot) outcome.state one (same slot) (λ key. refl)) sent
+      quiet answer not_served not_sent_on outcome node (λ slot. holds_untouched (was slot) outcome.state one (same slot) (λ key. refl)) sent

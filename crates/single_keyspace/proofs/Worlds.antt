@@ -30,7 +30,7 @@ use Rattle.single_keyspace.specs.Slots.{first_of, values_in, view_at, view_of, v
 use Rattle.single_keyspace.specs.Stands.{NodeStands, Says, SlotStands, WorldStands, keys_in}
 use Rattle.single_keyspace.proofs.EventSteps.{event_stands}
 use Rattle.single_keyspace.proofs.Laws.{laws_at}
-use Rattle.single_keyspace.proofs.Lists.{first_kept_or_more, from_map}
+use Rattle.single_keyspace.proofs.Lists.{first_found_or_more, from_map}
 use Rattle.single_keyspace.proofs.Seen.{SlotWas, no_some, same_some, seen_changes, seen_here, set_apart, set_here}
 use Rattle.single_keyspace.proofs.Sendings.{justified_is_true}
 use Rattle.single_keyspace.proofs.Start.{first_world_stands}
@@ -78,33 +78,33 @@ module _ (config : ClusterConfig) {past : List Entry} {nodes : List NodeState} {
       slot_after slot =
           let was = slot_was slot in
           let changes = seen_changes (first_of config slot) slot nodes n before there outcome.state in
-          let kept = step.keeps slot (views (first_of config slot) new slot) changes in
-          let newest : SlotEntry = kept.newest in
+          let slot_holds = step.holds slot (views (first_of config slot) new slot) changes in
+          let newest : SlotEntry = slot_holds.newest in
           let seen : Views Value = views (first_of config slot) new slot in
-          let keeps : Keeps was.top newest was.seen seen (values_in next slot) = kept.keeps in
+          let holding : Keeps was.top newest was.seen seen (values_in next slot) = slot_holds.holds in
           let history : (message : Message) (sent : Sent Value) → Contains (sent_by past) message → Says slot message.from message.to message.body sent → IsSent newest seen sent =
-          λ message sent among says. keeps.sent sent (was.history.sent message sent among says) in
+          λ message sent among says. holding.sent sent (was.history.sent message sent among says) in
           record {
             top = newest;
-            holds = keeps.holds;
+            holds = holding.holds;
             history = record {
               sent = λ message sent among says.
                   elim (Contains-append_cases (sent_in entry.deed) (sent_by past) message among) [
                     | inl now ↦
                         let found = from_map (stamped outcome.state.number ticket outcome.state.current_epoch) outcome.sent message (subst (λ (l : List Message). Contains l message) sends now) in
                         let says_so : Says slot outcome.state.number found.0.0 found.0.1 sent = subst (λ (m : Message). Says slot m.from m.to m.body sent) (sym found.2) says in
-                        justified_is_true past outcome.state keeps.holds changes.here history found.0.0 found.0.1 sent (step.sent found.0.0 found.0.1 found.1)
+                        justified_is_true past outcome.state holding.holds changes.here history found.0.0 found.0.1 sent (step.sent found.0.0 found.0.1 found.1)
                         (subst (λ (from : ℕ). Says slot from found.0.0 found.0.1 sent) step.node.number_is says_so)
                     | inr earlier ↦ history message sent earlier says
                   ];
               told = λ redirection among begins.
-                  elim (first_kept_or_more (λ (e : Entry). redirection_in (answered e.deed)) entry past redirection among) [
+                  elim (first_found_or_more (λ (e : Entry). redirection_in (answered e.deed)) entry past redirection among) [
                     | inl now ↦ (
                       n,
-                      (laws_at newest seen (values_in next slot) n (view_of outcome.state slot) keeps.holds changes.here).told_sent redirection.to redirection.number
+                      (laws_at newest seen (values_in next slot) n (view_of outcome.state slot) holding.holds changes.here).told_sent redirection.to redirection.number
                           (keys_in (command_of redirection.words)) (step.told redirection now slot begins),
                     )
-                    | inr earlier ↦ let told = was.history.told redirection earlier begins in (told.0, keeps.sent (Told told.0 redirection.to redirection.number (keys_in (command_of redirection.words))) told.1)
+                    | inr earlier ↦ let told = was.history.told redirection earlier begins in (told.0, holding.sent (Told told.0 redirection.to redirection.number (keys_in (command_of redirection.words))) told.1)
                   ];
             };
           }

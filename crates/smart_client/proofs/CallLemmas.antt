@@ -10,7 +10,7 @@ use Rattle.redirection.specs.declared.redirection.Redirection.TheVariants.{Moved
 use Rattle.smart_client.specs.ErrorKind.{kind_of}
 use Rattle.smart_client.specs.State.{ClientState}
 use Rattle.smart_client.specs.Calls.{IsDone, left_of, rank}
-use Rattle.smart_client.specs.Step.{Answer, Follows, MayComeTo, Steps, Turn, again, allowed, answered, closes, connected, failed, follows, introduced, is_beyond, is_ok, loses, next, peer_at, redirected, replied, sends, takes_memory, turn, uses_for, with_connection, with_owner, without_call}
+use Rattle.smart_client.specs.Step.{Answer, Follows, MayComeTo, Steps, Turn, again, allowed, answered, closes, connected, failed, follows, introduced, is_beyond, is_ok, loses, next, peer_at, redirected, replied, sends, takes_memory, turn, uses_for, with_connected, with_owner, without_call}
 use Rattle.smart_client.specs.Step.Turn.{Goes, Ends, Reads}
 use Rattle.smart_client.specs.Words.{asking_words, numbered_words}
 use Rattle.smart_client.specs.declared.action.Action.{Action}
@@ -63,12 +63,12 @@ uses_leads client call (Some number) bounded later =
 
 connected_leads : (client : ClientState) (call : Call) → IsBounded client.limit call → 2 < rank call.stage → Leads client.limit call (connected client call)
 connected_leads client call bounded later =
-    leads_if client.limit call (peer_at client.peers call.to).is_kept _ _ (λ _. uses_leads client call call.asking bounded (omega (arith, later)))
+    leads_if client.limit call (peer_at client.peers call.to).is_connected _ _ (λ _. uses_leads client call call.asking bounded (omega (arith, later)))
     (λ _. (record call { stage = Introducing }, refl, record { words = refl; asked = refl; less = omega (arith, later); bounded = record { few = bounded.few; within = bounded.within } }, refl))
 
 introduced_leads : (client : ClientState) (call : Call) (reply : Reply) → IsBounded client.limit call → 1 < rank call.stage → Leads client.limit call (introduced client call reply)
 introduced_leads client call reply bounded later =
-    leads_if client.limit call (is_ok reply) _ _ (λ _. uses_leads (record client { peers = with_connection client.peers call.to true }) call call.asking bounded later) (λ _. tt)
+    leads_if client.limit call (is_ok reply) _ _ (λ _. uses_leads (record client { peers = with_connected client.peers call.to true }) call call.asking bounded later) (λ _. tt)
 
 allowed_leads : (client : ClientState) (call : Call) (reply : Reply) → IsBounded client.limit call → 0 < rank call.stage → Leads client.limit call (allowed client call reply)
 allowed_leads client call reply bounded later = leads_if client.limit call (is_ok reply) _ _ (λ _. sends_leads client call bounded later) (λ _. tt)

@@ -1,7 +1,7 @@
 -- A call that goes on from deed to deed.
 use Rattle.std.proofs.Common.{◌≡◌, ◌≢◌, ◌<◌, ◌+◌, ◌++◌, ◌∷◌, ℕ, List, [], Option, Some, None, refl, ap, sym, subst, ◌∙◌, append_assoc, arith}
-use Rattle.smart_client.specs.Calls.{AreWithin, ClientView, Deed, IsCallOf, IsRun, IsWaiting, IsWithin, MayAnswer, Nears, kept_behind, left_of, moments_of}
-use Rattle.smart_client.specs.Kept.{Kept, kept_after}
+use Rattle.smart_client.specs.Calls.{AreWithin, ClientView, Deed, IsCallOf, IsRun, IsWaiting, IsWithin, MayAnswer, Nears, left_of, moments_of, pool_behind}
+use Rattle.smart_client.specs.Pool.{Pool, pool_after}
 use Rattle.smart_client.specs.State.{ClientState}
 use Rattle.smart_client.specs.Step.{MayCome, MayComeTo, Steps}
 use Rattle.smart_client.specs.declared.action.Action.{Action}
@@ -17,7 +17,7 @@ pub record Goes (words : List (List ℕ)) (old : ClientView) (wanted : Action) (
   pub deeds : List Deed
   pub done : now.deeds ≡ old.deeds ++ deeds
   pub call : IsCallOf words old.state (moments_of (happened.Call words) deeds wanted) now.state
-  pub kept : now.kept ≡ kept_behind deeds old.kept
+  pub pool : now.pool ≡ pool_behind deeds old.pool
 
 -- how many events may still come
 abbrev pub left_at : ℕ → Option Call → ℕ
@@ -78,17 +78,17 @@ may_come (Send words) event None waits may = absurd waits
 may_come (Send words) event (Some call) waits may = comes_to call.stage event waits may
 may_come (Done answer close) event under waits may = absurd may
 
-kept_on : (deeds : List Deed) (deed : Deed) (kept : Kept) → kept_behind (deeds ++ deed ∷ []) kept ≡ kept_after deed.action deed.event (kept_behind deeds kept)
-kept_on [] deed kept = refl
-kept_on (first ∷ deeds) deed kept = kept_on deeds deed (kept_after first.action first.event kept)
+pool_on : (deeds : List Deed) (deed : Deed) (pool : Pool) → pool_behind (deeds ++ deed ∷ []) pool ≡ pool_after deed.action deed.event (pool_behind deeds pool)
+pool_on [] deed pool = refl
+pool_on (first ∷ deeds) deed pool = pool_on deeds deed (pool_after first.action first.event pool)
 
 pub passes_on : (words : List (List ℕ)) (old middle new : ClientView) (wanted later : Action) (event : Event) → Goes words old wanted middle → new.deeds ≡ middle.deeds ++ record { action = wanted; event = event } ∷ []
-    → new.kept ≡ kept_after wanted event middle.kept → MayAnswer wanted event → IsWaiting wanted middle.state.call → Steps middle.state event later new.state → Goes words old later new
-passes_on words old middle new wanted later event goes grown kept_then may waits steps = record {
+    → new.pool ≡ pool_after wanted event middle.pool → MayAnswer wanted event → IsWaiting wanted middle.state.call → Steps middle.state event later new.state → Goes words old later new
+passes_on words old middle new wanted later event goes grown pool_then may waits steps = record {
   deeds = goes.deeds ++ record { action = wanted; event = event } ∷ [];
   done = grown ∙ ap (λ (deeds : List Deed). deeds ++ record { action = wanted; event = event } ∷ []) goes.done ∙ append_assoc old.deeds goes.deeds (record { action = wanted; event = event } ∷ []);
   call = goes_on words old.state middle.state new.state event wanted later goes.deeds goes.call (is_within wanted event may) (may_come wanted event middle.state.call waits may) steps;
-  kept = kept_then ∙ ap (λ (kept : Kept). kept_after wanted event kept) goes.kept ∙ sym (kept_on goes.deeds (record { action = wanted; event = event }) old.kept);
+  pool = pool_then ∙ ap (λ (pool : Pool). pool_after wanted event pool) goes.pool ∙ sym (pool_on goes.deeds (record { action = wanted; event = event }) old.pool);
 }
 
 -- each event leaves fewer

@@ -1,6 +1,5 @@
 pub mod LawLemmas
-pub mod PlaceLemmas
-pub mod KeptLemmas
+pub mod PoolLemmas
 pub mod RequestLemmas
 pub mod CallLemmas
 pub mod ClientLemmas

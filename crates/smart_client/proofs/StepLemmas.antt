@@ -2,7 +2,7 @@
 use Rattle.std.proofs.Common.{◌≡◌, ◌⊎◌, false, inl, inr, Option, None, Some, Ok, Err, ap, sym, subst, ◌∙◌}
 use Rattle.std.specs.Prelude.{IsTrue, if◌then◌else◌}
 use Rattle.smart_client.specs.State.{ClientState}
-use Rattle.smart_client.specs.Step.{Answer, Follows, Steps, Turn, closes, loses, next, takes_memory, turn, with_connection, without_call}
+use Rattle.smart_client.specs.Step.{Answer, Follows, Steps, Turn, closes, loses, next, takes_memory, turn, with_connected, without_call}
 use Rattle.smart_client.specs.Step.Turn.{Goes, Ends, Reads}
 use Rattle.smart_client.specs.Turns.{Does, Makes}
 use Rattle.smart_client.specs.declared.action.Action.{Action}
@@ -30,7 +30,7 @@ left made begun new end (inr refused) = refused.1.1
 
 -- the client without the call whose connection this was
 abbrev closed : Call → ClientState → Answer → ClientState
-closed call client answer = record client { call = None; peers = if loses answer then with_connection client.peers call.to false else client.peers }
+closed call client answer = record client { call = None; peers = if loses answer then with_connected client.peers call.to false else client.peers }
 
 ends : (made : Turn) (old begun after new : ClientState) (call : Call) (end : Ended) (action : Action) → old.call ≡ Some call → Does made begun (Err end) after → action ≡ Done end.answer (closes end.answer) → new ≡ closed call old end.answer
     → Follows made old action new
@@ -61,12 +61,12 @@ steps_on old begun call event action new under is makes =
 
 pub steps_out : (old begun after : ClientState) (call : Call) (event : Event) (end : Ended) (action : Action) (new : ClientState) → old.call ≡ Some call → begun ≡ record old { call = None }
     → Makes (turn begun call event) begun (Err end) after → action ≡ Done end.answer (closes end.answer)
-    → new ≡ record after { peers = if loses end.answer then with_connection after.peers call.to false else after.peers } → Steps old event action new
+    → new ≡ record after { peers = if loses end.answer then with_connected after.peers call.to false else after.peers } → Steps old event action new
 steps_out old begun after call event end action new under is makes done gone =
     stepped old call event action new under (go (turn (record old { call = None }) call event) (subst (λ (b : ClientState). Makes (turn b call event) begun (Err end) after) is makes))
   where
     same : new ≡ closed call old end.answer
-    same = gone ∙ ap (λ (c : ClientState). record c { peers = if loses end.answer then with_connection c.peers call.to false else c.peers }) (left (turn begun call event) begun after end makes ∙ is)
+    same = gone ∙ ap (λ (c : ClientState). record c { peers = if loses end.answer then with_connected c.peers call.to false else c.peers }) (left (turn begun call event) begun after end makes ∙ is)
 
     go : (made : Turn) → Makes made begun (Err end) after → Follows made old action new ⊎ (IsTrue (takes_memory made) × Follows (Ends (Err Memory)) old action new)
     go made (inl does) = inl (ends made old begun after new call end action under does done same)

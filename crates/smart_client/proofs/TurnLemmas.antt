@@ -16,7 +16,7 @@ use Rattle.smart_client.specs.declared.action.Action.TheVariants.{Connect}
 use Rattle.smart_client.specs.declared.call.Call.{Call}
 use Rattle.smart_client.specs.declared.call.Stage.TheVariants.{Connecting}
 use Rattle.smart_client.specs.declared.client_core.TheConstants.{MOST_ADDRESSES}
-use Rattle.smart_client.proofs.PlaceLemmas.{position-le}
+use Rattle.redirection.proofs.PlaceLemmas.{position-le}
 use Rattle.smart_client.specs.declared.peers.Peer.{Peer}
 
 both : (a b : Bool) → (a && b) ≡ true → (a ≡ true) × (b ≡ true)
@@ -41,7 +41,7 @@ pub learned_at : (peers : List Peer) (address : Place) → (peer_at (with_addres
 learned_at peers address =
     elim (cases_Bool (place_of peers address == length peers)) [
       | inl new ↦ rw new (ap (λ (peer : Peer). peer.address)
-          (get_or_push peers (record { address = address; is_kept = false }) nobody (place_of peers address) (sym (eqb-true (place_of peers address) (length peers) new))))
+          (get_or_push peers (record { address = address; is_connected = false }) nobody (place_of peers address) (sym (eqb-true (place_of peers address) (length peers) new))))
       | inr known ↦ rw known (has_address address (peer_at peers (place_of peers address)) (passes_at_first (is_at address) peers nobody (within peers address known)))
     ]
 

@@ -2,7 +2,7 @@
 use Rattle.std.specs.Prelude.{◌≡◌, ◌≢◌, ◌+◌, ◌-◌, ◌*◌, ◌<◌, ◌++◌, ◌∷◌, ◌⊎◌, ℕ, Bool, List, [], Option, Some, None, ⊤, if◌then◌else◌}
 use Rattle.resp_values.specs.declared.reply.Reply.TheVariants.{Error}
 use Rattle.smart_client.specs.ErrorKind.{kind_of}
-use Rattle.smart_client.specs.Kept.{Kept, closed, kept_after}
+use Rattle.smart_client.specs.Pool.{Pool, closed, pool_after}
 use Rattle.smart_client.specs.State.{ClientState}
 use Rattle.smart_client.specs.Step.{Answer, MayCome, MayComeTo, Steps}
 use Rattle.smart_client.specs.declared.action.Action.{Action}
@@ -85,19 +85,19 @@ MayAnswer (Send words) event = MayComeTo Sent event
 MayAnswer (Done answer close) event = ⊥
 
 -- the connections that these deeds leave
-abbrev pub kept_behind : List Deed → Kept → Kept
-kept_behind [] kept = kept
-kept_behind (deed ∷ deeds) kept = kept_behind deeds (kept_after deed.action deed.event kept)
+abbrev pub pool_behind : List Deed → Pool → Pool
+pool_behind [] pool = pool
+pool_behind (deed ∷ deeds) pool = pool_behind deeds (pool_after deed.action deed.event pool)
 
 -- the one in use is closed, or isn't
-abbrev pub closed_if : Bool → Kept → Kept
-closed_if close kept = if close then closed kept else kept
+abbrev pub closed_if : Bool → Pool → Pool
+closed_if close pool = if close then closed pool else pool
 
 -- a client, all that it had done, and the connections that there are
 pub record ClientView : Type 0 where
   pub state : ClientState
   pub deeds : List Deed
-  pub kept : Kept
+  pub pool : Pool
 
 -- a call with these words: what came of each thing that it wanted led to the next one, and the last of them was this answer; the
 -- connection that is in use then is closed, if the client wants that
@@ -106,7 +106,7 @@ pub record Calls (words : List (List ℕ)) (old : ClientView) (answer : Answer) 
   pub close : Bool
   pub done : new.deeds ≡ old.deeds ++ deeds
   pub call : IsCallOf words old.state (moments_of (happened.Call words) deeds (Done answer close)) new.state
-  pub kept : new.kept ≡ closed_if close (kept_behind deeds old.kept)
+  pub pool : new.pool ≡ closed_if close (pool_behind deeds old.pool)
 
 -- MOVED, ASK or TRYAGAIN: the node did not execute the command
 abbrev pub is_refusing : ErrorKind → Type 0

@@ -15,7 +15,7 @@ pub record ClientState : Type 0 where
 -- one that knows no more than where to begin
 abbrev pub first_client : Place → ℕ → ClientState
 first_client start limit = record {
-  peers = record { address = start; is_kept = false } ∷ [];
+  peers = record { address = start; is_connected = false } ∷ [];
   owners = replicate 16384 None;
   limit = limit;
   call = None;

@@ -10,7 +10,7 @@ use Rattle.redirection.specs.Redirection.{IsNoRedirection, IsRedirection}
 use Rattle.redirection.specs.declared.redirection.Redirection.{Redirection}
 use Rattle.redirection.specs.declared.redirection.Redirection.TheVariants.{Moved, Ask}
 use Rattle.smart_client.specs.ErrorKind.{kind_of}
-use Rattle.smart_client.specs.Kept.{is_same}
+use Rattle.smart_client.specs.Pool.{is_same}
 use Rattle.smart_client.specs.State.{ClientState}
 use Rattle.smart_client.specs.Words.{asking_words, is_refused, numbered_words, place_for}
 use Rattle.smart_client.specs.declared.action.Action.{Action}
@@ -58,14 +58,14 @@ loses answer = closes answer
 -- ---- nodes
 
 abbrev pub nobody : Peer
-nobody = record { address = record { host = []; port = 0 }; is_kept = false }
+nobody = record { address = record { host = []; port = 0 }; is_connected = false }
 
 abbrev pub peer_at : List Peer → ℕ → Peer
 peer_at peers place = slice_index_or peers place nobody
 
 -- whether a connection to it is kept
-abbrev pub with_connection : List Peer → ℕ → Bool → List Peer
-with_connection peers place kept = slice_set peers place (record (peer_at peers place) { is_kept = kept })
+abbrev pub with_connected : List Peer → ℕ → Bool → List Peer
+with_connected peers place is_connected = slice_set peers place (record (peer_at peers place) { is_connected = is_connected })
 
 -- the address is this
 abbrev pub is_at : Place → Peer → Bool
@@ -78,7 +78,7 @@ place_of peers address = position_or_len (is_at address) peers
 -- a node there is one of them
 abbrev pub with_address : List Peer → Place → List Peer
 with_address peers address =
-    if place_of peers address == length peers then peers ++ record { address = address; is_kept = false } ∷ [] else peers
+    if place_of peers address == length peers then peers ++ record { address = address; is_connected = false } ∷ [] else peers
 
 -- there is no room for it
 abbrev pub is_beyond : List Peer → Place → Bool
@@ -114,7 +114,7 @@ uses client call = uses_for call.asking client call
 -- a new connection begins with CLUSTER NUMBERED
 abbrev pub connected : ClientState → Call → Turn
 connected client call =
-    if (peer_at client.peers call.to).is_kept then uses client call else waits client call Introducing (Send numbered_words)
+    if (peer_at client.peers call.to).is_connected then uses client call else waits client call Introducing (Send numbered_words)
 
 -- `+OK`
 abbrev pub is_ok : Reply → Bool
@@ -128,7 +128,7 @@ unwelcome reply = if is_last_line reply then Ok reply else Err BadReply
 -- the connection is kept from now on
 abbrev pub introduced : ClientState → Call → Reply → Turn
 introduced client call reply =
-    if is_ok reply then uses (record client { peers = with_connection client.peers call.to true }) call else Ends (unwelcome reply)
+    if is_ok reply then uses (record client { peers = with_connected client.peers call.to true }) call else Ends (unwelcome reply)
 
 abbrev pub allowed : ClientState → Call → Reply → Turn
 allowed client call reply = if is_ok reply then sends client call else Ends (unwelcome reply)
@@ -222,7 +222,7 @@ Tells text (Some redirection) = IsRedirection text redirection
 abbrev pub without_call : Option Call → ClientState → Bool → ClientState
 without_call None client lost = client
 without_call (Some call) client lost =
-    record client { call = None; peers = if lost then with_connection client.peers call.to false else client.peers }
+    record client { call = None; peers = if lost then with_connected client.peers call.to false else client.peers }
 
 abbrev pub ended : ClientState → Answer → ClientState
 ended client answer = without_call client.call client (loses answer)

@@ -2,7 +2,7 @@
 ghost use Rattle.std.specs.Prelude.{◌≡◌, ◌<◌, Ok, Err, Some, None, IfOk, length, replicate, if◌then◌else◌, false};
 ghost use Rattle.smart_client.specs.Calls.{IsWaiting, Nears};
 ghost use Rattle.smart_client.specs.State.{first_client};
-ghost use Rattle.smart_client.specs.Step.{MayCome, Steps, closes, loses, with_connection};
+ghost use Rattle.smart_client.specs.Step.{MayCome, Steps, closes, loses, with_connected};
 
 use crate::action::{Action, Event};
 use crate::call::Call;
@@ -86,11 +86,11 @@ impl ClientCore {
     // The call to the node at the place is over.
     fn end(&mut self, place: usize, answer: Result<Reply, ClientFault>) -> Action
         requires { place < length self.old.peers }
-        ensures peers { self.new ≡ record self.old { peers = if loses answer then with_connection self.old.peers place false else self.old.peers } }
+        ensures peers { self.new ≡ record self.old { peers = if loses answer then with_connected self.old.peers place false else self.old.peers } }
         ensures done { result ≡ Action.Done answer (closes answer) }
     {
         if loses(&answer) {
-            self.peers.set_kept(place, false);
+            self.peers.set_connected(place, false);
         }
         done(answer)
     }

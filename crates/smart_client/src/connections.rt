@@ -1,6 +1,6 @@
 //! The connections of a client, one for each address.
 ghost use Rattle.std.specs.Prelude.{◌≡◌, [], OnOk, OnErr};
-ghost use Rattle.smart_client.specs.Kept.{kept_after, nothing_kept, with_new};
+ghost use Rattle.smart_client.specs.Pool.{empty_pool, pool_after, with_new};
 ghost use Rattle.smart_client.specs.Step.{MayComeTo};
 ghost use Rattle.smart_client.specs.declared.action.Action.TheVariants.{Connect};
 ghost use Rattle.smart_client.specs.declared.call.Stage.TheVariants.{Connecting};
@@ -8,7 +8,7 @@ ghost use Rattle.smart_client.specs.declared.call.Stage.TheVariants.{Connecting}
 use crate::action::{Action, Event};
 use crate::connect::{Connect, ConnectFault};
 use crate::connection::Connection;
-use crate::kept_connections::KeptConnections;
+use crate::connection_pool::ConnectionPool;
 use crate::network::Network;
 use history::History;
 use redirection::Address;
@@ -36,7 +36,7 @@ impl Model for Noted {
 pub struct Connections<C: Connect + Drop> {
     alloc: Global,
     connect: C,
-    kept: KeptConnections<C::Reader, C::Writer>,
+    pool: ConnectionPool<C::Reader, C::Writer>,
     deeds: History<Noted>,
 }
 
@@ -44,12 +44,12 @@ impl<C: Connect + Drop> Connections<C> {
     /// No connection yet.
     pub fn new(alloc: Global, connect: C) -> Connections<C>
         ensures deeds { result.deeds ≡ [] }
-        ensures kept { result.kept ≡ nothing_kept }
+        ensures pool { result.pool ≡ empty_pool }
     {
         Connections {
             alloc,
             connect,
-            kept: KeptConnections::new(alloc),
+            pool: ConnectionPool::new(alloc),
             deeds: History::new(),
         }
     }
@@ -58,9 +58,9 @@ impl<C: Connect + Drop> Connections<C> {
     fn turn_to(&mut self, address: &Address) -> Event
         ensures event { MayComeTo Connecting result }
         ensures deeds { self.new.deeds ≡ self.old.deeds }
-        ensures kept { self.new.kept ≡ kept_after (Connect address.now) result self.old.kept }
+        ensures pool { self.new.pool ≡ pool_after (Connect address.now) result self.old.pool }
     {
-        if self.kept.turn_to(address) {
+        if self.pool.turn_to(address) {
             return Event::Connected;
         }
         match self.open(address) {
@@ -73,14 +73,14 @@ impl<C: Connect + Drop> Connections<C> {
     // Makes a new connection, and uses it.
     fn open(&mut self, address: &Address) -> Result<(), ConnectFault>
         ensures deeds { self.new.deeds ≡ self.old.deeds }
-        ensures ok { OnOk result (self.new.kept ≡ with_new self.old.kept address.now) }
-        ensures err { OnErr result (self.new.kept ≡ self.old.kept) }
+        ensures ok { OnOk result (self.new.pool ≡ with_new self.old.pool address.now) }
+        ensures err { OnErr result (self.new.pool ≡ self.old.pool) }
     {
-        self.kept.reserve()?;
+        self.pool.reserve()?;
         let address = address.clone()?;
         let (reader, writer) = self.connect.connect(&address)?;
         let connection = Connection::new(self.alloc, address, reader, writer)?;
-        self.kept.add(connection)?;
+        self.pool.add(connection)?;
         Ok(())
     }
 }
@@ -88,12 +88,12 @@ impl<C: Connect + Drop> Connections<C> {
 impl<C: Connect + Drop> Network for Connections<C> {
     ghost deeds = { λ connections. connections.deeds };
 
-    ghost kept = { λ connections. connections.kept };
+    ghost pool = { λ connections. connections.pool };
 
     fn perform(&mut self, action: Action) -> Event {
         let event = match &action {
             Action::Connect(address) => self.turn_to(address),
-            Action::Send(words) => self.kept.exchange(words),
+            Action::Send(words) => self.pool.exchange(words),
             Action::Done { .. } => unreachable!(),
         };
         self.deeds.push(&Noted {
@@ -104,6 +104,6 @@ impl<C: Connect + Drop> Network for Connections<C> {
     }
 
     fn close(&mut self) {
-        self.kept.close();
+        self.pool.close();
     }
 }

@@ -39,7 +39,7 @@ impl ClientCore {
         requires call { IsCall self.old call }
         ensures { Makes (connected self.old call) self.old result self.new }
     {
-        if self.peers.get(call.to).is_kept {
+        if self.peers.get(call.to).is_connected {
             return self.use_connection(call);
         }
         let words = numbered_words(self.alloc)?;
@@ -94,7 +94,7 @@ impl ClientCore {
         }
         let place = call.to;
         let action = self.use_connection(call)?;
-        self.peers.set_kept(place, true);
+        self.peers.set_connected(place, true);
         Ok(action)
     }
 

@@ -1,7 +1,7 @@
 //! A client's way to the nodes.
 ghost use Rattle.std.specs.Prelude.{◌≡◌, ◌++◌, ◌∷◌, []};
 ghost use Rattle.smart_client.specs.Calls.{IsDone, MayAnswer};
-ghost use Rattle.smart_client.specs.Kept.{closed, kept_after};
+ghost use Rattle.smart_client.specs.Pool.{closed, pool_after};
 
 use crate::action::{Action, Event};
 
@@ -12,11 +12,11 @@ use crate::action::{Action, Event};
 pub trait Network {
     ghost use Rattle.std.specs.Prelude.{List};
     ghost use Rattle.smart_client.specs.Calls.{Deed};
-    ghost use Rattle.smart_client.specs.Kept.{Kept};
+    ghost use Rattle.smart_client.specs.Pool.{Pool};
 
     ghost deeds: { Self → List Deed };
 
-    ghost kept: { Self → Kept };
+    ghost pool: { Self → Pool };
 
     /// Does what is wanted. For [`Action::Connect`] the connection to the address is in use from now on: the one that is
     /// kept, or else a new one. For [`Action::Send`] the words are sent there, and one reply is read.
@@ -26,10 +26,10 @@ pub trait Network {
         requires { ¬ IsDone action }
         ensures event { MayAnswer action result }
         ensures deeds { deeds self.new ≡ deeds self.old ++ record { action = action; event = result } ∷ [] }
-        ensures kept { kept self.new ≡ kept_after action result (kept self.old) };
+        ensures pool { pool self.new ≡ pool_after action result (pool self.old) };
 
     /// Closes the connection in use, if there is one.
     fn close(&mut self)
         ensures deeds { deeds self.new ≡ deeds self.old }
-        ensures kept { kept self.new ≡ closed (kept self.old) };
+        ensures pool { pool self.new ≡ closed (pool self.old) };
 }

@@ -1,7 +1,7 @@
 //! The nodes that a client knows.
 ghost use Rattle.std.specs.Prelude.{◌≡◌, ◌<◌, ◌≤◌, ◌∷◌, [], false, length, IfOk};
-ghost use Rattle.smart_client.specs.Kept.{is_same};
-ghost use Rattle.smart_client.specs.Step.{is_at, peer_at, place_of, with_address, with_connection};
+ghost use Rattle.smart_client.specs.Pool.{is_same};
+ghost use Rattle.smart_client.specs.Step.{is_at, peer_at, place_of, with_address, with_connected};
 ghost use Rattle.smart_client.specs.declared.client_core.TheConstants.{MOST_ADDRESSES};
 
 use crate::client_core::MOST_ADDRESSES;
@@ -15,7 +15,7 @@ pub(crate) struct Peer {
     /// Where it is reached.
     pub address: Address,
     /// A connection to it is kept, on which nothing is unanswered, and which began with CLUSTER NUMBERED.
-    pub is_kept: bool,
+    pub is_connected: bool,
 }
 
 /// The nodes that a client knows, of which the first is the one to begin with. There is room for all that it may know.
@@ -39,12 +39,12 @@ impl Model for Peers {
 impl Peers {
     /// The node at the address alone.
     pub(crate) fn new(alloc: Global, start: Address) -> Result<Peers, AllocError>
-        ensures { IfOk result (λ peers. peers ≡ record { address = start; is_kept = false } ∷ []) }
+        ensures { IfOk result (λ peers. peers ≡ record { address = start; is_connected = false } ∷ []) }
     {
         let mut items = Vec::with_capacity(alloc, MOST_ADDRESSES)?;
         let Ok(()) = items.push(Peer {
             address: start,
-            is_kept: false,
+            is_connected: false,
         }) else {
             unreachable!();
         };
@@ -87,7 +87,7 @@ impl Peers {
         }
         let Ok(()) = self.items.push(Peer {
             address,
-            is_kept: false,
+            is_connected: false,
         })
         else {
             unreachable!();
@@ -95,11 +95,11 @@ impl Peers {
     }
 
     /// Notes whether a connection to the node at the place is kept.
-    pub(crate) fn set_kept(&mut self, place: usize, is_kept: bool)
+    pub(crate) fn set_connected(&mut self, place: usize, is_connected: bool)
         requires { place < length self.old }
-        ensures { self.new ≡ with_connection self.old place is_kept }
+        ensures { self.new ≡ with_connected self.old place is_connected }
     {
-        self.items[place].is_kept = is_kept;
+        self.items[place].is_connected = is_connected;
     }
 }
 

@@ -137,7 +137,7 @@ changed change None = None
 changed change (Some connection) = Some (change connection)
 
 -- a change of one connection, which keeps its generation
-module _ (table : ConnectionTable) (conn : Conn) (change : Connection → Connection) (keeps : (connection : Connection) → (change connection).generation ≡ connection.generation) where
+module _ (table : ConnectionTable) (conn : Conn) (change : Connection → Connection) (same_generation : (connection : Connection) → (change connection).generation ≡ connection.generation) where
   changed_here : connection_at (with_change table conn change) conn ≡ changed change (connection_at table conn)
   changed_here = by_found (connection_at table conn) refl
     where
@@ -146,7 +146,7 @@ module _ (table : ConnectionTable) (conn : Conn) (change : Connection → Connec
       by_found (Some connection) is =
           let was = found_with conn.generation (open_at table conn.key) connection is in
           ap (with_generation conn.generation) (set_here table.slots conn.key connection (change connection) was.0)
-          ∙ is_with conn.generation (change connection) (keeps connection ∙ was.1)
+          ∙ is_with conn.generation (change connection) (same_generation connection ∙ was.1)
 
   unchanged_there : (other : Conn) → other ≢ conn → connection_at (with_change table conn change) other ≡ connection_at table other
   unchanged_there other apart = by_found (connection_at table conn) refl
@@ -161,7 +161,7 @@ module _ (table : ConnectionTable) (conn : Conn) (change : Connection → Connec
                 let different : conn.generation ≢ other.generation = λ same. apart (same_conn other conn here (sym same)) in
                 ap (λ key. with_generation other.generation (get_or (set table.slots conn.key (Some (change connection))) key None)) here
                 ∙ ap (with_generation other.generation) (set_here table.slots conn.key connection (change connection) was.0)
-                ∙ is_not_with other.generation (change connection) (λ same. different (sym (keeps connection ∙ was.1) ∙ same))
+                ∙ is_not_with other.generation (change connection) (λ same. different (sym (same_generation connection ∙ was.1) ∙ same))
                 ∙ sym (ap (λ key. with_generation other.generation (open_at table key)) here
                 ∙ ap (with_generation other.generation) was.0
                 ∙ is_not_with other.generation connection (λ same. different (sym was.1 ∙ same)))
@@ -230,51 +230,51 @@ one_asks_nothing generation slot connection is calm =
 -- ---- steps that change no asking
 
 -- the configuration stays, no connection is opened, and each allows what it did
-record Keeps (old new : NodeState) : Type 0 where
+record Stays (old new : NodeState) : Type 0 where
   config : new.config ≡ old.config
   opens : new.connections.opens ≡ old.connections.opens
   asking : (conn : Conn) → asking_on new conn ≡ asking_on old conn
 
-still : {old new : NodeState} → new.config ≡ old.config → new.connections ≡ old.connections → Keeps old new
+still : {old new : NodeState} → new.config ≡ old.config → new.connections ≡ old.connections → Stays old new
 still config connections = record {
   config = config;
   opens = ap (λ (table : ConnectionTable). table.opens) connections;
   asking = λ conn. ap (λ (table : ConnectionTable). asking_of (connection_at table conn)) connections;
 }
 
-command_keeps : (node : NodeState) (numbered : Bool) (command : DataCommand) (why : Decision) → Keeps node (command_outcome node numbered command why).state
-command_keeps node numbered command Serve = still refl refl
-command_keeps node numbered command (ServeImport number) = still refl refl
-command_keeps node numbered command CrossSlot = still refl refl
-command_keeps node numbered command Down = still refl refl
-command_keeps node numbered command (TryAgain reason) = still refl refl
-command_keeps node numbered command (Ask slot to number) = still refl refl
-command_keeps node numbered command (Moved slot to) = still refl refl
+command_stays : (node : NodeState) (numbered : Bool) (command : DataCommand) (why : Decision) → Stays node (command_outcome node numbered command why).state
+command_stays node numbered command Serve = still refl refl
+command_stays node numbered command (ServeImport number) = still refl refl
+command_stays node numbered command CrossSlot = still refl refl
+command_stays node numbered command Down = still refl refl
+command_stays node numbered command (TryAgain reason) = still refl refl
+command_stays node numbered command (Ask slot to number) = still refl refl
+command_stays node numbered command (Moved slot to) = still refl refl
 
-ending_keeps : (node : NodeState) (slot : ℕ) (listing : Listing) (verdict : NodeVerdict) → Keeps node (ending_outcome node slot listing.claim verdict).state
-ending_keeps node slot listing (ending.Ends drained) = still refl refl
-ending_keeps node slot listing ending.UnknownNode = still refl refl
-ending_keeps node slot listing ending.OldMove = still refl refl
-ending_keeps node slot listing ending.NotDrained = still refl refl
-ending_keeps node slot listing ending.IsOwner = still refl refl
-ending_keeps node slot listing ending.NotYetOwner = still refl refl
+ending_stays : (node : NodeState) (slot : ℕ) (listing : Listing) (verdict : NodeVerdict) → Stays node (ending_outcome node slot listing.claim verdict).state
+ending_stays node slot listing (ending.Ends drained) = still refl refl
+ending_stays node slot listing ending.UnknownNode = still refl refl
+ending_stays node slot listing ending.OldMove = still refl refl
+ending_stays node slot listing ending.NotDrained = still refl refl
+ending_stays node slot listing ending.IsOwner = still refl refl
+ending_stays node slot listing ending.NotYetOwner = still refl refl
 
-order_keeps : (node : NodeState) (slot : ℕ) (order : SlotOrder) (other number : Option ℕ) (listing : Listing) → Keeps node (order_outcome node slot order other number listing).state
-order_keeps node slot Importing other number listing = still refl refl
-order_keeps node slot Migrating other number listing = still refl refl
-order_keeps node slot Node other number listing = ending_keeps node slot listing (ending_verdict node slot other number)
+order_stays : (node : NodeState) (slot : ℕ) (order : SlotOrder) (other number : Option ℕ) (listing : Listing) → Stays node (order_outcome node slot order other number listing).state
+order_stays node slot Importing other number listing = still refl refl
+order_stays node slot Migrating other number listing = still refl refl
+order_stays node slot Node other number listing = ending_stays node slot listing (ending_verdict node slot other number)
 
-copy_keeps : (node : NodeState) (conn : Conn) (key : List ℕ) (ticks : ℕ) (verdict : CopyVerdict) → Keeps node (copy_outcome node conn key ticks verdict).state
-copy_keeps node conn key ticks copies.WrongTarget = still refl refl
-copy_keeps node conn key ticks copies.NoKey = still refl refl
-copy_keeps node conn key ticks copies.CopyOutstanding = still refl refl
-copy_keeps node conn key ticks copies.Exhausted = still refl refl
-copy_keeps node conn key ticks (copies.SendAgain to number copy) = record {
+copy_stays : (node : NodeState) (conn : Conn) (key : List ℕ) (ticks : ℕ) (verdict : CopyVerdict) → Stays node (copy_outcome node conn key ticks verdict).state
+copy_stays node conn key ticks copies.WrongTarget = still refl refl
+copy_stays node conn key ticks copies.NoKey = still refl refl
+copy_stays node conn key ticks copies.CopyOutstanding = still refl refl
+copy_stays node conn key ticks copies.Exhausted = still refl refl
+copy_stays node conn key ticks (copies.SendAgain to number copy) = record {
   config = refl;
   opens = same_opens node.connections conn (waiting_for (hash_slot key) number copy ticks) (λ connection. refl);
   asking = same_asking node.connections conn (waiting_for (hash_slot key) number copy ticks) (λ connection. refl) (λ connection. refl);
 }
-copy_keeps node conn key ticks (copies.Copies to number copy) = record {
+copy_stays node conn key ticks (copies.Copies to number copy) = record {
   config = refl;
   opens = same_opens node.connections conn (waiting_for (hash_slot key) number copy ticks) (λ connection. refl);
   asking = same_asking node.connections conn (waiting_for (hash_slot key) number copy ticks) (λ connection. refl) (λ connection. refl);
@@ -282,7 +282,7 @@ copy_keeps node conn key ticks (copies.Copies to number copy) = record {
 
 -- the state after a command: all connections allow what they did, or the command was ASKING
 abbrev IsAfter : NodeState → Conn → Result Command CommandFault → NodeState → Type 0
-IsAfter old conn command new = Keeps old new ⊎ ((number : Option ℕ) × (command ≡ Ok (Cluster (cluster.Asking number))) × (new ≡ with_asking old conn number))
+IsAfter old conn command new = Stays old new ⊎ ((number : Option ℕ) × (command ≡ Ok (Cluster (cluster.Asking number))) × (new ≡ with_asking old conn number))
 
 cluster_after : (node : NodeState) (conn : Conn) (command : ClusterCommand) (listing : Listing) → IsAfter node conn (Ok (Cluster command)) (cluster_outcome node conn command listing).state
 cluster_after node conn (cluster.KeySlot key) listing = inl (still refl refl)
@@ -291,20 +291,20 @@ cluster_after node conn cluster.Slots listing = inl (still refl refl)
 cluster_after node conn (cluster.CountKeysInSlot slot) listing = inl (still refl refl)
 cluster_after node conn (cluster.GetKeysInSlot slot count) listing = inl (still refl refl)
 cluster_after node conn (cluster.SlotState slot) listing = inl (still refl refl)
-cluster_after node conn (cluster.SetSlot slot order id number) listing = inl (order_keeps node slot order (node_with_id node id) number listing)
+cluster_after node conn (cluster.SetSlot slot order id number) listing = inl (order_stays node slot order (node_with_id node id) number listing)
 cluster_after node conn cluster.Numbered listing = inl (record {
   config = refl;
   opens = same_opens node.connections conn (λ connection. record connection { numbered = true }) (λ connection. refl);
   asking = same_asking node.connections conn (λ connection. record connection { numbered = true }) (λ connection. refl) (λ connection. refl);
 })
 cluster_after node conn (cluster.Asking number) listing = inr (number, refl, refl)
-cluster_after node conn (cluster.Migrate host port key timeout) listing = inl (copy_keeps node conn key timeout (copy_verdict_on node key (node_at node host port)))
+cluster_after node conn (cluster.Migrate host port key timeout) listing = inl (copy_stays node conn key timeout (copy_verdict_on node key (node_at node host port)))
 
 command_after : (node : NodeState) (conn : Conn) (connection : Option Connection) (command : Result Command CommandFault) (listing : Listing)
     → IsAfter node conn command (by_command node conn connection command listing).state
 command_after node conn connection (Err fault) listing = inl (still refl refl)
 command_after node conn connection (Ok (Cluster command)) listing = cluster_after node conn command listing
-command_after node conn connection (Ok (Data command)) listing = inl (command_keeps node (is_numbered connection) command (decision_on node command (asking_of connection)))
+command_after node conn connection (Ok (Data command)) listing = inl (command_stays node (is_numbered connection) command (decision_on node command (asking_of connection)))
 
 -- ---- requests
 
@@ -339,13 +339,13 @@ request_leaves old conn words listing =
     let middle : NodeState = using_up old conn in
     let counts : middle.connections.opens ≡ old.connections.opens = same_opens old.connections conn used (λ connection. refl) in
     elim (command_after middle conn (connection_at old.connections conn) (command_of words) listing) [
-      | inl keeps ↦ record {
-        config = keeps.config;
-        opens = same_count (keeps.opens ∙ counts);
+      | inl stays ↦ record {
+        config = stays.config;
+        opens = same_count (stays.opens ∙ counts);
         calm = λ other.
             elim (cases_conn other conn) [
-              | inl same ↦ inl (inr (keeps.asking other ∙ ap (asking_on middle) same ∙ used_up old conn))
-              | inr apart ↦ inl (inl (keeps.asking other ∙ ap asking_of (unchanged_there old.connections conn used (λ connection. refl) other apart)))
+              | inl same ↦ inl (inr (stays.asking other ∙ ap (asking_on middle) same ∙ used_up old conn))
+              | inr apart ↦ inl (inl (stays.asking other ∙ ap asking_of (unchanged_there old.connections conn used (λ connection. refl) other apart)))
             ];
       }
       | inr asks ↦ record {
@@ -371,7 +371,7 @@ UsesUp conn words node = (asking_on node conn ≡ No) ⊎ ((number : Option ℕ)
 uses_up : (old : NodeState) (conn : Conn) (words : List (List ℕ)) (listing : Listing) → UsesUp conn words (request_outcome old conn (command_of words) listing).state
 uses_up old conn words listing =
     elim (command_after (using_up old conn) conn (connection_at old.connections conn) (command_of words) listing) [
-      | inl keeps ↦ inl (keeps.asking conn ∙ used_up old conn)
+      | inl stays ↦ inl (stays.asking conn ∙ used_up old conn)
       | inr asks ↦
           let same = ap (λ (node : NodeState). asking_on node conn) asks.2 in
           elim (asked_for (using_up old conn) conn asks.0) [
@@ -391,36 +391,36 @@ is_answering old conn words false outcome answer may answers = absurd (no_reply 
 
 -- ---- other events
 
-delivered_keeps : (node : NodeState) (message : Message) → Keeps node (delivered node message).state
-delivered_keeps node message = by_node (message.to == node.number)
+delivered_stays : (node : NodeState) (message : Message) → Stays node (delivered node message).state
+delivered_stays node message = by_node (message.to == node.number)
   where
-    acknowledged_keeps : (slot number copy : ℕ) (key : Option (List ℕ)) → Keeps node (acknowledged (knowing node message.epoch) slot number copy key).state
-    acknowledged_keeps slot number copy None = still refl refl
-    acknowledged_keeps slot number copy (Some key) = record { config = refl; opens = refl; asking = all_freed_asking node.connections _ }
+    acknowledged_stays : (slot number copy : ℕ) (key : Option (List ℕ)) → Stays node (acknowledged (knowing node message.epoch) slot number copy key).state
+    acknowledged_stays slot number copy None = still refl refl
+    acknowledged_stays slot number copy (Some key) = record { config = refl; opens = refl; asking = all_freed_asking node.connections _ }
 
-    claim_keeps : (is_own : Bool) (table : List (Option SlotEntry)) → Keeps node (cond is_own (silent (knowing node message.epoch)) (claimed_by (knowing node message.epoch) table)).state
-    claim_keeps true table = still refl refl
-    claim_keeps false table = record { config = refl; opens = refl; asking = all_freed_asking node.connections _ }
+    claim_stays : (is_own : Bool) (table : List (Option SlotEntry)) → Stays node (cond is_own (silent (knowing node message.epoch)) (claimed_by (knowing node message.epoch) table)).state
+    claim_stays true table = still refl refl
+    claim_stays false table = record { config = refl; opens = refl; asking = all_freed_asking node.connections _ }
 
-    taken_keeps : (body : Body) → Keeps node (taken (knowing node message.epoch) message.from body).state
-    taken_keeps (Copy slot number copy key value) = still refl refl
-    taken_keeps (Ack slot number copy) = acknowledged_keeps slot number copy (acknowledged_key (move_of node.moves slot) message.from number copy)
-    taken_keeps (Drained slot number epoch) = still refl refl
-    taken_keeps (Claim slots) = claim_keeps (message.from == node.number) (merged node.table slots message.from)
+    taken_stays : (body : Body) → Stays node (taken (knowing node message.epoch) message.from body).state
+    taken_stays (Copy slot number copy key value) = still refl refl
+    taken_stays (Ack slot number copy) = acknowledged_stays slot number copy (acknowledged_key (move_of node.moves slot) message.from number copy)
+    taken_stays (Drained slot number epoch) = still refl refl
+    taken_stays (Claim slots) = claim_stays (message.from == node.number) (merged node.table slots message.from)
 
-    by_node : (is_here : Bool) → Keeps node (cond is_here (taken (knowing node message.epoch) message.from message.body) (silent node)).state
-    by_node true = taken_keeps message.body
+    by_node : (is_here : Bool) → Stays node (cond is_here (taken (knowing node message.epoch) message.from message.body) (silent node)).state
+    by_node true = taken_stays message.body
     by_node false = still refl refl
 
-tick_keeps : (node : NodeState) → Keeps node (tick node).state
-tick_keeps node = record {
+tick_stays : (node : NodeState) → Stays node (tick node).state
+tick_stays node = record {
   config = refl;
   opens = refl;
   asking = λ conn. all_aged_asking (all_freed node.connections is_over) conn ∙ all_freed_asking node.connections is_over conn;
 }
 
-keeps_leaves : (event : Event) (old new : NodeState) → Keeps old new → Leaves event old new
-keeps_leaves event old new keeps = record { config = keeps.config; opens = same_count keeps.opens; calm = λ conn. inl (inl (keeps.asking conn)) }
+stays_leaves : (event : Event) (old new : NodeState) → Stays old new → Leaves event old new
+stays_leaves event old new stays = record { config = stays.config; opens = same_count stays.opens; calm = λ conn. inl (inl (stays.asking conn)) }
 
 open_leaves : (old : NodeState) (outcome : Outcome) → IsOpening old outcome → Leaves Open old outcome.state
 open_leaves old outcome may = record {
@@ -456,7 +456,7 @@ closing_leaves old conn outcome may = record {
       ]
 
 silent_leaves : (event : Event) (old : NodeState) (outcome : Outcome) → outcome ≡ silent old → Leaves event old outcome.state
-silent_leaves event old outcome is = subst (λ (o : Outcome). Leaves event old o.state) (sym is) (keeps_leaves event old old (still refl refl))
+silent_leaves event old outcome is = subst (λ (o : Outcome). Leaves event old o.state) (sym is) (stays_leaves event old old (still refl refl))
 
 close_leaves : (old : NodeState) (conn : Conn) (is_open : Bool) (outcome : Outcome) → MatchBool is_open (IsClosing old conn outcome) (outcome ≡ silent old) → Leaves (Close conn) old outcome.state
 close_leaves old conn true outcome may = closing_leaves old conn outcome may
@@ -472,8 +472,8 @@ event_leaves old Open outcome may = open_leaves old outcome may
 event_leaves old (Close conn) outcome may = close_leaves old conn (is_some (connection_at old.connections conn)) outcome may
 event_leaves old (Request conn words) outcome may = answer_leaves old conn words (may_ask (connection_at old.connections conn)) outcome may
 event_leaves old (Deliver message) outcome may =
-    subst (λ (o : Outcome). Leaves (Deliver message) old o.state) (sym may) (keeps_leaves (Deliver message) old (delivered old message).state (delivered_keeps old message))
-event_leaves old Tick outcome may = subst (λ (o : Outcome). Leaves Tick old o.state) (sym may) (keeps_leaves Tick old (tick old).state (tick_keeps old))
+    subst (λ (o : Outcome). Leaves (Deliver message) old o.state) (sym may) (stays_leaves (Deliver message) old (delivered old message).state (delivered_stays old message))
+event_leaves old Tick outcome may = subst (λ (o : Outcome). Leaves Tick old o.state) (sym may) (stays_leaves Tick old (tick old).state (tick_stays old))
 
 pub step_leaves : (ticket : ℕ) (old new : NodeState) (event : Event) (outputs : Outputs) → NodeStep ticket old event outputs new → Leaves event old new
 step_leaves ticket old new event outputs step = subst (Leaves event old) (sym step.state) (event_leaves old event step.outcome step.may_come)

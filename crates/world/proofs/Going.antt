@@ -21,7 +21,7 @@ use Rattle.world.specs.NodeSteps.{Closes, Enters, Makes, message_at, released_co
 use Rattle.world.specs.Outputs.{shown, shown_from}
 use Rattle.std.proofs.Math.Seq.{drop-append_seam}
 use Rattle.world.specs.declared.output.Output.{Output}
-use Rattle.world.specs.View.{GoesOn, IsKept, RunView}
+use Rattle.world.specs.View.{GoesOn, RemembersSent, RunView}
 use Rattle.world.proofs.Allowing.{taken_may_ask}
 
 -- ---- runs in two parts
@@ -118,10 +118,10 @@ pub sent_by-push : (entries : List Entry) (entry : Entry) → sent_by (entries +
 sent_by-push entries entry =
     flat_map-append (λ (e : Entry). sent_in e.deed) entries (entry ∷ []) ∙ ap (λ (messages : List Message). sent_by entries ++ messages) (append-nil (sent_in entry.deed))
 
-pub enters_keeps : (old new : RunView) (node : ℕ) (deed : Deed) → Enters old node deed new → IsKept old → IsKept new
-enters_keeps old new node deed entered kept =
+pub enters_remembers : (old new : RunView) (node : ℕ) (deed : Deed) → Enters old node deed new → RemembersSent old → RemembersSent new
+enters_remembers old new node deed entered remembers =
     let entry : Entry = record { node = node; ticket = entered.enters.ticket; deed = deed } in
-    ap (λ (run : RunView). run.sent) entered.is ∙ ap (λ (messages : List Message). messages ++ sent_in deed) kept
+    ap (λ (run : RunView). run.sent) entered.is ∙ ap (λ (messages : List Message). messages ++ sent_in deed) remembers
     ∙ sym (sent_by-push old.entries entry) ∙ sym (ap sent_by entered.enters.entered)
 
 -- ---- messages that were sent
@@ -138,12 +138,12 @@ sent_reversed (entry ∷ entries) message among =
     ])
 
 -- a message that is among those that were sent may arrive
-pub may_arrive : (run : RunView) (number : ℕ) (message : Message) → IsKept run → Some message ≡ message_at run.sent number → MayHappen (reverse run.entries) (Deliver message)
-may_arrive run zero message kept is = absurd (cc)
-may_arrive run (suc before) message kept is =
+pub may_arrive : (run : RunView) (number : ℕ) (message : Message) → RemembersSent run → Some message ≡ message_at run.sent number → MayHappen (reverse run.entries) (Deliver message)
+may_arrive run zero message remembers is = absurd (cc)
+may_arrive run (suc before) message remembers is =
     let among : Contains run.sent message =
     (before, slice_get_within run.sent before message (sym is), get_or_from_slice_get run.sent before message message (sym is)) in
-    sent_reversed run.entries message (subst (λ (messages : List Message). Contains messages message) kept among)
+    sent_reversed run.entries message (subst (λ (messages : List Message). Contains messages message) remembers among)
 
 -- ---- connections closed one after another
 

@@ -6,7 +6,7 @@ pub mod Wanted
 pub mod Worlds
 pub mod Allowing
 pub mod Connected
-pub mod Kept
+pub mod Pool
 pub mod Leaving
 pub mod Parts
 pub mod Playing

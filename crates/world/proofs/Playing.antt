@@ -12,7 +12,7 @@ use Rattle.smart_client.specs.State.{ClientState}
 use Rattle.smart_client.specs.Step.{Answer, without_call}
 use Rattle.smart_client.specs.declared.action.Event.TheVariants as happened
 use Rattle.smart_client.specs.declared.call.Call.{Call}
-use Rattle.world.specs.Asking.{AreConnected, AsksWell, HaveConfig, Holds, IsAllowed, IsCutOff, IsKeptIn, IsOfCall, IsTold, MayBeCarried, MayComeLate, MayLinger, asking_at, past_of}
+use Rattle.world.specs.Asking.{AreConnected, AsksWell, HaveConfig, Holds, IsAllowed, IsCutOff, IsInPool, IsOfCall, IsTold, MayBeCarried, MayComeLate, MayLinger, asking_at, past_of}
 use Rattle.world.specs.Calls.{Arrives, Begins, Carries, ComesLate, Cuts, IsBegun, IsCarried, IsCut, IsLate, IsRepliedTo, IsReturned, IsShut, Lingers, Rests, Returns, Serves, Takes}
 use Rattle.world.specs.Clients.{ClientView, broken_off, fault_of, is_elsewhere, leads_to, stopped_at, used_by, without_late}
 use Rattle.world.specs.View.{RunView, is_up}
@@ -24,14 +24,14 @@ use Rattle.world.specs.declared.output.Output.{Output}
 use Rattle.world.proofs.Leaving.{Leaves, closed_is_calm, closes_leaves, leaves_all, leaves_further, leaves_more, leaves_none, none_changed}
 use Rattle.world.proofs.Parts.{Part, IsAmong, acts_none, acts_some, given_up, quiet_asks, still_held}
 use Rattle.world.proofs.Requests.{AskedOn, replied_so, sent_is_allowed, serves_leaves}
-use Rattle.world.proofs.Stays.{allowed_stays, connected_stays, kept_before, leads_elsewhere, no_stays, of_call_stays, under_way_stays, with_fewer, without}
+use Rattle.world.proofs.Stays.{allowed_stays, connected_stays, in_pool_before, leads_elsewhere, no_stays, of_call_stays, under_way_stays, with_fewer, without}
 use Rattle.world.proofs.Told.{answers_well, begins_well}
 
 -- a client's part: only its own connections are others than before, or allow more
 abbrev pub PartOf : List NodeConfig → RunView → ClientView → RunView → ClientView → Type 0
-PartOf nodes old client new after = Part (Holds client) nodes old client.kept client.late new after
+PartOf nodes old client new after = Part (Holds client) nodes old client.pool client.late new after
 
-quietly : (nodes : List NodeConfig) (old new : RunView) (client after : ClientView) → Part none_changed nodes old client.kept client.late new after → PartOf nodes old client new after
+quietly : (nodes : List NodeConfig) (old new : RunView) (client after : ClientView) → Part none_changed nodes old client.pool client.late new after → PartOf nodes old client new after
 quietly nodes old new client after part = record { leaves = leaves_none (Holds client) old new part.leaves; asks = part.asks; holds = part.holds }
 
 rests : (nodes : List NodeConfig) (old new : RunView) (client after : ClientView) (outputs : List Output) → AsksWell nodes old client → Rests old client outputs new after → PartOf nodes old client new after
@@ -41,13 +41,13 @@ rests nodes old new client after outputs asks rested =
     (record { leaves = leaves_all (Holds client) old; asks = asks; holds = λ link held. inl held }))
 
 -- what is in use, by what is under way
-used_so : (nodes : List NodeConfig) (run : RunView) (client : ClientView) (traffic : Traffic) → client.traffic ≡ traffic → AsksWell nodes run client → AreConnected run client.kept client.late (used_by traffic)
-used_so nodes run client traffic is asks = subst (λ (t : Traffic). AreConnected run client.kept client.late (used_by t)) is asks.connected
+used_so : (nodes : List NodeConfig) (run : RunView) (client : ClientView) (traffic : Traffic) → client.traffic ≡ traffic → AsksWell nodes run client → AreConnected run client.pool client.late (used_by traffic)
+used_so nodes run client traffic is asks = subst (λ (t : Traffic). AreConnected run client.pool client.late (used_by t)) is asks.connected
 
 of_call_so : (nodes : List NodeConfig) (run : RunView) (client : ClientView) (traffic : Traffic) → client.traffic ≡ traffic → AsksWell nodes run client
-    → (under : Option Call) → client.core.call ≡ under → IsOfCall nodes run client.core client.kept traffic under
+    → (under : Option Call) → client.core.call ≡ under → IsOfCall nodes run client.core client.pool traffic under
 of_call_so nodes run client traffic is asks under called =
-    subst (IsOfCall nodes run client.core client.kept traffic) called (subst (λ (t : Traffic). IsOfCall nodes run client.core client.kept t client.core.call) is asks.call)
+    subst (IsOfCall nodes run client.core client.pool traffic) called (subst (λ (t : Traffic). IsOfCall nodes run client.core client.pool t client.core.call) is asks.call)
 
 ended_so : (core : ClientState) (answer : Answer) (under : Option Call) (lost : Bool) → core.call ≡ under → (without_call under core lost).call ≡ None
 ended_so core answer None lost is = is
@@ -78,8 +78,8 @@ pub returns_well : (nodes : List NodeConfig) (old new : RunView) (client after :
     → PartOf nodes old client new after
 returns_well nodes old new client after outputs asks = by_traffic client.traffic refl
   where
-    takes_reply : (link : Link) (reply : Reply) (under : Option Call) → client.core.call ≡ under → AreConnected old client.kept client.late (Some link)
-        → IsOfCall nodes old client.core client.kept (Answered link reply) under → Takes nodes old (record client { traffic = Quiet }) (Some link) (happened.Reply reply) outputs new after
+    takes_reply : (link : Link) (reply : Reply) (under : Option Call) → client.core.call ≡ under → AreConnected old client.pool client.late (Some link)
+        → IsOfCall nodes old client.core client.pool (Answered link reply) under → Takes nodes old (record client { traffic = Quiet }) (Some link) (happened.Reply reply) outputs new after
         → PartOf nodes old client new after
     takes_reply link reply None is connected of_call takes = absurd of_call
     takes_reply link reply (Some call) is connected (under_way, replied) takes =
@@ -96,28 +96,28 @@ returns_well nodes old new client after outputs asks = by_traffic client.traffic
 -- ---- a request reaches its node
 
 module _ (config : ClusterConfig) (cluster_is : IsCluster config) (old new : RunView) (have : HaveConfig config old.nodes) (client after : ClientView) (link : Link) (words : List (List ℕ))
-    (connected : AreConnected old client.kept client.late (Some link)) where
+    (connected : AreConnected old client.pool client.late (Some link)) where
   abbrev Ask : Link → Type 0
   Ask = AskedOn link words
 
-  not_asked : (in_use : IsKeptIn client.kept link) (leaves : Leaves Ask old new) → AreConnected new client.kept client.late (Some link)
+  not_asked : (in_use : IsInPool client.pool link) (leaves : Leaves Ask old new) → AreConnected new client.pool client.late (Some link)
   not_asked in_use leaves =
-      connected_stays Ask old new leaves client.kept client.late (Some link)
+      connected_stays Ask old new leaves client.pool client.late (Some link)
       (λ other is unused asked. true≢false (sym (eq-eqb link.node other.node (ap (λ (l : Link). l.node) (sym asked.0))) ∙ unused))
       (λ request among asked. connected.apart link in_use (request, among, asked.0)) connected
 
-  own : (in_use : IsKeptIn client.kept link) (other : Link) → Ask other → Holds client other
-  own in_use other asked = inl (subst (IsKeptIn client.kept) (sym asked.0) in_use)
+  own : (in_use : IsInPool client.pool link) (other : Link) → Ask other → Holds client other
+  own in_use other asked = inl (subst (IsInPool client.pool) (sym asked.0) in_use)
 
-  arrives_so : (under : Option Call) → client.core.call ≡ under → IsOfCall config.nodes old client.core client.kept (Asked link words) under → (reply : Option Reply) (shown outputs : List Output)
+  arrives_so : (under : Option Call) → client.core.call ≡ under → IsOfCall config.nodes old client.core client.pool (Asked link words) under → (reply : Option Reply) (shown outputs : List Output)
       → Serves old link.node link.conn words reply shown new → IsRepliedTo client link reply shown outputs after → PartOf config.nodes old client new after
   arrives_so None is of_call reply shown outputs serves replied = absurd of_call
   arrives_so (Some call) is (under_way, sent) (Some reply) shown outputs serves replied =
       let leaves : Leaves Ask old new = serves_leaves old new link.node link.conn words (Some reply) shown serves in
       let answers = replied_so config cluster_is old have link.node link.conn words reply shown new call call.stage under_way.called.plain under_way.called.number sent serves in
-      let of_call : IsOfCall config.nodes new client.core client.kept (Answered link reply) client.core.call =
-      subst (IsOfCall config.nodes new client.core client.kept (Answered link reply)) (sym is)
-      (under_way_stays Ask old new leaves config.nodes client.core client.kept link call under_way, answers) in
+      let of_call : IsOfCall config.nodes new client.core client.pool (Answered link reply) client.core.call =
+      subst (IsOfCall config.nodes new client.core client.pool (Answered link reply)) (sym is)
+      (under_way_stays Ask old new leaves config.nodes client.core client.pool link call under_way, answers) in
       subst (PartOf config.nodes old client new) (sym replied.0)
       (record {
         leaves = leaves_more Ask (Holds client) old new (own under_way.in_use) leaves;
@@ -130,8 +130,8 @@ module _ (config : ClusterConfig) (cluster_is : IsCluster config) (old new : Run
       (record {
         leaves = leaves_more Ask (Holds client) old new (own under_way.in_use) leaves;
         asks = quiet_asks config.nodes new (broken_off link.node client) refl (broken_is_over link.node client)
-            (without new client.kept client.late (Some link) link.node (λ other apart. leads_elsewhere other link apart) (not_asked under_way.in_use leaves));
-        holds = λ other held. inl (still_held client.kept client.late link.node old other held);
+            (without new client.pool client.late (Some link) link.node (λ other apart. leads_elsewhere other link apart) (not_asked under_way.in_use leaves));
+        holds = λ other held. inl (still_held client.pool client.late link.node old other held);
       })
 
 pub carries_well : (config : ClusterConfig) → IsCluster config → (old new : RunView) → HaveConfig config old.nodes → (client after : ClientView) (outputs : List Output) → AsksWell config.nodes old client
@@ -152,7 +152,7 @@ carries_well config cluster_is old new have client after outputs asks = by_traff
 
 -- ---- a connection is cut
 
-module _ (nodes : List NodeConfig) (old : RunView) (client : ClientView) (link : Link) (words : List (List ℕ)) (connected : AreConnected old client.kept client.late (Some link)) (in_use : IsKeptIn client.kept link)
+module _ (nodes : List NodeConfig) (old : RunView) (client : ClientView) (link : Link) (words : List (List ℕ)) (connected : AreConnected old client.pool client.late (Some link)) (in_use : IsInPool client.pool link)
     (allowed : IsAllowed (past_of old) words link.node (asking_at old link)) where
   abbrev request : Late
   request = record { link = link; words = words }
@@ -167,12 +167,12 @@ module _ (nodes : List NodeConfig) (old : RunView) (client : ClientView) (link :
         | inr last ↦ inr (contains_one request other last)
       ]
 
-  cut_off : AreConnected old (slice_set client.kept link.node None) one_more None
+  cut_off : AreConnected old (slice_set client.pool link.node None) one_more None
   cut_off =
-      let kept = without old client.kept client.late (Some link) link.node (λ other apart. leads_elsewhere other link apart) connected in
+      let left = without old client.pool client.late (Some link) link.node (λ other apart. leads_elsewhere other link apart) connected in
       record {
-        places = kept.places;
-        idle = kept.idle;
+        places = left.places;
+        idle = left.idle;
         left = λ other among.
             elim (late_or_new other among) [
               | inl before ↦ connected.left other before
@@ -180,24 +180,24 @@ module _ (nodes : List NodeConfig) (old : RunView) (client : ClientView) (link :
             ];
         apart = λ other is cut.
             elim (late_or_new cut.0 cut.1) [
-              | inl before ↦ kept.apart other is (cut.0, before, cut.2)
-              | inr same ↦ (kept_before old client.kept client.late link.node other is).0 (ap (λ (l : Link). l.node) (sym cut.2 ∙ ap (λ (late : Late). late.link) (sym same)))
+              | inl before ↦ left.apart other is (cut.0, before, cut.2)
+              | inr same ↦ (in_pool_before old client.pool client.late link.node other is).0 (ap (λ (l : Link). l.node) (sym cut.2 ∙ ap (λ (late : Late). late.link) (sym same)))
             ];
       }
 
-  cut_held : (other : Link) → IsAmong (slice_set client.kept link.node None) one_more other → IsAmong client.kept client.late other
-  cut_held other (inl is) = inl (kept_before old client.kept client.late link.node other is).1
+  cut_held : (other : Link) → IsAmong (slice_set client.pool link.node None) one_more other → IsAmong client.pool client.late other
+  cut_held other (inl is) = inl (in_pool_before old client.pool client.late link.node other is).1
   cut_held other (inr cut) =
       elim (late_or_new cut.0 cut.1) [
         | inl before ↦ inr (cut.0, before, cut.2)
-        | inr same ↦ inl (subst (IsKeptIn client.kept) (ap (λ (late : Late). late.link) same ∙ cut.2) in_use)
+        | inr same ↦ inl (subst (IsInPool client.pool) (ap (λ (late : Late). late.link) same ∙ cut.2) in_use)
       ]
 
 pub cuts_well : (nodes : List NodeConfig) (old new : RunView) (client after : ClientView) (outputs : List Output) → AsksWell nodes old client → Cuts old client outputs new after
     → PartOf nodes old client new after
 cuts_well nodes old new client after outputs asks = by_traffic client.traffic refl
   where
-    asked_so : (link : Link) (words : List (List ℕ)) (under : Option Call) → AreConnected old client.kept client.late (Some link) → IsOfCall nodes old client.core client.kept (Asked link words) under
+    asked_so : (link : Link) (words : List (List ℕ)) (under : Option Call) → AreConnected old client.pool client.late (Some link) → IsOfCall nodes old client.core client.pool (Asked link words) under
         → IsCut old client (Asked link words) outputs new after → PartOf nodes old client new after
     asked_so link words None connected of_call cut = absurd of_call
     asked_so link words (Some call) connected (under_way, sent) cut =
@@ -212,14 +212,14 @@ cuts_well nodes old new client after outputs asks = by_traffic client.traffic re
           holds = λ other held. inl (cut_held nodes old client link words connected under_way.in_use allowed other held);
         }))
 
-    answered_so : (link : Link) → AreConnected old client.kept client.late (Some link) → IsShut old link new → after ≡ broken_off link.node client → PartOf nodes old client new after
+    answered_so : (link : Link) → AreConnected old client.pool client.late (Some link) → IsShut old link new → after ≡ broken_off link.node client → PartOf nodes old client new after
     answered_so link connected shut is =
-        let left = given_up old new client.kept client.late link shut connected in
+        let left = given_up old new client.pool client.late link shut connected in
         subst (PartOf nodes old client new) (sym is)
         (record {
           leaves = leaves_none (Holds client) old new left.0;
           asks = quiet_asks nodes new (broken_off link.node client) refl (broken_is_over link.node client) left.1;
-          holds = λ other held. inl (still_held client.kept client.late link.node old other held);
+          holds = λ other held. inl (still_held client.pool client.late link.node old other held);
         })
 
     by_traffic : (traffic : Traffic) → client.traffic ≡ traffic → IsCut old client traffic outputs new after → PartOf nodes old client new after
@@ -235,8 +235,8 @@ module _ (nodes : List NodeConfig) (old new : RunView) (client after : ClientVie
   abbrev Lately : Link → Type 0
   Lately = AskedOn late.link late.words
 
-  connected_so : AreConnected old client.kept (late ∷ others) (used_by client.traffic)
-  connected_so = subst (λ (list : List Late). AreConnected old client.kept list (used_by client.traffic)) all asks.connected
+  connected_so : AreConnected old client.pool (late ∷ others) (used_by client.traffic)
+  connected_so = subst (λ (list : List Late). AreConnected old client.pool list (used_by client.traffic)) all asks.connected
 
   comes_leaves : Leaves Lately old new
   comes_leaves =
@@ -246,10 +246,10 @@ module _ (nodes : List NodeConfig) (old new : RunView) (client after : ClientVie
   closed : asking_at new late.link ≡ No
   closed = closed_is_calm comes.serves.run new late.link.node late.link.conn comes.serves.closes
 
-  not_kept : (link : Link) → IsKeptIn client.kept link → Lately link → ⊥
-  not_kept link is asked = connected_so.apart link is (late, contains_first late others, sym asked.0)
+  not_in_pool : (link : Link) → IsInPool client.pool link → Lately link → ⊥
+  not_in_pool link is asked = connected_so.apart link is (late, contains_first late others, sym asked.0)
 
-  connected_then : AreConnected new client.kept others (used_by client.traffic)
+  connected_then : AreConnected new client.pool others (used_by client.traffic)
   connected_then = record {
     places = connected_so.places ∙ sym comes_leaves.nodes;
     idle = λ link is.
@@ -259,7 +259,7 @@ module _ (nodes : List NodeConfig) (old new : RunView) (client after : ClientVie
           calm = λ unused.
               elim (comes_leaves.calm link) [
                 | inl calm ↦ no_stays (asking_at old link) (asking_at new link) calm (was.calm unused)
-                | inr asked ↦ absurd (not_kept link is asked)
+                | inr asked ↦ absurd (not_in_pool link is asked)
               ];
         };
     left = λ request among.
@@ -285,7 +285,7 @@ module _ (nodes : List NodeConfig) (old new : RunView) (client after : ClientVie
         leaves = leaves_more Lately (Holds client) old new (λ link asked. inr (late, among_all late (contains_first late others), sym asked.0)) comes_leaves;
         asks = record {
           connected = connected_then;
-          call = of_call_stays Lately old new comes_leaves nodes client.core client.kept not_kept client.traffic client.core.call asks.call;
+          call = of_call_stays Lately old new comes_leaves nodes client.core client.pool not_in_pool client.traffic client.core.call asks.call;
         };
         holds = λ link held.
             elim held [
@@ -312,7 +312,7 @@ lingers_well nodes old new client after outputs asks = by_late client.late refl
 pub carried_if_asked : (nodes : List NodeConfig) (run : RunView) (client : ClientView) → AsksWell nodes run client → MayBeCarried run client.traffic
 carried_if_asked nodes run client asks = by_traffic client.traffic client.core.call asks.call
   where
-    by_traffic : (traffic : Traffic) (under : Option Call) → IsOfCall nodes run client.core client.kept traffic under → MayBeCarried run traffic
+    by_traffic : (traffic : Traffic) (under : Option Call) → IsOfCall nodes run client.core client.pool traffic under → MayBeCarried run traffic
     by_traffic Quiet under is = tt
     by_traffic (Asked link words) None is = absurd is
     by_traffic (Asked link words) (Some call) (under_way, sent) =
@@ -346,7 +346,7 @@ filtered test (y ∷ xs) x among = by_test (filtered test xs x) (test y) among
 module _ (nodes : List NodeConfig) (run : RunView) (client : ClientView) (node : ℕ) where
   fewer : AsksWell nodes run client → AsksWell nodes run (without_late node client)
   fewer asks = record {
-    connected = with_fewer run client.kept client.late (filter (is_elsewhere node) client.late) (used_by client.traffic) (filtered (is_elsewhere node) client.late) asks.connected;
+    connected = with_fewer run client.pool client.late (filter (is_elsewhere node) client.late) (used_by client.traffic) (filtered (is_elsewhere node) client.late) asks.connected;
     call = asks.call;
   }
 
@@ -361,7 +361,7 @@ module _ (nodes : List NodeConfig) (run : RunView) (client : ClientView) (node :
       by_leads false is = fewer asks
       by_leads true is =
           quiet_asks nodes run (broken_off node (without_late node client)) refl (broken_is_over node (without_late node client))
-          (without run client.kept (filter (is_elsewhere node) client.late) (used_by client.traffic) node (elsewhere_unused (used_by client.traffic) is) (fewer asks).connected)
+          (without run client.pool (filter (is_elsewhere node) client.late) (used_by client.traffic) node (elsewhere_unused (used_by client.traffic) is) (fewer asks).connected)
 
   cut_before : (link : Link) → IsCutOff (filter (is_elsewhere node) client.late) link → IsCutOff client.late link
   cut_before link cut = (cut.0, filtered (is_elsewhere node) client.late cut.0 cut.1, cut.2)
@@ -372,5 +372,5 @@ module _ (nodes : List NodeConfig) (run : RunView) (client : ClientView) (node :
       by_leads : (leads : Bool) → Holds (cond leads (broken_off node (without_late node client)) (without_late node client)) link → Holds client link
       by_leads false (inl is) = inl is
       by_leads false (inr cut) = inr (cut_before link cut)
-      by_leads true (inl is) = inl (kept_before run client.kept client.late node link is).1
+      by_leads true (inl is) = inl (in_pool_before run client.pool client.late node link is).1
       by_leads true (inr cut) = inr (cut_before link cut)

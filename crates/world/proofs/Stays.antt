@@ -14,7 +14,7 @@ use Rattle.smart_client.specs.declared.call.Call.{Call}
 use Rattle.smart_client.specs.declared.call.Stage.{Stage}
 use Rattle.smart_client.specs.declared.call.Stage.TheVariants as stage
 use Rattle.world_run.specs.Run.{Entry}
-use Rattle.world.specs.Asking.{AreConnected, AsksWell, Follows, Holds, IsAllowed, IsCalled, IsCutOff, IsIdle, IsKeptIn, IsKnown, IsOfCall, IsReplied, IsSent, IsTold, IsUnderWay, MayComeLate, TellsTruth, asking_at, past_of}
+use Rattle.world.specs.Asking.{AreConnected, AsksWell, Follows, Holds, IsAllowed, IsCalled, IsCutOff, IsIdle, IsInPool, IsKnown, IsOfCall, IsReplied, IsSent, IsTold, IsUnderWay, MayComeLate, TellsTruth, asking_at, past_of}
 use Rattle.world.specs.Clients.{ClientView, leads_to, used_by}
 use Rattle.world.specs.View.{RunView}
 use Rattle.world.specs.declared.client.Late.{Late}
@@ -22,8 +22,8 @@ use Rattle.world.specs.declared.client.Link.{Link}
 use Rattle.world.specs.declared.client.Traffic.{Traffic}
 use Rattle.world.specs.declared.client.Traffic.TheVariants.{Quiet, Asked, Answered}
 use Rattle.world.proofs.Connected.{IsCalm}
-use Rattle.world.proofs.Kept.{kept_is, none_here}
 use Rattle.world.proofs.Leaving.{Leaves}
+use Rattle.world.proofs.Pool.{none_here, put_is}
 
 -- ---- what a connection allows
 
@@ -53,17 +53,17 @@ pub leads_elsewhere : (link used : Link) → link.node ≢ used.node → leads_t
 leads_elsewhere link used apart = ne_eqb used.node link.node (λ (same : used.node ≡ link.node). apart (sym same))
 
 -- two connections that are kept to the same node are one
-pub one_kept : (kept : List (Option Conn)) (link other : Link) → IsKeptIn kept link → IsKeptIn kept other → link.node ≡ other.node → link ≡ other
-one_kept kept link other is too same =
-    let conns : link.conn ≡ other.conn = same_some is (ap (λ (node : ℕ). get_or kept node None) same ∙ too) in
+pub one_in_pool : (pool : List (Option Conn)) (link other : Link) → IsInPool pool link → IsInPool pool other → link.node ≡ other.node → link ≡ other
+one_in_pool pool link other is too same =
+    let conns : link.conn ≡ other.conn = same_some is (ap (λ (node : ℕ). get_or pool node None) same ∙ too) in
     λ i. record { node = same i; conn = conns i }
 
 -- ---- connections
 
 module _ (changed : Link → Type 0) (old new : RunView) (leaves : Leaves changed old new) where
-  module _ (kept : List (Option Conn)) (late : List Late) (used : Option Link) where
-    pub connected_stays : ((link : Link) → IsKeptIn kept link → leads_to link.node used ≡ false → changed link → ⊥) → ((request : Late) → Contains late request → changed request.link → ⊥)
-        → AreConnected old kept late used → AreConnected new kept late used
+  module _ (pool : List (Option Conn)) (late : List Late) (used : Option Link) where
+    pub connected_stays : ((link : Link) → IsInPool pool link → leads_to link.node used ≡ false → changed link → ⊥) → ((request : Late) → Contains late request → changed request.link → ⊥)
+        → AreConnected old pool late used → AreConnected new pool late used
     connected_stays others nor connected = record {
       places = connected.places ∙ sym leaves.nodes;
       idle = λ link is.
@@ -98,9 +98,9 @@ module _ (changed : Link → Type 0) (old new : RunView) (leaves : Leaves change
   pub called_stays : (nodes : List NodeConfig) (core : ClientState) (call : Call) → IsCalled nodes (past_of old) core call → IsCalled nodes (past_of new) core call
   called_stays nodes core call called = record { plain = called.plain; number = called.number; told = told_later call.words _ call.asking called.told }
 
-  pub under_way_stays : (nodes : List NodeConfig) (core : ClientState) (kept : List (Option Conn)) (link : Link) (call : Call) → IsUnderWay nodes (past_of old) core kept link call
-      → IsUnderWay nodes (past_of new) core kept link call
-  under_way_stays nodes core kept link call under_way =
+  pub under_way_stays : (nodes : List NodeConfig) (core : ClientState) (pool : List (Option Conn)) (link : Link) (call : Call) → IsUnderWay nodes (past_of old) core pool link call
+      → IsUnderWay nodes (past_of new) core pool link call
+  under_way_stays nodes core pool link call under_way =
       record { called = called_stays nodes core call under_way.called; there = under_way.there; in_use = under_way.in_use }
 
   sent_stays : (call : Call) (at : Stage) (words : List (List ℕ)) (before after : Asking) → IsCalm before after → IsSent call at words before → IsSent call at words after
@@ -128,18 +128,18 @@ module _ (changed : Link → Type 0) (old new : RunView) (leaves : Leaves change
         | inr is_changed ↦ absurd (unchanged is_changed)
       ]
 
-  module _ (nodes : List NodeConfig) (core : ClientState) (kept : List (Option Conn)) (unchanged : (link : Link) → IsKeptIn kept link → changed link → ⊥) where
-    pub of_call_stays : (traffic : Traffic) (under : Option Call) → IsOfCall nodes old core kept traffic under → IsOfCall nodes new core kept traffic under
+  module _ (nodes : List NodeConfig) (core : ClientState) (pool : List (Option Conn)) (unchanged : (link : Link) → IsInPool pool link → changed link → ⊥) where
+    pub of_call_stays : (traffic : Traffic) (under : Option Call) → IsOfCall nodes old core pool traffic under → IsOfCall nodes new core pool traffic under
     of_call_stays Quiet under is = is
     of_call_stays (Asked link words) None is = absurd is
     of_call_stays (Asked link words) (Some call) (under_way, sent) = (
-      under_way_stays nodes core kept link call under_way,
+      under_way_stays nodes core pool link call under_way,
       sent_stays call call.stage words (asking_at old link) (asking_at new link)
           (still_calm link (unchanged link under_way.in_use)) sent,
     )
     of_call_stays (Answered link reply) None is = absurd is
     of_call_stays (Answered link reply) (Some call) (under_way, replied) = (
-      under_way_stays nodes core kept link call under_way,
+      under_way_stays nodes core pool link call under_way,
       replied_stays nodes call call.stage reply (asking_at old link) (asking_at new link)
           (still_calm link (unchanged link under_way.in_use)) replied,
     )
@@ -147,16 +147,16 @@ module _ (changed : Link → Type 0) (old new : RunView) (leaves : Leaves change
   -- a client whose connections nobody else uses
   pub asks_stays : (nodes : List NodeConfig) (client : ClientView) → ((link : Link) → Holds client link → changed link → ⊥) → AsksWell nodes old client → AsksWell nodes new client
   asks_stays nodes client unchanged asks = record {
-    connected = connected_stays client.kept client.late (used_by client.traffic) (λ link is unused is_changed. unchanged link (inl is) is_changed)
+    connected = connected_stays client.pool client.late (used_by client.traffic) (λ link is unused is_changed. unchanged link (inl is) is_changed)
         (λ request among is_changed. unchanged request.link (inr (request, among, refl)) is_changed) asks.connected;
-    call = of_call_stays nodes client.core client.kept (λ link is is_changed. unchanged link (inl is) is_changed) client.traffic client.core.call asks.call;
+    call = of_call_stays nodes client.core client.pool (λ link is is_changed. unchanged link (inl is) is_changed) client.traffic client.core.call asks.call;
   }
 
 -- ---- connections that a client gives up, and takes up
 
-module _ (run : RunView) (kept : List (Option Conn)) (late : List Late) where
+module _ (run : RunView) (pool : List (Option Conn)) (late : List Late) where
   -- fewer requests are left on connections that were cut
-  pub with_fewer : (fewer : List Late) (used : Option Link) → ((request : Late) → Contains fewer request → Contains late request) → AreConnected run kept late used → AreConnected run kept fewer used
+  pub with_fewer : (fewer : List Late) (used : Option Link) → ((request : Late) → Contains fewer request → Contains late request) → AreConnected run pool late used → AreConnected run pool fewer used
   with_fewer fewer used all connected = record {
     places = connected.places;
     idle = connected.idle;
@@ -165,28 +165,28 @@ module _ (run : RunView) (kept : List (Option Conn)) (late : List Late) where
   }
 
   -- what is kept behind the one that is given up
-  pub kept_before : (node : ℕ) (link : Link) → IsKeptIn (slice_set kept node None) link → (link.node ≢ node) × IsKeptIn kept link
-  kept_before node link is =
+  pub in_pool_before : (node : ℕ) (link : Link) → IsInPool (slice_set pool node None) link → (link.node ≢ node) × IsInPool pool link
+  in_pool_before node link is =
       elim (cases_eq link.node node) [
         | inl same ↦
-            absurd (no_some (ap (λ (n : ℕ). get_or (set kept node None) n None) same ∙ none_here kept node) is)
-        | inr apart ↦ (apart, sym (get_or-set_other kept node link.node None None apart) ∙ is)
+            absurd (no_some (ap (λ (n : ℕ). get_or (set pool node None) n None) same ∙ none_here pool node) is)
+        | inr apart ↦ (apart, sym (get_or-set_other pool node link.node None None apart) ∙ is)
       ]
 
-  pub without : (used : Option Link) (node : ℕ) → ((link : Link) → link.node ≢ node → leads_to link.node used ≡ false) → AreConnected run kept late used
-      → AreConnected run (slice_set kept node None) late None
+  pub without : (used : Option Link) (node : ℕ) → ((link : Link) → link.node ≢ node → leads_to link.node used ≡ false) → AreConnected run pool late used
+      → AreConnected run (slice_set pool node None) late None
   without used node others connected = record {
-    places = length-set kept node None ∙ connected.places;
+    places = length-set pool node None ∙ connected.places;
     idle = λ link is.
-        let before = kept_before node link is in
+        let before = in_pool_before node link is in
         let was : IsIdle run used link = connected.idle link before.1 in
         record { known = was.known; calm = λ unused. was.calm (others link before.0) };
     left = connected.left;
-    apart = λ link is cut. connected.apart link (kept_before node link is).1 cut;
+    apart = λ link is cut. connected.apart link (in_pool_before node link is).1 cut;
   }
 
   -- the connection that was in use allows nothing
-  pub at_rest : (used : Link) → IsKeptIn kept used → asking_at run used ≡ No → AreConnected run kept late (Some used) → AreConnected run kept late None
+  pub at_rest : (used : Link) → IsInPool pool used → asking_at run used ≡ No → AreConnected run pool late (Some used) → AreConnected run pool late None
   at_rest used there nothing connected = record {
     places = connected.places;
     idle = λ link is.
@@ -195,7 +195,7 @@ module _ (run : RunView) (kept : List (Option Conn)) (late : List Late) where
           known = was.known;
           calm = λ unused.
               elim (cases_eq link.node used.node) [
-                | inl same ↦ ap (asking_at run) (one_kept kept link used is there same) ∙ nothing
+                | inl same ↦ ap (asking_at run) (one_in_pool pool link used is there same) ∙ nothing
                 | inr apart ↦ was.calm (leads_elsewhere link used apart)
               ];
         };
@@ -203,7 +203,7 @@ module _ (run : RunView) (kept : List (Option Conn)) (late : List Late) where
     apart = connected.apart;
   }
 
-  pub in_use : (used : Option Link) → AreConnected run kept late None → AreConnected run kept late used
+  pub in_use : (used : Option Link) → AreConnected run pool late None → AreConnected run pool late used
   in_use used connected = record {
     places = connected.places;
     idle = λ link is. let was : IsIdle run None link = connected.idle link is in record { known = was.known; calm = λ unused. was.calm refl };
@@ -213,27 +213,27 @@ module _ (run : RunView) (kept : List (Option Conn)) (late : List Late) where
 
   -- a connection that was opened is kept
   pub with_new : (node : ℕ) (conn : Conn) → IsKnown run (record { node = node; conn = conn }) → asking_at run (record { node = node; conn = conn }) ≡ No
-      → (IsCutOff late (record { node = node; conn = conn }) → ⊥) → AreConnected run kept late None → AreConnected run (slice_set kept node (Some conn)) late None
+      → (IsCutOff late (record { node = node; conn = conn }) → ⊥) → AreConnected run pool late None → AreConnected run (slice_set pool node (Some conn)) late None
   with_new node conn known calm none_cut connected = record {
-    places = length-set kept node (Some conn) ∙ connected.places;
+    places = length-set pool node (Some conn) ∙ connected.places;
     idle = λ link is.
-        elim (kept_or_new link is) [
+        elim (in_pool_or_new link is) [
           | inl same ↦ record { known = subst (IsKnown run) (sym same) known; calm = λ unused. ap (asking_at run) same ∙ calm }
           | inr before ↦ connected.idle link before
         ];
     left = connected.left;
     apart = λ link is cut.
-        elim (kept_or_new link is) [
+        elim (in_pool_or_new link is) [
           | inl same ↦ none_cut (subst (IsCutOff late) same cut)
           | inr before ↦ connected.apart link before cut
         ];
   }
     where
-      kept_or_new : (link : Link) → IsKeptIn (slice_set kept node (Some conn)) link → (link ≡ record { node = node; conn = conn }) ⊎ IsKeptIn kept link
-      kept_or_new link is =
+      in_pool_or_new : (link : Link) → IsInPool (slice_set pool node (Some conn)) link → (link ≡ record { node = node; conn = conn }) ⊎ IsInPool pool link
+      in_pool_or_new link is =
           elim (cases_eq link.node node) [
             | inl same ↦
-                let conns : conn ≡ link.conn = kept_is kept node conn link.conn (sym (ap (λ (n : ℕ). get_or (set kept node (Some conn)) n None) same) ∙ is) in
+                let conns : conn ≡ link.conn = put_is pool node conn link.conn (sym (ap (λ (n : ℕ). get_or (set pool node (Some conn)) n None) same) ∙ is) in
                 inl (λ i. record { node = same i; conn = sym conns i })
-            | inr apart ↦ inr (sym (get_or-set_other kept node link.node (Some conn) None apart) ∙ is)
+            | inr apart ↦ inr (sym (get_or-set_other pool node link.node (Some conn) None apart) ∙ is)
           ]

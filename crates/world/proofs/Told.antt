@@ -18,7 +18,7 @@ use Rattle.slot_decision.specs.declared.asked.Asking.{Asking}
 use Rattle.slot_decision.specs.declared.asked.Asking.TheVariants.{No}
 use Rattle.smart_client.specs.ErrorKind.{kind_of}
 use Rattle.smart_client.specs.State.{ClientState}
-use Rattle.smart_client.specs.Step.{Answer, Steps, Tells, Turn, again, allowed, answered, asked_at, begun, closes, connected, ended, failed, follows, introduced, is_at, is_beyond, is_last, is_last_line, is_ok, next, peer_at, place_of, redirected, replied, takes_memory, turn, unwelcome, uses, uses_for, with_address, with_connection, with_owner, without_call}
+use Rattle.smart_client.specs.Step.{Answer, Steps, Tells, Turn, again, allowed, answered, asked_at, begun, closes, connected, ended, failed, follows, introduced, is_at, is_beyond, is_last, is_last_line, is_ok, next, peer_at, place_of, redirected, replied, takes_memory, turn, unwelcome, uses, uses_for, with_address, with_connected, with_owner, without_call}
 use Rattle.smart_client.specs.Step as client
 use Rattle.smart_client.specs.Step.Turn.{Goes, Ends, Reads}
 use Rattle.smart_client.specs.Words.{asking_words, is_refused, place_for}
@@ -32,7 +32,7 @@ use Rattle.smart_client.specs.declared.call.Stage.TheVariants as stage
 use Rattle.smart_client.specs.declared.client_core.TheConstants.{MOST_REDIRECTIONS}
 use Rattle.smart_client.specs.declared.fault.ClientFault.TheVariants.{Memory, NotData, BadReply}
 use Rattle.smart_client.specs.declared.peers.Peer.{Peer}
-use Rattle.smart_client.proofs.PlaceLemmas.{position-le}
+use Rattle.redirection.proofs.PlaceLemmas.{position-le}
 use Rattle.smart_client.proofs.TurnCases.{failed_so}
 use Rattle.world_run.specs.Run.{Entry}
 use Rattle.world.specs.Asking.{Follows, IsAsking, IsCalled, IsReplied, IsSent, IsTold, TellsTruth, target}
@@ -84,12 +84,12 @@ none_called core (Some call) lost is = refl
 
 -- ---- nodes that a client knows
 
-peers_still : (peers : List Peer) (place other : ℕ) (kept : Bool) → (peer_at (with_connection peers place kept) other).address ≡ (peer_at peers other).address
-peers_still [] place other kept = refl
-peers_still (peer ∷ peers) zero zero kept = refl
-peers_still (peer ∷ peers) zero (suc other) kept = refl
-peers_still (peer ∷ peers) (suc place) zero kept = refl
-peers_still (peer ∷ peers) (suc place) (suc other) kept = peers_still peers place other kept
+peers_still : (peers : List Peer) (place other : ℕ) (is_connected : Bool) → (peer_at (with_connected peers place is_connected) other).address ≡ (peer_at peers other).address
+peers_still [] place other is_connected = refl
+peers_still (peer ∷ peers) zero zero is_connected = refl
+peers_still (peer ∷ peers) zero (suc other) is_connected = refl
+peers_still (peer ∷ peers) (suc place) zero is_connected = refl
+peers_still (peer ∷ peers) (suc place) (suc other) is_connected = peers_still peers place other is_connected
 
 -- who stands behind all
 peer_behind : (peers : List Peer) (peer : Peer) → peer_at (peers ++ peer ∷ []) (length peers) ≡ peer
@@ -112,10 +112,10 @@ added_at peers address =
     by_place (place_of peers address == length peers) refl
   where
     by_place : (behind : Bool) → (place_of peers address == length peers) ≡ behind
-        → (peer_at (cond behind (peers ++ record { address = address; is_kept = false } ∷ []) peers) (place_of peers address)).address ≡ address
+        → (peer_at (cond behind (peers ++ record { address = address; is_connected = false } ∷ []) peers) (place_of peers address)).address ≡ address
     by_place true is =
-        ap (λ (place : ℕ). (peer_at (peers ++ record { address = address; is_kept = false } ∷ []) place).address) (eqb-true (place_of peers address) (length peers) is)
-        ∙ ap (λ (peer : Peer). peer.address) (peer_behind peers (record { address = address; is_kept = false }))
+        ap (λ (place : ℕ). (peer_at (peers ++ record { address = address; is_connected = false } ∷ []) place).address) (eqb-true (place_of peers address) (length peers) is)
+        ∙ ap (λ (peer : Peer). peer.address) (peer_behind peers (record { address = address; is_connected = false }))
     by_place false is =
         let apart : place_of peers address ≡ length peers → ⊥ = λ same. true≢false (sym (eq-eqb (place_of peers address) (length peers) same) ∙ is) in
         let within : place_of peers address ≤ length peers = position-le (is_at address) peers in
@@ -172,7 +172,7 @@ module _ (nodes : List NodeConfig) (past : List Entry) (node : ℕ) (asking : As
   -- a connection was made
   pub connected_to : (core : ClientState) (call : Call) → asking ≡ No → IsCalled nodes past core call → node ≡ target nodes core call → TurnsTo May Over (connected core call)
   connected_to core call nothing called there =
-      turns_if May Over (peer_at core.peers call.to).is_kept _ _ (uses_to core call nothing called there)
+      turns_if May Over (peer_at core.peers call.to).is_connected _ _ (uses_to core call nothing called there)
       (record {
         call = record call { stage = stage.Introducing };
         is = refl;
@@ -185,10 +185,10 @@ module _ (nodes : List NodeConfig) (past : List Entry) (node : ℕ) (asking : As
 
   introduced_to : (core : ClientState) (call : Call) (reply : Reply) → asking ≡ No → IsCalled nodes past core call → node ≡ target nodes core call → TurnsTo May Over (introduced core call reply)
   introduced_to core call reply nothing called there =
-      let kept : ClientState = record core { peers = with_connection core.peers call.to true } in
-      let same : target nodes kept call ≡ target nodes core call = ap (node_at nodes) (peers_still core.peers call.to call.to true) in
+      let linked : ClientState = record core { peers = with_connected core.peers call.to true } in
+      let same : target nodes linked call ≡ target nodes core call = ap (node_at nodes) (peers_still core.peers call.to call.to true) in
       turns_if May Over (is_ok reply) _ _
-      (uses_to kept call nothing
+      (uses_to linked call nothing
       (record { plain = called.plain; number = called.number; told = subst (λ (to : ℕ). IfSome call.asking (IsTold past call.words to)) (sym same) called.told })
       (there ∙ sym same))
       (inl nothing)

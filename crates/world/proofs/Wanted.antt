@@ -52,7 +52,7 @@ uses_wants link client call (Some number) = refl
 
 connected_wants : (link : Link) (client : ClientState) (call : Call) → Wants (MayUse (Some link)) (connected client call)
 connected_wants link client call =
-    wants_if (MayUse (Some link)) (peer_at client.peers call.to).is_kept _ _ (uses_wants link client call call.asking) refl
+    wants_if (MayUse (Some link)) (peer_at client.peers call.to).is_connected _ _ (uses_wants link client call call.asking) refl
 
 told_wants : (link : Option Link) (under : Option Call) (client : ClientState) → AwaitsConnection under → Wants (MayUse link) (next under client (told_of link))
 told_wants link None client awaits = absurd awaits

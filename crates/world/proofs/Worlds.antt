@@ -43,7 +43,7 @@ first_reached config cluster_is = record {
   cluster = cluster_is;
   goes = refl;
   keeps = tt;
-  whole = λ ample. record { kept = refl; settled = λ place client below. absurd (omega (arith, below)) };
+  whole = λ ample. record { remembers = refl; settled = λ place client below. absurd (omega (arith, below)) };
   rule = λ ample. first_rule config;
   played = λ ample. record { steps = []; outputs = []; plays = (refl, refl) };
 }

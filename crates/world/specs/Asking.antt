@@ -112,9 +112,9 @@ IsReplied nodes past call stage.Sent reply asking = ((asking ≡ No) ⊎ (reply 
 abbrev pub past_of : RunView → List Entry
 past_of run = reverse run.entries
 
--- the connection is the one that is kept to its node
-abbrev pub IsKeptIn : List (Option Conn) → Link → Type 0
-IsKeptIn kept link = slice_index_or kept link.node None ≡ Some link.conn
+-- the connection is the one to its node
+abbrev pub IsInPool : List (Option Conn) → Link → Type 0
+IsInPool pool link = slice_index_or pool link.node None ≡ Some link.conn
 
 -- the connection was cut under a request
 abbrev pub IsCutOff : List Late → Link → Type 0
@@ -131,37 +131,37 @@ pub record MayComeLate (run : RunView) (request : Late) : Type 0 where
   pub allowed : IsAllowed (past_of run) request.words request.link.node (asking_at run request.link)
 
 -- a client's connections
-pub record AreConnected (run : RunView) (kept : List (Option Conn)) (late : List Late) (used : Option Link) : Type 0 where
-  pub places : length kept ≡ length run.nodes
-  pub idle : (link : Link) → IsKeptIn kept link → IsIdle run used link
+pub record AreConnected (run : RunView) (pool : List (Option Conn)) (late : List Late) (used : Option Link) : Type 0 where
+  pub places : length pool ≡ length run.nodes
+  pub idle : (link : Link) → IsInPool pool link → IsIdle run used link
   pub left : (request : Late) → Contains late request → MayComeLate run request
-  pub apart : (link : Link) → IsKeptIn kept link → IsCutOff late link → ⊥
+  pub apart : (link : Link) → IsInPool pool link → IsCutOff late link → ⊥
 
 -- the connection in use is that to the node of the call
-pub record IsUnderWay (nodes : List NodeConfig) (past : List Entry) (core : ClientState) (kept : List (Option Conn)) (link : Link) (call : Call) : Type 0 where
+pub record IsUnderWay (nodes : List NodeConfig) (past : List Entry) (core : ClientState) (pool : List (Option Conn)) (link : Link) (call : Call) : Type 0 where
   pub called : IsCalled nodes past core call
   pub there : link.node ≡ target nodes core call
-  pub in_use : IsKeptIn kept link
+  pub in_use : IsInPool pool link
 
 abbrev pub IsOfCall : List NodeConfig → RunView → ClientState → List (Option Conn) → Traffic → Option Call → Type 0
-IsOfCall nodes run core kept Quiet call = call ≡ None
-IsOfCall nodes run core kept (Asked link words) None = ⊥
-IsOfCall nodes run core kept (Asked link words) (Some call) =
-    IsUnderWay nodes (past_of run) core kept link call × IsSent call call.stage words (asking_at run link)
-IsOfCall nodes run core kept (Answered link reply) None = ⊥
-IsOfCall nodes run core kept (Answered link reply) (Some call) =
-    IsUnderWay nodes (past_of run) core kept link call × IsReplied nodes (past_of run) call call.stage reply (asking_at run link)
+IsOfCall nodes run core pool Quiet call = call ≡ None
+IsOfCall nodes run core pool (Asked link words) None = ⊥
+IsOfCall nodes run core pool (Asked link words) (Some call) =
+    IsUnderWay nodes (past_of run) core pool link call × IsSent call call.stage words (asking_at run link)
+IsOfCall nodes run core pool (Answered link reply) None = ⊥
+IsOfCall nodes run core pool (Answered link reply) (Some call) =
+    IsUnderWay nodes (past_of run) core pool link call × IsReplied nodes (past_of run) call call.stage reply (asking_at run link)
 
 -- a client asks only what it was told to ask
 pub record AsksWell (nodes : List NodeConfig) (run : RunView) (client : ClientView) : Type 0 where
-  pub connected : AreConnected run client.kept client.late (used_by client.traffic)
-  pub call : IsOfCall nodes run client.core client.kept client.traffic client.core.call
+  pub connected : AreConnected run client.pool client.late (used_by client.traffic)
+  pub call : IsOfCall nodes run client.core client.pool client.traffic client.core.call
 
 -- ---- all clients
 
 -- the connection is one of the client's
 abbrev pub Holds : ClientView → Link → Type 0
-Holds client link = IsKeptIn client.kept link ⊎ IsCutOff client.late link
+Holds client link = IsInPool client.pool link ⊎ IsCutOff client.late link
 
 -- no connection is that of both
 abbrev pub AreApart : ClientView → ClientView → Type 0

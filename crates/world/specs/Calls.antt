@@ -17,7 +17,7 @@ use Rattle.smart_client.specs.declared.action.Action.TheVariants as wanted
 use Rattle.smart_client.specs.declared.action.Event.{Event}
 use Rattle.smart_client.specs.declared.action.Event.TheVariants as happened
 use Rattle.world_run.specs.Run.Deed.{Skipped}
-use Rattle.world.specs.Clients.{ClientView, broken_off, kept_to, lost_by, node_at, with_kept}
+use Rattle.world.specs.Clients.{ClientView, broken_off, connection_to, lost_by, node_at, with_connection}
 use Rattle.world.specs.NodeSteps.{Closes, Enters, Makes, released_conns}
 use Rattle.world.specs.Outputs.{beside}
 use Rattle.world.specs.View.{RunView, is_up}
@@ -37,12 +37,12 @@ IsOpened old node (Some conn) new = (outputs : Outputs) × Makes old node Open o
 
 -- the one that is kept, or else a new one
 abbrev pub IsUsed : RunView → ℕ → Option Conn → Option Conn → RunView → Type 0
-IsUsed old node (Some kept) conn new = (new ≡ old) × (conn ≡ Some kept)
+IsUsed old node (Some one) conn new = (new ≡ old) × (conn ≡ Some one)
 IsUsed old node None conn new = IsOpened old node conn new
 
 -- there is none to a node that was stopped
 abbrev pub IsConnected : RunView → ℕ → Option Conn → Option Conn → RunView → Type 0
-IsConnected old node kept conn new = MatchBool (is_up old node) (IsUsed old node kept conn new) ((new ≡ old) × (conn ≡ None))
+IsConnected old node before conn new = MatchBool (is_up old node) (IsUsed old node before conn new) ((new ≡ old) × (conn ≡ None))
 
 abbrev pub link_to : ℕ → Option Conn → Option Link
 link_to node None = None
@@ -61,7 +61,7 @@ IsShut old link new = MatchBool (is_up old link.node) (Closes old link.node (lin
 
 -- the call is over, and its connection is closed where that is wanted
 abbrev pub GivesUp : RunView → ClientView → Option Link → Bool → RunView → ClientView → Type 0
-GivesUp old client (Some link) true new after = IsShut old link new × (after ≡ with_kept client link.node None)
+GivesUp old client (Some link) true new after = IsShut old link new × (after ≡ with_connection client link.node None)
 GivesUp old client (Some link) false new after = (new ≡ old) × (after ≡ client)
 GivesUp old client None close new after = (new ≡ old) × (after ≡ client)
 
@@ -88,8 +88,8 @@ pub record Tells (old : RunView) (client : ClientView) (link : Option Link) (eve
 pub record Connects (nodes : List NodeConfig) (old : RunView) (client : ClientView) (address : Place) (outputs : List Output) (new : RunView) (after : ClientView) : Type 0 where
   pub conn : Option Conn
   pub run : RunView
-  pub connected : IsConnected old (node_at nodes address) (kept_to client (node_at nodes address)) conn run
-  pub tells : Tells run (with_kept client (node_at nodes address) conn) (link_to (node_at nodes address) conn) (told_of (link_to (node_at nodes address) conn)) outputs new after
+  pub connected : IsConnected old (node_at nodes address) (connection_to client (node_at nodes address)) conn run
+  pub tells : Tells run (with_connection client (node_at nodes address) conn) (link_to (node_at nodes address) conn) (told_of (link_to (node_at nodes address) conn)) outputs new after
 
 -- whatever it wants
 abbrev pub Acts : List NodeConfig → RunView → ClientView → Option Link → Action → List Output → RunView → ClientView → Type 0

@@ -25,7 +25,7 @@ use Rattle.world.specs.declared.output.Output.TheVariants as output
 pub record ClientView : Type 0 where
   pub number : ℕ
   pub core : ClientState
-  pub kept : List (Option Conn)
+  pub pool : List (Option Conn)
   pub traffic : Traffic
   pub late : List Late
 
@@ -43,7 +43,7 @@ abbrev pub new_client : ClusterConfig → ℕ → ClientView
 new_client config number = record {
   number = number;
   core = first_client (place_at (slice_get config.nodes 0)) MOST_REPEATS;
-  kept = replicate (length config.nodes) None;
+  pool = replicate (length config.nodes) None;
   traffic = Quiet;
   late = [];
 }
@@ -79,12 +79,12 @@ is_at address node = bytes_eq node.host address.host && (node.port == address.po
 abbrev pub node_at : List NodeConfig → Place → ℕ
 node_at nodes address = position_or_len (is_at address) nodes
 
--- the connection that is kept to the node
-abbrev pub kept_to : ClientView → ℕ → Option Conn
-kept_to client node = slice_index_or client.kept node None
+-- the connection to the node
+abbrev pub connection_to : ClientView → ℕ → Option Conn
+connection_to client node = slice_index_or client.pool node None
 
-abbrev pub with_kept : ClientView → ℕ → Option Conn → ClientView
-with_kept client node conn = record client { kept = slice_set client.kept node conn }
+abbrev pub with_connection : ClientView → ℕ → Option Conn → ClientView
+with_connection client node conn = record client { pool = slice_set client.pool node conn }
 
 -- the connection in use
 abbrev pub used_by : Traffic → Option Link
@@ -107,7 +107,7 @@ fault_of (Some call) = broken call.stage true
 abbrev pub broken_off : ℕ → ClientView → ClientView
 broken_off node client = record client {
   core = ended client.core (Err (fault_of client.core.call));
-  kept = slice_set client.kept node None;
+  pool = slice_set client.pool node None;
   traffic = Quiet;
 }
 

@@ -21,7 +21,7 @@ use Rattle.world.specs.declared.output.Output.TheVariants as output
 
 -- ---- steps of nodes
 
--- a node did so, which was entered, and its messages were kept
+-- a node did so, which was entered, and its messages were remembered
 pub record Enters (old : RunView) (node : ℕ) (deed : Deed) (new : RunView) : Type 0 where
   pub enters : EntersAt old.entries old.nodes node deed new.entries new.nodes
   pub is : new ≡ record old { nodes = new.nodes; sent = old.sent ++ sent_in deed; entries = new.entries }

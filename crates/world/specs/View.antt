@@ -57,10 +57,10 @@ pub record GoesOn (old new : RunView) : Type 0 where
   pub keeps : KeepsAsking (reverse old.entries) entries
 
 -- the messages are those that the nodes sent
-abbrev pub IsKept : RunView → Type 0
-IsKept run = run.sent ≡ sent_by run.entries
+abbrev pub RemembersSent : RunView → Type 0
+RemembersSent run = run.sent ≡ sent_by run.entries
 
 -- and each client waits for what is under way
 pub record IsWhole (scene : SceneView) : Type 0 where
-  pub kept : IsKept scene.run
+  pub remembers : RemembersSent scene.run
   pub settled : All IsSettled scene.clients

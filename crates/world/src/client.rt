@@ -4,8 +4,8 @@ ghost use Rattle.smart_client.specs.Calls.{IsWaiting};
 ghost use Rattle.node_step.specs.declared.event.Event.TheVariants.{Request};
 ghost use Rattle.world.specs.Asking.{MayBeCarried, MayLinger, MayTake};
 ghost use Rattle.world.specs.Calls.{Acts, Arrives, Begins, CanDo, Carries, Connects, Cuts, GivesUp, IsConnected, IsShut, Lingers, MayUse, Returns, Tells, Uses, told_of};
-ghost use Rattle.world.specs.Clients.{AwaitsConnection, AwaitsReply, IsSettled, broken_off, is_at, kept_to, leads_to, lost_at, lost_by, new_client, node_at, place_at, stopped_at, used_by, with_kept, without_late};
-ghost use Rattle.world.specs.View.{GoesOn, IsKept, is_up};
+ghost use Rattle.world.specs.Clients.{AwaitsConnection, AwaitsReply, IsSettled, broken_off, connection_to, is_at, leads_to, lost_at, lost_by, new_client, node_at, place_at, stopped_at, used_by, with_connection, without_late};
+ghost use Rattle.world.specs.View.{GoesOn, RemembersSent, is_up};
 ghost use Rattle.world.specs.declared.client.Traffic.TheVariants.{Quiet};
 ghost use Rattle.world.specs.declared.output.Output.TheVariants.{Answer};
 
@@ -56,8 +56,8 @@ pub(crate) struct Late {
 pub(crate) struct Client {
     number: u64,
     core: ClientCore,
-    // For each node the connection that is kept to it.
-    kept: Vec<Option<Conn>>,
+    // For each node the connection to it.
+    pool: Vec<Option<Conn>>,
     traffic: Traffic,
     // The oldest stands first.
     late: Vec<Late>,
@@ -71,7 +71,7 @@ impl Model for Client {
     ghost view = { λ client. record {
       number = client.number;
       core = client.core;
-      kept = client.kept.items;
+      pool = client.pool.items;
       traffic = client.traffic;
       late = client.late.items;
     } };
@@ -86,7 +86,7 @@ impl Client {
         Ok(Client {
             number,
             core: ClientCore::new(alloc, start, MOST_REPEATS)?,
-            kept: none_kept(alloc, config.nodes().len())?,
+            pool: empty_pool(alloc, config.nodes().len())?,
             traffic: Traffic::Quiet,
             late: Vec::new(alloc),
         })
@@ -108,9 +108,9 @@ impl Client {
         words: &Words,
     ) -> Result<Vec<Output>, AllocError>
         requires settled { IsSettled self.old }
-        requires kept { IsKept run.old }
+        requires remembers { RemembersSent run.old }
         ensures goes_on { GoesOn run.old run.new }
-        ensures kept { OnOk result (IsKept run.new) }
+        ensures remembers { OnOk result (RemembersSent run.new) }
         ensures settled { OnOk result (IsSettled self.new) }
         ensures begins { IfOk result (λ outputs. Begins config.now.nodes words.now run.old self.old outputs.items run.new self.new) }
     {
@@ -125,10 +125,10 @@ impl Client {
     /// What the client sent reaches its node.
     pub(crate) fn carry(&mut self, run: &mut Run) -> Result<Vec<Output>, AllocError>
         requires settled { IsSettled self.old }
-        requires kept { IsKept run.old }
+        requires remembers { RemembersSent run.old }
         requires asks { MayBeCarried run.old self.old.traffic }
         ensures goes_on { GoesOn run.old run.new }
-        ensures kept { OnOk result (IsKept run.new) }
+        ensures remembers { OnOk result (RemembersSent run.new) }
         ensures settled { OnOk result (IsSettled self.new) }
         ensures carries { IfOk result (λ outputs. Carries run.old self.old outputs.items run.new self.new) }
     {
@@ -155,9 +155,9 @@ impl Client {
         config: &Config,
     ) -> Result<Vec<Output>, AllocError>
         requires settled { IsSettled self.old }
-        requires kept { IsKept run.old }
+        requires remembers { RemembersSent run.old }
         ensures goes_on { GoesOn run.old run.new }
-        ensures kept { OnOk result (IsKept run.new) }
+        ensures remembers { OnOk result (RemembersSent run.new) }
         ensures settled { OnOk result (IsSettled self.new) }
         ensures returns { IfOk result (λ outputs. Returns config.now.nodes run.old self.old outputs.items run.new self.new) }
     {
@@ -176,9 +176,9 @@ impl Client {
     /// The connection in use is cut.
     pub(crate) fn cut(&mut self, run: &mut Run) -> Result<Vec<Output>, AllocError>
         requires settled { IsSettled self.old }
-        requires kept { IsKept run.old }
+        requires remembers { RemembersSent run.old }
         ensures goes_on { GoesOn run.old run.new }
-        ensures kept { OnOk result (IsKept run.new) }
+        ensures remembers { OnOk result (RemembersSent run.new) }
         ensures settled { OnOk result (IsSettled self.new) }
         ensures cuts { IfOk result (λ outputs. Cuts run.old self.old outputs.items run.new self.new) }
     {
@@ -209,9 +209,9 @@ impl Client {
     // The connection is cut while a reply is under way on it, which is lost.
     fn cut_reply(&mut self, run: &mut Run, link: Link) -> Result<Vec<Output>, AllocError>
         requires awaits { AwaitsReply self.old.core.call }
-        requires kept { IsKept run.old }
+        requires remembers { RemembersSent run.old }
         ensures goes_on { GoesOn run.old run.new }
-        ensures kept { OnOk result (IsKept run.new) }
+        ensures remembers { OnOk result (RemembersSent run.new) }
         ensures settled { OnOk result (IsSettled self.new) }
         ensures shut { OnOk result (IsShut run.old link run.new) }
         ensures broken { OnOk result (self.new ≡ broken_off link.node self.old) }
@@ -224,10 +224,10 @@ impl Client {
     /// The oldest request on a connection that was cut reaches its node.
     pub(crate) fn come_late(&mut self, run: &mut Run) -> Result<Vec<Output>, AllocError>
         requires settled { IsSettled self.old }
-        requires kept { IsKept run.old }
+        requires remembers { RemembersSent run.old }
         requires asks { MayLinger run.old self.old.late }
         ensures goes_on { GoesOn run.old run.new }
-        ensures kept { OnOk result (IsKept run.new) }
+        ensures remembers { OnOk result (RemembersSent run.new) }
         ensures settled { OnOk result (IsSettled self.new) }
         ensures lingers { IfOk result (λ outputs. Lingers run.old self.old outputs.items run.new self.new) }
     {
@@ -281,11 +281,11 @@ impl Client {
     fn arrive(&mut self, run: &mut Run, link: Link, words: Words) -> Result<Vec<Output>, AllocError>
         requires quiet { self.old.traffic ≡ Quiet }
         requires awaits { AwaitsReply self.old.core.call }
-        requires kept { IsKept run.old }
+        requires remembers { RemembersSent run.old }
         requires up { is_up run.old link.node ≡ true }
         requires asks { MayTake run.old link.node (Request link.conn words) }
         ensures goes_on { GoesOn run.old run.new }
-        ensures kept { OnOk result (IsKept run.new) }
+        ensures remembers { OnOk result (RemembersSent run.new) }
         ensures settled { OnOk result (IsSettled self.new) }
         ensures arrives { IfOk result (λ outputs. Arrives run.old self.old link words outputs.items run.new self.new) }
     {
@@ -324,7 +324,7 @@ impl Client {
         ensures lost { result ∷ [] ≡ lost_by self.old }
     {
         self.put(Traffic::Quiet);
-        self.keep(node, None);
+        self.put_connection(node, None);
         match self.core.on(Event::Broken { handed: true }) {
             Action::Done { answer, .. } => Output::Answer {
                 client: self.number,
@@ -343,11 +343,11 @@ impl Client {
         action: Action,
     ) -> Result<Vec<Output>, AllocError>
         requires quiet { self.old.traffic ≡ Quiet }
-        requires kept { IsKept run.old }
+        requires remembers { RemembersSent run.old }
         requires waits { IsWaiting action self.old.core.call }
         requires can { CanDo link action }
         ensures goes_on { GoesOn run.old run.new }
-        ensures kept { OnOk result (IsKept run.new) }
+        ensures remembers { OnOk result (RemembersSent run.new) }
         ensures settled { OnOk result (IsSettled self.new) }
         ensures acts { IfOk result (λ outputs. Acts config.now.nodes run.old self.old link action outputs.items run.new self.new) }
     {
@@ -365,16 +365,16 @@ impl Client {
         address: &Address,
     ) -> Result<Vec<Output>, AllocError>
         requires quiet { self.old.traffic ≡ Quiet }
-        requires kept { IsKept run.old }
+        requires remembers { RemembersSent run.old }
         requires awaits { AwaitsConnection self.old.core.call }
         ensures goes_on { GoesOn run.old run.new }
-        ensures kept { OnOk result (IsKept run.new) }
+        ensures remembers { OnOk result (RemembersSent run.new) }
         ensures settled { OnOk result (IsSettled self.new) }
         ensures connects { IfOk result (λ outputs. Connects config.now.nodes run.old self.old address.now outputs.items run.new self.new) }
     {
         let node = node_at(config, address);
-        let conn = self.connection_to(run, node)?;
-        self.keep(node, conn);
+        let conn = self.reach_node(run, node)?;
+        self.put_connection(node, conn);
         match conn {
             Some(conn) => self.tell(run, Some(Link { node, conn }), Event::Connected),
             None => self.tell(run, None, Event::NotConnected),
@@ -382,34 +382,34 @@ impl Client {
     }
 
     // The connection to the node, if there can be one.
-    fn connection_to(&self, run: &mut Run, node: u64) -> Result<Option<Conn>, AllocError>
-        requires kept { IsKept run.old }
+    fn reach_node(&self, run: &mut Run, node: u64) -> Result<Option<Conn>, AllocError>
+        requires remembers { RemembersSent run.old }
         ensures goes_on { GoesOn run.old run.new }
-        ensures kept { OnOk result (IsKept run.new) }
-        ensures connected { IfOk result (λ conn. IsConnected run.old node (kept_to self.now node) conn run.new) }
+        ensures remembers { OnOk result (RemembersSent run.new) }
+        ensures connected { IfOk result (λ conn. IsConnected run.old node (connection_to self.now node) conn run.new) }
     {
         if !run.is_up(node) {
             return Ok(None);
         }
-        match self.kept_to(node) {
+        match self.connection_to(node) {
             Some(conn) => Ok(Some(conn)),
             None => run.open(node),
         }
     }
 
-    // The connection that is kept to the node.
-    fn kept_to(&self, node: u64) -> Option<Conn>
-        ensures { result ≡ kept_to self.now node }
+    // The connection to the node.
+    fn connection_to(&self, node: u64) -> Option<Conn>
+        ensures { result ≡ connection_to self.now node }
     {
-        self.kept.get(node as usize).copied().unwrap_or(None)
+        self.pool.get(node as usize).copied().unwrap_or(None)
     }
 
-    // From now on this connection is kept to the node.
-    fn keep(&mut self, node: u64, conn: Option<Conn>)
-        ensures { self.new ≡ with_kept self.old node conn }
+    // From now on this is the connection to the node.
+    fn put_connection(&mut self, node: u64, conn: Option<Conn>)
+        ensures { self.new ≡ with_connection self.old node conn }
     {
-        if let Some(kept) = self.kept.get_mut(node as usize) {
-            *kept = conn;
+        if let Some(place) = self.pool.get_mut(node as usize) {
+            *place = conn;
         }
     }
 
@@ -422,11 +422,11 @@ impl Client {
         event: Event,
     ) -> Result<Vec<Output>, AllocError>
         requires quiet { self.old.traffic ≡ Quiet }
-        requires kept { IsKept run.old }
+        requires remembers { RemembersSent run.old }
         requires awaits { AwaitsConnection self.old.core.call }
         requires event { event ≡ told_of link }
         ensures goes_on { GoesOn run.old run.new }
-        ensures kept { OnOk result (IsKept run.new) }
+        ensures remembers { OnOk result (RemembersSent run.new) }
         ensures settled { OnOk result (IsSettled self.new) }
         ensures tells { IfOk result (λ outputs. Tells run.old self.old link event outputs.items run.new self.new) }
     {
@@ -442,11 +442,11 @@ impl Client {
         action: Action,
     ) -> Result<Vec<Output>, AllocError>
         requires quiet { self.old.traffic ≡ Quiet }
-        requires kept { IsKept run.old }
+        requires remembers { RemembersSent run.old }
         requires waits { IsWaiting action self.old.core.call }
         requires may { MayUse link action }
         ensures goes_on { GoesOn run.old run.new }
-        ensures kept { OnOk result (IsKept run.new) }
+        ensures remembers { OnOk result (RemembersSent run.new) }
         ensures settled { OnOk result (IsSettled self.new) }
         ensures uses { IfOk result (λ outputs. Uses run.old self.old link action outputs.items run.new self.new) }
     {
@@ -471,9 +471,9 @@ impl Client {
         answer: Result<Reply, ClientFault>,
         close: bool,
     ) -> Result<Vec<Output>, AllocError>
-        requires kept { IsKept run.old }
+        requires remembers { RemembersSent run.old }
         ensures goes_on { GoesOn run.old run.new }
-        ensures kept { OnOk result (IsKept run.new) }
+        ensures remembers { OnOk result (RemembersSent run.new) }
         ensures gives_up { OnOk result (GivesUp run.old self.old link close run.new self.new) }
         ensures answer { IfOk result (λ outputs. outputs.items ≡ Answer self.old.number answer ∷ []) }
     {
@@ -484,9 +484,9 @@ impl Client {
 
     // The call is over, and its connection is closed where that is wanted.
     fn end(&mut self, run: &mut Run, link: Option<Link>, close: bool) -> Result<(), AllocError>
-        requires kept { IsKept run.old }
+        requires remembers { RemembersSent run.old }
         ensures goes_on { GoesOn run.old run.new }
-        ensures kept { OnOk result (IsKept run.new) }
+        ensures remembers { OnOk result (RemembersSent run.new) }
         ensures gives_up { OnOk result (GivesUp run.old self.old link close run.new self.new) }
     {
         let Some(link) = link else {
@@ -494,7 +494,7 @@ impl Client {
         };
         if close {
             shut(run, link)?;
-            self.keep(link.node, None);
+            self.put_connection(link.node, None);
         }
         Ok(())
     }
@@ -502,9 +502,9 @@ impl Client {
 
 // The node finds the connection closed, if it wasn't stopped.
 fn shut(run: &mut Run, link: Link) -> Result<(), AllocError>
-    requires { IsKept run.old }
+    requires { RemembersSent run.old }
     ensures goes_on { GoesOn run.old run.new }
-    ensures kept { OnOk result (IsKept run.new) }
+    ensures remembers { OnOk result (RemembersSent run.new) }
     ensures shut { OnOk result (IsShut run.old link run.new) }
 {
     if run.is_up(link.node) {
@@ -514,8 +514,8 @@ fn shut(run: &mut Run, link: Link) -> Result<(), AllocError>
 }
 
 // No connection to any of so many nodes.
-fn none_kept(alloc: Global, count: usize) -> Result<Vec<Option<Conn>>, AllocError>
-    ensures kept { IfOk result (λ kept. kept.items ≡ replicate count None) }
+fn empty_pool(alloc: Global, count: usize) -> Result<Vec<Option<Conn>>, AllocError>
+    ensures pool { IfOk result (λ pool. pool.items ≡ replicate count None) }
 {
     Ok(Vec::from_elem(alloc, None, count)?)
 }

@@ -6,7 +6,7 @@ ghost use Rattle.world.specs.Entered.{Steps};
 ghost use Rattle.world.specs.Lines.{deed_of};
 
 use history::History;
-use node_core::{Core, Event, Keep, Outputs, StepFault};
+use node_core::{Core, Event, Outputs, Recorder, StepFault};
 use std::alloc::AllocError;
 use std::marker::Model;
 use std::snapshot::Snapshot;
@@ -55,12 +55,12 @@ impl Model for Entries {
 // Of the outputs of a step only proofs keep something.
 struct Seen;
 
-impl Keep for Seen {
-    type Kept = Snapshot<Outputs>;
+impl Recorder for Seen {
+    type Record = Snapshot<Outputs>;
 
-    ghost kept = { λ outputs. outputs.value };
+    ghost recorded = { λ outputs. outputs.value };
 
-    fn keep(outputs: &Outputs) -> Result<Snapshot<Outputs>, AllocError> {
+    fn record(outputs: &Outputs) -> Result<Snapshot<Outputs>, AllocError> {
         Ok(Snapshot::of(outputs))
     }
 }
@@ -91,8 +91,8 @@ impl Entries {
     {
         let ticket = self.count.saturating_add(1);
         match core.step::<Seen>(ticket, event) {
-            Ok((outputs, kept)) => {
-                let doing = Doing::Made(Snapshot::of(event), kept);
+            Ok((outputs, recorded)) => {
+                let doing = Doing::Made(Snapshot::of(event), recorded);
                 self.enter(node, ticket, doing);
                 Ok(Some(outputs))
             }

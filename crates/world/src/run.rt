@@ -11,7 +11,7 @@ ghost use Rattle.world.specs.Asking.{MayTake};
 ghost use Rattle.world.specs.Entered.{EntersAt, NeedsNumber};
 ghost use Rattle.world.specs.NodeSteps.{Administers, Closes, Delivers, Enters, IsAdministered, IsAsked, IsDelivered, IsHeard, IsIdle, IsRefused, Makes, Ticks, Turns, answered_conn, is_admin, is_admin_name, message_at, released_conns};
 ghost use Rattle.world.specs.Outputs.{beside_from, shown_from};
-ghost use Rattle.world.specs.View.{GoesOn, IsKept, first_run, is_up};
+ghost use Rattle.world.specs.View.{GoesOn, RemembersSent, first_run, is_up};
 
 use crate::entries::Entries;
 use crate::output::{Output, add_own, add_released, add_sent, exhausted, nothing};
@@ -67,13 +67,13 @@ impl Run {
 
     /// An administrator asks this of a node, on a connection of its own.
     pub fn admin(&mut self, node: u64, words: &Words) -> Result<Vec<Output>, AllocError>
-        requires { IsKept self.old }
+        requires { RemembersSent self.old }
         ensures goes_on { GoesOn self.old self.new }
-        ensures kept { OnOk result (IsKept self.new) }
+        ensures remembers { OnOk result (RemembersSent self.new) }
         ensures administers { IfOk result (λ outputs. Administers self.old node words.now outputs.items self.new) }
     {
         if self.is_up(node) && is_admin(words) {
-            self.ask(node, words)
+            self.ask_node(node, words)
         } else {
             nothing(self.alloc)
         }
@@ -81,13 +81,13 @@ impl Run {
 
     /// Time passes at a node.
     pub fn tick(&mut self, node: u64) -> Result<Vec<Output>, AllocError>
-        requires { IsKept self.old }
+        requires { RemembersSent self.old }
         ensures goes_on { GoesOn self.old self.new }
-        ensures kept { OnOk result (IsKept self.new) }
+        ensures remembers { OnOk result (RemembersSent self.new) }
         ensures ticks { IfOk result (λ outputs. Ticks self.old node outputs.items self.new) }
     {
         if self.is_up(node) {
-            self.turn(node, Event::Tick)
+            self.step_node(node, Event::Tick)
         } else {
             nothing(self.alloc)
         }
@@ -104,9 +104,9 @@ impl Run {
     /// A message reaches the node that it is for.
     #[tactic(auto, using(crate::proofs::Going::may_arrive))]
     pub fn deliver(&mut self, number: u64) -> Result<Vec<Output>, AllocError>
-        requires { IsKept self.old }
+        requires { RemembersSent self.old }
         ensures goes_on { GoesOn self.old self.new }
-        ensures kept { OnOk result (IsKept self.new) }
+        ensures remembers { OnOk result (RemembersSent self.new) }
         ensures delivers { IfOk result (λ outputs. Delivers self.old number outputs.items self.new) }
     {
         let Some(message) = self.message(number)? else {
@@ -114,7 +114,7 @@ impl Run {
         };
         let node = u64::from(message.to.get());
         if self.is_up(node) {
-            self.turn(node, Event::Deliver(message))
+            self.step_node(node, Event::Deliver(message))
         } else {
             nothing(self.alloc)
         }
@@ -142,13 +142,13 @@ impl Run {
 
     // A step of a node that needs no number of its own, and what comes out of it.
     #[tactic(auto, using(crate::proofs::Allowing::needless_may_come))]
-    fn turn(&mut self, node: u64, event: Event) -> Result<Vec<Output>, AllocError>
-        requires kept { IsKept self.old }
+    fn step_node(&mut self, node: u64, event: Event) -> Result<Vec<Output>, AllocError>
+        requires remembers { RemembersSent self.old }
         requires there { node < length self.old.nodes }
         requires may { MayHappen (reverse self.old.entries) event }
         requires number { NeedsNumber event → ⊥ }
         ensures goes_on { GoesOn self.old self.new }
-        ensures kept { OnOk result (IsKept self.new) }
+        ensures remembers { OnOk result (RemembersSent self.new) }
         ensures turns { IfOk result (λ outputs. Turns self.old node event outputs.items self.new) }
     {
         let first = self.sent.len();
@@ -164,7 +164,7 @@ impl Run {
         requires there { node < length self.old.nodes }
         requires first { first ≤ length self.old.sent }
         ensures goes_on { GoesOn self.old self.new }
-        ensures kept { OnOk result (IsKept self.old → IsKept self.new) }
+        ensures remembers { OnOk result (RemembersSent self.old → RemembersSent self.new) }
         ensures closes { OnOk result (Closes self.old node (released_conns made.now.released) self.new) }
         ensures shows { IfOk result (λ outputs. outputs.items ≡ shown_from node first (drop first self.old.sent) made.now) }
     {
@@ -175,11 +175,11 @@ impl Run {
 
     // A request on a connection of its own, and what comes out of it.
     #[tactic(auto, using(crate::proofs::Allowing::opened_may_ask))]
-    fn ask(&mut self, node: u64, words: &Words) -> Result<Vec<Output>, AllocError>
-        requires kept { IsKept self.old }
+    fn ask_node(&mut self, node: u64, words: &Words) -> Result<Vec<Output>, AllocError>
+        requires remembers { RemembersSent self.old }
         requires there { node < length self.old.nodes }
         ensures goes_on { GoesOn self.old self.new }
-        ensures kept { OnOk result (IsKept self.new) }
+        ensures remembers { OnOk result (RemembersSent self.new) }
         ensures asks { IfOk result (λ outputs. IsAdministered self.old node words.now outputs.items self.new) }
     {
         let Some(opening) = self.make(node, Event::Open)? else {
@@ -193,11 +193,11 @@ impl Run {
 
     // A request on a connection that was opened for it.
     fn request(&mut self, node: u64, conn: Conn, words: &Words) -> Result<Vec<Output>, AllocError>
-        requires kept { IsKept self.old }
+        requires remembers { RemembersSent self.old }
         requires there { node < length self.old.nodes }
         requires asks { MayTake self.old node (Request conn words.now) }
         ensures goes_on { GoesOn self.old self.new }
-        ensures kept { OnOk result (IsKept self.new) }
+        ensures remembers { OnOk result (RemembersSent self.new) }
         ensures asks { IfOk result (λ outputs. IsHeard self.old node conn words.now outputs.items self.new) }
     {
         let first = self.sent.len();
@@ -220,7 +220,7 @@ impl Run {
         requires there { node < length self.old.nodes }
         requires first { first ≤ length self.old.sent }
         ensures goes_on { GoesOn self.old self.new }
-        ensures kept { OnOk result (IsKept self.old → IsKept self.new) }
+        ensures remembers { OnOk result (RemembersSent self.old → RemembersSent self.new) }
         ensures closes { OnOk result (Closes self.old node (answered_conn conn made.now.response ++ released_conns made.now.released) self.new) }
         ensures shows { IfOk result (λ outputs. outputs.items ≡ shown_from node first (drop first self.old.sent) made.now) }
     {
@@ -233,7 +233,7 @@ impl Run {
     fn close_served(&mut self, node: u64, conn: Conn, made: &Outputs) -> Result<(), AllocError>
         requires there { node < length self.old.nodes }
         ensures goes_on { GoesOn self.old self.new }
-        ensures kept { OnOk result (IsKept self.old → IsKept self.new) }
+        ensures remembers { OnOk result (RemembersSent self.old → RemembersSent self.new) }
         ensures closes { OnOk result (Closes self.old node (answered_conn conn made.now.response ++ released_conns made.now.released) self.new) }
     {
         if let Response::Replied(_) = made.response {
@@ -246,7 +246,7 @@ impl Run {
     pub fn close_all(&mut self, node: u64, releases: &[Release]) -> Result<(), AllocError>
         requires there { node < length self.old.nodes }
         ensures goes_on { GoesOn self.old self.new }
-        ensures kept { OnOk result (IsKept self.old → IsKept self.new) }
+        ensures remembers { OnOk result (RemembersSent self.old → RemembersSent self.new) }
         ensures closes { OnOk result (Closes self.old node (released_conns releases.now) self.new) }
     {
         for release in releases {
@@ -260,7 +260,7 @@ impl Run {
         requires there { node < length self.old.nodes }
         ensures goes_on { GoesOn self.old self.new }
         ensures there { length self.new.nodes ≡ length self.old.nodes }
-        ensures kept { OnOk result (IsKept self.old → IsKept self.new) }
+        ensures remembers { OnOk result (RemembersSent self.old → RemembersSent self.new) }
         ensures closes { OnOk result (Closes self.old node (conn ∷ []) self.new) }
     {
         let Some(_closed) = self.make(node, Event::Close(conn))? else {
@@ -276,7 +276,7 @@ impl Run {
         requires asks { MayTake self.old node event }
         ensures goes_on { GoesOn self.old self.new }
         ensures there { length self.new.nodes ≡ length self.old.nodes }
-        ensures kept { OnOk result (IsKept self.old → IsKept self.new) }
+        ensures remembers { OnOk result (RemembersSent self.old → RemembersSent self.new) }
         ensures made { IfOk result (λ made. IfSome made (λ outputs. Makes self.old node event outputs self.new)) }
         ensures skipped { IfOk result (λ made. IfNone made (Enters self.old node Skipped self.new)) }
         ensures number { IfOk result (λ made. IfNone made (NeedsNumber event)) }
@@ -290,7 +290,7 @@ impl Run {
         requires asks { MayTake self.old node event.now }
         ensures goes_on { GoesOn self.old self.new }
         ensures there { length self.new.nodes ≡ length self.old.nodes }
-        ensures kept { OnOk result (IsKept self.old → IsKept self.new) }
+        ensures remembers { OnOk result (RemembersSent self.old → RemembersSent self.new) }
         ensures made { IfOk result (λ made. IfSome made (λ outputs. Makes self.old node event.now outputs self.new)) }
         ensures skipped { IfOk result (λ made. IfNone made (Enters self.old node Skipped self.new)) }
         ensures number { IfOk result (λ made. IfNone made (NeedsNumber event.now)) }
@@ -298,7 +298,7 @@ impl Run {
         let Some(outputs) = step_at(&mut self.nodes, &mut self.entries, node, event)? else {
             return Ok(None);
         };
-        keep(&mut self.sent, outputs.sent.as_slice())?;
+        remember(&mut self.sent, outputs.sent.as_slice())?;
         Ok(Some(outputs))
     }
 
@@ -360,8 +360,8 @@ fn step_at(
     }
 }
 
-// Keeps messages behind the others.
-fn keep(sent: &mut Vec<Message>, messages: &[Message]) -> Result<(), AllocError>
+// Remembers messages behind the others.
+fn remember(sent: &mut Vec<Message>, messages: &[Message]) -> Result<(), AllocError>
     ensures { OnOk result (sent.new.items ≡ sent.old.items ++ messages.now) }
 {
     for message in messages {

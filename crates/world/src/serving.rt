@@ -7,7 +7,7 @@ ghost use Rattle.world.specs.Asking.{MayTake};
 ghost use Rattle.world.specs.Calls.{IsOpened, IsServed, IsSkipped, Serves, ServesLast, reply_in};
 ghost use Rattle.world.specs.NodeSteps.{Closes, released_conns};
 ghost use Rattle.world.specs.Outputs.{beside_from};
-ghost use Rattle.world.specs.View.{GoesOn, IsKept};
+ghost use Rattle.world.specs.View.{GoesOn, RemembersSent};
 
 use crate::output::Output;
 use crate::run::Run;
@@ -29,10 +29,10 @@ pub(crate) struct Served {
 impl Run {
     /// Opens a connection at the node. None says that a number has no next one.
     pub(crate) fn open(&mut self, node: u64) -> Result<Option<Conn>, AllocError>
-        requires kept { IsKept self.old }
+        requires remembers { RemembersSent self.old }
         requires there { node < length self.old.nodes }
         ensures goes_on { GoesOn self.old self.new }
-        ensures kept { OnOk result (IsKept self.new) }
+        ensures remembers { OnOk result (RemembersSent self.new) }
         ensures opens { IfOk result (λ conn. IsOpened self.old node conn self.new) }
     {
         let Some(opening) = self.make(node, Event::Open)? else {
@@ -51,11 +51,11 @@ impl Run {
         conn: Conn,
         words: Words,
     ) -> Result<Served, AllocError>
-        requires kept { IsKept self.old }
+        requires remembers { RemembersSent self.old }
         requires there { node < length self.old.nodes }
         requires asks { MayTake self.old node (Request conn words) }
         ensures goes_on { GoesOn self.old self.new }
-        ensures kept { OnOk result (IsKept self.new) }
+        ensures remembers { OnOk result (RemembersSent self.new) }
         ensures serves { IfOk result (λ served. Serves self.old node conn words served.reply served.outputs.items self.new) }
     {
         let first = self.count_sent();
@@ -80,7 +80,7 @@ impl Run {
         requires there { node < length self.old.nodes }
         requires first { first ≤ length self.old.sent }
         ensures goes_on { GoesOn self.old self.new }
-        ensures kept { OnOk result (IsKept self.old → IsKept self.new) }
+        ensures remembers { OnOk result (RemembersSent self.old → RemembersSent self.new) }
         ensures closes { OnOk result (Closes self.old node (released_conns made.now.released) self.new) }
         ensures shows { IfOk result (λ outputs. outputs.items ≡ beside_from node first (drop first self.old.sent) made.now) }
     {
@@ -96,11 +96,11 @@ impl Run {
         conn: Conn,
         words: Words,
     ) -> Result<Vec<Output>, AllocError>
-        requires kept { IsKept self.old }
+        requires remembers { RemembersSent self.old }
         requires there { node < length self.old.nodes }
         requires asks { MayTake self.old node (Request conn words) }
         ensures goes_on { GoesOn self.old self.new }
-        ensures kept { OnOk result (IsKept self.new) }
+        ensures remembers { OnOk result (RemembersSent self.new) }
         ensures serves { IfOk result (λ outputs. ServesLast self.old node conn words outputs.items self.new) }
     {
         let served = self.serve(node, conn, words)?;

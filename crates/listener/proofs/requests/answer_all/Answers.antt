@@ -10,15 +10,15 @@ pub requests-preserved : goal.requests-preserved
 requests-preserved g c =
     let hands_out = rw c.in-Ok-Some.field-0-is at c.in-Ok-Some.ensures.request in
     record {
-      answers = answers_again _ _ _ _ _ (answers_before _ _ _ _ _ _ _ c.requests.invariant.answers refl hands_out) (c.in_ok-answer-in-Ok-Some.ensures.answered _);
+      answers = answers_again _ _ _ _ _ (answers_before _ _ _ _ _ _ _ c.requests.invariant.answers refl hands_out) (c.in_ok-answer_request-in-Ok-Some.ensures.answered _);
       good = hands_out.still_sound;
     }
 
-pub returns-in_err-answer-in-Ok-Some-clause-halts : goal.returns-in_err-answer-in-Ok-Some-clause-halts
-returns-in_err-answer-in-Ok-Some-clause-halts g c =
+pub returns-in_err-answer_request-in-Ok-Some-clause-halts : goal.returns-in_err-answer_request-in-Ok-Some-clause-halts
+returns-in_err-answer_request-in-Ok-Some-clause-halts g c =
     let p = err_from_is_err_and c.from_residual.result c.from_residual.ensures.1 in
     let hands_out = rw c.in-Ok-Some.field-0-is at c.in-Ok-Some.ensures.request in
-    rw (p.1, p.2) (halts_again _ _ _ _ _ _ (answers_before _ _ _ _ _ _ _ c.requests.invariant.answers refl hands_out) (c.in_err-answer-in-Ok-Some.ensures.halts _))
+    rw (p.1, p.2) (halts_again _ _ _ _ _ _ (answers_before _ _ _ _ _ _ _ c.requests.invariant.answers refl hands_out) (c.in_err-answer_request-in-Ok-Some.ensures.halts _))
 
 pub returns-in-Err-Protocol : goal.returns-in-Err-Protocol
 returns-in-Err-Protocol g c =

@@ -1,12 +1,12 @@
-use Rattle.node_cell.specs.Kept.{joined}
+use Rattle.node_cell.specs.Undelivered.{joined}
 use Rattle.node_cell.proofs.GivenLemmas.{given_after, given_after_skip}
 use Rattle.node_cell.proofs.cell.advance.Goals as goal
 
 pub returns-in-Ok-clause-given : goal.returns-in-Ok-clause-given
 returns-in-Ok-clause-given g c given =
-    rw (c.keep.ensures, c.enter_step.ensures, c.in-Ok.ensures.kept)
-    (given_after (g.L.Log.entries c.args.log.now) c.args.event c.in-Ok.outputs (joined c.args.kept.now.items) given)
+    rw (c.add_released.ensures, c.enter_step.ensures, c.in-Ok.ensures.recorded)
+    (given_after (g.L.Log.entries c.args.log.now) c.args.event c.in-Ok.outputs (joined c.args.undelivered.now.items) given)
 
 pub returns-in-Err-clause-given : goal.returns-in-Err-clause-given
 returns-in-Err-clause-given g c given =
-    rw c.enter_skip.ensures (given_after_skip (g.L.Log.entries c.args.log.now) c.args.ticket (joined c.args.kept.now.items) given)
+    rw c.enter_skip.ensures (given_after_skip (g.L.Log.entries c.args.log.now) c.args.ticket (joined c.args.undelivered.now.items) given)

@@ -1,6 +1,6 @@
 use Rattle.std.proofs.Common.{rules, ◌≡◌, None, Some, ap, ◌∙◌}
 use Rattle.std.specs.Prelude.{position}
-use Rattle.node_step.specs.Kept.{is_for}
+use Rattle.node_step.specs.Released.{is_for}
 use Rattle.node_step.specs.declared.outputs.Release.{Release}
 use Rattle.node_step.proofs.Taking.{takes_at, takes_nothing}
 use Rattle.node_step.proofs.outputs.take_from.Goals as goal

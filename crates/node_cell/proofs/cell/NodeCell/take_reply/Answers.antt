@@ -1,13 +1,13 @@
 use Rattle.std.proofs.Common.{rules, ◌≡◌}
 use Rattle.node_cell.specs.Journal.{IsGiven}
-use Rattle.node_cell.specs.Kept.{joined}
+use Rattle.node_cell.specs.Undelivered.{joined}
 use Rattle.node_cell.proofs.GivenLemmas.{given_left, taken_is_given}
 use Rattle.node_cell.proofs.cell.NodeCell.take_reply.Goals as goal
 
 pub invariant_of-self : goal.invariant_of-self
 invariant_of-self g c = (
   c.self.invariant.0,
-  rw c.take.ensures.left (given_left c.args.conn (IsGiven (g.L.Log.entries c.self.inside.log)) (joined c.self.inside.kept.items) c.self.invariant.1),
+  rw c.take_reply_to.ensures.left (given_left c.args.conn (IsGiven (g.L.Log.entries c.self.inside.log)) (joined c.self.inside.undelivered.items) c.self.invariant.1),
   search rules,
   search rules,
   search rules,
@@ -16,5 +16,5 @@ invariant_of-self g c = (
 pub returns-clause-given : goal.returns-clause-given
 returns-clause-given g c =
     let journal : c.args.self.now.journal ≡ g.L.Log.entries c.self.inside.log = search rules in
-    rw (c.take.ensures.reply, journal)
-    (taken_is_given c.args.conn (IsGiven (g.L.Log.entries c.self.inside.log)) (joined c.self.inside.kept.items) c.self.invariant.1)
+    rw (c.take_reply_to.ensures.reply, journal)
+    (taken_is_given c.args.conn (IsGiven (g.L.Log.entries c.self.inside.log)) (joined c.self.inside.undelivered.items) c.self.invariant.1)

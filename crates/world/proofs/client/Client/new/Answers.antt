@@ -14,11 +14,11 @@ pub returns : goal.returns
 returns c =
     let core : c.in_ok-new.field-0 ≡ first_client (place_at (slice_get c.args.config.now.nodes 0)) MOST_REPEATS =
     c.in_ok-new.ensures ∙ ap (λ (place : Place). first_client place MOST_REPEATS) c.in_ok-start.ensures in
-    let kept : c.in_ok-none_kept.field-0.items ≡ replicate (length c.args.config.now.nodes) None =
-    c.in_ok-none_kept.ensures.kept ∙ ap (λ (nodes : List NodeConfig). replicate (length nodes) None) c.nodes.ensures.nodes in
+    let pool : c.in_ok-empty_pool.field-0.items ≡ replicate (length c.args.config.now.nodes) None =
+    c.in_ok-empty_pool.ensures.pool ∙ ap (λ (nodes : List NodeConfig). replicate (length nodes) None) c.nodes.ensures.nodes in
     let late : c.new-2.result.items ≡ [] = search rules in
     let made : ClientState → List (Option Conn) → List Late → ClientView =
-    λ core kept late. record { number = c.args.number; core = core; kept = kept; traffic = Quiet; late = late } in
-    ap (λ (core : ClientState). made core c.in_ok-none_kept.field-0.items c.new-2.result.items) core
-    ∙ ap (λ (kept : List (Option Conn)). made (first_client (place_at (slice_get c.args.config.now.nodes 0)) MOST_REPEATS) kept c.new-2.result.items) kept
+    λ core pool late. record { number = c.args.number; core = core; pool = pool; traffic = Quiet; late = late } in
+    ap (λ (core : ClientState). made core c.in_ok-empty_pool.field-0.items c.new-2.result.items) core
+    ∙ ap (λ (pool : List (Option Conn)). made (first_client (place_at (slice_get c.args.config.now.nodes 0)) MOST_REPEATS) pool c.new-2.result.items) pool
     ∙ ap (λ (late : List Late). made (first_client (place_at (slice_get c.args.config.now.nodes 0)) MOST_REPEATS) (replicate (length c.args.config.now.nodes) None) late) late

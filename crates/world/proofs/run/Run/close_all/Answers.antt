@@ -17,7 +17,7 @@ loop-release-preserved c =
     record {
       there = subst (λ (count : ℕ). c.args.node < count) (sym c.close.ensures.there) so_far.there;
       goes_on = goes_further c.args.self.now c.loop-release.self c.close.new.self so_far.goes_on c.close.ensures.goes_on;
-      kept = λ was. c.in_ok-close.ensures.kept (so_far.kept was);
+      remembers = λ was. c.in_ok-close.ensures.remembers (so_far.remembers was);
       closes =
           subst (λ (releases : List Release). Closes c.args.self.now c.args.node (released_conns releases) c.close.new.self) (sym one_more)
           (closes_one_more c.args.self.now c.loop-release.self c.close.new.self c.args.node (take c.loop-release.release-index c.args.releases.now) c.release-item.result so_far.closes c.in_ok-close.ensures.closes);

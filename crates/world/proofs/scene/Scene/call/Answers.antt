@@ -11,7 +11,7 @@ pub returns-clause-whole : goal.returns-clause-whole
 returns-clause-whole c =
     let old : All IsSettled c.self.inside.clients.items = subst (λ (scene : SceneView). All IsSettled scene.clients) (sym c.self.view_is) c.in_ok-place.ensures.settled in
     on_both c.call.result
-    (λ kept settled. record { kept = kept; settled = All-set IsSettled c.self.inside.clients.items c.in_ok-place.place c.call.new.self settled old }) c.call.ensures.kept
+    (λ remembers settled. record { remembers = remembers; settled = All-set IsSettled c.self.inside.clients.items c.in_ok-place.place c.call.new.self settled old }) c.call.ensures.remembers
     c.call.ensures.settled
 
 pub returns-clause-plays : goal.returns-clause-plays

@@ -14,7 +14,7 @@ pub returns-clause-whole : goal.returns-clause-whole
 returns-clause-whole c =
     let old : All IsSettled c.self.inside.clients.items = subst (λ (scene : SceneView). All IsSettled scene.clients) (sym c.self.view_is) c.requires.settled in
     on_both c.take_reply.result
-    (λ kept settled. record { kept = kept; settled = All-set IsSettled c.self.inside.clients.items c.in-Some.place c.take_reply.new.self settled old }) c.take_reply.ensures.kept
+    (λ remembers settled. record { remembers = remembers; settled = All-set IsSettled c.self.inside.clients.items c.in-Some.place c.take_reply.new.self settled old }) c.take_reply.ensures.remembers
     c.take_reply.ensures.settled
 
 pub returns-clause-plays : goal.returns-clause-plays

@@ -1,0 +1,16 @@
+//! The rows of a node's step for moves of slots: orders that begin and end them, keys on their way, and claims.
+#![tactic(auto)]
+
+mod claims;
+mod copies;
+mod migrations;
+mod nodes;
+mod orders;
+mod ticks;
+
+pub use claims::take_claim;
+pub use copies::{CopyName, take_ack, take_copy, take_drained};
+pub use migrations::migrate_key;
+pub use nodes::{node_at, node_with_id};
+pub use orders::{done, obey};
+pub use ticks::tick;

@@ -1,0 +1,70 @@
+//! Ticks of a node's time: waits end, and what is not acknowledged is sent again.
+ghost use Rattle.std.specs.Prelude.{◌≡◌, IfOk, OnOk};
+ghost use Rattle.std.specs.List.{flat_map};
+ghost use Rattle.node_parts.specs.Drafts.{Drafts, HasNothing, bodies_of};
+ghost use Rattle.node_step.specs.Ticks.{sent_again, tick};
+ghost use Rattle.slot_moves.specs.Moves.{running_moves};
+
+use crate::migrations::copy_of;
+use bus::Body;
+use command_table::ErrorLine;
+use connections::Waiting;
+use key_slot::Slot;
+use migrate::{Resend, resent};
+use node_parts::{Change, Draft, NodeParts};
+use slot_moves::Move;
+use slot_store::{SlotKeys, SlotParts};
+use slot_table::NodeNo;
+use std::alloc::AllocError;
+
+/// A tick: connections that waited as long as they wanted get their reply, and copies are sent again.
+pub fn tick<S: SlotParts + SlotKeys>(
+    node: &NodeParts<S>,
+    draft: &mut Draft,
+) -> Result<(), AllocError>
+    requires { HasNothing node.now draft.old }
+    ensures { OnOk result (Drafts node.now (tick node.now) draft.new) }
+{
+    let reply = ErrorLine::NotAcknowledged.reply();
+    let released = node.releases(&Waiting::Over, &reply)?;
+    let bodies = sent_again(node)?;
+    node.write_releases(draft, released, bodies, node.current_epoch, Change::Ages);
+    Ok(())
+}
+
+// What is sent again, by rising slot.
+fn sent_again<S: SlotParts + SlotKeys>(
+    node: &NodeParts<S>,
+) -> Result<Vec<(NodeNo, Body)>, AllocError>
+    ensures { IfOk result (λ bodies. bodies.items ≡ flat_map (sent_again node.now) (running_moves node.now.moves)) }
+{
+    let mut bodies = Vec::new(node.alloc);
+    for (slot, running) in node.moves.iter() {
+        if let Some(body) = sent_again_in(node, *slot, running)? {
+            bodies.push(body)?;
+        }
+    }
+    Ok(bodies)
+}
+
+// Of one slot: the copy that is not acknowledged, or the word that no key is left.
+fn sent_again_in<S: SlotParts + SlotKeys>(
+    node: &NodeParts<S>,
+    slot: Slot,
+    running: &Move,
+) -> Result<Option<(NodeNo, Body)>, AllocError>
+    ensures { IfOk result (λ body. bodies_of body ≡ sent_again node.now (slot, running.now)) }
+{
+    let Some(again) = resent(running) else {
+        return Ok(None);
+    };
+    match again {
+        Resend::Drained { .. } => Ok(node.drained_if_empty(slot)),
+        Resend::Copy {
+            to,
+            number,
+            copy,
+            key,
+        } => copy_of(node, slot, to, number, copy, key),
+    }
+}

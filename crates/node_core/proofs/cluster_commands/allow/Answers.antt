@@ -1,0 +1,13 @@
+use Rattle.std.proofs.Common.{refl, subst}
+use Rattle.resp_values.specs.declared.reply.Reply.{Reply}
+use Rattle.connections.specs.declared.conn.Connection.{Connection}
+use Rattle.node_parts.specs.Drafts.{Drafts}
+use Rattle.node_core.proofs.cluster_commands.allow.Goals as goal
+use Rattle.node_step.specs.Outcome.{replied}
+use Rattle.node_step.specs.Requests.{at_connection, using_up}
+use Rattle.node_step.specs.declared.response.Why.TheVariants.{Told}
+
+pub returns : goal.returns
+returns g c =
+    let after = at_connection (using_up c.args.node.now c.args.conn) c.args.conn (λ (connection : Connection). record connection { asking = c.args.asking }) in
+    subst (λ (reply : Reply). Drafts c.args.node.now (replied after Told reply) c.write_reply.new.draft) c.done.ensures (c.write_reply.ensures after refl)

@@ -1,9 +1,0 @@
-use Rattle.std.proofs.Common.{ap}
-use Rattle.node_step.specs.State.{NodeState}
-use Rattle.node_core.proofs.TickLemmas.{tick_drafted}
-use Rattle.node_core.proofs.node.NodeCore.tick.Goals as goal
-
-pub returns : goal.returns
-returns g c =
-    tick_drafted c.args.self.now c.self.inside.current_epoch c.reply-reply.result _ _ c.write_releases.new.draft (ap (λ (node : NodeState). node.current_epoch) c.self.view_is)
-    c.reply-reply.ensures c.in_ok-released.ensures c.in_ok-bodies.ensures c.write_releases.ensures

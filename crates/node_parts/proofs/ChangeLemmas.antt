@@ -1,0 +1,186 @@
+-- Changes of a node, and a draft that is made.
+use Rattle.std.proofs.Common.{◌≡◌, ℕ, List, Option, Some, None, refl, sym, ap, ◌∙◌, subst}
+use Rattle.bus.specs.declared.message.Body.{Body}
+use Rattle.migrate.specs.Acknowledging.{frozen_key}
+use Rattle.slot_moves.specs.Moves.{move_of}
+use Rattle.keyspace.specs.Keyspace.{Keyspace}
+use Rattle.keyspace.specs.declared.plans.Plan.{Plan}
+use Rattle.node_parts.specs.Becomes.{Becomes, CanBeMade, freed}
+use Rattle.node_parts.specs.Drafts.{Drafts, HasNothing, IsDraftOf, at_epoch, sends, stamped_draft}
+use Rattle.node_parts.specs.declared.change.Change.{Change}
+use Rattle.node_parts.specs.declared.change.Change.TheVariants.{Nothing, Asks, Allows, Numbers, Keys, Imports, Migrates, Ends, Parks, Freezes, Installs, Frees, Notes, Loses, Ages}
+use Rattle.node_parts.specs.declared.draft.Draft.{Draft}
+use Rattle.node_parts.proofs.Commits.{committed_lies, committed_one}
+use Rattle.node_step.specs.Outcome.{replied, replied_sending, silent}
+use Rattle.node_step.specs.declared.response.Response.TheVariants.{Replied}
+use Rattle.node_step.specs.declared.response.Why.{Why}
+use Rattle.resp_values.specs.declared.reply.Reply.{Reply}
+use Rattle.node_step.specs.Requests.{using_up}
+use Rattle.node_step.specs.State.{NodeState}
+use Rattle.node_step.specs.Step.{NodeStep}
+use Rattle.node_step.specs.declared.event.Event.{Event}
+use Rattle.node_step.specs.declared.outputs.Outputs.{Outputs}
+
+-- a change that leads somewhere can be made
+pub can_be_made : (old : NodeState) (plan : Plan) (change : Change) (new : NodeState) → Becomes old plan change new → CanBeMade old plan change
+can_be_made old plan (Keys conn slot) new is = committed_lies slot plan old.keyspace new.keyspace is.keys
+can_be_made old plan Nothing new is = tt
+can_be_made old plan (Asks conn) new is = tt
+can_be_made old plan (Allows conn asking) new is = tt
+can_be_made old plan (Numbers conn) new is = tt
+can_be_made old plan (Imports conn slot from number) new is = is.none
+can_be_made old plan (Migrates conn slot to number) new is = is.none
+can_be_made old plan (Ends conn slot epoch) new is = tt
+can_be_made old plan (Parks conn wait) new is = tt
+can_be_made old plan (Freezes conn key wait) new is = tt
+can_be_made old plan (Installs slot copy key value) new is = tt
+can_be_made old plan (Frees slot number copy) new is = tt
+can_be_made old plan (Notes from slot number epoch) new is = tt
+can_be_made old plan (Loses from claim lost) new is = tt
+can_be_made old plan Ages new is = tt
+
+-- it leads to one state alone
+pub leads_to_one : (old : NodeState) (plan : Plan) (change : Change) (m n : NodeState) → Becomes old plan change m → Becomes old plan change n → m ≡ n
+leads_to_one old plan (Keys conn slot) m n one other =
+    one.state ∙ ap (λ (keyspace : Keyspace). record (using_up old conn) { keyspace = keyspace }) (committed_one slot plan old.keyspace m.keyspace n.keyspace one.keys other.keys) ∙ sym other.state
+leads_to_one old plan Nothing m n one other = one ∙ sym other
+leads_to_one old plan (Asks conn) m n one other = one ∙ sym other
+leads_to_one old plan (Allows conn asking) m n one other = one ∙ sym other
+leads_to_one old plan (Numbers conn) m n one other = one ∙ sym other
+leads_to_one old plan (Imports conn slot from number) m n one other = one.state ∙ sym other.state
+leads_to_one old plan (Migrates conn slot to number) m n one other = one.state ∙ sym other.state
+leads_to_one old plan (Ends conn slot epoch) m n one other = one ∙ sym other
+leads_to_one old plan (Parks conn wait) m n one other = one ∙ sym other
+leads_to_one old plan (Freezes conn key wait) m n one other = one ∙ sym other
+leads_to_one old plan (Installs slot copy key value) m n one other = one ∙ sym other
+leads_to_one old plan (Frees slot number copy) m n one other = one ∙ sym other
+leads_to_one old plan (Notes from slot number epoch) m n one other = one ∙ sym other
+leads_to_one old plan (Loses from claim lost) m n one other = one ∙ sym other
+leads_to_one old plan Ages m n one other = one ∙ sym other
+
+-- the epoch stays where a frozen key goes
+at_any_epoch : (old : NodeState) (epoch slot number copy : ℕ) (key : Option (List ℕ))
+    → at_epoch (freed old slot number copy key) epoch ≡ freed (at_epoch old epoch) slot number copy key
+at_any_epoch old epoch slot number copy None = refl
+at_any_epoch old epoch slot number copy (Some key) = refl
+
+own_parts : (old : NodeState) (slot number copy : ℕ) (key : Option (List ℕ))
+    → ((freed old slot number copy key).number ≡ old.number) × ((freed old slot number copy key).current_epoch ≡ old.current_epoch)
+own_parts old slot number copy None = (refl, refl)
+own_parts old slot number copy (Some key) = (refl, refl)
+
+same_parts : (old new other : NodeState) → new ≡ other → (other.number ≡ old.number) × (other.current_epoch ≡ old.current_epoch) → (new.number ≡ old.number) × (new.current_epoch ≡ old.current_epoch)
+same_parts old new other is own = (ap (λ (node : NodeState). node.number) is ∙ own.0, ap (λ (node : NodeState). node.current_epoch) is ∙ own.1)
+
+-- no change touches the node's number, or the epoch
+pub keeps_number_and_epoch : (old : NodeState) (plan : Plan) (change : Change) (new : NodeState) → Becomes old plan change new → (new.number ≡ old.number) × (new.current_epoch ≡ old.current_epoch)
+keeps_number_and_epoch old plan (Keys conn slot) new is = same_parts old new _ is.state (refl, refl)
+keeps_number_and_epoch old plan Nothing new is = same_parts old new _ is (refl, refl)
+keeps_number_and_epoch old plan (Asks conn) new is = same_parts old new _ is (refl, refl)
+keeps_number_and_epoch old plan (Allows conn asking) new is = same_parts old new _ is (refl, refl)
+keeps_number_and_epoch old plan (Numbers conn) new is = same_parts old new _ is (refl, refl)
+keeps_number_and_epoch old plan (Imports conn slot from number) new is = same_parts old new _ is.state (refl, refl)
+keeps_number_and_epoch old plan (Migrates conn slot to number) new is = same_parts old new _ is.state (refl, refl)
+keeps_number_and_epoch old plan (Ends conn slot epoch) new is = same_parts old new _ is (refl, refl)
+keeps_number_and_epoch old plan (Parks conn wait) new is = same_parts old new _ is (refl, refl)
+keeps_number_and_epoch old plan (Freezes conn key wait) new is = same_parts old new _ is (refl, refl)
+keeps_number_and_epoch old plan (Installs slot copy key value) new is = same_parts old new _ is (refl, refl)
+keeps_number_and_epoch old plan (Frees slot number copy) new is = same_parts old new _ is (own_parts old slot number copy (frozen_key (move_of old.moves slot)))
+keeps_number_and_epoch old plan (Notes from slot number epoch) new is = same_parts old new _ is (refl, refl)
+keeps_number_and_epoch old plan (Loses from claim lost) new is = same_parts old new _ is (refl, refl)
+keeps_number_and_epoch old plan Ages new is = same_parts old new _ is (refl, refl)
+
+-- the epoch is none of its parts
+pub beside_epoch : (old new : NodeState) (epoch : ℕ) (plan : Plan) (change : Change) → Becomes old plan change new → Becomes (at_epoch old epoch) plan change (at_epoch new epoch)
+beside_epoch old new epoch plan (Keys conn slot) is = record { keys = is.keys; state = ap (λ node. at_epoch node epoch) is.state }
+beside_epoch old new epoch plan Nothing is = ap (λ node. at_epoch node epoch) is
+beside_epoch old new epoch plan (Asks conn) is = ap (λ node. at_epoch node epoch) is
+beside_epoch old new epoch plan (Allows conn asking) is = ap (λ node. at_epoch node epoch) is
+beside_epoch old new epoch plan (Numbers conn) is = ap (λ node. at_epoch node epoch) is
+beside_epoch old new epoch plan (Imports conn slot from number) is = record { none = is.none; state = ap (λ node. at_epoch node epoch) is.state }
+beside_epoch old new epoch plan (Migrates conn slot to number) is = record { none = is.none; state = ap (λ node. at_epoch node epoch) is.state }
+beside_epoch old new epoch plan (Ends conn slot own) is = ap (λ node. at_epoch node epoch) is
+beside_epoch old new epoch plan (Parks conn wait) is = ap (λ node. at_epoch node epoch) is
+beside_epoch old new epoch plan (Freezes conn key wait) is = ap (λ node. at_epoch node epoch) is
+beside_epoch old new epoch plan (Installs slot copy key value) is = ap (λ node. at_epoch node epoch) is
+beside_epoch old new epoch plan (Frees slot number copy) is = ap (λ node. at_epoch node epoch) is ∙ at_any_epoch old epoch slot number copy (frozen_key (move_of old.moves slot))
+beside_epoch old new epoch plan (Notes from slot number drained) is = ap (λ node. at_epoch node epoch) is
+beside_epoch old new epoch plan (Loses from claim lost) is = ap (λ node. at_epoch node epoch) is
+beside_epoch old new epoch plan Ages is = ap (λ node. at_epoch node epoch) is
+
+-- a draft that is made is a step
+pub made_is_step : (ticket : ℕ) (old : NodeState) (event : Event) (draft : Draft) (outputs : Outputs) (new : NodeState) → IsDraftOf old event draft → outputs ≡ stamped_draft old.number ticket draft
+    → Becomes (at_epoch old draft.epoch) draft.plan draft.change new → NodeStep ticket old event outputs new
+made_is_step ticket old event draft outputs new is are leads =
+    let parts = keeps_number_and_epoch (at_epoch old draft.epoch) draft.plan draft.change is.outcome.state is.drafts.state in
+    let outcome = is.outcome in
+    let bodies : List (ℕ × Body) = draft.bodies.items in
+    record {
+      outcome = outcome;
+      may_come = is.may_come;
+      outputs_are =
+          are ∙ ap (λ r. sends old.number ticket draft.epoch r draft.released bodies) is.drafts.response
+          ∙ ap (λ r. sends old.number ticket draft.epoch outcome.response r bodies) is.drafts.released
+          ∙ ap (sends old.number ticket draft.epoch outcome.response outcome.released) is.drafts.sent
+          ∙ ap (λ n. sends n ticket draft.epoch outcome.response outcome.released outcome.sent) (sym parts.0)
+          ∙ ap (λ e. sends outcome.state.number ticket e outcome.response outcome.released outcome.sent) (sym parts.1);
+      state = leads_to_one (at_epoch old draft.epoch) draft.plan draft.change new outcome.state leads is.drafts.state;
+    }
+
+-- and it can be made
+pub draft_can_be_made : (old : NodeState) (event : Event) (draft : Draft) → IsDraftOf old event draft → CanBeMade old draft.plan draft.change
+draft_can_be_made old event draft is = in_any_epoch draft.change (can_be_made (at_epoch old draft.epoch) draft.plan draft.change is.outcome.state is.drafts.state)
+  where
+    in_any_epoch : (change : Change) → CanBeMade (at_epoch old draft.epoch) draft.plan change → CanBeMade old draft.plan change
+    in_any_epoch (Keys conn slot) can = can
+    in_any_epoch Nothing can = tt
+    in_any_epoch (Asks conn) can = tt
+    in_any_epoch (Allows conn asking) can = tt
+    in_any_epoch (Numbers conn) can = tt
+    in_any_epoch (Imports conn slot from number) can = can
+    in_any_epoch (Migrates conn slot to number) can = can
+    in_any_epoch (Ends conn slot epoch) can = tt
+    in_any_epoch (Parks conn wait) can = tt
+    in_any_epoch (Freezes conn key wait) can = tt
+    in_any_epoch (Installs slot copy key value) can = tt
+    in_any_epoch (Frees slot number copy) can = tt
+    in_any_epoch (Notes from slot number epoch) can = tt
+    in_any_epoch (Loses from claim lost) can = tt
+    in_any_epoch Ages can = tt
+
+-- a draft with nothing in it is that of a step in which nothing comes out, and nothing changes
+pub drafts_nothing : (old : NodeState) (draft : Draft) → HasNothing old draft → Drafts old (silent old) draft
+drafts_nothing old draft is =
+    record {
+      response = is.response;
+      released = is.released;
+      sent = is.sent;
+      state =
+          subst (λ change. Becomes (at_epoch old draft.epoch) draft.plan change old) (sym is.change)
+          (subst (λ epoch. old ≡ at_epoch old epoch) (sym is.epoch) refl);
+    }
+
+-- what a change makes of a node it makes of the node in its own epoch
+pub in_own_epoch : (old : NodeState) (epoch : ℕ) (plan : Plan) (change : Change) (after : NodeState) → epoch ≡ old.current_epoch → Becomes old plan change after → Becomes (at_epoch old epoch) plan change after
+in_own_epoch old epoch plan change after own leads = subst (λ e. Becomes (at_epoch old e) plan change after) (sym own) leads
+
+module _ (old : NodeState) (draft replied_draft : Draft) (why : Why) (reply : Reply) (epoch : ℕ) (change : Change) (after : NodeState)
+    (nothing : HasNothing old draft) (replies : replied_draft ≡ record draft { response = Replied (record { why = why; reply = reply }) })
+    (own : epoch ≡ old.current_epoch) (leads : Becomes old draft.plan change after) where
+  -- a reply and a change, written one after the other
+  pub drafts_reply : (new : Draft) → new ≡ record replied_draft { epoch = epoch; change = change } → Drafts old (replied after why reply) new
+  drafts_reply new changes =
+      subst (λ d. Drafts old (replied after why reply) d) (sym (changes ∙ ap (λ (d : Draft). record d { epoch = epoch; change = change }) replies))
+      (record { response = refl; released = nothing.released; sent = nothing.sent; state = in_own_epoch old epoch draft.plan change after own leads })
+
+  -- the same with messages between them
+  pub drafts_sending : (bodies : List (ℕ × Body)) (said new : Draft) → said.bodies.items ≡ bodies → said.response ≡ replied_draft.response → said.released ≡ replied_draft.released
+      → said.plan ≡ replied_draft.plan → new ≡ record said { epoch = epoch; change = change } → Drafts old (replied_sending after why reply bodies) new
+  drafts_sending bodies said new says response released plan changes =
+      subst (λ d. Drafts old (replied_sending after why reply bodies) d) (sym changes)
+      (record {
+        response = response ∙ ap (λ (d : Draft). d.response) replies;
+        released = released ∙ ap (λ (d : Draft). d.released) replies ∙ nothing.released;
+        sent = says;
+        state = subst (λ p. Becomes (at_epoch old epoch) p change after) (sym (plan ∙ ap (λ (d : Draft). d.plan) replies)) (in_own_epoch old epoch draft.plan change after own leads);
+      })

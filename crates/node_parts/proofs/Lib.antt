@@ -1,0 +1,4 @@
+mod ClearedSlots
+mod Commits
+pub mod ChangeLemmas
+pub mod NodeLemmas

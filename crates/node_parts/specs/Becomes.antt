@@ -1,0 +1,86 @@
+-- What a change makes of a node.
+use Rattle.std.specs.Prelude.{◌≡◌, ◌==◌, ℕ, not, List, Option, Some, None, slice_set}
+use Rattle.std.specs.FinMap as fin_map
+use Rattle.std.specs.List.{list_any}
+use Rattle.connections.specs.Connections.{all_freed}
+use Rattle.connections.specs.declared.conn.Conn.{Conn}
+use Rattle.connections.specs.declared.conn.Connection.{Connection}
+use Rattle.connections.specs.declared.conn.Wait.{Wait}
+use Rattle.key_slot.specs.Slot.{hash_slot}
+use Rattle.keyspace.specs.Plan.{committed}
+use Rattle.keyspace.specs.declared.plans.Plan.{Plan}
+use Rattle.migrate.specs.Acknowledging.{after_ack, frozen_key}
+use Rattle.migrate.specs.Arriving.{counted}
+use Rattle.migrate.specs.Losing.{after_loss}
+use Rattle.migrate.specs.Sending.{frozen}
+use Rattle.node_parts.specs.declared.change.Change.{Change}
+use Rattle.node_parts.specs.declared.change.Change.TheVariants.{Nothing, Asks, Allows, Numbers, Keys, Imports, Migrates, Ends, Parks, Freezes, Installs, Frees, Notes, Loses, Ages}
+use Rattle.node_step.specs.Copies.{noted, parked, without_key}
+use Rattle.node_step.specs.Orders.{with_moves}
+use Rattle.node_step.specs.Requests.{at_connection, using_up, with_numbers}
+use Rattle.node_step.specs.State.{NodeState}
+use Rattle.node_step.specs.Ticks.{older}
+use Rattle.slot_moves.specs.Moves.{begun, ended, move_of}
+use Rattle.slot_moves.specs.declared.running.Move.{Move}
+use Rattle.slot_moves.specs.declared.running.Move.TheVariants.{Comes, Leaves}
+use Rattle.slot_store.specs.InSlot.{IsCommittedInSlot, LiesInSlot, in_slot}
+use Rattle.slot_table.specs.Claims.{merged}
+use Rattle.slot_table.specs.declared.runs.Run.{Run}
+
+-- the keys of a slot changed by a plan
+pub record Commits (old : NodeState) (conn : Conn) (slot : ℕ) (plan : Plan) (new : NodeState) : Type 0 where
+  pub keys : IsCommittedInSlot slot plan old.keyspace new.keyspace
+  pub state : new ≡ record (using_up old conn) { keyspace = new.keyspace }
+
+-- the node after another one took the slots of a claim, of which these were its own
+abbrev pub losing : NodeState → List (Run ℕ) → ℕ → List ℕ → NodeState
+losing node claim from lost = record node {
+  table = merged node.table claim from;
+  keyspace = fin_map.retain_keys node.keyspace (λ key. not (list_any (λ slot. slot == hash_slot key) lost));
+  moves = after_loss node.moves (λ slot. list_any (λ other. other == slot) lost);
+  connections = all_freed node.connections (λ wait. list_any (λ other. other == wait.slot) lost);
+}
+
+-- the node once an import is over, and the slot its own in that epoch
+abbrev pub ending : NodeState → Conn → ℕ → ℕ → NodeState
+ending node conn slot epoch =
+    record (using_up node conn) { table = slice_set node.table slot (Some (record { epoch = epoch; owner = node.number })); moves = ended node.moves slot }
+
+-- the node once a move of the slot began, which had none
+pub record Starts (old : NodeState) (conn : Conn) (slot number : ℕ) (move : Move) (new : NodeState) : Type 0 where
+  pub none : move_of old.moves slot ≡ None
+  pub state : new ≡ with_moves (using_up old conn) (begun old.moves slot number move)
+
+-- the node once a connection waits for the acknowledgement of a copy
+abbrev pub waiting_so : NodeState → Conn → Wait → NodeState
+waiting_so node conn wait = parked node conn wait.slot wait.number wait.copy wait.ticks
+
+-- the node once no copy of the slot is outstanding: without the frozen key, if there was one
+abbrev pub freed : NodeState → ℕ → ℕ → ℕ → Option (List ℕ) → NodeState
+freed node slot number copy None = with_moves node (after_ack node.moves slot)
+freed node slot number copy (Some key) = without_key node slot number copy key
+
+-- a row a change; the plan is that of a change of keys
+abbrev pub Becomes : NodeState → Plan → Change → NodeState → Type 0
+Becomes old plan Nothing new = new ≡ old
+Becomes old plan (Asks conn) new = new ≡ using_up old conn
+Becomes old plan (Allows conn asking) new = new ≡ at_connection (using_up old conn) conn (λ (connection : Connection). record connection { asking = asking })
+Becomes old plan (Numbers conn) new = new ≡ with_numbers (using_up old conn) conn
+Becomes old plan (Keys conn slot) new = Commits old conn slot plan new
+Becomes old plan (Imports conn slot from number) new = Starts old conn slot number (Comes from number 0 None) new
+Becomes old plan (Migrates conn slot to number) new = Starts old conn slot number (Leaves to number 0 None) new
+Becomes old plan (Ends conn slot epoch) new = new ≡ ending old conn slot epoch
+Becomes old plan (Parks conn wait) new = new ≡ waiting_so (using_up old conn) conn wait
+Becomes old plan (Freezes conn key wait) new = new ≡ waiting_so (with_moves (using_up old conn) (frozen old.moves wait.slot wait.copy key)) conn wait
+Becomes old plan (Installs slot copy key value) new = new ≡ record old { keyspace = fin_map.insert old.keyspace key value; moves = counted old.moves slot copy }
+Becomes old plan (Frees slot number copy) new = new ≡ freed old slot number copy (frozen_key (move_of old.moves slot))
+Becomes old plan (Notes from slot number epoch) new = new ≡ (noted old from slot number epoch).state
+Becomes old plan (Loses from claim lost) new = new ≡ losing old claim from lost.items
+Becomes old plan Ages new = new ≡ older old
+
+-- a plan has to be one on the keys of its slot, and a slot has one move at a time
+abbrev pub CanBeMade : NodeState → Plan → Change → Type 0
+CanBeMade old plan (Keys conn slot) = LiesInSlot slot (committed (in_slot slot old.keyspace) plan)
+CanBeMade old plan (Imports conn slot from number) = move_of old.moves slot ≡ None
+CanBeMade old plan (Migrates conn slot to number) = move_of old.moves slot ≡ None
+CanBeMade old plan change = Unit {0}

@@ -1,0 +1,56 @@
+-- The draft of a step.
+use Rattle.std.specs.Prelude.{◌≡◌, ℕ, List, [], ◌∷◌, Option, Some, None, map}
+use Rattle.bus.specs.declared.message.Body.{Body}
+use Rattle.node_parts.specs.Becomes.{Becomes}
+use Rattle.node_parts.specs.declared.change.Change.TheVariants.{Nothing as Unchanged}
+use Rattle.node_parts.specs.declared.draft.Draft.{Draft}
+use Rattle.node_step.specs.Outcome.{Outcome, stamped}
+use Rattle.node_step.specs.State.{NodeState}
+use Rattle.node_step.specs.Step.{MayCome}
+use Rattle.node_step.specs.declared.event.Event.{Event}
+use Rattle.node_step.specs.declared.outputs.Outputs.{Outputs}
+use Rattle.node_step.specs.declared.outputs.Release.{Release}
+use Rattle.node_step.specs.declared.response.Response.{Response}
+use Rattle.node_step.specs.declared.response.Response.TheVariants.{Nothing, Parked}
+
+-- the node in that epoch
+abbrev pub at_epoch : NodeState → ℕ → NodeState
+at_epoch node epoch = record node { current_epoch = epoch }
+
+-- the draft of a step at the node: what comes out is that of the outcome, and its change may lead to the outcome's state
+pub record Drafts (old : NodeState) (outcome : Outcome) (draft : Draft) : Type 0 where
+  pub response : draft.response ≡ outcome.response
+  pub released : draft.released ≡ outcome.released
+  pub sent : draft.bodies.items ≡ outcome.sent
+  pub state : Becomes (at_epoch old draft.epoch) draft.plan draft.change outcome.state
+
+-- nothing comes out of the draft yet, in the node's epoch
+pub record HasNothing (old : NodeState) (draft : Draft) : Type 0 where
+  pub response : draft.response ≡ Nothing
+  pub released : draft.released ≡ []
+  pub sent : draft.bodies.items ≡ []
+  pub epoch : draft.epoch ≡ old.current_epoch
+  pub change : draft.change ≡ Unchanged
+
+-- the draft of what may come of an event
+pub record IsDraftOf (old : NodeState) (event : Event) (draft : Draft) : Type 0 where
+  pub outcome : Outcome
+  pub may_come : MayCome old event outcome
+  pub drafts : Drafts old outcome draft
+
+-- what comes out of a step at the node of that number
+abbrev pub sends : ℕ → ℕ → ℕ → Response → List Release → List (ℕ × Body) → Outputs
+sends from ticket epoch response released bodies = record { ticket = ticket; response = response; released = released; sent = map (stamped from ticket epoch) bodies }
+
+-- and out of a draft
+abbrev pub stamped_draft : ℕ → ℕ → Draft → Outputs
+stamped_draft from ticket draft = sends from ticket draft.epoch draft.response draft.released draft.bodies.items
+
+-- a body for a node, if there is one
+abbrev pub bodies_of : Option (ℕ × Body) → List (ℕ × Body)
+bodies_of None = []
+bodies_of (Some body) = body ∷ []
+
+-- a connection gets no reply yet, and these messages go out
+abbrev pub parking : NodeState → List (ℕ × Body) → Outcome
+parking after bodies = record { response = Parked; released = []; sent = bodies; state = after }

@@ -1,0 +1,201 @@
+//! What a step gives, before its state changes.
+ghost use Rattle.std.specs.Prelude.{◌≡◌, [], IfOk, map};
+ghost use Rattle.connections.specs.Connections.{waiting};
+ghost use Rattle.connections.specs.Waiting.{test_of};
+ghost use Rattle.node_parts.specs.Becomes.{Becomes};
+ghost use Rattle.keyspace.specs.Keyspace.{Keyspace};
+ghost use Rattle.keyspace.specs.Plan.{committed};
+ghost use Rattle.node_parts.specs.Drafts.{Drafts, HasNothing, at_epoch, bodies_of, parking};
+ghost use Rattle.node_step.specs.Outcome.{release, replied, replied_sending, silent};
+ghost use Rattle.node_step.specs.Requests.{using_up};
+ghost use Rattle.node_step.specs.State.{NodeState};
+
+use crate::change::Change;
+use crate::parts::NodeParts;
+use bus::Body;
+use connections::{Conn, Waiting};
+use keyspace::Plan;
+use node_step::{Answer, Releases, Response, Why};
+use resp_values::Reply;
+use slot_store::{SlotKeys, SlotParts};
+use slot_table::{Epoch, NodeNo};
+use std::alloc::{AllocError, Global};
+
+/// A step that is decided and not made yet.
+///
+/// It is large, so it stays where it was made, and the functions that decide write into it.
+pub struct Draft {
+    /// What the sender of the event gets back.
+    pub response: Response,
+    /// What connections get that waited.
+    pub released: Releases,
+    /// What other nodes are sent, each body with the node that it is for.
+    pub bodies: Vec<(NodeNo, Body)>,
+    /// The node's epoch after the step.
+    pub epoch: Epoch,
+    /// What changes of keys, where the change says that a plan is committed.
+    pub plan: Plan,
+    /// What else changes in the node.
+    pub change: Change,
+}
+
+// Its parts are dropped in one place.
+impl Drop for Draft {
+    fn drop(self) {
+        let Draft {
+            response: _,
+            released: _,
+            bodies: _,
+            epoch: _,
+            plan: _,
+            change: _,
+        } = self;
+    }
+}
+
+impl Draft {
+    fn put_reply(&mut self, why: Why, reply: Reply)
+        ensures { self.new ≡ record self.old { response = Response.Replied (record { why = why; reply = reply }) } }
+    {
+        self.response = Response::Replied(Answer { why, reply });
+    }
+
+    fn put_bodies(&mut self, bodies: Vec<(NodeNo, Body)>)
+        ensures { self.new ≡ record self.old { bodies = bodies } }
+    {
+        self.bodies = bodies;
+    }
+
+    fn put_change(&mut self, epoch: Epoch, change: Change)
+        ensures { self.new ≡ record self.old { epoch = epoch; change = change } }
+    {
+        self.epoch = epoch;
+        self.change = change;
+    }
+}
+
+impl<S: SlotParts + SlotKeys> NodeParts<S> {
+    /// A draft in which nothing comes out, and nothing changes.
+    pub fn blank(&self) -> Draft
+        ensures nothing { HasNothing self.now result }
+        ensures plan { (keyspace : Keyspace) → committed keyspace result.plan ≡ keyspace }
+    {
+        Draft {
+            response: Response::Nothing,
+            released: Releases::new(),
+            bodies: Vec::new(self.alloc),
+            epoch: self.current_epoch,
+            plan: Plan::new(self.alloc),
+            change: Change::Nothing,
+        }
+    }
+
+    /// Nothing comes out but the change, in that epoch.
+    pub fn write_change(&self, draft: &mut Draft, epoch: Epoch, change: Change)
+        requires { HasNothing self.now draft.old }
+        ensures { (after : NodeState) → Becomes (at_epoch self.now epoch) draft.old.plan change after → Drafts self.now (silent after) draft.new }
+    {
+        draft.put_change(epoch, change);
+    }
+
+    /// A reply comes out, and nothing changes but the asking of the connection.
+    pub fn tell(&self, draft: &mut Draft, conn: Conn, why: Why, reply: Reply)
+        requires { HasNothing self.now draft.old }
+        ensures { Drafts self.now (replied (using_up self.now conn) why reply) draft.new }
+    {
+        self.write_reply(draft, why, reply, Change::Asks { conn });
+    }
+
+    /// A reply comes out beside the change.
+    pub fn write_reply(&self, draft: &mut Draft, why: Why, reply: Reply, change: Change)
+        requires { HasNothing self.now draft.old }
+        ensures { (after : NodeState) → Becomes self.now draft.old.plan change after → Drafts self.now (replied after why reply) draft.new }
+    {
+        draft.put_reply(why, reply);
+        draft.put_change(self.current_epoch, change);
+    }
+
+    /// The connection gets no reply before a copy is acknowledged, and these messages go out.
+    pub fn write_parked(&self, draft: &mut Draft, bodies: Vec<(NodeNo, Body)>, change: Change)
+        requires { HasNothing self.now draft.old }
+        ensures { (after : NodeState) → Becomes self.now draft.old.plan change after → Drafts self.now (parking after bodies.items) draft.new }
+    {
+        draft.response = Response::Parked;
+        draft.put_bodies(bodies);
+        draft.put_change(self.current_epoch, change);
+    }
+
+    /// The same with messages.
+    pub fn write_reply_sending(
+        &self,
+        draft: &mut Draft,
+        why: Why,
+        reply: Reply,
+        bodies: Vec<(NodeNo, Body)>,
+        change: Change,
+    )
+        requires { HasNothing self.now draft.old }
+        ensures { (after : NodeState) → Becomes self.now draft.old.plan change after → Drafts self.now (replied_sending after why reply bodies.items) draft.new }
+    {
+        draft.put_reply(why, reply);
+        draft.put_bodies(bodies);
+        draft.put_change(self.current_epoch, change);
+    }
+
+    /// The same in that epoch.
+    pub fn write_reply_in(
+        &self,
+        draft: &mut Draft,
+        why: Why,
+        reply: Reply,
+        bodies: Vec<(NodeNo, Body)>,
+        epoch: Epoch,
+        change: Change,
+    )
+        requires { HasNothing self.now draft.old }
+        ensures { (after : NodeState) → Becomes (at_epoch self.now epoch) draft.old.plan change after → Drafts self.now (replied_sending after why reply bodies.items) draft.new }
+    {
+        draft.put_reply(why, reply);
+        draft.put_bodies(bodies);
+        draft.put_change(epoch, change);
+    }
+
+    /// Connections that waited get replies, and other nodes messages.
+    pub fn write_releases(
+        &self,
+        draft: &mut Draft,
+        released: Releases,
+        bodies: Vec<(NodeNo, Body)>,
+        epoch: Epoch,
+        change: Change,
+    )
+        requires { HasNothing self.now draft.old }
+        ensures { (after : NodeState) → Becomes (at_epoch self.now epoch) draft.old.plan change after → Drafts self.now (record (silent after) { released = released; sent = bodies.items }) draft.new }
+    {
+        draft.released = released;
+        draft.put_bodies(bodies);
+        draft.put_change(epoch, change);
+    }
+
+    /// The reply to each connection that waits so.
+    pub fn releases(&self, which: &Waiting, reply: &Reply) -> Result<Releases, AllocError>
+        ensures { IfOk result (λ released. released ≡ map (release reply.now) (waiting self.now.connections (test_of which.now))) }
+    {
+        let waiting = self.connections.waiting(self.alloc, which)?;
+        Releases::to_all(self.alloc, waiting.as_slice(), reply)
+    }
+}
+
+/// A list of this message, or of none.
+pub fn listed(
+    alloc: Global,
+    body: Option<(NodeNo, Body)>,
+) -> Result<Vec<(NodeNo, Body)>, AllocError>
+    ensures { IfOk result (λ bodies. bodies.items ≡ bodies_of body) }
+{
+    let mut bodies = Vec::new(alloc);
+    if let Some(body) = body {
+        bodies.push(body)?;
+    }
+    Ok(bodies)
+}

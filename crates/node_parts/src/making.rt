@@ -1,0 +1,88 @@
+//! A step that is made: its outputs and what is recorded of them first, then the change of the node.
+ghost use Rattle.std.specs.Prelude.{◌≡◌, [], IfOk, OnOk, OnErr};
+ghost use Rattle.node_parts.specs.Becomes.{Becomes, CanBeMade};
+ghost use Rattle.node_parts.specs.Drafts.{at_epoch, stamped_draft};
+ghost use Rattle.node_step.specs.Plain.{HasNoReply};
+
+use crate::draft::Draft;
+use crate::parts::NodeParts;
+use node_step::{Messages, Outputs, Recorder, Releases, Response};
+use slot_store::{SlotKeys, SlotParts};
+use std::alloc::AllocError;
+use std::mem;
+
+impl<S: SlotParts + SlotKeys> NodeParts<S> {
+    /// Makes a drafted step. Outputs and what `K` records of them are made before the node changes, so that a refusal leaves
+    /// the node as it was.
+    pub fn make<K: Recorder>(
+        &mut self,
+        ticket: u64,
+        draft: &mut Draft,
+    ) -> Result<(Outputs, K::Record), AllocError>
+        requires { CanBeMade self.old draft.old.plan draft.old.change }
+        ensures outputs { IfOk result (λ made. made.0 ≡ stamped_draft self.old.number ticket draft.old) }
+        ensures state { OnOk result (Becomes (at_epoch self.old draft.old.epoch) draft.old.plan draft.old.change self.new) }
+        ensures recorded { IfOk result (λ made. K.recorded made.1 ≡ made.0) }
+        ensures err { OnErr result (self.new ≡ self.old) }
+    {
+        let made = self.record::<K>(ticket, draft)?;
+        self.apply(draft)?;
+        Ok(made)
+    }
+
+    // Takes what comes out of the draft, stamped, and what is recorded of it.
+    fn record<K: Recorder>(
+        &self,
+        ticket: u64,
+        draft: &mut Draft,
+    ) -> Result<(Outputs, K::Record), AllocError>
+        ensures outputs { IfOk result (λ made. made.0 ≡ stamped_draft self.now.number ticket draft.old) }
+        ensures recorded { IfOk result (λ made. K.recorded made.1 ≡ made.0) }
+        ensures epoch { draft.new.epoch ≡ draft.old.epoch }
+        ensures plan { draft.new.plan ≡ draft.old.plan }
+        ensures change { draft.new.change ≡ draft.old.change }
+    {
+        let bodies = mem::replace(&mut draft.bodies, Vec::new(self.alloc));
+        let sent = Messages::stamped(self.alloc, self.number, ticket, draft.epoch, bodies)?;
+        recorded::<K>(Outputs {
+            ticket,
+            response: mem::replace(&mut draft.response, Response::Nothing),
+            released: mem::replace(&mut draft.released, Releases::new()),
+            sent,
+        })
+    }
+}
+
+// The outputs with their record.
+fn recorded<K: Recorder>(outputs: Outputs) -> Result<(Outputs, K::Record), AllocError>
+    ensures outputs { IfOk result (λ made. made.0 ≡ outputs) }
+    ensures recorded { IfOk result (λ made. K.recorded made.1 ≡ made.0) }
+{
+    let record = K::record(&outputs)?;
+    Ok((outputs, record))
+}
+
+/// The outputs of a step that gives this response and nothing else, which take no memory.
+pub fn plain<K: Recorder>(ticket: u64, response: Response) -> (Outputs, K::Record)
+    requires { HasNoReply response }
+    ensures outputs { result.0 ≡ record { ticket = ticket; response = response; released = []; sent = [] } }
+    ensures recorded { K.recorded result.1 ≡ result.0 }
+{
+    let outputs = responded(ticket, response);
+    let Ok(record) = K::record(&outputs) else {
+        unreachable!();
+    };
+    (outputs, record)
+}
+
+// The outputs of a step that gives this response and nothing else.
+fn responded(ticket: u64, response: Response) -> Outputs
+    ensures { result ≡ record { ticket = ticket; response = response; released = []; sent = [] } }
+{
+    Outputs {
+        ticket,
+        response,
+        released: Releases::new(),
+        sent: Messages::new(),
+    }
+}

@@ -1,0 +1,76 @@
+-- Places among the open connections.
+use Rattle.std.proofs.Common.{◌≡◌, ◌+◌, ◌++◌, ◌∷◌, ◌<◌, ◌≤◌, ◌==◌, ℕ, suc, Bool, true, false, cond, not, ltb, List, [], map, remove, take, drop, set, get_or, length, Option, Some, None, is_some, IsTrue, IsFalse, inl, inr, refl, ap, sym, subst, ◌∙◌, arith}
+use Rattle.std.specs.List.{position_or_len}
+use Rattle.std.proofs.lemmas.Bool.{cases_lt, lt-ltb, le-ltb, ne_eqb}
+use Rattle.std.proofs.lemmas.List.{map-append, take-map, drop-map, length-map}
+use Rattle.std.proofs.Math.Seq.{map-set_same}
+use Rattle.redirection.specs.Address.{Place}
+use Rattle.smart_client.specs.Pool.{Pool, closed, is_same, place_in, turned_to, unused, with_new}
+use Rattle.redirection.proofs.PlaceLemmas.{position-le}
+
+-- the first element whose image passes is where the first image passes
+position-map : {A B : Type 0} (passes : B → Bool) (f : A → B) (xs : List A) → position_or_len passes (map f xs) ≡ position_or_len (λ x. passes (f x)) xs
+position-map passes f [] = refl
+position-map passes f (x ∷ xs) = ap (λ (n : ℕ). cond (not (passes (f x))) (1 + n) 0) (position-map passes f xs)
+
+map-remove : {A B : Type 0} (f : A → B) (xs : List A) (n : ℕ) → map f (remove xs n) ≡ remove (map f xs) n
+map-remove {B = B} f xs n =
+    map-append f (take n xs) (drop (suc n) xs)
+    ∙ ap (λ (front : List B). front ++ map f (drop (suc n) xs)) (sym (take-map f n xs))
+    ∙ ap (λ (back : List B). take n (map f xs) ++ back) (sym (drop-map f (suc n) xs))
+
+never : {n : ℕ} → n < n → ⊥
+never lt = omega (arith, lt)
+
+is_true : true ≡ false → ⊥
+is_true same = cc
+
+is_false : IsTrue false → ⊥
+is_false so = cc
+
+module _ {A : Type 0} (address_of : A → Place) where
+  abbrev pub pool_as : List A → Option ℕ → Pool
+  pool_as items used = record { addresses = map address_of items; used = used }
+
+  pub is_closed : (old new : List A) (place : ℕ) (used : Option ℕ) → used ≡ Some place → new ≡ remove old place → pool_as new None ≡ closed (pool_as old used)
+  is_closed old new place used is then = rw is (rw then (ap (λ (addresses : List Place). record { addresses = addresses; used = None }) (map-remove address_of old place)))
+
+  -- a connection that leads where it led before is the same to clauses
+  pub same_pool : (items : List A) (place : ℕ) (item before : A) (used : Option ℕ) → address_of item ≡ address_of (get_or items place before) → pool_as (set items place item) used ≡ pool_as items used
+  same_pool items place item before used same = ap (λ (addresses : List Place). record { addresses = addresses; used = used }) (map-set_same address_of items place item before same)
+
+  module _ (items : List A) (address : Place) (used : Option ℕ) where
+    abbrev place : ℕ
+    place = position_or_len (λ item. is_same address (address_of item)) items
+
+    there : place_in (map address_of items) address ≡ place
+    there = position-map (is_same address) address_of items
+
+    module _ (found : Option ℕ) (is : found ≡ cond (ltb place (length items)) (Some place) None) where
+      found_there : place < length items → found ≡ Some place
+      found_there lt = is ∙ ap (λ (b : Bool). cond b (Some place) None) (lt-ltb place (length items) lt)
+
+      found_none : length items ≤ place → found ≡ None
+      found_none le = is ∙ ap (λ (b : Bool). cond b (Some place) None) (le-ltb place (length items) le)
+
+      apart : place < length items → (place_in (map address_of items) address == length (map address_of items)) ≡ false
+      apart lt = ne_eqb _ _ (λ same. never (subst (λ (n : ℕ). n < length items) (sym there ∙ same ∙ length-map items address_of) lt))
+
+      behind : length items ≤ place → place ≡ length items
+      behind le = omega (arith, le, position-le (λ item. is_same address (address_of item)) items)
+
+      pub turns_to : IsTrue (is_some found) → pool_as items found ≡ turned_to address (pool_as items used)
+      turns_to some =
+          elim (cases_lt place (length items)) [
+            | inl lt ↦
+                ap (λ (o : Option ℕ). pool_as items o) (found_there lt ∙ ap (λ (n : ℕ). Some n) (sym there))
+                ∙ sym (ap (λ (b : Bool). cond b (with_new (pool_as items used) address) (pool_as items (Some (place_in (map address_of items) address)))) (apart lt))
+            | inr le ↦ absurd (is_false (subst (λ (o : Option ℕ). IsTrue (is_some o)) (found_none le) some))
+          ]
+
+      pub turns_to_none : IsFalse (is_some found) → (pool_as items found ≡ unused (pool_as items used)) × (place_in (map address_of items) address ≡ length (map address_of items))
+      turns_to_none none =
+          elim (cases_lt place (length items)) [
+            | inl lt ↦ absurd (is_true (subst (λ (o : Option ℕ). IsFalse (is_some o)) (found_there lt) none))
+            | inr le ↦ (ap (λ (o : Option ℕ). pool_as items o) (found_none le), there ∙ behind le ∙ sym (length-map items address_of))
+          ]
