@@ -15,7 +15,7 @@ from report import Report
 from sources import PROGRAM, ROOT, note_built, program_of
 from wrong import try_wrong_bodies
 
-# The test scripts, and the program that each runs.
+# The test scripts, and the program that each runs, if it runs one.
 SCRIPTS = {
     "tests/refused_memory": "node_trials",
     "tests/refused_moves": "node_trials",
@@ -24,6 +24,7 @@ SCRIPTS = {
     "tests/drawings/run": "rcluster",
     "tests/cases/run": "rcluster",
     "tests/on_a_socket/run": "rcluster",
+    "tests/documents/run": None,
 }
 # Where the kit's report of the last run is kept whole, with the processor's seconds of each crate behind it.
 LOG = os.path.join(ROOT, "check.log")
@@ -72,7 +73,8 @@ def pass_crates(words):
 
 def run_script(script, program):
     begun = time.monotonic()
-    is_well = subprocess.run([script, program_of(program)], check=False).returncode == 0
+    words = [program_of(program)] if program else []
+    is_well = subprocess.run([script, *words], check=False).returncode == 0
     print(f"{script}: {'passed' if is_well else 'FAILED'} in {time.monotonic() - begun:.0f} s", flush=True)
     return is_well
 
