@@ -5,7 +5,7 @@ ghost use Rattle.tickets.specs.Tickets.{IsFresh, id_of};
 use crate::clusters::three_masters;
 use crate::telling::say;
 use anyhow::Result;
-use cluster::{Journals, Place, Runtime, finish_nodes, serve_nodes};
+use cluster::{Journals, Place, finish_nodes, serve_nodes};
 use cluster_config::Config;
 use node_cell::{Deployment, Entry, Journal};
 use node_core::Event;
@@ -51,7 +51,16 @@ struct Seen {
 /// Says what the journals hold of nodes that were under load.
 pub fn try_out<R>(rt: R) -> Result<()>
 where
-    R: AllocGlobal + Print + Runtime,
+    R: AllocGlobal
+        + Net<Listener = TcpListener, Stream = TcpStream>
+        + Print
+        + Threads
+        + Wait
+        + Copy
+        + Drop
+        + Send
+        + Sync
+        + 'static,
 {
     let config = three_masters(rt.alloc())?;
     let (table, seats) = open(rt.alloc(), 3)?;
@@ -77,7 +86,15 @@ fn serve_under_load<K: Deployment + Send + Sync + 'static, R>(
     seats: Vec<Seat>,
 ) -> io::Result<Seen>
 where
-    R: AllocGlobal + Runtime,
+    R: AllocGlobal
+        + Net<Listener = TcpListener, Stream = TcpStream>
+        + Threads
+        + Wait
+        + Copy
+        + Drop
+        + Send
+        + Sync
+        + 'static,
     requires cluster { config.now ≡ K.config }
     requires table { id_of table.now ≡ K.table }
     requires whole { vec_len seats ≡ K.seats }
@@ -132,7 +149,14 @@ where
 // The clients of all places.
 fn start_all<R>(rt: R, places: &[Place]) -> io::Result<Vec<JoinHandle<u64>>>
 where
-    R: AllocGlobal + Runtime,
+    R: AllocGlobal
+        + Net<Listener = TcpListener, Stream = TcpStream>
+        + Threads
+        + Copy
+        + Drop
+        + Send
+        + Sync
+        + 'static,
 {
     let mut clients = Vec::new(rt.alloc());
     for (place, request) in places.iter().zip(REQUESTS) {
@@ -148,7 +172,14 @@ fn start_clients<R>(
     clients: &mut Vec<JoinHandle<u64>>,
 ) -> io::Result<()>
 where
-    R: AllocGlobal + Runtime,
+    R: AllocGlobal
+        + Net<Listener = TcpListener, Stream = TcpStream>
+        + Threads
+        + Copy
+        + Drop
+        + Send
+        + Sync
+        + 'static,
 {
     for _ in 0..CLIENTS {
         let Ok(client) = thread::spawn(
