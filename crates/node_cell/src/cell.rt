@@ -44,12 +44,8 @@ pub struct NodeCell<K: Deployment, L: Log> {
 
 impl<K: Deployment, L: Log> Model for NodeCell<K, L> {
     ghost use Rattle.std.specs.Prelude.{◌≡◌, ℕ, All};
-    ghost use Rattle.std.specs.Coded.{Coded, codes, coded_list, coded_ℕ};
-    ghost use Rattle.std.specs.Ordering.{nat_cmp};
-    ghost use Rattle.std.specs.Cmp.Lexicographic.{slice_cmp};
-    ghost use Rattle.std.specs.FinMap as map;
-    ghost use Rattle.keyspace.specs.declared.value.Value.{Value as Stored};
-    ghost use Rattle.slot_moves.specs.declared.running.Move.{Move};
+    ghost use Rattle.node_step.specs.CodedState.{coded_state};
+    ghost use Rattle.std.specs.Coded.{codes};
     ghost use Rattle.tickets.specs.Tickets.{drawn, table_of, seats_of};
     ghost use Rattle.node_step.specs.State.{first_state};
     ghost use Rattle.node_cell.specs.Journal.{CellView, IsGiven, IsJournal};
@@ -57,7 +53,7 @@ impl<K: Deployment, L: Log> Model for NodeCell<K, L> {
 
     ghost Value = { CellView };
 
-    ghost coded = { Prim.hlevel (codes, let stored : Coded Stored = Prim.hlevel codes in map.code {R = slice_cmp nat_cmp} (coded_list coded_ℕ) stored, let move : Coded Move = Prim.hlevel codes in map.code {R = nat_cmp} coded_ℕ move, map.code {R = nat_cmp} coded_ℕ coded_ℕ) };
+    ghost coded = { Prim.hlevel (codes, coded_state) };
 
     ghost view = { λ cell. record { config = cell.config; node = cell.node; state = cell.core; journal = L.entries cell.log; undelivered = joined cell.undelivered.items; outbox = joined cell.outbox.items } };
 

@@ -15,3 +15,4 @@ pub mod Step
 pub mod Fault
 pub mod Few
 pub mod Released
+pub mod CodedState

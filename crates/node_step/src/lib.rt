@@ -3,6 +3,7 @@
 
 mod event;
 mod fault;
+mod few;
 mod outputs;
 mod recorder;
 mod response;

@@ -4,6 +4,7 @@ ghost use Rattle.node_step.specs.Released.{is_for, of_others, reply_to, without_
 ghost use Rattle.node_step.specs.Outcome.{release, stamped};
 ghost use Rattle.node_step.specs.Plain.{IsPlain};
 
+use crate::few::Few;
 use crate::response::Response;
 use bus::{Body, Message};
 use connections::Conn;
@@ -35,8 +36,7 @@ impl Clone for Release {
 /// Replies to connections that waited, by rising key.
 #[derive(Debug, Drop)]
 pub struct Releases {
-    // None where there is none, as in nearly all steps: so outputs are small, and quickly moved.
-    releases: Option<Box<Vec<Release>>>,
+    releases: Few<Release>,
 }
 
 impl Model for Releases {
@@ -45,9 +45,7 @@ impl Model for Releases {
 
     ghost Value = { List Released };
 
-    ghost use Rattle.node_step.specs.Few.{listed};
-
-    ghost view = { λ releases. listed releases.releases };
+    ghost view = { λ releases. releases.releases };
 }
 
 impl Releases {
@@ -55,7 +53,9 @@ impl Releases {
     pub fn new() -> Releases
         ensures { result ≡ [] }
     {
-        Releases { releases: None }
+        Releases {
+            releases: Few::none(),
+        }
     }
 
     /// The same reply to each of the connections.
@@ -70,7 +70,7 @@ impl Releases {
             };
             releases.push(release)?;
         }
-        let releases = Some(Box::new(alloc, releases)?);
+        let releases = Few::of(alloc, releases)?;
         Ok(Releases { releases })
     }
 
@@ -78,10 +78,7 @@ impl Releases {
     pub fn as_slice(&self) -> &[Release]
         ensures { result.now ≡ self.now }
     {
-        match &self.releases {
-            Some(releases) => releases.as_slice(),
-            None => &[],
-        }
+        self.releases.as_slice()
     }
 
     /// Takes out the first reply to the connection.
@@ -89,7 +86,7 @@ impl Releases {
         ensures reply { result ≡ reply_to conn self.old }
         ensures left { self.new ≡ without_reply_to conn self.old }
     {
-        match &mut self.releases {
+        match &mut self.releases.items {
             Some(releases) => take_from(releases, conn),
             None => None,
         }
@@ -99,7 +96,7 @@ impl Releases {
     pub fn forget(&mut self, conn: Conn)
         ensures { self.new ≡ of_others conn self.old }
     {
-        match &mut self.releases {
+        match &mut self.releases.items {
             Some(releases) => forget_in(releases, conn),
             None => {}
         }
@@ -110,9 +107,11 @@ impl Releases {
         ensures same { IfOk result (λ copy. copy ≡ self.now) }
         ensures plain { self.now ≡ [] → IsOk result }
     {
-        match &self.releases {
+        match &self.releases.items {
             Some(releases) if !releases.is_empty() => Ok(Releases {
-                releases: Some(releases.clone()?),
+                releases: Few {
+                    items: Some(releases.clone()?),
+                },
             }),
             _ => Ok(Releases::new()),
         }
@@ -146,8 +145,7 @@ fn forget_in(releases: &mut Vec<Release>, conn: Conn)
 /// Messages to other nodes, in the order in which they are numbered.
 #[derive(Debug, Drop)]
 pub struct Messages {
-    // None where there is none, as in nearly all steps: so outputs are small, and quickly moved.
-    messages: Option<Box<Vec<Message>>>,
+    messages: Few<Message>,
 }
 
 impl Model for Messages {
@@ -156,9 +154,7 @@ impl Model for Messages {
 
     ghost Value = { List Sent };
 
-    ghost use Rattle.node_step.specs.Few.{listed};
-
-    ghost view = { λ messages. listed messages.messages };
+    ghost view = { λ messages. messages.messages };
 }
 
 impl Messages {
@@ -166,7 +162,9 @@ impl Messages {
     pub fn new() -> Messages
         ensures { result ≡ [] }
     {
-        Messages { messages: None }
+        Messages {
+            messages: Few::none(),
+        }
     }
 
     /// The messages that a node sends by the step of that ticket, each a body with the node that it is for.
@@ -194,7 +192,7 @@ impl Messages {
             };
             messages.push(message)?;
         }
-        let messages = Some(Box::new(alloc, messages)?);
+        let messages = Few::of(alloc, messages)?;
         Ok(Messages { messages })
     }
 
@@ -202,7 +200,7 @@ impl Messages {
     pub fn into_vec(self, alloc: Global) -> Vec<Message>
         ensures { result.items ≡ self }
     {
-        match self.messages {
+        match self.messages.items {
             Some(messages) => Box::into_inner(messages),
             None => Vec::new(alloc),
         }
@@ -212,10 +210,7 @@ impl Messages {
     pub fn as_slice(&self) -> &[Message]
         ensures { result.now ≡ self.now }
     {
-        match &self.messages {
-            Some(messages) => messages.as_slice(),
-            None => &[],
-        }
+        self.messages.as_slice()
     }
 
     // An equal copy, which takes no memory where there is no message.
@@ -223,9 +218,11 @@ impl Messages {
         ensures same { IfOk result (λ copy. copy ≡ self.now) }
         ensures plain { self.now ≡ [] → IsOk result }
     {
-        match &self.messages {
+        match &self.messages.items {
             Some(messages) if !messages.is_empty() => Ok(Messages {
-                messages: Some(messages.clone()?),
+                messages: Few {
+                    items: Some(messages.clone()?),
+                },
             }),
             _ => Ok(Messages::new()),
         }

@@ -36,17 +36,13 @@ pub struct Run {
 }
 
 impl Model for Run {
-    ghost use Rattle.std.specs.Coded.{Coded, codes, coded_list, coded_ℕ};
-    ghost use Rattle.std.specs.Ordering.{nat_cmp};
-    ghost use Rattle.std.specs.Cmp.Lexicographic.{slice_cmp};
-    ghost use Rattle.std.specs.FinMap as map;
-    ghost use Rattle.keyspace.specs.declared.value.Value.{Value as Stored};
-    ghost use Rattle.slot_moves.specs.declared.running.Move.{Move};
+    ghost use Rattle.node_step.specs.CodedState.{coded_state};
+    ghost use Rattle.std.specs.Coded.{codes};
     ghost use Rattle.world.specs.View.{RunView};
 
     ghost Value = { RunView };
 
-    ghost coded = { Prim.hlevel (codes, let stored : Coded Stored = Prim.hlevel codes in map.code {R = slice_cmp nat_cmp} (coded_list coded_ℕ) stored, let move : Coded Move = Prim.hlevel codes in map.code {R = nat_cmp} coded_ℕ move, map.code {R = nat_cmp} coded_ℕ coded_ℕ) };
+    ghost coded = { Prim.hlevel (codes, coded_state) };
 
     ghost view = { λ run. record { nodes = run.nodes.items; stopped = run.stopped.items; sent = run.sent.items; entries = run.entries } };
 }
