@@ -20,9 +20,10 @@ use Rattle.slot_moves.specs.declared.importing.ImportVerdict.{ImportVerdict}
 use Rattle.slot_moves.specs.declared.importing.ImportVerdict.TheVariants as import
 use Rattle.slot_moves.specs.declared.migrating.MigrateVerdict.{MigrateVerdict}
 use Rattle.slot_moves.specs.declared.migrating.MigrateVerdict.TheVariants as migrate
+use Rattle.slot_moves.specs.declared.order.Standing.{Standing}
 use Rattle.slot_moves.specs.declared.running.Move.{Move}
 use Rattle.slot_moves.specs.declared.running.Move.TheVariants.{Leaves, Comes}
-use Rattle.node_step.specs.Orders.{ending_outcome, ending_reply, ending_verdict, import_outcome, import_reply, importing, migrate_outcome, migrate_reply, migrating, new_epoch}
+use Rattle.node_step.specs.Orders.{ending_outcome, ending_reply, ending_verdict, import_outcome, import_reply, migrate_outcome, migrate_reply, new_epoch}
 use Rattle.node_step.specs.Outcome.{Outcome, replied}
 use Rattle.node_step.specs.Requests.{Listing, node_with_id, order_outcome}
 use Rattle.node_step.specs.State.{NodeState, standing}
@@ -57,6 +58,20 @@ pub record OnlyReplies (has_slot : Type 0) (first : Response) (node : NodeState)
 abbrev pub behind : Outcome → ConnectionTable → NodeState
 behind outcome connections = record (outcome.state) { connections = connections }
 
+-- what orders that begin a move differ in: the verdict, by the slot's standing, its move, the greatest number of one, and the node
+-- and number in the order; and what comes of it
+record Beginning (Verdict : Type 0) : Type 0 where
+  pub verdict : Standing → Option Move → ℕ → Option ℕ → Option ℕ → Verdict
+  pub outcome : NodeState → ℕ → Verdict → Outcome
+  pub why : Verdict → Why
+  pub reply : Verdict → Reply
+
+abbrev imports : Beginning ImportVerdict
+imports = record { verdict = import_verdict; outcome = import_outcome; why = Imports; reply = import_reply }
+
+abbrev migrations : Beginning MigrateVerdict
+migrations = record { verdict = migrate_verdict; outcome = migrate_outcome; why = Migrates; reply = migrate_reply }
+
 module _ (node : NodeState) (connections : ConnectionTable) (slot : ℕ) where
   -- the node, where the order only had a reply
   abbrev still : NodeState
@@ -65,80 +80,59 @@ module _ (node : NodeState) (connections : ConnectionTable) (slot : ℕ) where
   abbrev has_slot : Type 0
   has_slot = slot < length node.table
 
-  -- ---- IMPORTING
+  -- ---- IMPORTING and MIGRATING
 
-  abbrev import_on : NodeState → Option ℕ → Option ℕ → ImportVerdict
-  import_on at other number = import_verdict (standing at slot) (move_of at.moves slot) (last_move_of at.moves slot) other number
+  abbrev verdict_at : {Verdict : Type 0} → Beginning Verdict → NodeState → Option ℕ → Option ℕ → Verdict
+  verdict_at order at other number = order.verdict (standing at slot) (move_of at.moves slot) (last_move_of at.moves slot) other number
 
-  import_refused : (other number : Option ℕ) (verdict : ImportVerdict) → import_on node other number ≡ verdict
-      → import_outcome still slot verdict ≡ replied still (Imports verdict) (import_reply verdict)
-      → OnlyReplies has_slot (import_outcome node slot verdict).response still (importing still slot other number)
-  import_refused other number verdict is changes_nothing = record {
-    why = Imports verdict;
-    before = Imports verdict;
-    reply = import_reply verdict;
-    is = ap (import_outcome still slot) is ∙ changes_nothing;
-    same = λ has. refl;
+  -- the order has the second verdict in that state, which changes nothing and has the first one's reply
+  is_answered : {Verdict : Type 0} (order : Beginning Verdict) (first second : Verdict) (after : NodeState) (other number : Option ℕ)
+      → verdict_at order after other number ≡ second
+      → order.outcome after slot second ≡ replied after (order.why second) (order.reply second)
+      → (order.outcome node slot first).response ≡ Replied (record { why = order.why first; reply = order.reply second })
+      → OnlyReplies has_slot (order.outcome node slot first).response after (order.outcome after slot (verdict_at order after other number))
+  is_answered order first second after other number is changes_nothing same = record {
+    why = order.why second;
+    before = order.why first;
+    reply = order.reply second;
+    is = ap (order.outcome after slot) is ∙ changes_nothing;
+    same = λ has. same;
   }
 
-  import_repeats : (other number : Option ℕ) (verdict : ImportVerdict) → import_on node other number ≡ verdict
-      → (let first = import_outcome node slot verdict in OnlyReplies has_slot first.response (behind first connections) (importing (behind first connections) slot other number))
-  import_repeats other number import.UnknownNode is = import_refused other number import.UnknownNode is refl
-  import_repeats other number import.Already is = import_refused other number import.Already is refl
-  import_repeats other number import.Busy is = import_refused other number import.Busy is refl
-  import_repeats other number import.AlreadyOwner is = import_refused other number import.AlreadyOwner is refl
-  import_repeats other number import.NotOwner is = import_refused other number import.NotOwner is refl
-  import_repeats other number import.OldMove is = import_refused other number import.OldMove is refl
+  -- what had that verdict is only answered when it comes again
+  abbrev Repeats : {Verdict : Type 0} → Beginning Verdict → Option ℕ → Option ℕ → Verdict → Type 0
+  Repeats order other number verdict = verdict_at order node other number ≡ verdict
+      → (let first = order.outcome node slot verdict in let after = behind first connections in
+      OnlyReplies has_slot first.response after (order.outcome after slot (verdict_at order after other number)))
+
+  import_repeats : (other number : Option ℕ) (verdict : ImportVerdict) → Repeats imports other number verdict
+  import_repeats other number import.UnknownNode is = is_answered imports import.UnknownNode import.UnknownNode still other number is refl refl
+  import_repeats other number import.Already is = is_answered imports import.Already import.Already still other number is refl refl
+  import_repeats other number import.Busy is = is_answered imports import.Busy import.Busy still other number is refl refl
+  import_repeats other number import.AlreadyOwner is = is_answered imports import.AlreadyOwner import.AlreadyOwner still other number is refl refl
+  import_repeats other number import.NotOwner is = is_answered imports import.NotOwner import.NotOwner still other number is refl refl
+  import_repeats other number import.OldMove is = is_answered imports import.OldMove import.OldMove still other number is refl refl
   import_repeats other number (import.Begins from begun) is =
       let after : NodeState = behind (import_outcome node slot (import.Begins from begun)) connections in
       let comes : move_of after.moves slot ≡ Some (Comes from begun 0 None) = put_here node.moves.running slot (Comes from begun 0 None) in
-      let verdict : import_on after other number ≡ import.Already =
-      ap (λ (m : Option Move). import_verdict (standing after slot) m (last_move_of after.moves slot) other number) comes
-      ∙ import_again (standing node slot) (move_of node.moves slot) (last_move_of node.moves slot) (last_move_of after.moves slot) other number from begun is in
-      record {
-        why = Imports import.Already;
-        before = Imports (import.Begins from begun);
-        reply = import_reply import.Already;
-        is = ap (import_outcome after slot) verdict;
-        same = λ has. refl;
-      }
+      is_answered imports (import.Begins from begun) import.Already after other number
+      (ap (λ (m : Option Move). import_verdict (standing after slot) m (last_move_of after.moves slot) other number) comes
+      ∙ import_again (standing node slot) (move_of node.moves slot) (last_move_of node.moves slot) (last_move_of after.moves slot) other number from begun is)
+      refl refl
 
-  -- ---- MIGRATING
-
-  abbrev migration_on : NodeState → Option ℕ → Option ℕ → MigrateVerdict
-  migration_on at other number = migrate_verdict (standing at slot) (move_of at.moves slot) (last_move_of at.moves slot) other number
-
-  migration_refused : (other number : Option ℕ) (verdict : MigrateVerdict) → migration_on node other number ≡ verdict
-      → migrate_outcome still slot verdict ≡ replied still (Migrates verdict) (migrate_reply verdict)
-      → OnlyReplies has_slot (migrate_outcome node slot verdict).response still (migrating still slot other number)
-  migration_refused other number verdict is changes_nothing = record {
-    why = Migrates verdict;
-    before = Migrates verdict;
-    reply = migrate_reply verdict;
-    is = ap (migrate_outcome still slot) is ∙ changes_nothing;
-    same = λ has. refl;
-  }
-
-  migration_repeats : (other number : Option ℕ) (verdict : MigrateVerdict) → migration_on node other number ≡ verdict
-      → (let first = migrate_outcome node slot verdict in OnlyReplies has_slot first.response (behind first connections) (migrating (behind first connections) slot other number))
-  migration_repeats other number migrate.UnknownNode is = migration_refused other number migrate.UnknownNode is refl
-  migration_repeats other number migrate.Already is = migration_refused other number migrate.Already is refl
-  migration_repeats other number migrate.Busy is = migration_refused other number migrate.Busy is refl
-  migration_repeats other number migrate.NotOwner is = migration_refused other number migrate.NotOwner is refl
-  migration_repeats other number migrate.OldMove is = migration_refused other number migrate.OldMove is refl
+  migration_repeats : (other number : Option ℕ) (verdict : MigrateVerdict) → Repeats migrations other number verdict
+  migration_repeats other number migrate.UnknownNode is = is_answered migrations migrate.UnknownNode migrate.UnknownNode still other number is refl refl
+  migration_repeats other number migrate.Already is = is_answered migrations migrate.Already migrate.Already still other number is refl refl
+  migration_repeats other number migrate.Busy is = is_answered migrations migrate.Busy migrate.Busy still other number is refl refl
+  migration_repeats other number migrate.NotOwner is = is_answered migrations migrate.NotOwner migrate.NotOwner still other number is refl refl
+  migration_repeats other number migrate.OldMove is = is_answered migrations migrate.OldMove migrate.OldMove still other number is refl refl
   migration_repeats other number (migrate.Begins to begun) is =
       let after : NodeState = behind (migrate_outcome node slot (migrate.Begins to begun)) connections in
       let leaves : move_of after.moves slot ≡ Some (Leaves to begun 0 None) = put_here node.moves.running slot (Leaves to begun 0 None) in
-      let verdict : migration_on after other number ≡ migrate.Already =
-      ap (λ (m : Option Move). migrate_verdict (standing after slot) m (last_move_of after.moves slot) other number) leaves
-      ∙ migration_again (standing node slot) (move_of node.moves slot) (last_move_of node.moves slot) (last_move_of after.moves slot) other number to begun is in
-      record {
-        why = Migrates migrate.Already;
-        before = Migrates (migrate.Begins to begun);
-        reply = migrate_reply migrate.Already;
-        is = ap (migrate_outcome after slot) verdict;
-        same = λ has. refl;
-      }
+      is_answered migrations (migrate.Begins to begun) migrate.Already after other number
+      (ap (λ (m : Option Move). migrate_verdict (standing after slot) m (last_move_of after.moves slot) other number) leaves
+      ∙ migration_again (standing node slot) (move_of node.moves slot) (last_move_of node.moves slot) (last_move_of after.moves slot) other number to begun is)
+      refl refl
 
   -- ---- NODE
 
@@ -194,6 +188,6 @@ module _ (node : NodeState) (connections : ConnectionTable) (slot : ℕ) where
   pub order_repeats : (order : SlotOrder) (id : List ℕ) (number : Option ℕ) (listing later : Listing)
       → (let first = order_outcome node slot order (node_with_id node id) number listing in let after = behind first connections in
       OnlyReplies has_slot first.response after (order_outcome after slot order (node_with_id after id) number later))
-  order_repeats Importing id number listing later = import_repeats (node_with_id node id) number (import_on node (node_with_id node id) number) refl
-  order_repeats Migrating id number listing later = migration_repeats (node_with_id node id) number (migration_on node (node_with_id node id) number) refl
+  order_repeats Importing id number listing later = import_repeats (node_with_id node id) number (verdict_at imports node (node_with_id node id) number) refl
+  order_repeats Migrating id number listing later = migration_repeats (node_with_id node id) number (verdict_at migrations node (node_with_id node id) number) refl
   order_repeats Node id number listing later = ending_repeats listing.claim later.claim id number (ending_verdict node slot (node_with_id node id) number) refl
