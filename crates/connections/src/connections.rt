@@ -3,17 +3,17 @@ ghost use Rattle.std.specs.Prelude.{◌≡◌, ◌≢◌, ◌+◌, ◌-◌, ◌^
 ghost use Rattle.connections.specs.Connections.{connection_at, open_at, Opens, Closes, IsUsedUp, may_ask, with_change, with_connection, waiting, all_freed, all_aged};
 ghost use Rattle.connections.specs.Waiting.{test_of};
 ghost use Rattle.connections.specs.declared.conn.Connection.{Connection};
-ghost use Rattle.connections.specs.declared.fault.OpenFault.TheVariants.{Memory, Exhausted};
 ghost use Rattle.slot_decision.specs.declared.asked.Asking.TheVariants.{No};
+ghost use Rattle.step_fault.specs.declared.fault.StepFault.TheVariants.{Memory, Exhausted};
 
 use crate::conn::{Conn, Connection, Wait};
-use crate::fault::OpenFault;
 use crate::waiting::Waiting;
 use crate::walks::{age_in, free_in, waiting_in};
 use slab::Slab;
 use slot_decision::Asking;
 use std::alloc::{AllocError, Global};
 use std::marker::Model;
+use step_fault::StepFault;
 
 /// The connections that are open, and how often each key was opened. A call that fails changes nothing.
 #[derive(Drop)]
@@ -69,7 +69,7 @@ impl Connections {
     }
 
     /// Takes a free key for a connection. Exhausted says that the key's generations are used up.
-    pub fn open(&mut self) -> Result<Conn, OpenFault>
+    pub fn open(&mut self) -> Result<Conn, StepFault>
         ensures opens { IfOk result (λ conn. Opens self.old self.new conn) }
         ensures err { OnErr result (self.new ≡ self.old) }
         ensures exhausted { result ≡ Err Exhausted → IsUsedUp self.old }
@@ -77,7 +77,7 @@ impl Connections {
         let key = self.slots.vacant_key();
         let generation = self.opens.get(key).copied().unwrap_or(0);
         let Some(opens) = generation.checked_add(1) else {
-            return Err(OpenFault::Exhausted);
+            return Err(StepFault::Exhausted);
         };
         self.slots.reserve(1)?;
         set_count(&mut self.opens, key, opens)?;

@@ -3,11 +3,10 @@
 
 mod conn;
 mod connections;
-mod fault;
 mod waiting;
 mod walks;
 
 pub use conn::{Conn, Connection, Wait};
 pub use connections::Connections;
-pub use fault::OpenFault;
+pub use step_fault::StepFault;
 pub use waiting::Waiting;

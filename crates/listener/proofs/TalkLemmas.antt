@@ -2,8 +2,8 @@
 use Rattle.std.proofs.Common.{◌≡◌, ◌≢◌, ◌⊎◌, ℕ, List, [], ◌++◌, Result, Ok, Err, append-nil, inl, inr, refl, sym, ◌∙◌}
 use Rattle.node_gate.specs.Asks.{Asked}
 use Rattle.connections.specs.declared.conn.Conn.{Conn}
-use Rattle.node_step.specs.declared.fault.StepFault.{StepFault}
-use Rattle.node_step.specs.declared.fault.StepFault.TheVariants as refused
+use Rattle.step_fault.specs.declared.fault.StepFault.{StepFault}
+use Rattle.step_fault.specs.declared.fault.StepFault.TheVariants as refused
 use Rattle.listener.specs.declared.fault.ConnFault.{ConnFault}
 use Rattle.listener.specs.declared.fault.ConnFault.TheVariants.{Reader, Writer, Memory, Exhausted, Unanswered, Endless}
 use Rattle.listener.specs.declared.requests.Rest.{Rest}

@@ -14,8 +14,8 @@ use Rattle.command_table.specs.declared.error_line.ErrorLine.{ErrorLine}
 use Rattle.command_table.specs.declared.error_line.ErrorLine.TheVariants as line
 use Rattle.connections.specs.declared.conn.Conn.{Conn}
 use Rattle.node_step.specs.declared.event.Event.TheVariants.{Open, Close, Request}
-use Rattle.node_step.specs.declared.fault.StepFault.{StepFault}
-use Rattle.node_step.specs.declared.fault.StepFault.TheVariants as refused
+use Rattle.step_fault.specs.declared.fault.StepFault.{StepFault}
+use Rattle.step_fault.specs.declared.fault.StepFault.TheVariants as refused
 use Rattle.node_step.specs.declared.outputs.Outputs.{Outputs}
 use Rattle.node_step.specs.declared.response.Answer.{Answer}
 use Rattle.node_step.specs.declared.response.Response.{Response}

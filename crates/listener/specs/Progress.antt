@@ -6,7 +6,7 @@ use Rattle.resp2.specs.Counting.{HasRisen}
 use Rattle.resp2.specs.Stream.{stream_spelling}
 use Rattle.connections.specs.declared.conn.Conn.{Conn}
 use Rattle.node_step.specs.declared.event.Event.TheVariants.{Open, Close}
-use Rattle.node_step.specs.declared.fault.StepFault.{StepFault}
+use Rattle.step_fault.specs.declared.fault.StepFault.{StepFault}
 use Rattle.node_step.specs.declared.outputs.Outputs.{Outputs}
 use Rattle.node_step.specs.declared.response.Response.TheVariants.{Opened}
 use Rattle.node_gate.specs.Asks.{Asked}

@@ -8,7 +8,7 @@ use Rattle.connections.specs.declared.conn.Conn.{Conn}
 use Rattle.node_gate.specs.Asks.{Asked}
 use Rattle.node_gate.specs.Asks.Asked.{asking, waiting}
 use Rattle.node_step.specs.declared.event.Event.{Event}
-use Rattle.node_step.specs.declared.fault.StepFault.{StepFault}
+use Rattle.step_fault.specs.declared.fault.StepFault.{StepFault}
 use Rattle.node_step.specs.declared.outputs.Outputs.{Outputs}
 use Rattle.resp_values.specs.declared.reply.Reply.{Reply}
 

@@ -4,7 +4,7 @@ ghost use Rattle.std.specs.FinMap as fin_map;
 ghost use Rattle.key_slot.specs.Slot.{hash_slot};
 ghost use Rattle.migrate.specs.Sending.{frozen};
 ghost use Rattle.node_parts.specs.Drafts.{Drafts, HasNothing, bodies_of};
-ghost use Rattle.node_step.specs.declared.fault.StepFault.TheVariants.{Exhausted};
+ghost use Rattle.step_fault.specs.declared.fault.StepFault.TheVariants.{Exhausted};
 ghost use Rattle.node_step.specs.Copies.{copy_of, copy_outcome, copy_verdict_on, sending};
 ghost use Rattle.node_step.specs.Orders.{with_moves};
 ghost use Rattle.node_step.specs.Requests.{has_copy_number, using_up};

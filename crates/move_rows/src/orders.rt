@@ -2,7 +2,7 @@
 ghost use Rattle.std.specs.Prelude.{◌≡◌, ◌<◌, ◌^◌, ◌∷◌, [], false, IfOk, OnOk, Some, SomeIff, Err, if◌then◌else◌, slice_set};
 ghost use Rattle.node_parts.specs.Drafts.{Drafts, HasNothing, bodies_of};
 ghost use Rattle.move_rows.specs.Orders.{Gives, Obeys, import_change, migrate_change};
-ghost use Rattle.node_step.specs.declared.fault.StepFault.TheVariants.{Exhausted};
+ghost use Rattle.step_fault.specs.declared.fault.StepFault.TheVariants.{Exhausted};
 ghost use Rattle.node_step.specs.Orders.{done, drained_at_start, ending_reply, ending_verdict, import_reply, importing, migrate_reply, migrating, new_epoch, others, to_all, with_moves};
 ghost use Rattle.node_step.specs.Requests.{has_epoch, has_order_number, using_up};
 ghost use Rattle.node_step.specs.Slots.{has_keys, slot_epoch};

@@ -1,8 +1,8 @@
 -- Events that a cell doesn't take.
 use Rattle.std.proofs.Common.{◌≡◌, ℕ, refl, sym, inr}
 use Rattle.node_step.specs.declared.event.Event.{Event}
-use Rattle.node_step.specs.declared.fault.StepFault.{StepFault}
-use Rattle.node_step.specs.declared.fault.StepFault.TheVariants.{Memory, Exhausted}
+use Rattle.step_fault.specs.declared.fault.StepFault.{StepFault}
+use Rattle.step_fault.specs.declared.fault.StepFault.TheVariants.{Memory, Exhausted}
 use Rattle.node_cell.specs.Delivery.{delivery_fault}
 use Rattle.node_cell.specs.Journal.{CellView, IsNotTaken, IsRefused, Skips}
 

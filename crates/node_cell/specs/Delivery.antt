@@ -1,6 +1,6 @@
 -- Why a message isn't delivered.
-use Rattle.node_step.specs.declared.fault.StepFault.{StepFault}
-use Rattle.node_step.specs.declared.fault.StepFault.TheVariants as step
+use Rattle.step_fault.specs.declared.fault.StepFault.{StepFault}
+use Rattle.step_fault.specs.declared.fault.StepFault.TheVariants as step
 use Rattle.node_cell.specs.declared.delivery.DeliveryFault.{DeliveryFault}
 use Rattle.node_cell.specs.declared.delivery.DeliveryFault.TheVariants.{Memory, Exhausted}
 

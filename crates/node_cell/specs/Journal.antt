@@ -7,8 +7,8 @@ use Rattle.node_step.specs.State.{NodeState}
 use Rattle.node_step.specs.Step.{NodeStep}
 use Rattle.node_step.specs.declared.event.Event.{Event}
 use Rattle.node_step.specs.declared.event.Event.TheVariants.{Deliver}
-use Rattle.node_step.specs.declared.fault.StepFault.{StepFault}
-use Rattle.node_step.specs.declared.fault.StepFault.TheVariants.{Memory, Exhausted}
+use Rattle.step_fault.specs.declared.fault.StepFault.{StepFault}
+use Rattle.step_fault.specs.declared.fault.StepFault.TheVariants.{Memory, Exhausted}
 use Rattle.node_step.specs.declared.outputs.Outputs.{Outputs}
 use Rattle.node_step.specs.declared.outputs.Release.{Release}
 use Rattle.bus.specs.declared.message.Message.{Message}

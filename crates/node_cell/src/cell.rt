@@ -4,7 +4,7 @@ ghost use Rattle.std.specs.List.{list_any};
 ghost use Rattle.tickets.specs.Tickets.{drawn, table_of, seats_of, IsFresh};
 ghost use Rattle.node_step.specs.State.{first_state};
 ghost use Rattle.node_step.specs.Step.{NodeStep};
-ghost use Rattle.node_step.specs.declared.fault.StepFault.TheVariants.{Exhausted};
+ghost use Rattle.step_fault.specs.declared.fault.StepFault.TheVariants.{Exhausted};
 ghost use Rattle.node_step.specs.Released.{reply_to, without_reply_to};
 ghost use Rattle.node_cell.specs.Undelivered.{joined, undelivered_after};
 ghost use Rattle.node_step.specs.declared.event.Event.TheVariants.{Deliver};

@@ -5,7 +5,7 @@ ghost use Rattle.connections.specs.declared.conn.Connection.{Connection};
 ghost use Rattle.node_core.specs.Comes.{AnswersSo};
 ghost use Rattle.node_parts.specs.Drafts.{Drafts, HasNothing};
 ghost use Rattle.report_rows.specs.Questions.{is_question};
-ghost use Rattle.node_step.specs.declared.fault.StepFault.TheVariants.{Exhausted};
+ghost use Rattle.step_fault.specs.declared.fault.StepFault.TheVariants.{Exhausted};
 ghost use Rattle.node_step.specs.Orders.{done};
 ghost use Rattle.node_step.specs.Outcome.{replied};
 ghost use Rattle.node_step.specs.Requests.{asking_for, at_connection, has_number, using_up, with_numbers};

@@ -9,7 +9,7 @@ ghost use Rattle.node_parts.specs.Drafts.{HasNothing, IsDraftOf};
 ghost use Rattle.node_step.specs.Numbers.{NoNumberLeft};
 ghost use Rattle.node_step.specs.State.{first_state};
 ghost use Rattle.node_step.specs.Step.{NodeStep};
-ghost use Rattle.node_step.specs.declared.fault.StepFault.TheVariants.{Exhausted};
+ghost use Rattle.step_fault.specs.declared.fault.StepFault.TheVariants.{Exhausted};
 
 use crate::messages::deliver;
 use crate::requests::request;

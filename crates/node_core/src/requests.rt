@@ -6,7 +6,7 @@ ghost use Rattle.keyspace.specs.Keyspace.{Keyspace};
 ghost use Rattle.keyspace.specs.Plan.{committed};
 ghost use Rattle.node_core.specs.Comes.{AnswersSo};
 ghost use Rattle.node_parts.specs.Drafts.{HasNothing, IsDraftOf};
-ghost use Rattle.node_step.specs.declared.fault.StepFault.TheVariants.{Exhausted};
+ghost use Rattle.step_fault.specs.declared.fault.StepFault.TheVariants.{Exhausted};
 ghost use Rattle.node_step.specs.Numbers.{NoNumberLeft};
 ghost use Rattle.node_step.specs.Requests.{has_number, using_up};
 

@@ -30,7 +30,7 @@ pub trait NodeGate {
     ghost use Rattle.std.specs.Prelude.{List};
     ghost use Rattle.node_step.specs.declared.event.Event.{Event as NodeEvent};
     ghost use Rattle.node_step.specs.declared.outputs.Outputs.{Outputs as NodeOutputs};
-    ghost use Rattle.node_step.specs.declared.fault.StepFault.{StepFault as Refusal};
+    ghost use Rattle.step_fault.specs.declared.fault.StepFault.{StepFault as Refusal};
     ghost use Rattle.connections.specs.declared.conn.Conn.{Conn as Connection};
     ghost use Rattle.resp_values.specs.declared.reply.Reply.{Reply as Given};
     ghost use Rattle.node_gate.specs.Asks.{Asked};

@@ -12,7 +12,6 @@ pub mod Reports
 pub mod Requests
 pub mod Numbers
 pub mod Step
-pub mod Fault
 pub mod Few
 pub mod Released
 pub mod CodedState

@@ -2,14 +2,13 @@
 #![tactic(auto)]
 
 mod event;
-mod fault;
 mod few;
 mod outputs;
 mod recorder;
 mod response;
 
 pub use event::Event;
-pub use fault::StepFault;
 pub use outputs::{Messages, Outputs, Release, Releases};
 pub use recorder::Recorder;
 pub use response::{Answer, Response, Why};
+pub use step_fault::StepFault;

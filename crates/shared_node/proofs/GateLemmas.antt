@@ -7,7 +7,7 @@ use Rattle.node_step.specs.State.{NodeState, first_state}
 use Rattle.node_step.specs.declared.event.Event.{Event}
 use Rattle.node_cell.specs.Journal.{CellView, EnteredView, Enters, IsGiven, IsHistory, IsRefused}
 use Rattle.node_cell.specs.declared.entry.Entry.{Entry}
-use Rattle.node_step.specs.declared.fault.StepFault.{StepFault}
+use Rattle.step_fault.specs.declared.fault.StepFault.{StepFault}
 use Rattle.resp_values.specs.declared.reply.Reply.{Reply}
 use Rattle.shared_node.specs.Answers.{MayAnswer, MayGive, MayRefuse}
 

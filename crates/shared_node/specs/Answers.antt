@@ -5,7 +5,7 @@ use Rattle.connections.specs.declared.conn.Conn.{Conn}
 use Rattle.node_step.specs.State.{NodeState, first_state}
 use Rattle.node_step.specs.Step.{NodeStep}
 use Rattle.node_step.specs.declared.event.Event.{Event}
-use Rattle.node_step.specs.declared.fault.StepFault.{StepFault}
+use Rattle.step_fault.specs.declared.fault.StepFault.{StepFault}
 use Rattle.node_step.specs.declared.outputs.Outputs.{Outputs}
 use Rattle.node_cell.specs.Journal.{CellView, IsGiven, IsHistory, IsRefused}
 use Rattle.node_cell.specs.declared.entry.Entry.{Entry}

@@ -14,7 +14,7 @@ use Rattle.node_gate.specs.Asks.Asked.{asking}
 use Rattle.connections.specs.declared.conn.Conn.{Conn}
 use Rattle.node_step.specs.declared.event.Event.{Event}
 use Rattle.node_step.specs.declared.event.Event.TheVariants.{Close, Request}
-use Rattle.node_step.specs.declared.fault.StepFault.{StepFault}
+use Rattle.step_fault.specs.declared.fault.StepFault.{StepFault}
 use Rattle.node_step.specs.declared.outputs.Outputs.{Outputs}
 use Rattle.node_step.specs.declared.response.Response.{Response}
 use Rattle.node_step.specs.declared.response.Response.TheVariants.{Replied}
