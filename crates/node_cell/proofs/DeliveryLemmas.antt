@@ -2,14 +2,7 @@
 use Rattle.std.proofs.Common.{◌≡◌, ℕ, refl, sym, inr}
 use Rattle.node_step.specs.declared.event.Event.{Event}
 use Rattle.step_fault.specs.declared.fault.StepFault.{StepFault}
-use Rattle.step_fault.specs.declared.fault.StepFault.TheVariants.{Memory, Exhausted}
-use Rattle.node_cell.specs.Delivery.{delivery_fault}
-use Rattle.node_cell.specs.Journal.{CellView, IsNotTaken, IsRefused, Skips}
-
--- an event that the node refuses is not taken
-pub not_taken : (old new : CellView) (event : Event) (fault : StepFault) → IsRefused old event fault new → IsNotTaken old event (delivery_fault fault) new
-not_taken old new event Memory refused = refused
-not_taken old new event Exhausted refused = refused
+use Rattle.node_cell.specs.Journal.{CellView, IsRefused, Skips}
 
 -- the ticket was entered as skipped, and all else is as before
 pub is_refused_so : (old new : CellView) (ticket : ℕ) (event : Event) (fault : StepFault) → Skips old.state old.journal ticket event fault new.state new.journal

@@ -14,7 +14,7 @@ use Rattle.node_step.specs.declared.outputs.Release.{Release}
 use Rattle.bus.specs.declared.message.Message.{Message}
 use Rattle.node_cell.specs.Undelivered.{undelivered_after}
 use Rattle.node_cell.specs.declared.delivery.DeliveryFault.{DeliveryFault}
-use Rattle.node_cell.specs.declared.delivery.DeliveryFault.TheVariants as delivery
+use Rattle.node_cell.specs.declared.delivery.DeliveryFault.TheVariants.{Refused, Early}
 use Rattle.node_cell.specs.declared.entry.Entry.{Entry}
 use Rattle.node_cell.specs.declared.entry.Entry.TheVariants.{Step, Skipped}
 
@@ -142,6 +142,5 @@ pub record IsTooEarly (old : CellView) (event : Event) (new : CellView) : Type 0
 
 -- why no step was made for an event that may be a message
 abbrev pub IsNotTaken : CellView → Event → DeliveryFault → CellView → Type 0
-IsNotTaken old event delivery.Memory new = IsRefused old event Memory new
-IsNotTaken old event delivery.Exhausted new = IsRefused old event Exhausted new
-IsNotTaken old event delivery.Early new = IsTooEarly old event new
+IsNotTaken old event (Refused fault) new = IsRefused old event fault new
+IsNotTaken old event Early new = IsTooEarly old event new

@@ -1,5 +1,4 @@
 pub mod Asks
-pub mod Delivery
 pub mod Journal
 pub mod Log
 pub mod Undelivered

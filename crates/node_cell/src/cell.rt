@@ -100,8 +100,7 @@ impl<K: Deployment, L: Log> NodeCell<K, L> {
     {
         match self.take_event(event) {
             Ok(entered) => Ok(entered),
-            Err(DeliveryFault::Memory) => Err(StepFault::Memory),
-            Err(DeliveryFault::Exhausted) => Err(StepFault::Exhausted),
+            Err(DeliveryFault::Refused(fault)) => Err(fault),
             Err(DeliveryFault::Early) => unreachable!(),
         }
     }
@@ -126,7 +125,7 @@ impl<K: Deployment, L: Log> NodeCell<K, L> {
         // Room comes before the ticket: one that is drawn has to be entered.
         make_room(&mut self.log, &mut self.undelivered, &mut self.outbox)?;
         let Some(ticket) = self.seat.draw() else {
-            return Err(DeliveryFault::Exhausted);
+            return Err(DeliveryFault::Refused(StepFault::Exhausted));
         };
         if !comes_in_time(ticket, &event) {
             self.log.enter_skip(ticket);
@@ -141,7 +140,7 @@ impl<K: Deployment, L: Log> NodeCell<K, L> {
             event,
         ) {
             Ok(entered) => Ok(entered),
-            Err(fault) => Err(DeliveryFault::from(fault)),
+            Err(fault) => Err(DeliveryFault::Refused(fault)),
         }
     }
 

@@ -1,7 +1,7 @@
 //! Why a message isn't delivered.
 ghost use Rattle.std.specs.Prelude.{◌≡◌};
-ghost use Rattle.node_cell.specs.Delivery.{delivery_fault};
-ghost use Rattle.node_cell.specs.declared.delivery.DeliveryFault.TheVariants.{Memory};
+ghost use Rattle.step_fault.specs.declared.fault.StepFault.TheVariants.{Memory};
+ghost use Rattle.node_cell.specs.declared.delivery.DeliveryFault.TheVariants.{Refused};
 
 use node_core::StepFault;
 use std::alloc::AllocError;
@@ -10,32 +10,18 @@ use thiserror::Error;
 /// Why a message isn't delivered. The node is as before.
 #[derive(Clone, Copy, PartialEq, Eq, Debug, Error)]
 pub enum DeliveryFault {
-    /// Memory was refused.
-    #[error("out of memory")]
-    Memory,
-    /// A number that only grows has reached its end.
-    #[error("no next number")]
-    Exhausted,
+    /// The step was refused, as one for any other event may be.
+    #[error(transparent)]
+    Refused(StepFault),
     /// The ticket that was drawn isn't greater than that of the step that sent the message.
     #[error("the message is not older than its delivery")]
     Early,
 }
 
 impl From<AllocError> for DeliveryFault {
-    ghost from_gives = { λ _ fault. fault ≡ Memory };
+    ghost from_gives = { λ _ fault. fault ≡ Refused Memory };
 
-    fn from(_error: AllocError) -> DeliveryFault {
-        DeliveryFault::Memory
-    }
-}
-
-impl From<StepFault> for DeliveryFault {
-    ghost from_gives = { λ refused fault. fault ≡ delivery_fault refused };
-
-    fn from(refused: StepFault) -> DeliveryFault {
-        match refused {
-            StepFault::Memory => DeliveryFault::Memory,
-            StepFault::Exhausted => DeliveryFault::Exhausted,
-        }
+    fn from(error: AllocError) -> DeliveryFault {
+        DeliveryFault::Refused(StepFault::from(error))
     }
 }

@@ -1,7 +1,7 @@
 use Rattle.std.proofs.Common.{rules, refl, sym, ap, ◌∙◌}
 use Rattle.node_cell.specs.Undelivered.{joined}
 use Rattle.node_cell.specs.declared.entry.Entry.TheVariants.{Skipped}
-use Rattle.node_cell.proofs.DeliveryLemmas.{is_refused_so, not_taken}
+use Rattle.node_cell.proofs.DeliveryLemmas.{is_refused_so}
 use Rattle.node_cell.proofs.GivenLemmas.{given_after_skip}
 use Rattle.node_cell.proofs.JournalLemmas.{journal_adds}
 use Rattle.node_cell.proofs.cell.NodeCell.take_event.Goals as goal
@@ -41,8 +41,7 @@ pub returns-clause-err : goal.returns-clause-err
 returns-clause-err g c = elim c.match-advance.branch [
   | in-Ok w ↦ rw w.result-is tt
   | in-Err w ↦
-      rw (w.result-is, w.from.ensures, sym c.self.view_is)
-      (not_taken _ _ _ w.in-Err.fault
+      rw (w.result-is, sym c.self.view_is)
       (is_refused_so _ _ c.in-Some.ticket _ _ (rw c.make_room.ensures.log at w.in-Err.ensures.err) refl refl
-      (w.in-Err.ensures.rest.0 ∙ ap joined c.make_room.ensures.undelivered) (w.in-Err.ensures.rest.1 ∙ ap joined c.make_room.ensures.outbox)))
+      (w.in-Err.ensures.rest.0 ∙ ap joined c.make_room.ensures.undelivered) (w.in-Err.ensures.rest.1 ∙ ap joined c.make_room.ensures.outbox))
 ]
