@@ -5,11 +5,11 @@ ghost use Rattle.simulator.specs.Simulation.{Simulates};
 use crate::printing::print_outputs;
 use cluster_config::Config;
 use final_answers::answers_tell_what_became_of_commands;
-use std::alloc::Global;
-use world::{OutOfMemory, Step, World};
+use std::alloc::{AllocError, Global};
+use world::{Step, World};
 
 /// Plays the steps in a cluster that begins, and prints what comes out of it.
-pub fn simulate(alloc: Global, config: &Config, steps: &[Step]) -> Result<Vec<u8>, OutOfMemory>
+pub fn simulate(alloc: Global, config: &Config, steps: &[Step]) -> Result<Vec<u8>, AllocError>
     ensures { IfOk result (λ printed. Simulates config.now steps.now printed.items) }
 {
     // Both are for the proof alone: the law of answers, and that the configuration is a cluster's.

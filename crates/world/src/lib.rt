@@ -4,7 +4,6 @@
 
 mod client;
 mod entries;
-mod fault;
 mod output;
 mod run;
 mod scene;
@@ -12,7 +11,6 @@ mod serving;
 mod step;
 mod world;
 
-pub use fault::OutOfMemory;
 pub use output::Output;
 pub use step::Step;
 pub use world::World;

@@ -5,7 +5,6 @@ ghost use Rattle.world.specs.Plays.{Plays, PlaysAll};
 ghost use Rattle.world.specs.Reached.{IsReached};
 ghost use Rattle.world.specs.View.{GoesOn, first_world};
 
-use crate::fault::OutOfMemory;
 use crate::output::Output;
 use crate::scene::Scene;
 use crate::step::Step;
@@ -43,7 +42,7 @@ impl Model for World {
 impl World {
     /// The cluster as it begins.
     #[tactic(auto, using(crate::proofs::Worlds::first_reached))]
-    pub fn new(alloc: Global, config: &Config) -> Result<World, OutOfMemory>
+    pub fn new(alloc: Global, config: &Config) -> Result<World, AllocError>
         ensures { IfOk result (λ world. world ≡ first_world config.now) }
     {
         let _nodes = config.nodes();
@@ -63,7 +62,7 @@ impl World {
     }
 
     /// Makes a step.
-    pub fn step(&mut self, step: Step) -> Result<Vec<Output>, OutOfMemory>
+    pub fn step(&mut self, step: Step) -> Result<Vec<Output>, AllocError>
         ensures config { self.new.scene.config ≡ self.old.scene.config }
         ensures goes_on { GoesOn self.old.scene.run self.new.scene.run }
         ensures one_keyspace { AreOfOneKeyspace (executed self.new.scene.run.entries) }
@@ -78,11 +77,12 @@ impl World {
     }
 
     /// Makes steps, one after another.
-    pub fn run(&mut self, steps: &[Step]) -> Result<Vec<Output>, OutOfMemory>
+    pub fn run(&mut self, steps: &[Step]) -> Result<Vec<Output>, AllocError>
         ensures config { self.new.scene.config ≡ self.old.scene.config }
         ensures goes_on { GoesOn self.old.scene.run self.new.scene.run }
         ensures one_keyspace { AreOfOneKeyspace (executed self.new.scene.run.entries) }
         ensures plays { IfOk result (λ outputs. PlaysAll self.old.scene steps.now outputs.items self.new.scene) }
+        ensures ok { OnOk result ((self.old.refused ≡ false) × (self.new.refused ≡ false)) }
         ensures err { OnErr result (self.new.refused ≡ true) }
         ensures refused { self.old.refused ≡ true → self.new ≡ self.old }
     {
@@ -91,15 +91,16 @@ impl World {
         outputs
     }
 
-    fn play_all(&mut self, steps: &[Step]) -> Result<Vec<Output>, OutOfMemory>
+    fn play_all(&mut self, steps: &[Step]) -> Result<Vec<Output>, AllocError>
         ensures config { self.new.scene.config ≡ self.old.scene.config }
         ensures goes_on { GoesOn self.old.scene.run self.new.scene.run }
         ensures plays { IfOk result (λ outputs. PlaysAll self.old.scene steps.now outputs.items self.new.scene) }
+        ensures ok { OnOk result ((self.old.refused ≡ false) × (self.new.refused ≡ false)) }
         ensures err { OnErr result (self.new.refused ≡ true) }
         ensures refused { self.old.refused ≡ true → self.new ≡ self.old }
     {
         if self.is_refused {
-            return Err(OutOfMemory);
+            return Err(AllocError);
         }
         let mut outputs = Vec::new(self.alloc);
         for step in steps {
@@ -111,7 +112,7 @@ impl World {
         Ok(outputs)
     }
 
-    fn play(&mut self, step: &Step) -> Result<Vec<Output>, OutOfMemory>
+    fn play(&mut self, step: &Step) -> Result<Vec<Output>, AllocError>
         ensures config { self.new.scene.config ≡ self.old.scene.config }
         ensures goes_on { GoesOn self.old.scene.run self.new.scene.run }
         ensures plays { IfOk result (λ outputs. Plays self.old.scene step.now outputs.items self.new.scene) }
@@ -120,23 +121,23 @@ impl World {
         ensures refused { self.old.refused ≡ true → self.new ≡ self.old }
     {
         if self.is_refused {
-            return Err(OutOfMemory);
+            return Err(AllocError);
         }
         match self.scene.play(step) {
             Ok(outputs) => Ok(outputs),
-            Err(_) => {
+            Err(refused) => {
                 self.is_refused = true;
-                Err(OutOfMemory)
+                Err(refused)
             }
         }
     }
 
     // From now on no step is made.
-    fn refuse(&mut self) -> OutOfMemory
+    fn refuse(&mut self) -> AllocError
         ensures { self.new ≡ record self.old { refused = true } }
     {
         self.is_refused = true;
-        OutOfMemory
+        AllocError
     }
 
     fn is_of_one_keyspace(&self)

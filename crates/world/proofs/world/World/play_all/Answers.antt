@@ -26,4 +26,5 @@ loop-step-preserved c =
       goes_on = goes_further _ _ _ so_far.goes_on c.play.ensures.goes_on;
       plays = rw (one_more, c.in-Ok.ensures.items) plays;
       was = so_far.was;
+      ample = c.in_ok-shown.ensures.ok.1;
     }

@@ -9,4 +9,5 @@ invariant-loop-step l = record {
   goes_on : GoesOn l.fn.self.scene.run l.self.scene.run;
   plays : PlaysAll l.fn.self.scene (take l.step-index l.steps) l.outputs.items l.self.scene;
   was : l.fn.self.refused ≡ false;
+  ample : l.self.refused ≡ false;
 }
