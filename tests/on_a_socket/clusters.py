@@ -22,18 +22,21 @@ def free_ports(count):
     for port in candidates:
         if len(found) == count:
             return found
-        if port not in _given and is_free(port):
-            _given.add(port)
+        if claim(port):
             found.append(port)
     raise OSError("no free ports")
 
 
-def is_free(port):
+def claim(port):
+    """Whether this port is free and was given to nobody, so that it is given out now. Rows that begin at once may come to the same one."""
     with program.BEGINNING, socket.socket() as probe:
+        if port in _given:
+            return False
         try:
             probe.bind(("127.0.0.1", port))
         except OSError:
             return False
+        _given.add(port)
     return True
 
 

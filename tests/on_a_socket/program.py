@@ -54,11 +54,13 @@ class Server:
                 [PATH, "serve", *(self.source or ("--config", FILE)), *self.options],
                 cwd=self.folder.name, stdin=subprocess.DEVNULL, stdout=subprocess.PIPE, stderr=self.errors,
             )
-        # A line for each node. Where one is missing, the row that compares them says so.
+        # A line for each node. Where one is missing, the row that compares them says so, and this says why.
         patience = threading.Timer(PATIENCE, self.process.kill)
         patience.start()
         self.lines = b"".join(self.process.stdout.readline() for _ in self.cluster["nodes"])
         patience.cancel()
+        if not self.lines.startswith(b"node "):
+            print(f"a server didn't begin: {self.outcome(PATIENCE)}", flush=True)
         return self
 
     def __exit__(self, *_error):
