@@ -4,7 +4,7 @@ ghost use Rattle.std.specs.Prelude.{◌≡◌};
 use byte_string::ByteString;
 use key_slot::Slot;
 use keyspace::Value;
-use slot_moves::MoveNo;
+use slot_state::MoveNo;
 use slot_table::{Claim, Epoch, NodeNo};
 use std::alloc::AllocError;
 

@@ -1,7 +1,24 @@
--- What holds of all places holds of those behind the first one.
-use Rattle.std.proofs.Common.{List, ◌∷◌, All}
+-- Places of nodes, and nodes by their numbers.
+use Rattle.std.proofs.Common.{◌≡◌, ◌+◌, ◌<◌, ℕ, zero, suc, List, [], ◌∷◌, ◌++◌, All, map, sym, ap, ◌∙◌, arith}
+use Rattle.std.specs.List.{range_with_len}
+use Rattle.std.proofs.lemmas.List.{map_push}
 use Rattle.std.proofs.lemmas.List.Elements.{All-tail}
 use Rattle.cluster.specs.declared.server.Place.{Place}
 
+-- what holds of all places holds of those behind the first one
 pub others_too : (P : Place → Type 0) (first : Place) (others : List Place) → All P (first ∷ others) → All P others
 others_too P first others all = All-tail P first others all
+
+one_more : (a n j : ℕ) → a + n ≡ j → range_with_len a (suc n) ≡ range_with_len a n ++ j ∷ []
+one_more a zero j e =
+    let same : a ≡ j = omega (arith, e) in
+    ap (λ k. k ∷ []) same
+one_more a (suc n) j e = ap (λ l. a ∷ l) (one_more (a + 1) n j (omega (arith, e)))
+
+-- one more goes behind those that have the numbers up to its own
+pub counted_more : {A : Type 0} (number : A → ℕ) (xs after : List A) (x : A) (n m : ℕ) → after ≡ xs ++ x ∷ [] → number x ≡ n → m ≡ n + 1
+    → map number xs ≡ range_with_len 0 n → map number after ≡ range_with_len 0 m
+counted_more number xs after x n m grown own more counted =
+    let next : m ≡ suc n = omega (arith, more) in
+    ap (map number) grown ∙ map_push number xs x ∙ ap (λ ns. ns ++ number x ∷ []) counted ∙ ap (λ k. range_with_len 0 n ++ k ∷ []) own
+    ∙ sym (one_more 0 n n (omega arith)) ∙ ap (range_with_len 0) (sym next)

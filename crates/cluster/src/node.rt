@@ -1,5 +1,5 @@
 //! A node that is served: the threads that accept its clients, serve them and let time pass.
-ghost use Rattle.std.specs.Prelude.{◌≡◌};
+ghost use Rattle.std.specs.Prelude.{◌≡◌, ◌<◌, length};
 ghost use Rattle.tickets.specs.Tickets.{IsFresh};
 
 use crate::clients::{Clients, Refused};
@@ -8,7 +8,7 @@ use crate::stop::Stop;
 use cluster_config::Config;
 use links::Inbox;
 use listener::serve_conn;
-use node_cell::{Deployment, Log, NodeCell, NodeGate};
+use node_cell::{Admission, Deployment, Log, NodeCell, NodeGate};
 use node_step::Event;
 use resp2::Counting;
 use shared_node::{Gate, SharedNode};
@@ -31,12 +31,13 @@ const WAKING: u64 = 100;
 #[derive(Drop)]
 pub(crate) struct Node<K: Deployment, L: Log> {
     pub(crate) shared: SharedNode<K, L>,
+    admission: Admission<K>,
     pub(crate) inbox: Inbox,
     listener: TcpListener,
 }
 
 impl<K: Deployment, L: Log> Node<K, L> {
-    /// The node with this number, as it begins, with a seat that has drawn nothing.
+    /// The node with this number, one of the configuration, as it begins, with a seat that has drawn nothing.
     pub(crate) fn new(
         alloc: Global,
         config: &Config,
@@ -47,12 +48,14 @@ impl<K: Deployment, L: Log> Node<K, L> {
     where
         L: Drop,
         requires cluster { config.now ≡ K.config }
+        requires number { number < length config.now.nodes }
         requires seat { IsFresh K.table K.seats seat }
     {
         let inbox = Inbox::new(alloc, config.nodes().len())?;
         let cell = NodeCell::<K, L>::new(alloc, config, number, seat)?;
         Ok(Node {
             shared: SharedNode::new(cell),
+            admission: Admission::new(config),
             inbox,
             listener,
         })
@@ -150,7 +153,7 @@ fn serve_client<K: Deployment, L: Log + Drop, R: Wait + Drop>(
 ) {
     // A reply is one write, so nothing is gained by waiting for more.
     let _nodelay = stream.set_nodelay(true);
-    let mut gate = Gate::new(rt, &node.shared);
+    let mut gate = Gate::new(rt, &node.shared, node.admission.begin());
     let mut reader = Counting::new(stream);
     let mut writer = Counting::new(stream);
     let _ended = serve_conn(alloc, &mut gate, &mut reader, &mut writer);
@@ -164,7 +167,7 @@ pub(crate) fn pass_time<K: Deployment, L: Log + Drop, R: Wait + Copy + Drop>(
     interval: Duration,
     most: u64,
 ) {
-    let mut gate = Gate::new(rt, &node.shared);
+    let mut gate = Gate::new(rt, &node.shared, node.admission.begin());
     tick_at(&rt, &mut gate, stop, interval, most);
 }
 

@@ -1,5 +1,6 @@
 //! All nodes of a cluster, served at once.
-ghost use Rattle.std.specs.Prelude.{◌≡◌, All, IfOk, length, vec_len};
+ghost use Rattle.std.specs.Prelude.{◌≡◌, ◌<◌, All, IfOk, length, map, vec_len};
+ghost use Rattle.std.specs.List.{range_with_len};
 ghost use Rattle.tickets.specs.Tickets.{IsFresh};
 
 use crate::clients::Clients;
@@ -25,6 +26,8 @@ pub enum ServeFault {
     Memory,
     /// A thread of a node can't be started, or hasn't ended.
     Thread,
+    /// A node isn't the one that was served at its place.
+    Mixed,
 }
 
 impl From<AllocError> for ServeFault {
@@ -33,19 +36,17 @@ impl From<AllocError> for ServeFault {
     }
 }
 
-/// Where a node of the cluster is served.
+/// Where a node of the cluster is served. The first place is that of the first node, and so on.
 #[derive(Drop)]
 pub struct Place {
-    /// The number of the node.
-    pub node: NodeNo,
     /// Its seat at the tickets.
     pub seat: Seat,
     /// Where its clients connect.
     pub listener: TcpListener,
 }
 
-/// Serves the nodes of the cluster at their places, each with an `L` as its journal, until the first of them has made
-/// `ticks` ticks, or for ever. It returns the cells, in the order of their places, once all threads are done with them.
+/// Serves the nodes of the cluster, each at its place, with an `L` as its journal, until the first of them has made `ticks`
+/// ticks, or for ever. It returns the cells, in the order of the nodes' numbers, once all threads are done with them.
 ///
 /// Each node has a thread that accepts clients, one that lets its time pass and one that carries its messages, and each
 /// client has one.
@@ -63,8 +64,10 @@ pub fn serve_nodes<
 where
     L::Record: Send + 'static,
     requires cluster { config.now ≡ K.config }
+    requires places { length places.items ≡ length config.now.nodes }
     requires seats { All (λ place. IsFresh K.table K.seats place.seat) places.items }
-    ensures { IfOk result (λ cells. vec_len cells ≡ length places.items) }
+    ensures count { IfOk result (λ cells. vec_len cells ≡ length places.items) }
+    ensures nodes { IfOk result (λ cells. map (λ cell. cell.node) cells.items ≡ range_with_len 0 (length config.now.nodes)) }
 {
     let nodes = nodes_at::<K, L>(alloc, config, places)?;
     let interval = Duration::from_millis(u64::from(config.tick_ms()));
@@ -147,12 +150,13 @@ fn nodes_at<K: Deployment, L: Log + Drop>(
     places: Vec<Place>,
 ) -> Result<Vec<Arc<Node<K, L>, Global>>, AllocError>
     requires cluster { config.now ≡ K.config }
+    requires places { length places.items ≡ length config.now.nodes }
     requires seats { All (λ place. IsFresh K.table K.seats place.seat) places.items }
     ensures { IfOk result (λ nodes. vec_len nodes ≡ length places.items) }
 {
     let mut nodes = Vec::with_capacity(alloc, places.len())?;
     for place in places {
-        let node = node_at(alloc, config, place)?;
+        let node = node_at(alloc, config, nodes.len(), place)?;
         nodes.push(node).map_err(AllocError::from)?;
     }
     Ok(nodes)
@@ -161,17 +165,17 @@ fn nodes_at<K: Deployment, L: Log + Drop>(
 fn node_at<K: Deployment, L: Log + Drop>(
     alloc: Global,
     config: &Config,
+    number: usize,
     place: Place,
 ) -> Result<Arc<Node<K, L>, Global>, AllocError>
     requires cluster { config.now ≡ K.config }
+    requires number { number < length config.now.nodes }
     requires seat { IsFresh K.table K.seats place.seat }
 {
-    let Place {
-        node,
-        seat,
-        listener,
-    } = place;
-    let node = Node::<K, L>::new(alloc, config, node, seat, listener)?;
+    let _at_most_16 = config.nodes();
+    let number = NodeNo::new(number as u8).unwrap();
+    let Place { seat, listener } = place;
+    let node = Node::<K, L>::new(alloc, config, number, seat, listener)?;
     Arc::new(alloc, node).map_err(AllocError::from)
 }
 
@@ -284,19 +288,25 @@ where
     started.map_err(|_| ServeFault::Thread)
 }
 
-// The cells of nodes that nobody serves any more.
+// The cells of nodes that nobody serves any more, in the order of the nodes' numbers.
 fn cells_of<K: Deployment, L: Log + Drop>(
     alloc: Global,
     nodes: Vec<Arc<Node<K, L>, Global>>,
 ) -> Result<Vec<NodeCell<K, L>>, ServeFault>
-    ensures { IfOk result (λ cells. vec_len cells ≡ vec_len nodes) }
+    ensures count { IfOk result (λ cells. vec_len cells ≡ vec_len nodes) }
+    ensures nodes { IfOk result (λ cells. map (λ cell. cell.node) cells.items ≡ range_with_len 0 (vec_len nodes)) }
 {
     let mut cells = Vec::with_capacity(alloc, nodes.len())?;
     for node in nodes {
         let Some(node) = Arc::into_inner(node) else {
             return Err(ServeFault::Thread);
         };
-        cells.push(node.into_cell()).map_err(AllocError::from)?;
+        // No type says which node a lock has.
+        let cell = node.into_cell();
+        if cell.number().index() != cells.len() {
+            return Err(ServeFault::Mixed);
+        }
+        cells.push(cell).map_err(AllocError::from)?;
     }
     Ok(cells)
 }

@@ -2,6 +2,6 @@ mod BuildLemmas
 mod FormLemmas
 mod OwnerLemmas
 mod PairLemmas
-mod PlaceLemmas
+pub mod PlaceLemmas
 mod TextLemmas
 mod WorkedValues

@@ -5,7 +5,7 @@ use Rattle.std.specs.Option.{unwrap_or}
 use Rattle.std.proofs.lemmas.Bool.{cases_Bool, cases_lt, lt-ltb, le-ltb}
 
 -- a place in a list isn't behind it
-position-le : {A : Type 0} (passes : A → Bool) (xs : List A) → position_or_len passes xs ≤ length xs
+pub position-le : {A : Type 0} (passes : A → Bool) (xs : List A) → position_or_len passes xs ≤ length xs
 position-le passes [] = omega arith
 position-le passes (x ∷ xs) =
     elim (cases_Bool (passes x)) [

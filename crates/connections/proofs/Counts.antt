@@ -1,13 +1,13 @@
 -- How many connections wait.
-use Rattle.std.proofs.Common.{◌≡◌, ℕ, zero, suc, ◌+◌, ◌≤◌, Bool, true, false, List, [], ◌∷◌, get_or, set, map, Option, Some, None, is_some, cond, count_by, refl, sym, ap, ◌∙◌, inl, inr, arith}
+use Rattle.std.proofs.Common.{◌≡◌, ℕ, zero, suc, ◌+◌, ◌≤◌, Bool, true, false, List, [], ◌∷◌, get_or, length, set, map, Option, Some, None, is_some, cond, refl, sym, ap, ◌∙◌, inl, inr, arith}
 use Rattle.std.proofs.lemmas.Bool.{cases_eq, false≢true}
-use Rattle.std.proofs.lemmas.List.Sums.{sum_by-cons, sum_by-le-sum_by}
+use Rattle.std.proofs.lemmas.List.Sums.{count_by-le-length, sum_by-cons}
 use Rattle.connections.specs.Connections.{ConnectionTable, aged, all_aged, all_freed, freed, is_waiting, shortened, waiting, waiting_from, waits_so}
 use Rattle.connections.specs.Counting.{count_of_waits}
 use Rattle.connections.specs.declared.conn.Connection.{Connection}
 use Rattle.connections.specs.declared.conn.Wait.{Wait}
-use Rattle.slab.specs.Slab.{Slab, get, Updates}
-use Rattle.slot_decision.specs.declared.asked.Asking.{Asking}
+use Rattle.connections.specs.Places.{Fills}
+use Rattle.redirect.specs.declared.asked.Asking.{Asking}
 
 abbrev pub one_if : Bool → ℕ
 one_if is = cond is 1 0
@@ -27,23 +27,18 @@ count-same (slot ∷ slots) [] same = omega (arith, count-cons slot slots, same 
 count-same (slot ∷ slots) (other ∷ others) same =
     omega (arith, count-cons slot slots, count-cons other others, same 0, count-same slots others (λ key. same (suc key)))
 
--- no more connections wait than are open
-weight-le : (slot : Option Connection) → weight slot ≤ one_if (is_some slot)
-weight-le None = omega arith
-weight-le (Some connection) = at_most (waits_so (λ wait. true) connection.waits)
-  where
-    at_most : (waits : Bool) → one_if waits ≤ 1
-    at_most true = omega arith
-    at_most false = omega arith
+one_if-le : (is : Bool) → one_if is ≤ 1
+one_if-le true = omega arith
+one_if-le false = omega arith
 
--- what waits beside an open connection is less than what is open
-count-below : (slots : List (Option Connection)) (key : ℕ) → is_some (get_or slots key None) ≡ true → count_of_waits slots + 1 ≤ count_by is_some slots + weight (get_or slots key None)
+-- what waits beside an open connection is less than the places
+count-below : (slots : List (Option Connection)) (key : ℕ) → is_some (get_or slots key None) ≡ true → count_of_waits slots + 1 ≤ length slots + weight (get_or slots key None)
 count-below [] key there = absurd (false≢true there)
 count-below (None ∷ slots) zero there = absurd (false≢true there)
 count-below (Some connection ∷ slots) zero there =
-    omega (arith, count-cons (Some connection) slots, sum_by-cons (λ slot. one_if (is_some slot)) (Some connection) slots, sum_by-le-sum_by weight (λ slot. one_if (is_some slot)) slots weight-le)
+    omega (arith, count-cons (Some connection) slots, count_by-le-length (is_waiting (λ wait. true)) slots)
 count-below (slot ∷ slots) (suc key) there =
-    omega (arith, count-cons slot slots, sum_by-cons (λ slot. one_if (is_some slot)) slot slots, weight-le slot, count-below slots key there)
+    omega (arith, count-cons slot slots, one_if-le (is_waiting (λ wait. true) slot), count-below slots key there)
 
 -- ---- one place
 
@@ -70,20 +65,20 @@ pub count-put : (slots : List (Option Connection)) (key : ℕ) (connection other
 count-put slots key connection other is = omega (arith, count-set slots key connection (Some other) is, weight_of (Some other) other refl)
 
 -- a connection was opened at a free key
-pub count-opened : (old new : Slab Connection) (key : ℕ) (connection : Connection) → get old key ≡ None → Updates old new key (Some connection) → connection.waits ≡ None → count_of_waits new.slots ≡ count_of_waits old.slots
-count-opened old new key connection free updates rests = count-same old.slots new.slots same
+pub count-opened : (old new : List (Option Connection)) (key : ℕ) (connection : Connection) → Fills old new key connection → connection.waits ≡ None → count_of_waits new ≡ count_of_waits old
+count-opened old new key connection fills rests = count-same old new same
   where
-    same : (other : ℕ) → weight (get_or new.slots other None) ≡ weight (get_or old.slots other None)
+    same : (other : ℕ) → weight (get_or new other None) ≡ weight (get_or old other None)
     same other =
         elim (cases_eq other key) [
           | inl here ↦
-              ap (λ at. weight (get new at)) here ∙ weight_of _ connection updates.changed ∙ ap (λ waits. one_if (is_some waits)) rests
-              ∙ sym (ap (λ at. weight (get old at)) here ∙ ap weight free)
-          | inr elsewhere ↦ ap weight (updates.others other elsewhere)
+              ap (λ at. weight (get_or new at None)) here ∙ weight_of _ connection fills.filled ∙ ap (λ waits. one_if (is_some waits)) rests
+              ∙ sym (ap (λ at. weight (get_or old at None)) here ∙ ap weight fills.free)
+          | inr elsewhere ↦ ap weight (fills.others other elsewhere)
         ]
 
--- without one that is open, fewer wait than are open
-pub count-room : (slots : List (Option Connection)) (key : ℕ) (connection : Connection) (waits : ℕ) → get_or slots key None ≡ Some connection → waits + one_if (is_some connection.waits) ≡ count_of_waits slots → waits + 1 ≤ count_by is_some slots
+-- without one that is open, fewer wait than there are places
+pub count-room : (slots : List (Option Connection)) (key : ℕ) (connection : Connection) (waits : ℕ) → get_or slots key None ≡ Some connection → waits + one_if (is_some connection.waits) ≡ count_of_waits slots → waits + 1 ≤ length slots
 count-room slots key connection waits is rest =
     omega (arith, weight_of _ connection is, count-below slots key (ap is_some is))
 

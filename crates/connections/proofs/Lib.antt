@@ -1,3 +1,4 @@
 mod Counts
+mod PlaceLemmas
 mod Steps
 mod WorkedValues

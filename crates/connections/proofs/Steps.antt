@@ -1,12 +1,6 @@
 -- Walks over the places of a table, by rising key.
-use Rattle.std.proofs.Common.{◌≡◌, ℕ, zero, suc, ◌+◌, ◌≤◌, Bool, List, [], ◌∷◌, length, get_or, set, map, Option, Some, None, cond, refl, sym, ap, ◌∙◌, add-one, arith}
-use Rattle.slab.specs.Slab.{entries_from}
-use Rattle.connections.specs.Connections.{waits_so, waiting_from}
-use Rattle.connections.specs.declared.conn.Conn.{Conn}
+use Rattle.std.proofs.Common.{◌≡◌, ℕ, zero, suc, ◌+◌, ◌≤◌, List, [], ◌∷◌, length, get_or, set, map, Option, None, refl, sym, ap, ◌∙◌, add-one, arith}
 use Rattle.connections.specs.declared.conn.Connection.{Connection}
-use Rattle.connections.specs.declared.conn.Wait.{Wait}
-
--- ---- connections that are changed
 
 -- the places below a key are changed, and the others are as they were
 abbrev pub changed_below : (Option Connection → Option Connection) → ℕ → List (Option Connection) → List (Option Connection)
@@ -34,17 +28,3 @@ changed_all change zero [] past = refl
 changed_all change zero (slot ∷ slots) past = absurd (omega arith)
 changed_all change (suc key) [] past = refl
 changed_all change (suc key) (slot ∷ slots) past = ap (λ later. change slot ∷ later) (changed_all change key slots (omega arith))
-
--- ---- connections that are listed
-
--- the connections among these entries that wait so
-abbrev pub conns_of : (Wait → Bool) → List (ℕ × Connection) → List Conn
-conns_of test [] = []
-conns_of test ((key, connection) ∷ rest) =
-    cond (waits_so test connection.waits) (record { key = key; generation = connection.generation } ∷ conns_of test rest) (conns_of test rest)
-
-pub conns_of-entries_from : (test : Wait → Bool) (key : ℕ) (slots : List (Option Connection)) → conns_of test (entries_from key slots) ≡ waiting_from key test slots
-conns_of-entries_from test key [] = refl
-conns_of-entries_from test key (None ∷ slots) = conns_of-entries_from test (key + 1) slots
-conns_of-entries_from test key (Some connection ∷ slots) =
-    ap (λ later. cond (waits_so test connection.waits) (record { key = key; generation = connection.generation } ∷ later) later) (conns_of-entries_from test (key + 1) slots)

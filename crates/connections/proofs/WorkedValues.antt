@@ -1,8 +1,8 @@
 -- Worked values of the definitions: two connections are open, and the first waits for copy 3 of move 7 of slot 12182.
-use Rattle.std.proofs.Common.{◌≡◌, ℕ, [], ◌∷◌, refl, true, false}
+use Rattle.std.proofs.Common.{◌≡◌, ℕ, List, [], ◌∷◌, refl, true, false, arith}
 use Rattle.std.specs.Prelude.{Some, None}
-use Rattle.slot_decision.specs.declared.asked.Asking.TheVariants.{No, Any}
-use Rattle.connections.specs.Connections.{ConnectionTable, all_aged, all_freed, connection_at, fresh, is_over, may_ask, waiting, with_change}
+use Rattle.redirect.specs.declared.asked.Asking.TheVariants.{No, Any}
+use Rattle.connections.specs.Connections.{ConnectionTable, Opens, all_aged, all_freed, connection_at, count_of_open, fresh, is_over, may_ask, waiting, with_change}
 use Rattle.connections.specs.Waiting.{is_for}
 use Rattle.connections.specs.declared.conn.Conn.{Conn}
 use Rattle.connections.specs.declared.conn.Connection.{Connection}
@@ -36,6 +36,13 @@ was_open = refl
 
 no_place : connection_at (two_open 1) (record { key = 3; generation = 0 }) ≡ None
 no_place = refl
+
+-- there is no fourth key while the second is free
+are_open : count_of_open (two_open 1) ≡ 2
+are_open = refl
+
+no_new_key : (counts : List ℕ) → Opens (two_open 1) (record { slots = Some (first_waits (waits_for 1)) ∷ None ∷ Some (fresh 4) ∷ Some (fresh 0) ∷ []; opens = counts }) (record { key = 3; generation = 0 }) → ⊥
+no_new_key counts opens = omega (arith, opens.keys)
 
 -- who waits may not ask, and who isn't open neither
 asks : may_ask (connection_at (two_open 1) fifth) ≡ true

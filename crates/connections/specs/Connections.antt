@@ -1,6 +1,6 @@
 -- The connections of a node's clients.
-use Rattle.std.specs.Prelude.{◌≡◌, ◌≢◌, ◌+◌, ◌-◌, ◌^◌, ◌==◌, ℕ, List, [], ◌∷◌, Option, Some, None, Bool, false, map, is_none, slice_index_or, slice_set, if◌then◌else◌}
-use Rattle.slot_decision.specs.declared.asked.Asking.TheVariants.{No}
+use Rattle.std.specs.Prelude.{◌≡◌, ◌≢◌, ◌+◌, ◌-◌, ◌^◌, ◌==◌, ℕ, List, [], ◌∷◌, Option, Some, None, Bool, false, count_by, length, map, max, is_none, is_some, slice_index_or, slice_set, if◌then◌else◌}
+use Rattle.redirect.specs.declared.asked.Asking.TheVariants.{No}
 use Rattle.connections.specs.declared.conn.Conn.{Conn}
 use Rattle.connections.specs.declared.conn.Connection.{Connection}
 use Rattle.connections.specs.declared.conn.Wait.{Wait}
@@ -27,11 +27,15 @@ with_generation generation (Some connection) = if connection.generation == gener
 abbrev pub connection_at : ConnectionTable → Conn → Option Connection
 connection_at table conn = with_generation conn.generation (open_at table conn.key)
 
+-- how many connections are open
+abbrev pub count_of_open : ConnectionTable → ℕ
+count_of_open table = count_by is_some table.slots
+
 -- a connection as it begins
 abbrev pub fresh : ℕ → Connection
 fresh generation = record { generation = generation; asking = No; numbered = false; waits = None }
 
--- a free key was taken, and its generation is how often it was opened before
+-- a free key was taken, and its generation is how often it was opened before; there is a new key only where at all others a connection is open
 pub record Opens (old new : ConnectionTable) (conn : Conn) : Type 0 where
   pub free : open_at old conn.key ≡ None
   pub generation : conn.generation ≡ opens_at old conn.key
@@ -39,11 +43,14 @@ pub record Opens (old new : ConnectionTable) (conn : Conn) : Type 0 where
   pub others : (key : ℕ) → key ≢ conn.key → open_at new key ≡ open_at old key
   pub counted : opens_at new conn.key ≡ opens_at old conn.key + 1
   pub other_counts : (key : ℕ) → key ≢ conn.key → opens_at new key ≡ opens_at old key
+  pub keys : length new.slots ≡ max (length old.slots) (count_of_open new)
+  pub counted_keys : length new.opens ≡ length new.slots
 
 -- the key of the connection is free again
 pub record Closes (old new : ConnectionTable) (conn : Conn) : Type 0 where
   pub closed : open_at new conn.key ≡ None
   pub others : (key : ℕ) → key ≢ conn.key → open_at new key ≡ open_at old key
+  pub keys : length new.slots ≡ length old.slots
   pub counts : new.opens ≡ old.opens
 
 -- a free key was opened as often as can be counted

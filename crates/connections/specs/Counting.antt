@@ -1,8 +1,13 @@
--- How many connections wait.
-use Rattle.std.specs.Prelude.{ℕ, List, Option, true, count_by}
+-- What is counted of connections.
+use Rattle.std.specs.Prelude.{◌≡◌, ℕ, List, Option, true, count_by, length}
 use Rattle.connections.specs.Connections.{is_waiting}
 use Rattle.connections.specs.declared.conn.Connection.{Connection}
 
 -- how many of these wait for anything
 abbrev pub count_of_waits : List (Option Connection) → ℕ
 count_of_waits slots = count_by (is_waiting (λ wait. true)) slots
+
+-- so many wait, and each key's opens are counted
+pub record AreCounted (slots : List (Option Connection)) (opens : List ℕ) (waits : ℕ) : Type 0 where
+  pub waiting : waits ≡ count_of_waits slots
+  pub keys : length opens ≡ length slots

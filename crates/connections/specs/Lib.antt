@@ -1,3 +1,4 @@
 pub mod Connections
 pub mod Waiting
 pub mod Counting
+pub mod Places

@@ -1,8 +1,8 @@
 //! What a node knows of a connection.
 
 use key_slot::Slot;
-use slot_decision::Asking;
-use slot_moves::MoveNo;
+use redirect::Asking;
+use slot_state::MoveNo;
 
 /// The name of a connection at its node.
 #[derive(Clone, Copy, PartialEq, Eq, Debug)]

@@ -1,16 +1,16 @@
 //! The connections of a node's clients.
-ghost use Rattle.std.specs.Prelude.{◌≡◌, ◌≢◌, ◌+◌, ◌-◌, ◌^◌, ℕ, [], Some, true, is_some, IsSome, slice_index_or, MatchBool, IfOk, IfErr, OnOk, OnErr};
+ghost use Rattle.std.specs.Prelude.{◌≡◌, ◌≢◌, ◌+◌, ◌-◌, ◌^◌, ◌<◌, ◌≤◌, ℕ, max, [], Some, true, is_some, IsSome, slice_index_or, vec_capacity, vec_len, MatchBool, IfOk, IfErr, OnOk, OnErr};
 ghost use Rattle.connections.specs.Connections.{connection_at, open_at, Opens, Closes, IsUsedUp, may_ask, with_change, with_connection, waiting, all_freed, all_aged};
 ghost use Rattle.connections.specs.Waiting.{test_of};
 ghost use Rattle.connections.specs.declared.conn.Connection.{Connection};
-ghost use Rattle.slot_decision.specs.declared.asked.Asking.TheVariants.{No};
+ghost use Rattle.redirect.specs.declared.asked.Asking.TheVariants.{No};
 ghost use Rattle.step_fault.specs.declared.fault.StepFault.TheVariants.{Memory, Exhausted};
 
 use crate::conn::{Conn, Connection, Wait};
+use crate::places::Places;
 use crate::waiting::Waiting;
 use crate::walks::{age_in, free_in, waiting_in};
-use slab::Slab;
-use slot_decision::Asking;
+use redirect::Asking;
 use std::alloc::{AllocError, Global};
 use std::marker::Model;
 use step_fault::StepFault;
@@ -18,22 +18,22 @@ use step_fault::StepFault;
 /// The connections that are open, and how often each key was opened. A call that fails changes nothing.
 #[derive(Drop)]
 pub struct Connections {
-    slots: Slab<Connection>,
+    places: Places,
+    // How often each key was opened.
     opens: Vec<u64>,
     // How many connections wait. While none does, those that are open aren't looked through.
     waits: usize,
 }
 
 impl Model for Connections {
-    ghost use Rattle.std.specs.Prelude.{◌≡◌};
     ghost use Rattle.connections.specs.Connections.{ConnectionTable};
-    ghost use Rattle.connections.specs.Counting.{count_of_waits};
+    ghost use Rattle.connections.specs.Counting.{AreCounted};
 
     ghost Value = { ConnectionTable };
 
-    ghost view = { λ table. record { slots = table.slots.slots; opens = table.opens.items } };
+    ghost view = { λ table. record { slots = table.places.slots; opens = table.opens.items } };
 
-    ghost invariant = { λ table. table.waits ≡ count_of_waits table.slots.slots };
+    ghost invariant = { λ table. AreCounted table.places.slots table.opens.items table.waits };
 }
 
 impl Connections {
@@ -42,7 +42,7 @@ impl Connections {
         ensures { result ≡ record { slots = []; opens = [] } }
     {
         Connections {
-            slots: Slab::new(alloc),
+            places: Places::new(alloc),
             opens: Vec::new(alloc),
             waits: 0,
         }
@@ -52,7 +52,7 @@ impl Connections {
     pub fn get(&self, conn: Conn) -> Option<Connection>
         ensures { result ≡ connection_at self.now conn }
     {
-        match self.slots.get(conn.key) {
+        match self.places.get(conn.key) {
             Some(connection) if connection.generation == conn.generation => Some(*connection),
             _ => None,
         }
@@ -74,19 +74,19 @@ impl Connections {
         ensures err { OnErr result (self.new ≡ self.old) }
         ensures exhausted { result ≡ Err Exhausted → IsUsedUp self.old }
     {
-        let key = self.slots.vacant_key();
+        let key = self.places.next_key();
         let generation = self.opens.get(key).copied().unwrap_or(0);
         let Some(opens) = generation.checked_add(1) else {
             return Err(StepFault::Exhausted);
         };
-        self.slots.reserve(1)?;
-        set_count(&mut self.opens, key, opens)?;
-        let key = self.slots.insert_reserved(Connection {
+        self.opens.reserve(1)?;
+        let key = self.places.insert(Connection {
             generation,
             asking: Asking::No,
             numbered: false,
             waits: None,
-        });
+        })?;
+        set_count(&mut self.opens, key, opens);
         Ok(Conn { key, generation })
     }
 
@@ -101,7 +101,7 @@ impl Connections {
         if connection.waits.is_some() {
             self.waits -= 1;
         }
-        let _connection = self.slots.try_remove(conn.key);
+        self.places.remove(conn.key);
         true
     }
 
@@ -156,17 +156,17 @@ impl Connections {
         requires { IsSome (open_at self.old key) }
         ensures { self.new ≡ with_connection self.old key connection }
     {
-        let open = self.slots.len();
-        let Some(place) = self.slots.get_mut(key) else {
+        let places = self.places.len();
+        let Some(former) = self.places.get(key) else {
             return;
         };
-        let waited = place.waits.is_some();
-        *place = connection;
+        let waited = former.waits.is_some();
+        self.places.put(key, connection);
         if waited {
             self.waits -= 1;
         }
         if connection.waits.is_some() {
-            prove!(self.waits < open);
+            prove!(self.waits < places);
             self.waits += 1;
         }
     }
@@ -178,7 +178,7 @@ impl Connections {
         if self.waits == 0 {
             return Ok(Vec::new(alloc));
         }
-        waiting_in(&self.slots, alloc, which)
+        waiting_in(&self.places, alloc, which)
     }
 
     /// The connections that wait and are meant wait no more. It takes no memory.
@@ -188,7 +188,7 @@ impl Connections {
         if self.waits == 0 {
             return;
         }
-        self.waits -= free_in(&mut self.slots, which);
+        self.waits -= free_in(&mut self.places, which);
     }
 
     /// Each connection that waits has a tick less to wait, down to none. It takes no memory.
@@ -198,22 +198,21 @@ impl Connections {
         if self.waits == 0 {
             return;
         }
-        age_in(&mut self.slots);
+        age_in(&mut self.places);
     }
 }
 
-// Sets one count. Counts past the end are 0.
-fn set_count(counts: &mut Vec<u64>, key: usize, count: u64) -> Result<(), AllocError>
-    ensures set { OnOk result (slice_index_or counts.new.items key 0 ≡ count) }
-    ensures others { OnOk result ((other : ℕ) → other ≢ key → slice_index_or counts.new.items other 0 ≡ slice_index_or counts.old.items other 0) }
-    ensures err { OnErr result (counts.new.items ≡ counts.old.items) }
+// Sets the count of a key, which may be the next one.
+fn set_count(counts: &mut Vec<u64>, key: usize, count: u64)
+    requires next { key ≤ vec_len counts.old }
+    requires room { vec_len counts.old < vec_capacity counts.old }
+    ensures set { slice_index_or counts.new.items key 0 ≡ count }
+    ensures others { (other : ℕ) → other ≢ key → slice_index_or counts.new.items other 0 ≡ slice_index_or counts.old.items other 0 }
+    ensures len { vec_len counts.new ≡ max (vec_len counts.old) (key + 1) }
 {
-    if key >= counts.len() {
-        let Some(len) = key.checked_add(1) else {
-            return Err(AllocError);
-        };
-        counts.resize(len, 0)?;
+    if key == counts.len() {
+        counts.push_reserved(count);
+    } else {
+        counts[key] = count;
     }
-    counts[key] = count;
-    Ok(())
 }

@@ -3,6 +3,7 @@
 
 mod conn;
 mod connections;
+mod places;
 mod waiting;
 mod walks;
 

@@ -6,7 +6,7 @@ ghost use Rattle.connections.specs.Waiting.{test_of};
 
 use crate::conn::Wait;
 use key_slot::Slot;
-use slot_moves::MoveNo;
+use slot_state::MoveNo;
 
 /// Which of the connections that wait are meant.
 #[derive(Clone, Copy, Debug)]

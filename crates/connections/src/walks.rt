@@ -1,25 +1,27 @@
 //! Walks over all connections that are open.
-ghost use Rattle.std.specs.Prelude.{◌≡◌, ◌+◌, ◌≤◌, length, map, slice_set, IfOk};
+ghost use Rattle.std.specs.Prelude.{◌≡◌, ◌+◌, None, map, slice_index_or, slice_set, IfOk};
 ghost use Rattle.connections.specs.Connections.{aged, freed, is_waiting, shortened, waiting_from};
 ghost use Rattle.connections.specs.Counting.{count_of_waits};
 ghost use Rattle.connections.specs.Waiting.{test_of};
-ghost use Rattle.slab.specs.Slab.{get};
 
 use crate::conn::{Conn, Connection, Wait};
+use crate::places::Places;
 use crate::waiting::Waiting;
-use slab::Slab;
 use std::alloc::{AllocError, Global};
 
 // The connections that are meant, by rising key.
 pub(crate) fn waiting_in(
-    slots: &Slab<Connection>,
+    places: &Places,
     alloc: Global,
     which: &Waiting,
 ) -> Result<Vec<Conn>, AllocError>
-    ensures { IfOk result (λ conns. conns.items ≡ waiting_from 0 (test_of which.now) slots.now.slots) }
+    ensures { IfOk result (λ conns. conns.items ≡ waiting_from 0 (test_of which.now) places.now.slots) }
 {
     let mut conns = Vec::new(alloc);
-    for (key, connection) in slots.iter() {
+    for (key, slot) in places.slots().iter().enumerate() {
+        let Some(connection) = slot else {
+            continue;
+        };
         if which.is_meant(connection.waits) {
             conns.push(Conn {
                 key,
@@ -31,13 +33,13 @@ pub(crate) fn waiting_in(
 }
 
 // Lets the connections that are meant wait no more, and counts them.
-pub(crate) fn free_in(slots: &mut Slab<Connection>, which: &Waiting) -> usize
-    ensures freed { slots.new.slots ≡ map (freed (test_of which.now)) slots.old.slots }
-    ensures count { result + count_of_waits slots.new.slots ≡ count_of_waits slots.old.slots }
+pub(crate) fn free_in(places: &mut Places, which: &Waiting) -> usize
+    ensures freed { places.new.slots ≡ map (freed (test_of which.now)) places.old.slots }
+    ensures count { result + count_of_waits places.new.slots ≡ count_of_waits places.old.slots }
 {
     let mut count = 0;
-    for key in 0..end_of(slots) {
-        if free_at(slots, key, which) {
+    for key in 0..places.len() {
+        if free_at(places, key, which) {
             count += 1;
         }
     }
@@ -45,43 +47,48 @@ pub(crate) fn free_in(slots: &mut Slab<Connection>, which: &Waiting) -> usize
 }
 
 // Lets the connection with that key wait no more, if it is meant, and says whether it was.
-fn free_at(slots: &mut Slab<Connection>, key: usize, which: &Waiting) -> bool
-    ensures meant { result ≡ is_waiting (test_of which.now) (get slots.old key) }
-    ensures freed { slots.new.slots ≡ slice_set slots.old.slots key (freed (test_of which.now) (get slots.old key)) }
+fn free_at(places: &mut Places, key: usize, which: &Waiting) -> bool
+    ensures meant { result ≡ is_waiting (test_of which.now) (slice_index_or places.old.slots key None) }
+    ensures freed { places.new.slots ≡ slice_set places.old.slots key (freed (test_of which.now) (slice_index_or places.old.slots key None)) }
 {
-    let Some(connection) = slots.get_mut(key) else {
+    let Some(connection) = places.get(key).copied() else {
         return false;
     };
     if !which.is_meant(connection.waits) {
         return false;
     }
-    connection.waits = None;
+    places.put(
+        key,
+        Connection {
+            waits: None,
+            ..connection
+        },
+    );
     true
 }
 
 // Takes a tick from each wait.
-pub(crate) fn age_in(slots: &mut Slab<Connection>)
-    ensures { slots.new.slots ≡ map aged slots.old.slots }
+pub(crate) fn age_in(places: &mut Places)
+    ensures { places.new.slots ≡ map aged places.old.slots }
 {
-    for key in 0..end_of(slots) {
-        age_at(slots, key);
+    for key in 0..places.len() {
+        age_at(places, key);
     }
 }
 
 // Takes a tick from the wait of the connection with that key.
-fn age_at(slots: &mut Slab<Connection>, key: usize)
-    ensures { slots.new.slots ≡ slice_set slots.old.slots key (aged (get slots.old key)) }
+fn age_at(places: &mut Places, key: usize)
+    ensures { places.new.slots ≡ slice_set places.old.slots key (aged (slice_index_or places.old.slots key None)) }
 {
-    if let Some(connection) = slots.get_mut(key) {
-        connection.waits = shortened(connection.waits);
+    if let Some(connection) = places.get(key).copied() {
+        places.put(
+            key,
+            Connection {
+                waits: shortened(connection.waits),
+                ..connection
+            },
+        );
     }
-}
-
-// A number above the key of each connection that is open.
-fn end_of(slots: &Slab<Connection>) -> usize
-    ensures { length slots.now.slots ≤ result }
-{
-    slots.capacity()
 }
 
 // The wait with a tick less.

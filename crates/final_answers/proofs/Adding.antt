@@ -72,7 +72,7 @@ uses_adds old client (Some link) (wanted.Done answer true) outputs new after use
 uses_adds old client (Some link) (wanted.Done answer false) outputs new after uses = adds_nothing old new uses.0.0
 
 opened_adds : (old new : RunView) (node : ℕ) (conn : Option Conn) → IsOpened old node conn new → Adds old new []
-opened_adds old new node None skips = enters_adds old new node Skipped skips
+opened_adds old new node None skips = enters_adds old new node Skipped skips.enters
 opened_adds old new node (Some conn) opened = enters_adds old new node (Made Open opened.0) opened.1
 
 connected_adds : (old new : RunView) (node : ℕ) (before conn : Option Conn) → IsConnected old node before conn new → Adds old new []
@@ -151,7 +151,7 @@ pub serves_so : (old new : RunView) (node : ℕ) (conn : Conn) (words : List (Li
 serves_so old new node conn words reply outputs (inl served) = served_so old new node conn words reply outputs served
 serves_so old new node conn words reply outputs (inr skipped) = record {
   executions = [];
-  adds = enters_adds old new node Skipped skipped.skips;
+  adds = enters_adds old new node Skipped skipped.skips.enters;
   so = subst (λ (r : Option Reply). IsSo words r []) (sym skipped.replies) (by_words (is_refused words));
 }
   where

@@ -10,7 +10,7 @@ use Rattle.smart_client.specs.declared.call.Stage.{Stage}
 use Rattle.smart_client.specs.declared.call.Stage.TheVariants as stage
 use Rattle.world_run.specs.Executed.{Answered as Execution}
 use Rattle.world.specs.Asking.{AsksWell, IsSent, asking_at}
-use Rattle.world.specs.Calls.{Arrives, Carries, ComesLate, IsCarried, IsLate, IsRepliedTo, Lingers, Rests, Serves}
+use Rattle.world.specs.Calls.{Arrives, Carries, ComesLate, IsCarried, IsLate, Lingers, Rests, Serves}
 use Rattle.world.specs.Clients.{ClientView, broken_off, lost_by}
 use Rattle.world.specs.View.{RunView, is_up}
 use Rattle.world.specs.declared.client.Late.{Late}
@@ -119,32 +119,15 @@ module _ (nodes : List NodeConfig) (old new : RunView) (client after : ClientVie
             (idle_so reply shown (silent book) (ap (λ (s : Stage). execution_at s reply) at ∙ told_if reply true refuses))
         by_refusal false executed done = done_so reply shown executions at sent.0 executed done silent
 
-    -- without a reply the connection is lost
-    lost_so : (shown : List Output) → ((other : Book) → Answers shown other other) → Booked (step.Carry number) (lost_by client ++ shown) [] book client (broken_off link.node client)
-    lost_so shown silent =
-        let has = subst (HasLine book client.number client.traffic) called booked.calls in
-        told_booked (step.Carry number) (lost_by client ++ shown) book client (broken_off link.node client) refl refl
-        (breaks book client call called has link.node shown booked.late (silent (broken_book book client call called has)))
-
-    arrives_so : IsSent call call.stage words (asking_at old link) → is_refused call.words ≡ false → (reply : Option Reply) (shown : List Output) → Serves old link.node link.conn words reply shown new
-        → IsRepliedTo client link reply shown outputs after → CarriesSo
-    arrives_so sent plain (Some reply) shown serves replied =
-        let serving = serves_so old new link.node link.conn words (Some reply) shown serves in
-        let silent : (other : Book) → Answers shown other other = λ other. silent_answers shown other (served_silent old new link.node link.conn words (Some reply) shown serves) in (
+    arrives_so : IsSent call call.stage words (asking_at old link) → is_refused call.words ≡ false → (reply : Reply) → Serves old link.node link.conn words (Some reply) outputs new
+        → after ≡ record client { traffic = Answered link reply } → CarriesSo
+    arrives_so sent plain reply serves left =
+        let serving = serves_so old new link.node link.conn words (Some reply) outputs serves in
+        let silent : (other : Book) → Answers outputs other other = λ other. silent_answers outputs other (served_silent old new link.node link.conn words (Some reply) outputs serves) in (
           serving.executions,
           serving.adds,
-          subst (λ (them : List Output). Booked (step.Carry number) them serving.executions book client after) (sym replied.1)
-              (subst (λ (c : ClientView). Booked (step.Carry number) shown serving.executions book client c) (sym replied.0)
-              (replied_so reply shown serving.executions call.stage refl sent plain serving.so silent)),
-        )
-    arrives_so sent plain None shown serves replied =
-        let serving = serves_so old new link.node link.conn words None shown serves in
-        let silent : (other : Book) → Answers shown other other = λ other. silent_answers shown other (served_silent old new link.node link.conn words None shown serves) in (
-          serving.executions,
-          serving.adds,
-          subst (λ (them : List Output). Booked (step.Carry number) them serving.executions book client after) (sym replied.1)
-              (subst (λ (c : ClientView). Booked (step.Carry number) (lost_by client ++ shown) serving.executions book client c) (sym replied.0)
-              (subst (λ (them : List Execution). Booked (step.Carry number) (lost_by client ++ shown) them book client (broken_off link.node client)) (sym serving.so) (lost_so shown silent))),
+          subst (λ (c : ClientView). Booked (step.Carry number) outputs serving.executions book client c) (sym left)
+              (replied_so reply outputs serving.executions call.stage refl sent plain serving.so silent),
         )
 
   rests_so : Rests old client outputs new after → CarriesSo
@@ -157,7 +140,7 @@ module _ (nodes : List NodeConfig) (old new : RunView) (client after : ClientVie
       by_call link words is None called arrives = absurd (of_call_so nodes old client (Asked link words) is asks None called)
       by_call link words is (Some call) called arrives =
           let of_call = of_call_so nodes old client (Asked link words) is asks (Some call) called in
-          arrives_so link words is call called of_call.1 of_call.0.called.plain arrives.reply arrives.shown arrives.serves arrives.replied
+          arrives_so link words is call called of_call.1 of_call.0.called.plain arrives.reply arrives.serves arrives.left
 
       by_up : (link : Link) (words : List (List ℕ)) → client.traffic ≡ Asked link words → (up : Bool) → MatchBool up (Arrives old client link words outputs new after) (Rests old client outputs new after) → CarriesSo
       by_up link words is true arrives = by_call link words is client.core.call refl arrives

@@ -25,7 +25,7 @@ use Rattle.final_answers.proofs.Stepping.{Told, of_call_so, writes_so}
 use Rattle.final_answers.proofs.Tallies.{one_if, tally}
 use Rattle.std.specs.List.{flat_map}
 use Rattle.cluster_config.specs.Config.{IsCluster}
-use Rattle.redirection.proofs.PlaceLemmas.{position-le}
+use Rattle.cluster_config.proofs.PlaceLemmas.{position-le}
 use Rattle.std.specs.Prelude.{nat_le}
 use Rattle.single_keyspace.proofs.Seen.{same_some}
 use Rattle.final_answers.proofs.Tallies.Touches.{stays}

@@ -3,7 +3,7 @@ use Rattle.std.proofs.Common.{◌≡◌, ◌⊎◌, ◌≤◌, ◌∙◌, ◌&&�
 use Rattle.std.proofs.lemmas.Bool.{cases_Bool, eq-eqb}
 use Rattle.cluster_config.specs.declared.config.NodeConfig.{NodeConfig}
 use Rattle.resp_values.specs.declared.reply.Reply.{Reply}
-use Rattle.slot_decision.specs.declared.asked.Asking.{Asking}
+use Rattle.redirect.specs.declared.asked.Asking.{Asking}
 use Rattle.smart_client.specs.State.{ClientState}
 use Rattle.smart_client.specs.Step.{Answer, broken, without_call}
 use Rattle.smart_client.specs.Words.{is_refused}

@@ -40,7 +40,7 @@ use Rattle.world_run.specs.Executed.{answered_with, if_served}
 use Rattle.world_run.specs.Run.Deed.{Made, Skipped}
 use Rattle.world.specs.Asking.{AllAskWell}
 use Rattle.world.specs.Clients.{client_at, if_numbered, place_of}
-use Rattle.world.specs.NodeSteps.{Makes, Administers, Delivers, IsAdministered, IsDelivered, IsHeard, IsIdle, Ticks, Turns, is_admin, message_at, served_conns}
+use Rattle.world.specs.NodeSteps.{Makes, Administers, Delivers, IsAdministered, IsDelivered, IsHeard, IsIdle, Reaches, Ticks, Turns, is_admin, message_at, served_conns}
 use Rattle.world.specs.Outputs.{own_reply}
 use Rattle.world.specs.Plays.{ClientStep, IsNothing, IsOfClient, IsOfNodes, IsOfSome}
 use Rattle.world.specs.View.{SceneView}
@@ -105,18 +105,23 @@ Quietly old shown new = Adds old new [] × Silent shown
 idle_quiet : (old new : RunView) (shown : List Output) → IsIdle old shown new → Quietly old shown new
 idle_quiet old new shown idle = (adds_nothing old new idle.unchanged, subst Silent (sym idle.shows) tt)
 
+-- an event that isn't a request, made or skipped
+reach_quiet : (old new : RunView) (node : ℕ) (event : Event) (shown : List Output) → ((made : NodeOutputs) → done_by (Made event made) ≡ []) → Reaches old node event shown new → Quietly old shown new
+reach_quiet old new node event shown none (inl turns) = (idle_turn old new node event shown none turns, turn_silent old new node event shown turns)
+reach_quiet old new node event shown none (inr passed) = (enters_adds old new node Skipped passed.skips.enters, subst Silent (sym passed.shows) tt)
+
 pub ticks_quiet : (old new : RunView) (node : ℕ) (shown : List Output) → Ticks old node shown new → Quietly old shown new
 ticks_quiet old new node shown = by_up (is_up old node)
   where
-    by_up : (up : Bool) → MatchBool up (Turns old node Tick shown new) (IsIdle old shown new) → Quietly old shown new
-    by_up true turns = (idle_turn old new node Tick shown (λ made. refl) turns, turn_silent old new node Tick shown turns)
+    by_up : (up : Bool) → MatchBool up (Reaches old node Tick shown new) (IsIdle old shown new) → Quietly old shown new
+    by_up true reaches = reach_quiet old new node Tick shown (λ made. refl) reaches
     by_up false idle = idle_quiet old new shown idle
 
 pub delivers_quiet : (old new : RunView) (number : ℕ) (shown : List Output) → Delivers old number shown new → Quietly old shown new
 delivers_quiet old new number shown = by_message (message_at old.sent number)
   where
-    by_up : (message : Message) (up : Bool) → MatchBool up (Turns old message.to (Deliver message) shown new) (IsIdle old shown new) → Quietly old shown new
-    by_up message true turns = (idle_turn old new message.to (Deliver message) shown (λ made. refl) turns, turn_silent old new message.to (Deliver message) shown turns)
+    by_up : (message : Message) (up : Bool) → MatchBool up (Reaches old message.to (Deliver message) shown new) (IsIdle old shown new) → Quietly old shown new
+    by_up message true reaches = reach_quiet old new message.to (Deliver message) shown (λ made. refl) reaches
     by_up message false idle = idle_quiet old new shown idle
 
     by_message : (message : Option Message) → IsDelivered old message shown new → Quietly old shown new
@@ -163,7 +168,7 @@ administers_quiet old new node words shown = by_may (is_up old node && is_admin 
       turn_silent opened new node (Request conn words) shown turns,
     )
     heard_so opened conn refused (inr no_number) = (
-      adds_first opened no_number.after new [] (enters_adds opened no_number.after node Skipped no_number.skips) (closes_adds no_number.after new node (conn ∷ []) no_number.closes),
+      adds_first opened no_number.after new [] (enters_adds opened no_number.after node Skipped no_number.skips.enters) (closes_adds no_number.after new node (conn ∷ []) no_number.closes),
       subst Silent (sym no_number.shows) tt,
     )
 
@@ -171,7 +176,7 @@ administers_quiet old new node words shown = by_may (is_up old node && is_admin 
     administered_so refused (inl asked) =
         let heard = heard_so asked.opened asked.conn refused asked.hears in
         (adds_first old asked.opened new [] (enters_adds old asked.opened node (Made Open asked.opening) asked.opens) heard.0, heard.1)
-    administered_so refused (inr away) = (enters_adds old new node Skipped away.skips, subst Silent (sym away.shows) tt)
+    administered_so refused (inr away) = (enters_adds old new node Skipped away.skips.enters, subst Silent (sym away.shows) tt)
 
     by_may : (may : Bool) → (is_up old node && is_admin words) ≡ may → MatchBool may (IsAdministered old node words shown new) (IsIdle old shown new) → Quietly old shown new
     by_may true is made = administered_so (admin_refused words (and_parts (is_up old node) (is_admin words) is).1) made

@@ -1,5 +1,5 @@
 -- What a command comes to that was executed in the slot of its keys.
-use Rattle.slot_moves.specs.Moves.{move_of}
+use Rattle.slot_state.specs.Moves.{move_of}
 use Rattle.std.proofs.Common.{◌≡◌, ℕ, Bool, true, false, List, [], ◌∷◌, Option, Some, None, All, IfSome, arith, cond, refl, sym, ap, ◌∙◌, subst}
 use Rattle.std.specs.FinMap as fin_map
 use Rattle.std.specs.Prelude.{nat_lt}
@@ -13,7 +13,7 @@ use Rattle.keyspace.specs.Keyspace.{Keyspace}
 use Rattle.keyspace.specs.Plan.{leaves_keys}
 use Rattle.keyspace.specs.declared.plans.Plan.{Plan}
 use Rattle.resp_values.specs.declared.reply.Reply.{Reply}
-use Rattle.slot_decision.specs.declared.decision.Decision.{Decision}
+use Rattle.redirect.specs.declared.decision.Decision.{Decision}
 use Rattle.slot_store.specs.InSlot.{IsCommittedInSlot, in_slot}
 use Rattle.node_parts.specs.Becomes.{Becomes}
 use Rattle.node_parts.specs.Drafts.{Drafts}

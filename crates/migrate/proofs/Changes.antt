@@ -1,8 +1,8 @@
 -- Moves of which one is changed.
 use Rattle.std.proofs.Common.{◌≡◌, ℕ, Option, OnSome, ap, ◌∙◌}
 use Rattle.std.specs.Prelude.{Some, None}
-use Rattle.slot_moves.specs.Moves.{Moves, changed, move_of}
-use Rattle.slot_moves.specs.declared.running.Move.{Move}
+use Rattle.slot_state.specs.Moves.{Moves, changed, move_of}
+use Rattle.slot_state.specs.declared.running.Move.{Move}
 use Rattle.migrate.specs.Arriving.{changed_at}
 
 -- what holds where a part is lent holds where there is one

@@ -4,9 +4,9 @@ use Rattle.std.specs.Prelude.{Some, None, nat_le, nat_lt, nat_eq}
 use Rattle.std.specs.Cmp.Lexicographic.{pointwise}
 use Rattle.std.specs.FinMap as map
 use Rattle.std.proofs.lemmas.Bool.{eqb-true}
-use Rattle.slot_moves.specs.Moves.{Moves, move_of}
-use Rattle.slot_moves.specs.declared.running.Move.{Move}
-use Rattle.slot_moves.specs.declared.running.Move.TheVariants.{Leaves, Comes}
+use Rattle.slot_state.specs.Moves.{Moves, move_of}
+use Rattle.slot_state.specs.declared.running.Move.{Move}
+use Rattle.slot_state.specs.declared.running.Move.TheVariants.{Leaves, Comes}
 use Rattle.migrate.specs.Acknowledging.{acknowledged_key, frozen_key}
 use Rattle.migrate.specs.Arriving.{after_arrival, arrival_verdict, by_number, changed_at, counted, one_more, with_last}
 use Rattle.migrate.specs.Sending.{after_copy_order, by_frozen, copy_verdict, frozen, with_frozen}

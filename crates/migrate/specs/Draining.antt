@@ -1,8 +1,8 @@
 -- The word that a slot is drained (ours).
 use Rattle.std.specs.Prelude.{ℕ, ◌==◌, ◌&&◌, if◌then◌else◌, Some}
-use Rattle.slot_moves.specs.Moves.{Moves, move_of}
-use Rattle.slot_moves.specs.declared.running.Move.{Move}
-use Rattle.slot_moves.specs.declared.running.Move.TheVariants.{Leaves, Comes}
+use Rattle.slot_state.specs.Moves.{Moves, move_of}
+use Rattle.slot_state.specs.declared.running.Move.{Move}
+use Rattle.slot_state.specs.declared.running.Move.TheVariants.{Leaves, Comes}
 use Rattle.migrate.specs.Arriving.{changed_at}
 
 -- it is noted while the slot comes from its sender under its number of the move

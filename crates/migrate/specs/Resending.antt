@@ -1,7 +1,7 @@
 -- What is sent again of a move until it is answered (ours).
 use Rattle.std.specs.Prelude.{ℕ, List, Option, Some, None}
-use Rattle.slot_moves.specs.declared.running.Move.{Move}
-use Rattle.slot_moves.specs.declared.running.Move.TheVariants.{Leaves, Comes}
+use Rattle.slot_state.specs.declared.running.Move.{Move}
+use Rattle.slot_state.specs.declared.running.Move.TheVariants.{Leaves, Comes}
 use Rattle.migrate.specs.declared.resending.Resend.{Resend}
 use Rattle.migrate.specs.declared.resending.Resend.TheVariants.{Copy, Drained}
 

@@ -2,9 +2,9 @@
 use Rattle.std.specs.Prelude.{ℕ, ◌+◌, ◌==◌, ◌^◌, ◌-◌, nat_eq, nat_lt, Bool, if◌then◌else◌, List, Option, Some, None}
 use Rattle.std.specs.Cmp.Lexicographic.{pointwise}
 use Rattle.std.specs.FinMap as map
-use Rattle.slot_moves.specs.Moves.{Moves, move_of}
-use Rattle.slot_moves.specs.declared.running.Move.{Move}
-use Rattle.slot_moves.specs.declared.running.Move.TheVariants.{Leaves, Comes}
+use Rattle.slot_state.specs.Moves.{Moves, move_of}
+use Rattle.slot_state.specs.declared.running.Move.{Move}
+use Rattle.slot_state.specs.declared.running.Move.TheVariants.{Leaves, Comes}
 use Rattle.migrate.specs.Arriving.{changed_at}
 use Rattle.migrate.specs.declared.sending.CopyVerdict.{CopyVerdict}
 use Rattle.migrate.specs.declared.sending.CopyVerdict.TheVariants.{WrongTarget, NoKey, CopyOutstanding, Exhausted, SendAgain, Copies}

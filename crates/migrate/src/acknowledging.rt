@@ -1,12 +1,12 @@
 //! Acknowledgements of copies.
 ghost use Rattle.std.specs.Prelude.{◌≡◌, IfNone, IfSome, Some};
 ghost use Rattle.std.specs.Option.{option_copied};
-ghost use Rattle.slot_moves.specs.Moves.{move_of};
+ghost use Rattle.slot_state.specs.Moves.{move_of};
 ghost use Rattle.migrate.specs.Acknowledging.{acknowledged_key, after_ack, frozen_key, unfrozen};
 
 use byte_string::ByteString;
 use key_slot::Slot;
-use slot_moves::{Move, MoveNo, SlotMoves};
+use slot_state::{Move, MoveNo, SlotMoves};
 use slot_table::NodeNo;
 
 /// The key of the copy with that number, which that node acknowledges under that number of the move, if this copy is outstanding.

@@ -1,11 +1,11 @@
 //! What becomes of a copy that arrives.
 ghost use Rattle.std.specs.Prelude.{◌≡◌};
 ghost use Rattle.std.specs.Option.{option_copied};
-ghost use Rattle.slot_moves.specs.Moves.{move_of};
+ghost use Rattle.slot_state.specs.Moves.{move_of};
 ghost use Rattle.migrate.specs.Arriving.{arrival_verdict, after_arrival, by_number, counted, with_last};
 
 use key_slot::Slot;
-use slot_moves::{Move, MoveNo, SlotMoves};
+use slot_state::{Move, MoveNo, SlotMoves};
 use slot_table::NodeNo;
 
 /// What becomes of a copy that arrives. All but `Installs` change nothing.

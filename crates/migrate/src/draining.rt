@@ -3,7 +3,7 @@ ghost use Rattle.std.specs.Prelude.{◌≡◌};
 ghost use Rattle.migrate.specs.Draining.{after_drained, note_drained};
 
 use key_slot::Slot;
-use slot_moves::{Move, MoveNo, SlotMoves};
+use slot_state::{Move, MoveNo, SlotMoves};
 use slot_table::{Epoch, NodeNo};
 
 /// Notes that the slot is drained at that node, which had it in that epoch, if it comes from there under that number. It takes no memory.

@@ -5,7 +5,7 @@ ghost use Rattle.std.specs.Option.{option_copied};
 ghost use Rattle.migrate.specs.Losing.{after_loss, is_leaving};
 
 use key_slot::Slot;
-use slot_moves::{Move, SlotMoves};
+use slot_state::{Move, SlotMoves};
 
 /// Ends the moves in which the lost slots leave; a slot that comes stays on its way. It takes no memory.
 pub fn on_lost(moves: &mut SlotMoves, lost: &[Slot])

@@ -4,7 +4,7 @@ ghost use Rattle.std.specs.Option.{option_map};
 ghost use Rattle.migrate.specs.Resending.{resent, shown};
 
 use byte_string::ByteString;
-use slot_moves::{Move, MoveNo};
+use slot_state::{Move, MoveNo};
 use slot_table::NodeNo;
 
 /// What is sent again of a slot that leaves.

@@ -1,12 +1,12 @@
 //! What becomes of an order to copy a key to the node that its slot goes to.
 ghost use Rattle.std.specs.Prelude.{◌≡◌};
 ghost use Rattle.std.specs.Option.{option_copied};
-ghost use Rattle.slot_moves.specs.Moves.{move_of};
+ghost use Rattle.slot_state.specs.Moves.{move_of};
 ghost use Rattle.migrate.specs.Sending.{copy_verdict, after_copy_order, beside_copy, frozen, next_copy, with_frozen};
 
 use byte_string::ByteString;
 use key_slot::Slot;
-use slot_moves::{Move, MoveNo, SlotMoves};
+use slot_state::{Move, MoveNo, SlotMoves};
 use slot_table::NodeNo;
 
 /// What becomes of an order to copy a key. All but `Copies` change nothing.

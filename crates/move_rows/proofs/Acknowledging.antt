@@ -11,9 +11,9 @@ use Rattle.std.specs.Prelude.{Some, None, is_some, nat_lt}
 use Rattle.keyspace.proofs.Applied.{get_changed, is_key, same}
 use Rattle.keyspace.proofs.Parts.{get_part}
 use Rattle.keyspace.specs.Keyspace.{Keyspace}
-use Rattle.slot_moves.specs.Moves.{Moves, move_of}
-use Rattle.slot_moves.specs.declared.running.Move.{Move}
-use Rattle.slot_moves.specs.declared.running.Move.TheVariants.{Leaves, Comes}
+use Rattle.slot_state.specs.Moves.{Moves, move_of}
+use Rattle.slot_state.specs.declared.running.Move.{Move}
+use Rattle.slot_state.specs.declared.running.Move.TheVariants.{Leaves, Comes}
 use Rattle.migrate.proofs.Verdicts.{acknowledged_is_frozen}
 use Rattle.migrate.specs.Acknowledging.{acknowledged_key, after_ack, frozen_key, unfrozen}
 use Rattle.migrate.specs.Arriving.{changed_at}

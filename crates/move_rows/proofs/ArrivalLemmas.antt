@@ -17,7 +17,7 @@ use Rattle.node_step.specs.Copies.{ack_by, arrival, arrived, keeps_limits}
 use Rattle.node_step.specs.Outcome.{silent}
 use Rattle.node_step.specs.State.{NodeState}
 use Rattle.node_step.specs.declared.outputs.Release.{Release}
-use Rattle.slot_moves.specs.Moves.{move_of}
+use Rattle.slot_state.specs.Moves.{move_of}
 
 module _ (old : NodeState) (epoch from slot number copy : ℕ) (key : List ℕ) (value : Value) (fits : Bool) (verdict : ArrivalVerdict) (released : List Release) (bodies : List (ℕ × Body)) (plan : Plan) (draft : Draft)
     (is : verdict ≡ arrival_verdict (move_of old.moves slot) from number copy fits) (limits : fits ≡ keeps_limits key value) (none : released ≡ []) (words : bodies ≡ ack_by from slot number copy verdict) where

@@ -11,29 +11,29 @@ use Rattle.bus.specs.declared.message.Body.TheVariants.{Claim, Drained}
 use Rattle.connections.specs.declared.conn.Conn.{Conn}
 use Rattle.resp_values.specs.declared.reply.Reply.{Reply}
 use Rattle.keyspace.specs.declared.plans.Plan.{Plan}
-use Rattle.slot_moves.specs.Importing.{after_import, import_verdict}
-use Rattle.slot_moves.specs.Migrating.{after_migrate, migrate_verdict}
-use Rattle.slot_moves.specs.Moves.{last_move_of, move_of}
-use Rattle.slot_moves.specs.Numbers.{is_named}
-use Rattle.slot_moves.specs.declared.importing.ImportVerdict.{ImportVerdict}
-use Rattle.slot_moves.specs.declared.importing.ImportVerdict.TheVariants as import
-use Rattle.slot_moves.specs.declared.migrating.MigrateVerdict.{MigrateVerdict}
-use Rattle.slot_moves.specs.declared.migrating.MigrateVerdict.TheVariants as migrate
-use Rattle.slot_moves.specs.declared.ending.NodeVerdict.TheVariants.{Ends as IsOver}
-use Rattle.slot_moves.specs.declared.running.Move.{Move}
-use Rattle.slot_moves.specs.declared.running.Move.TheVariants.{Comes, Leaves}
+use Rattle.slot_state.specs.Importing.{after_import, import_verdict}
+use Rattle.slot_state.specs.Migrating.{after_migrate, migrate_verdict}
+use Rattle.slot_state.specs.Moves.{last_move_of, move_of}
+use Rattle.slot_state.specs.Numbers.{is_named}
+use Rattle.slot_state.specs.declared.importing.ImportVerdict.{ImportVerdict}
+use Rattle.slot_state.specs.declared.importing.ImportVerdict.TheVariants as import
+use Rattle.slot_state.specs.declared.migrating.MigrateVerdict.{MigrateVerdict}
+use Rattle.slot_state.specs.declared.migrating.MigrateVerdict.TheVariants as migrate
+use Rattle.slot_state.specs.declared.ending.NodeVerdict.TheVariants.{Ends as IsOver}
+use Rattle.slot_state.specs.declared.running.Move.{Move}
+use Rattle.slot_state.specs.declared.running.Move.TheVariants.{Comes, Leaves}
 use Rattle.slot_table.proofs.MergeLemmas.{filter_more_range}
-use Rattle.slot_table.specs.Runs.{AreRunsOf}
+use Rattle.slot_table.specs.Runs.{runs_of}
 use Rattle.slot_table.specs.Table.{claim_at}
 use Rattle.slot_table.specs.declared.runs.Run.{Run}
-use Rattle.slot_moves.specs.declared.order.Order.{Order}
-use Rattle.slot_moves.specs.declared.order.Standing.{Standing}
+use Rattle.slot_state.specs.declared.order.Order.{Order}
+use Rattle.slot_state.specs.declared.order.Standing.{Standing}
 use Rattle.node_parts.specs.Becomes.{Becomes, ending}
 use Rattle.node_parts.specs.Drafts.{Drafts, at_epoch}
 use Rattle.move_rows.specs.Orders.{Gives, import_change, migrate_change}
 use Rattle.node_parts.specs.declared.change.Change.{Change}
 use Rattle.node_parts.specs.declared.draft.Draft.{Draft}
-use Rattle.node_step.specs.Orders.{done, drained_at_start, import_reply, importing, migrate_reply, migrating, new_epoch, others, to_all, with_moves, with_slot}
+use Rattle.node_step.specs.Orders.{claim_of, done, drained_at_start, import_reply, importing, migrate_reply, migrating, new_epoch, others, to_all, with_moves, with_slot}
 use Rattle.node_step.specs.Outcome.{replied, replied_sending}
 use Rattle.node_step.specs.Requests.{using_up}
 use Rattle.node_step.specs.Slots.{drained_by, has_keys, slot_epoch}
@@ -172,17 +172,15 @@ module _ (old : NodeState) (conn : Conn) (order : Order) (plan : Plan) where
 -- an import that ends in the new epoch is answered with the claim
 pub end_drafted : (old : NodeState) (conn : Conn) (slot drained epoch : ℕ) (claim : List (Run ℕ)) (reply : Reply) (bodies : List (ℕ × Body)) (draft : Draft)
     → epoch ≡ new_epoch old slot drained → new_epoch old slot drained < 2 ^ 64
-    → AreRunsOf (claim_at (slice_set old.table slot (Some (record { epoch = epoch; owner = old.number }))) old.number) claim → reply ≡ done → bodies ≡ to_all (others old) (Claim claim)
+    → claim ≡ runs_of (claim_at (slice_set old.table slot (Some (record { epoch = epoch; owner = old.number }))) old.number) → reply ≡ done → bodies ≡ to_all (others old) (Claim claim)
     → ((after : NodeState) → after ≡ ending (at_epoch old epoch) conn slot epoch → Drafts old (replied_sending after (Ends (IsOver drained)) reply bodies) draft)
     → Gives old conn slot (IsOver drained) draft
 end_drafted old conn slot drained epoch claim reply bodies draft next below runs replies words drafts =
     let after = with_slot (using_up old conn) slot epoch in
-    let said : Drafts old (replied_sending after (Ends (IsOver drained)) done (to_all (others old) (Claim claim))) draft =
-    subst (λ (sent : List (ℕ × Body)). Drafts old (replied_sending after (Ends (IsOver drained)) done sent) draft) words
+    let said : Drafts old (replied_sending after (Ends (IsOver drained)) done (to_all (others old) (Claim (claim_of after)))) draft =
+    subst (λ (sent : List (ℕ × Body)). Drafts old (replied_sending after (Ends (IsOver drained)) done sent) draft) (words ∙ ap (λ (runs : List (Run ℕ)). to_all (others old) (Claim runs)) runs)
     (subst (λ r. Drafts old (replied_sending after (Ends (IsOver drained)) r bodies) draft) replies (drafts after refl)) in
     record {
-      claim = claim;
-      is_claim = subst (λ e. AreRunsOf (claim_at (slice_set old.table slot (Some (record { epoch = e; owner = old.number }))) old.number) claim) next runs;
       epoch = lt-ltb (new_epoch old slot drained) (2 ^ 64) below;
-      drafts = subst (λ e. Drafts old (replied_sending (with_slot (using_up old conn) slot e) (Ends (IsOver drained)) done (to_all (others old) (Claim claim))) draft) next said;
+      drafts = subst (λ e. Drafts old (replied_sending (with_slot (using_up old conn) slot e) (Ends (IsOver drained)) done (to_all (others old) (Claim (claim_of (with_slot (using_up old conn) slot e))))) draft) next said;
     }

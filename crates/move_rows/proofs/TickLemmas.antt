@@ -11,7 +11,7 @@ use Rattle.node_step.specs.State.{NodeState}
 use Rattle.node_step.specs.Ticks.{older, sent_again, tick}
 use Rattle.node_step.specs.declared.outputs.Release.{Release}
 use Rattle.resp_values.specs.declared.reply.Reply.{Reply}
-use Rattle.slot_moves.specs.Moves.{running_moves}
+use Rattle.slot_state.specs.Moves.{running_moves}
 
 -- who waited as long as wanted is told, and copies are sent again
 pub tick_drafted : (old : NodeState) (epoch : ℕ) (reply : Reply) (released : List Release) (bodies : List (ℕ × Body)) (draft : Draft) → epoch ≡ old.current_epoch → reply ≡ error line.NotAcknowledged

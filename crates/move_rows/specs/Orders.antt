@@ -1,34 +1,29 @@
 -- Orders that give a slot to a node, as the parts of a node say it of themselves.
-use Rattle.std.specs.Prelude.{◌≡◌, ℕ, true, List, Option}
+use Rattle.std.specs.Prelude.{◌≡◌, ℕ, true, Option}
 use Rattle.connections.specs.declared.conn.Conn.{Conn}
-use Rattle.slot_moves.specs.declared.ending.NodeVerdict.{NodeVerdict}
-use Rattle.slot_moves.specs.declared.importing.ImportVerdict.{ImportVerdict}
-use Rattle.slot_moves.specs.declared.importing.ImportVerdict.TheVariants as importing
-use Rattle.slot_moves.specs.declared.migrating.MigrateVerdict.{MigrateVerdict}
-use Rattle.slot_moves.specs.declared.migrating.MigrateVerdict.TheVariants as migrating
+use Rattle.slot_state.specs.declared.ending.NodeVerdict.{NodeVerdict}
+use Rattle.slot_state.specs.declared.importing.ImportVerdict.{ImportVerdict}
+use Rattle.slot_state.specs.declared.importing.ImportVerdict.TheVariants as importing
+use Rattle.slot_state.specs.declared.migrating.MigrateVerdict.{MigrateVerdict}
+use Rattle.slot_state.specs.declared.migrating.MigrateVerdict.TheVariants as migrating
 use Rattle.node_parts.specs.declared.change.Change.{Change}
 use Rattle.node_parts.specs.declared.change.Change.TheVariants.{Asks, Imports, Migrates}
-use Rattle.slot_table.specs.declared.runs.Run.{Run}
 use Rattle.node_parts.specs.Drafts.{Drafts}
 use Rattle.node_parts.specs.declared.draft.Draft.{Draft}
 use Rattle.node_step.specs.Orders.{ending_outcome}
-use Rattle.node_step.specs.Requests.{IsClaimAfter, Listing, MayClaim, has_epoch, has_order_number, order_outcome, using_up}
+use Rattle.node_step.specs.Requests.{has_epoch, has_order_number, order_outcome, using_up}
 use Rattle.command_table.specs.declared.command.SlotOrder.{SlotOrder}
 use Rattle.node_step.specs.State.{NodeState}
 
--- the order was answered by the verdict on it, with some claim
+-- the order was answered by the verdict on it
 pub record Gives (old : NodeState) (conn : Conn) (slot : ℕ) (verdict : NodeVerdict) (draft : Draft) : Type 0 where
-  pub claim : List (Run ℕ)
-  pub is_claim : IsClaimAfter (using_up old conn) slot claim verdict
   pub epoch : has_epoch (using_up old conn) slot verdict ≡ true
-  pub drafts : Drafts old (ending_outcome (using_up old conn) slot claim verdict) draft
+  pub drafts : Drafts old (ending_outcome (using_up old conn) slot verdict) draft
 
--- the order to move a slot was obeyed or refused, with some claim
+-- the order to move a slot was obeyed or refused
 pub record Obeys (old : NodeState) (conn : Conn) (slot : ℕ) (order : SlotOrder) (node number : Option ℕ) (draft : Draft) : Type 0 where
-  pub listing : Listing
-  pub may_claim : MayClaim (using_up old conn) slot order node number listing.claim
   pub has_number : has_order_number (using_up old conn) slot order node number ≡ true
-  pub drafts : Drafts old (order_outcome (using_up old conn) slot order node number listing) draft
+  pub drafts : Drafts old (order_outcome (using_up old conn) slot order node number) draft
 
 -- ---- what an order changes, by the verdict on it
 

@@ -13,7 +13,7 @@ use keyspace::{Store, Value, value_fits};
 use migrate::{ArrivalVerdict, acknowledged_key, arrival_verdict};
 use node_parts::{Change, Draft, NodeParts, listed};
 use node_step::Releases;
-use slot_moves::MoveNo;
+use slot_state::MoveNo;
 use slot_store::{SlotKeys, SlotParts};
 use slot_table::{Epoch, NodeNo};
 use std::alloc::AllocError;

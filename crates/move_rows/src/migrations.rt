@@ -19,7 +19,7 @@ use migrate::{CopyVerdict, copy_verdict};
 use node_parts::{Change, Draft, NodeParts, listed};
 use node_step::{StepFault, Why};
 use resp_values::{Line, Reply};
-use slot_moves::MoveNo;
+use slot_state::MoveNo;
 use slot_store::{SlotKeys, SlotParts};
 use slot_table::NodeNo;
 use std::alloc::AllocError;

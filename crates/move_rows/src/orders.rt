@@ -7,10 +7,10 @@ ghost use Rattle.node_step.specs.Orders.{done, drained_at_start, ending_reply, e
 ghost use Rattle.node_step.specs.Requests.{has_epoch, has_order_number, using_up};
 ghost use Rattle.node_step.specs.Slots.{has_keys, slot_epoch};
 ghost use Rattle.node_step.specs.State.{standing};
-ghost use Rattle.slot_moves.specs.Importing.{import_verdict};
-ghost use Rattle.slot_moves.specs.Migrating.{after_migrate, migrate_verdict};
-ghost use Rattle.slot_moves.specs.Moves.{last_move_of, move_of};
-ghost use Rattle.slot_table.specs.Runs.{AreRunsOf};
+ghost use Rattle.slot_state.specs.Importing.{import_verdict};
+ghost use Rattle.slot_state.specs.Migrating.{after_migrate, migrate_verdict};
+ghost use Rattle.slot_state.specs.Moves.{last_move_of, move_of};
+ghost use Rattle.slot_table.specs.Runs.{runs_of};
 ghost use Rattle.slot_table.specs.Table.{claim_at};
 
 use bus::Body;
@@ -20,7 +20,7 @@ use key_slot::Slot;
 use node_parts::{Change, Draft, NodeParts, listed};
 use node_step::{StepFault, Why};
 use resp_values::{Line, Reply};
-use slot_moves::{ImportVerdict, MigrateVerdict, MoveNo, NodeVerdict, Order, epoch_after_import};
+use slot_state::{ImportVerdict, MigrateVerdict, MoveNo, NodeVerdict, Order, epoch_after_import};
 use slot_store::{SlotKeys, SlotParts};
 use slot_table::{Claim, Epoch, NodeNo, SlotEntry};
 use std::alloc::AllocError;
@@ -221,7 +221,7 @@ fn claim_with<S: SlotParts + SlotKeys>(
     slot: Slot,
     epoch: Epoch,
 ) -> Result<Claim, AllocError>
-    ensures { IfOk result (λ claim. AreRunsOf (claim_at (slice_set node.now.table slot (Some (record { epoch = epoch; owner = node.now.number }))) node.now.number) claim) }
+    ensures { IfOk result (λ claim. claim ≡ runs_of (claim_at (slice_set node.now.table slot (Some (record { epoch = epoch; owner = node.now.number }))) node.now.number)) }
 {
     let owner = node.number;
     let mut table = node.table.clone()?;

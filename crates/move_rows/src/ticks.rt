@@ -1,9 +1,12 @@
 //! Ticks of a node's time: waits end, and what is not acknowledged is sent again.
-ghost use Rattle.std.specs.Prelude.{◌≡◌, IfOk, OnOk};
+ghost use Rattle.std.specs.Prelude.{◌≡◌, Err, IfOk, OnOk};
 ghost use Rattle.std.specs.List.{flat_map};
 ghost use Rattle.node_parts.specs.Drafts.{Drafts, HasNothing, bodies_of};
+ghost use Rattle.node_step.specs.Numbers.{NoNumberLeft};
 ghost use Rattle.node_step.specs.Ticks.{sent_again, tick};
-ghost use Rattle.slot_moves.specs.Moves.{running_moves};
+ghost use Rattle.node_step.specs.declared.event.Event.TheVariants.{Tick};
+ghost use Rattle.slot_state.specs.Moves.{running_moves};
+ghost use Rattle.step_fault.specs.declared.fault.StepFault.TheVariants.{Exhausted};
 
 use crate::migrations::copy_of;
 use bus::Body;
@@ -12,7 +15,8 @@ use connections::Waiting;
 use key_slot::Slot;
 use migrate::{Resend, resent};
 use node_parts::{Change, Draft, NodeParts};
-use slot_moves::Move;
+use node_step::StepFault;
+use slot_state::Move;
 use slot_store::{SlotKeys, SlotParts};
 use slot_table::NodeNo;
 use std::alloc::AllocError;
@@ -21,9 +25,10 @@ use std::alloc::AllocError;
 pub fn tick<S: SlotParts + SlotKeys>(
     node: &NodeParts<S>,
     draft: &mut Draft,
-) -> Result<(), AllocError>
+) -> Result<(), StepFault>
     requires { HasNothing node.now draft.old }
-    ensures { OnOk result (Drafts node.now (tick node.now) draft.new) }
+    ensures draft { OnOk result (Drafts node.now (tick node.now) draft.new) }
+    ensures exhausted { result ≡ Err Exhausted → NoNumberLeft node.now Tick }
 {
     let reply = ErrorLine::NotAcknowledged.reply();
     let released = node.releases(&Waiting::Over, &reply)?;

@@ -3,7 +3,7 @@ use Rattle.std.specs.Prelude.{◌≡◌, ◌<◌, ◌≤◌, ◌^◌, ◌⊎◌,
 use Rattle.std.specs.List.{Contains, flat_map}
 use Rattle.cluster_config.specs.Config.{ClusterConfig}
 use Rattle.node_step.specs.Numbers.{NoNumberLeft}
-use Rattle.node_step.specs.State.{NodeState}
+use Rattle.node_step.specs.State.{NodeState, first_state}
 use Rattle.node_step.specs.Step.{NodeStep}
 use Rattle.node_step.specs.declared.event.Event.{Event}
 use Rattle.node_step.specs.declared.event.Event.TheVariants.{Deliver}
@@ -68,6 +68,12 @@ Leads old (Skipped ticket) new = new ≡ old
 abbrev pub IsHistory : NodeState → List Entry → NodeState → Type 0
 IsHistory first [] last = last ≡ first
 IsHistory first (entry ∷ entries) last = (next : NodeState) × Leads first entry next × IsHistory next entries last
+
+-- a node of the cluster comes to the state from its first one, by the steps of the journal
+pub record IsReachable (config : ClusterConfig) (journal : List Entry) (state : NodeState) : Type 0 where
+  pub number : ℕ
+  pub is_node : number < length config.nodes
+  pub history : IsHistory (first_state config number) journal state
 
 -- each number is greater than all before it
 abbrev pub Rises : List ℕ → Type 0

@@ -1,5 +1,5 @@
 //! What was asked of a node through one gate.
-ghost use Rattle.std.specs.Prelude.{◌≡◌, ◌++◌, ◌∷◌, [], IfOk, IfErr};
+ghost use Rattle.std.specs.Prelude.{◌≡◌, ◌<◌, ◌++◌, ◌∷◌, [], length, IfOk, IfErr};
 ghost use Rattle.node_cell.specs.Asks.{noted};
 ghost use Rattle.node_gate.specs.Asks.{outcome_of, IsOwn};
 ghost use Rattle.node_gate.specs.Asks.Asked.{asking, waiting};
@@ -13,7 +13,7 @@ use crate::log::Log;
 use history::History;
 use node_core::{Conn, Event, Outputs, StepFault};
 use resp_values::Reply;
-use std::marker::Model;
+use std::marker::{Model, PhantomData};
 use std::snapshot::Snapshot;
 
 // What was asked of a node, and what came of it.
@@ -38,14 +38,18 @@ impl Model for Asking {
     ghost view = { λ asking. noted asking.note };
 }
 
-/// What was asked of a node through one gate: the events that were given to it and the replies that were waited for, each with
-/// what came of it. Only proofs read it.
+/// What was asked of a node of the cluster `K` through one gate: the events that were given to it and the replies that were waited
+/// for, each with what came of it. Only proofs read it.
+///
+/// Nobody asks a node but by this, and it begins with an [`Admission`](crate::Admission) alone. So a gate that says what was asked
+/// through it says all that it asked.
 #[derive(Drop)]
-pub struct Asks {
+pub struct Asks<K: Deployment> {
     asked: History<Asking>,
+    cluster: PhantomData<K>,
 }
 
-impl Model for Asks {
+impl<K: Deployment> Model for Asks<K> {
     ghost use Rattle.std.specs.Prelude.{List};
     ghost use Rattle.node_gate.specs.Asks.{Asked};
 
@@ -54,18 +58,22 @@ impl Model for Asks {
     ghost view = { λ asks. asks.asked };
 }
 
-impl Asks {
-    /// Nothing was asked.
-    pub fn new() -> Asks
+impl<K: Deployment> Asks<K> {
+    // Nothing was asked.
+    pub(crate) fn new() -> Asks<K>
         ensures { result ≡ [] }
     {
         Asks {
             asked: History::new(),
+            cluster: PhantomData,
         }
     }
 
-    /// Has the node make its step for an event that is no message, as [`NodeCell::apply`] does, and notes what came of it.
-    pub fn ask_node<K: Deployment, L: Log>(
+    /// Has the node make its step for an event that is no message, and notes what came of it: one ticket, one step, one entry.
+    ///
+    /// Memory and Exhausted leave the node as it was. A refusal before a ticket was drawn leaves no entry; a refusal after
+    /// that leaves the ticket as skipped.
+    pub fn ask_node<L: Log>(
         &mut self,
         cell: &mut NodeCell<K, L>,
         event: Event,
@@ -73,6 +81,7 @@ impl Asks {
         requires own { IsOwn event }
         ensures asked { self.new ≡ self.old ++ asking event (outcome_of (λ entered. entered.outputs) result) ∷ [] }
         ensures cluster { cell.old.config ≡ K.config }
+        ensures number { cell.old.node < length cell.old.config.nodes }
         ensures history { IsHistory (first_state cell.old.config cell.old.node) cell.old.journal cell.old.state }
         ensures ok { IfOk result (λ entered. Enters cell.old event entered cell.new) }
         ensures err { IfErr result (λ fault. IsRefused cell.old event fault cell.new) }

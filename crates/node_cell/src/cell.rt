@@ -43,7 +43,7 @@ pub struct NodeCell<K: Deployment, L: Log> {
 }
 
 impl<K: Deployment, L: Log> Model for NodeCell<K, L> {
-    ghost use Rattle.std.specs.Prelude.{◌≡◌, ℕ, All};
+    ghost use Rattle.std.specs.Prelude.{◌≡◌, ◌<◌, ℕ, All, length};
     ghost use Rattle.node_step.specs.CodedState.{coded_state};
     ghost use Rattle.std.specs.Coded.{codes};
     ghost use Rattle.tickets.specs.Tickets.{drawn, table_of, seats_of};
@@ -59,11 +59,12 @@ impl<K: Deployment, L: Log> Model for NodeCell<K, L> {
 
     ghost invariant = { λ cell. IsJournal (first_state cell.config cell.node) (L.entries cell.log) cell.core (drawn cell.seat)
         × All (IsGiven (L.entries cell.log)) (joined cell.undelivered.items)
-        × (cell.config ≡ K.config) × (table_of cell.seat ≡ K.table) × (seats_of cell.seat ≡ K.seats) };
+        × (cell.config ≡ K.config) × (table_of cell.seat ≡ K.table) × (seats_of cell.seat ≡ K.seats)
+        × (cell.node < length cell.config.nodes) };
 }
 
 impl<K: Deployment, L: Log> NodeCell<K, L> {
-    /// The node of this number, as it begins, with a seat of its cluster that has drawn nothing.
+    /// The node of this number, which is one of the configuration, as it begins, with a seat of its cluster that has drawn nothing.
     pub fn new(
         alloc: Global,
         config: &Config,
@@ -71,6 +72,7 @@ impl<K: Deployment, L: Log> NodeCell<K, L> {
         seat: Seat,
     ) -> Result<NodeCell<K, L>, AllocError>
         requires cluster { config.now ≡ K.config }
+        requires number { node < length config.now.nodes }
         requires seat { IsFresh K.table K.seats seat }
         ensures { IfOk result (λ cell. cell ≡ record { config = config.now; node = node; state = first_state config.now node; journal = []; undelivered = []; outbox = [] }) }
     {
@@ -87,13 +89,11 @@ impl<K: Deployment, L: Log> NodeCell<K, L> {
         })
     }
 
-    /// Makes the node's step for an event that is no message: one ticket, one step, one entry.
-    ///
-    /// Memory and Exhausted leave the node as it was. A refusal before a ticket was drawn leaves no entry; a refusal after
-    /// that leaves the ticket as skipped.
-    pub fn apply(&mut self, event: Event) -> Result<Entered<K>, StepFault>
+    /// Makes the node's step for an event that is no message, as [`Asks`](crate::Asks) has it made.
+    pub(crate) fn apply(&mut self, event: Event) -> Result<Entered<K>, StepFault>
         requires own { IsOwn event }
         ensures cluster { self.old.config ≡ K.config }
+        ensures number { self.old.node < length self.old.config.nodes }
         ensures history { IsHistory (first_state self.old.config self.old.node) self.old.journal self.old.state }
         ensures ok { IfOk result (λ entered. Enters self.old event entered self.new) }
         ensures err { IfErr result (λ fault. IsRefused self.old event fault self.new) }
@@ -105,7 +105,7 @@ impl<K: Deployment, L: Log> NodeCell<K, L> {
         }
     }
 
-    /// Delivers a message to the node: one ticket, one step, one entry, as [`apply`](NodeCell::apply) has it.
+    /// Delivers a message to the node: one ticket, one step, one entry, as for any other event.
     ///
     /// A message is older than its delivery. One that isn't, as the tickets tell it, is `Early`, and its ticket is entered as
     /// skipped.
@@ -118,6 +118,7 @@ impl<K: Deployment, L: Log> NodeCell<K, L> {
 
     fn take_event(&mut self, event: Event) -> Result<Entered<K>, DeliveryFault>
         ensures cluster { self.old.config ≡ K.config }
+        ensures number { self.old.node < length self.old.config.nodes }
         ensures history { IsHistory (first_state self.old.config self.old.node) self.old.journal self.old.state }
         ensures ok { IfOk result (λ entered. Enters self.old event entered self.new) }
         ensures err { IfErr result (λ fault. IsNotTaken self.old event fault self.new) }
@@ -144,9 +145,17 @@ impl<K: Deployment, L: Log> NodeCell<K, L> {
         }
     }
 
+    /// The number of the node in the configuration of its cluster.
+    pub fn number(&self) -> NodeNo
+        ensures { result ≡ self.now.node }
+    {
+        self.node
+    }
+
     /// Takes the first reply that waits for the connection.
     pub fn take_reply(&mut self, conn: Conn) -> Option<Reply>
         ensures cluster { self.old.config ≡ K.config }
+        ensures number { self.old.node < length self.old.config.nodes }
         ensures history { IsHistory (first_state self.old.config self.old.node) self.old.journal self.old.state }
         ensures given { IfSome result (λ reply. IsGiven self.old.journal (record { conn = conn; reply = reply })) }
         ensures reply { result ≡ reply_to conn self.old.undelivered }

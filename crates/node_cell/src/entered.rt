@@ -7,7 +7,7 @@ use node_gate::Answered;
 use std::marker::{Model, PhantomData};
 use std::snapshot::Snapshot;
 
-/// A step that a cell of this cluster made and entered. Only [`apply`](crate::NodeCell::apply) makes one.
+/// A step that a cell of this cluster made and entered. Only [`Asks`](crate::Asks) and [`deliver`](crate::NodeCell::deliver) make one.
 ///
 /// Clauses also see the event and all that came out. The program keeps the ticket and the response here.
 #[derive(Drop)]

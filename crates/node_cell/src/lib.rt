@@ -1,6 +1,7 @@
 //! A node with its journal: each step draws one ticket and is entered once.
 #![tactic(auto)]
 
+mod admission;
 mod asks;
 mod cell;
 mod delivery;
@@ -10,6 +11,7 @@ mod entry;
 mod log;
 mod undelivered;
 
+pub use admission::Admission;
 pub use asks::Asks;
 pub use cell::NodeCell;
 pub use delivery::DeliveryFault;

@@ -3,7 +3,7 @@ use Rattle.std.proofs.Common.{◌≡◌, ℕ, true, false, List, [], Option, Som
 use Rattle.std.specs.List.{position}
 use Rattle.std.specs.Str.{bytes_eq}
 use Rattle.cluster_config.specs.declared.config.NodeConfig.{NodeConfig}
-use Rattle.std.specs.Prelude.{MatchBool, max, Ok, Err, is_none, is_some}
+use Rattle.std.specs.Prelude.{MatchBool, OnOk, Result, max, Ok, Err, is_none, is_some}
 use Rattle.resp_values.specs.declared.reply.Reply.{Reply}
 use Rattle.command_table.specs.Table.{command_of}
 use Rattle.command_table.specs.declared.command.ClusterCommand.{ClusterCommand}
@@ -18,16 +18,16 @@ use Rattle.connections.specs.Connections.{Closes, ConnectionTable, Opens, connec
 use Rattle.connections.specs.declared.conn.Conn.{Conn}
 use Rattle.connections.specs.declared.conn.Connection.{Connection}
 use Rattle.connections.specs.declared.conn.Wait.{Wait}
-use Rattle.slot_decision.specs.declared.asked.Asking.{Asking as AskingFor}
+use Rattle.redirect.specs.declared.asked.Asking.{Asking as AskingFor}
 use Rattle.bus.specs.declared.message.Body.TheVariants.{Drained}
 use Rattle.bus.specs.declared.message.Message.{Message}
-use Rattle.node_step.specs.Outcome.{outputs_of, replied, silent}
+use Rattle.node_step.specs.Outcome.{no_outputs, outputs_of, replied, silent}
 use Rattle.node_step.specs.Commands.{command_outcome, decision_on}
 use Rattle.node_step.specs.Copies.{copy_outcome, copy_verdict_on, is_at, noted}
 use Rattle.node_step.specs.Messages.{delivered, knowing, taken}
 use Rattle.node_step.specs.Orders.{done}
 use Rattle.node_step.specs.Outcome.{error}
-use Rattle.node_step.specs.Requests.{Listing, asking_for, asking_of, at_connection, has_copy_number, has_number, has_order_number, is_numbered, node_with_id, request_outcome, using_up, with_numbers}
+use Rattle.node_step.specs.Requests.{asking_for, asking_of, at_connection, has_copy_number, has_number, has_order_number, is_numbered, node_with_id, request_outcome, using_up, with_numbers}
 use Rattle.node_step.specs.Ticks.{tick}
 use Rattle.node_step.specs.State.{NodeState}
 use Rattle.node_step.specs.Step.{NodeStep}
@@ -35,15 +35,12 @@ use Rattle.node_step.specs.declared.event.Event.TheVariants.{Close, Deliver, Ope
 use Rattle.node_step.specs.declared.outputs.Outputs.{Outputs}
 use Rattle.node_step.specs.declared.response.Response.TheVariants.{Opened}
 use Rattle.node_step.specs.declared.response.Why.TheVariants.{NotACommand, Reported, Told}
+use Rattle.step_fault.specs.declared.fault.StepFault.{StepFault}
 use Rattle.node_core.specs.Comes.{AnswersSo}
 use Rattle.node_parts.specs.Drafts.{Drafts, IsDraftOf, at_epoch}
 use Rattle.node_parts.specs.declared.draft.Draft.{Draft}
 use Rattle.move_rows.specs.Orders.{Obeys}
 use Rattle.report_rows.specs.Questions.{IsReport, is_question}
-
--- no listing is needed
-none : Listing
-none = record { owners = []; claim = [] }
 
 -- the reply to a question is the report that was made
 module _ (old : NodeState) (conn : Conn) (reply : Reply) (draft : Draft) (drafts : Drafts old (replied (using_up old conn) Reported reply) draft) where
@@ -51,12 +48,12 @@ module _ (old : NodeState) (conn : Conn) (reply : Reply) (draft : Draft) (drafts
   same other is = subst (λ r. Drafts old (replied (using_up old conn) Reported r) draft) is drafts
 
   pub question_answered : (question : ClusterCommand) → is_question question ≡ true → IsReport old question reply → AnswersSo old conn (Ok (Cluster question)) draft
-  question_answered (KeySlot key) asks is = record { listing = none; may_list = tt; number = refl; drafts = same _ is }
-  question_answered MyId asks is = record { listing = none; may_list = tt; number = refl; drafts = same _ is }
-  question_answered Slots asks is = record { listing = record { owners = is.runs; claim = [] }; may_list = is.are_runs; number = refl; drafts = same _ is.reply_is }
-  question_answered (CountKeysInSlot slot) asks is = record { listing = none; may_list = tt; number = refl; drafts = same _ is }
-  question_answered (GetKeysInSlot slot count) asks is = record { listing = none; may_list = tt; number = refl; drafts = same _ is }
-  question_answered (SlotState slot) asks is = record { listing = none; may_list = tt; number = refl; drafts = same _ is }
+  question_answered (KeySlot key) asks is = record { number = refl; drafts = same _ is }
+  question_answered MyId asks is = record { number = refl; drafts = same _ is }
+  question_answered Slots asks is = record { number = refl; drafts = same _ is }
+  question_answered (CountKeysInSlot slot) asks is = record { number = refl; drafts = same _ is }
+  question_answered (GetKeysInSlot slot count) asks is = record { number = refl; drafts = same _ is }
+  question_answered (SlotState slot) asks is = record { number = refl; drafts = same _ is }
   question_answered (SetSlot slot order target number) asks is = absurd is
   question_answered Numbered asks is = absurd is
   question_answered (Asking number) asks is = absurd is
@@ -68,7 +65,7 @@ pub order_answered : (old : NodeState) (conn : Conn) (slot : ℕ) (order : SlotO
 order_answered old conn slot order id target number nodes draft are is obeys =
     let found : Obeys old conn slot order (node_with_id old id) number draft =
     subst (λ other. Obeys old conn slot order other number draft) (is ∙ ap (position (λ (other : NodeConfig). bytes_eq other.id id)) are) obeys in
-    record { listing = found.listing; may_list = found.may_claim; number = found.has_number; drafts = found.drafts }
+    record { number = found.has_number; drafts = found.drafts }
 
 -- where it needs an epoch that is not there, so does the command
 pub order_exhausted : (old : NodeState) (conn : Conn) (slot : ℕ) (order : SlotOrder) (id : List ℕ) (target number : Option ℕ) (nodes : List NodeConfig)
@@ -83,12 +80,12 @@ order_exhausted old conn slot order id target number nodes are is exhausted = nu
 -- CLUSTER NUMBERED and ASKING
 pub numbered_answered : (old : NodeState) (conn : Conn) (draft : Draft)
     → Drafts old (replied (with_numbers (using_up old conn) conn) Told done) draft → AnswersSo old conn (Ok (Cluster Numbered)) draft
-numbered_answered old conn draft drafts = record { listing = none; may_list = tt; number = refl; drafts = drafts }
+numbered_answered old conn draft drafts = record { number = refl; drafts = drafts }
 
 pub asking_answered : (old : NodeState) (conn : Conn) (number : Option ℕ) (asking : AskingFor) (draft : Draft) → asking ≡ asking_for number
     → Drafts old (replied (at_connection (using_up old conn) conn (λ (connection : Connection). record connection { asking = asking })) Told done) draft
     → AnswersSo old conn (Ok (Cluster (Asking number))) draft
-asking_answered old conn number asking draft is drafts = record { listing = none; may_list = tt; number = refl; drafts = rw (sym is) drafts }
+asking_answered old conn number asking draft is drafts = record { number = refl; drafts = rw (sym is) drafts }
 
 -- MIGRATE
 pub migration_answered : (old : NodeState) (conn : Conn) (host : List ℕ) (port : ℤ) (key : List ℕ) (ticks : ℕ) (target : Option ℕ) (nodes : List NodeConfig) (draft : Draft)
@@ -98,8 +95,6 @@ pub migration_answered : (old : NodeState) (conn : Conn) (host : List ℕ) (port
 migration_answered old conn host port key ticks target nodes draft are is number drafts =
     let found : target ≡ position (is_at host port) old.config.nodes = is ∙ ap (position (is_at host port)) are in
     record {
-      listing = none;
-      may_list = tt;
       number = subst (λ other. has_copy_number (copy_verdict_on old key other) ≡ true) found number;
       drafts = subst (λ other. Drafts old (copy_outcome (using_up old conn) conn key ticks (copy_verdict_on old key other)) draft) found drafts;
     }
@@ -115,8 +110,6 @@ pub data_answered : (old : NodeState) (conn : Conn) (connection : Connection) (c
     → Drafts old (command_outcome (using_up old conn) connection.numbered command (decision_on old command connection.asking)) draft
     → AnswersSo old conn (Ok (Data command)) draft
 data_answered old conn connection command draft is drafts = record {
-  listing = none;
-  may_list = tt;
   number = refl;
   drafts = subst (λ found. Drafts old (command_outcome (using_up old conn) (is_numbered found) command (decision_on old command (asking_of found))) draft) (sym is) drafts;
 }
@@ -124,7 +117,7 @@ data_answered old conn connection command draft is drafts = record {
 -- words that are not a command
 pub fault_answered : (old : NodeState) (conn : Conn) (fault : CommandFault) (reply : Reply) (draft : Draft) → reply ≡ error (line_of fault)
     → Drafts old (replied (using_up old conn) (NotACommand fault) reply) draft → AnswersSo old conn (Err fault) draft
-fault_answered old conn fault reply draft is drafts = record { listing = none; may_list = tt; number = refl; drafts = rw (sym is) drafts }
+fault_answered old conn fault reply draft is drafts = record { number = refl; drafts = rw (sym is) drafts }
 
 -- what comes of a message, or of a tick, is drafted
 pub delivery_is_drafted : (old : NodeState) (message : Message) (draft : Draft) → Drafts old (delivered old message) draft → IsDraftOf old (Deliver message) draft
@@ -133,12 +126,22 @@ delivery_is_drafted old message draft drafts = record { outcome = delivered old 
 pub tick_is_drafted : (old : NodeState) (draft : Draft) → Drafts old (tick old) draft → IsDraftOf old Tick draft
 tick_is_drafted old draft drafts = record { outcome = tick old; may_come = refl; drafts = drafts }
 
+-- wherever it is made
+pub delivery_drafted : (old : NodeState) (message : Message) (draft : Draft) (result : Result Unit StepFault) → OnOk result (Drafts old (delivered old message) draft)
+    → OnOk result (IsDraftOf old (Deliver message) draft)
+delivery_drafted old message draft (Ok done) drafts = delivery_is_drafted old message draft drafts
+delivery_drafted old message draft (Err fault) drafts = tt
+
+pub tick_drafted : (old : NodeState) (draft : Draft) (result : Result Unit StepFault) → OnOk result (Drafts old (tick old) draft) → OnOk result (IsDraftOf old Tick draft)
+tick_drafted old draft (Ok done) drafts = tick_is_drafted old draft drafts
+tick_drafted old draft (Err fault) drafts = tt
+
 -- and an answer
 pub answer_is_drafted : (old : NodeState) (conn : Conn) (words : List (List ℕ)) (draft : Draft)
     → may_ask (connection_at old.connections conn) ≡ true → AnswersSo old conn (command_of words) draft → IsDraftOf old (Request conn words) draft
 answer_is_drafted old conn words draft asks answers = record {
-  outcome = request_outcome old conn (command_of words) answers.listing;
-  may_come = rw asks record { listing = answers.listing; may_list = answers.may_list; number = answers.number; comes_to = refl };
+  outcome = request_outcome old conn (command_of words);
+  may_come = rw asks record { number = answers.number; comes_to = refl };
   drafts = answers.drafts;
 }
 
@@ -164,7 +167,7 @@ parked_is_drafted old conn connection wait words draft open_there waits drafts =
 
 -- a connection was opened
 pub opening_is_step : (ticket : ℕ) (old : NodeState) (connections : ConnectionTable) (conn : Conn) (outputs : Outputs) (new : NodeState)
-    → Opens old.connections connections conn → outputs ≡ record { ticket = ticket; response = Opened conn; released = []; sent = [] } → new ≡ record old { connections = connections }
+    → Opens old.connections connections conn → outputs ≡ record (no_outputs ticket) { response = Opened conn } → new ≡ record old { connections = connections }
     → NodeStep ticket old Open outputs new
 opening_is_step ticket old connections conn outputs new opens are state = record {
   outcome = record (silent (record old { connections = connections })) { response = Opened conn };

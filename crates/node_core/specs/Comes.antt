@@ -5,7 +5,7 @@ use Rattle.command_table.specs.declared.fault.CommandFault.{CommandFault}
 use Rattle.connections.specs.declared.conn.Conn.{Conn}
 use Rattle.node_parts.specs.Drafts.{Drafts}
 use Rattle.node_parts.specs.declared.draft.Draft.{Draft}
-use Rattle.node_step.specs.Requests.{Listing, MayList, has_number, request_outcome, using_up}
+use Rattle.node_step.specs.Requests.{has_number, request_outcome, using_up}
 use Rattle.node_step.specs.State.{NodeState}
 use Rattle.node_step.specs.declared.event.Event.{Event}
 use Rattle.node_step.specs.declared.event.Event.TheVariants.{Open, Close, Request, Deliver, Tick}
@@ -20,7 +20,5 @@ is_drafted Tick = true
 
 -- the draft of the answer to a request that was read so
 pub record AnswersSo (old : NodeState) (conn : Conn) (read : Result Command CommandFault) (draft : Draft) : Type 0 where
-  pub listing : Listing
-  pub may_list : MayList (using_up old conn) read listing
   pub number : has_number (using_up old conn) read ≡ true
-  pub drafts : Drafts old (request_outcome old conn read listing) draft
+  pub drafts : Drafts old (request_outcome old conn read) draft

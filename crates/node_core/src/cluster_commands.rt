@@ -17,9 +17,9 @@ use key_slot::MoveNo;
 use move_rows::{done, migrate_key, node_at, node_with_id, obey};
 use node_parts::{Change, Draft, NodeParts};
 use node_step::{StepFault, Why};
+use redirect::Asking;
 use report_rows::report;
-use slot_decision::Asking;
-use slot_moves::Order;
+use slot_state::Order;
 use slot_store::{SlotKeys, SlotParts};
 use std::alloc::AllocError;
 

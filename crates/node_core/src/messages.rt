@@ -1,22 +1,26 @@
 //! Messages of other nodes.
-ghost use Rattle.std.specs.Prelude.{◌≡◌, OnOk};
+ghost use Rattle.std.specs.Prelude.{◌≡◌, Err, OnOk};
 ghost use Rattle.node_parts.specs.Drafts.{Drafts, HasNothing};
 ghost use Rattle.node_step.specs.Messages.{delivered};
+ghost use Rattle.node_step.specs.Numbers.{NoNumberLeft};
+ghost use Rattle.node_step.specs.declared.event.Event.TheVariants.{Deliver};
+ghost use Rattle.step_fault.specs.declared.fault.StepFault.TheVariants.{Exhausted};
 
 use bus::{Body, Message};
 use move_rows::{CopyName, take_ack, take_claim, take_copy, take_drained};
 use node_parts::{Draft, NodeParts};
+use node_step::StepFault;
 use slot_store::{SlotKeys, SlotParts};
-use std::alloc::AllocError;
 
 /// Takes a message, if it is for this node. A greater epoch of its sender is taken over.
 pub(crate) fn deliver<S: SlotParts + SlotKeys>(
     node: &NodeParts<S>,
     message: &Message,
     draft: &mut Draft,
-) -> Result<(), AllocError>
+) -> Result<(), StepFault>
     requires { HasNothing node.now draft.old }
-    ensures { OnOk result (Drafts node.now (delivered node.now message.now) draft.new) }
+    ensures draft { OnOk result (Drafts node.now (delivered node.now message.now) draft.new) }
+    ensures exhausted { result ≡ Err Exhausted → NoNumberLeft node.now (Deliver message.now) }
 {
     if message.to != node.number {
         return Ok(());
@@ -36,7 +40,7 @@ pub(crate) fn deliver<S: SlotParts + SlotKeys>(
                 number: *number,
                 copy: *copy,
             };
-            take_copy(node, epoch, from, name, key, value, draft)
+            Ok(take_copy(node, epoch, from, name, key, value, draft)?)
         }
         Body::Ack { slot, number, copy } => {
             let name = CopyName {
@@ -44,7 +48,7 @@ pub(crate) fn deliver<S: SlotParts + SlotKeys>(
                 number: *number,
                 copy: *copy,
             };
-            take_ack(node, epoch, from, name, draft)
+            Ok(take_ack(node, epoch, from, name, draft)?)
         }
         Body::Drained {
             slot,
@@ -54,6 +58,6 @@ pub(crate) fn deliver<S: SlotParts + SlotKeys>(
             take_drained(node, epoch, from, *slot, *number, *drained, draft);
             Ok(())
         }
-        Body::Claim(claim) => take_claim(node, epoch, from, claim, draft),
+        Body::Claim(claim) => Ok(take_claim(node, epoch, from, claim, draft)?),
     }
 }

@@ -141,8 +141,8 @@ fn write_draft<S: SlotParts + SlotKeys>(
 {
     match event {
         Event::Request(conn, words) => request(node, *conn, words, draft),
-        Event::Deliver(message) => Ok(deliver(node, message, draft)?),
-        Event::Tick => Ok(tick(node, draft)?),
+        Event::Deliver(message) => deliver(node, message, draft),
+        Event::Tick => tick(node, draft),
         Event::Open | Event::Close(_) => unreachable!(),
     }
 }

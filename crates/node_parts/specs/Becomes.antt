@@ -20,9 +20,9 @@ use Rattle.node_step.specs.Orders.{with_moves}
 use Rattle.node_step.specs.Requests.{at_connection, using_up, with_numbers}
 use Rattle.node_step.specs.State.{NodeState}
 use Rattle.node_step.specs.Ticks.{older}
-use Rattle.slot_moves.specs.Moves.{begun, ended, move_of}
-use Rattle.slot_moves.specs.declared.running.Move.{Move}
-use Rattle.slot_moves.specs.declared.running.Move.TheVariants.{Comes, Leaves}
+use Rattle.slot_state.specs.Moves.{begun, ended, move_of}
+use Rattle.slot_state.specs.declared.running.Move.{Move}
+use Rattle.slot_state.specs.declared.running.Move.TheVariants.{Comes, Leaves}
 use Rattle.slot_store.specs.InSlot.{IsCommittedInSlot, LiesInSlot, in_slot}
 use Rattle.slot_table.specs.Claims.{merged}
 use Rattle.slot_table.specs.declared.runs.Run.{Run}

@@ -4,7 +4,7 @@ use Rattle.bus.specs.declared.message.Body.{Body}
 use Rattle.node_parts.specs.Becomes.{Becomes}
 use Rattle.node_parts.specs.declared.change.Change.TheVariants.{Nothing as Unchanged}
 use Rattle.node_parts.specs.declared.draft.Draft.{Draft}
-use Rattle.node_step.specs.Outcome.{Outcome, stamped}
+use Rattle.node_step.specs.Outcome.{Outcome, no_outputs, silent, stamped}
 use Rattle.node_step.specs.State.{NodeState}
 use Rattle.node_step.specs.Step.{MayCome}
 use Rattle.node_step.specs.declared.event.Event.{Event}
@@ -40,7 +40,8 @@ pub record IsDraftOf (old : NodeState) (event : Event) (draft : Draft) : Type 0 
 
 -- what comes out of a step at the node of that number
 abbrev pub sends : ℕ → ℕ → ℕ → Response → List Release → List (ℕ × Body) → Outputs
-sends from ticket epoch response released bodies = record { ticket = ticket; response = response; released = released; sent = map (stamped from ticket epoch) bodies }
+sends from ticket epoch response released bodies =
+    record (no_outputs ticket) { response = response; released = released; sent = map (stamped from ticket epoch) bodies }
 
 -- and out of a draft
 abbrev pub stamped_draft : ℕ → ℕ → Draft → Outputs
@@ -53,4 +54,4 @@ bodies_of (Some body) = body ∷ []
 
 -- a connection gets no reply yet, and these messages go out
 abbrev pub parking : NodeState → List (ℕ × Body) → Outcome
-parking after bodies = record { response = Parked; released = []; sent = bodies; state = after }
+parking after bodies = record (silent after) { response = Parked; sent = bodies }

@@ -6,7 +6,7 @@ ghost use Rattle.node_step.specs.Slots.{drained, drained_if_empty, slot_epoch};
 use crate::parts::NodeParts;
 use bus::Body;
 use key_slot::Slot;
-use slot_moves::Move;
+use slot_state::Move;
 use slot_store::{SlotKeys, SlotParts};
 use slot_table::{Epoch, NodeNo};
 

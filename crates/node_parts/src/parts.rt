@@ -5,7 +5,7 @@ ghost use Rattle.node_step.specs.State.{first_state};
 
 use cluster_config::Config;
 use connections::Connections;
-use slot_moves::SlotMoves;
+use slot_state::SlotMoves;
 use slot_store::{SlotKeys, SlotParts};
 use slot_table::{Epoch, NodeNo, SlotTable};
 use std::alloc::{AllocError, Global};

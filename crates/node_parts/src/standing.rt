@@ -5,7 +5,7 @@ ghost use Rattle.node_step.specs.State.{own_master, standing};
 use crate::parts::NodeParts;
 use cluster_config::Role;
 use key_slot::Slot;
-use slot_moves::Standing;
+use slot_state::Standing;
 use slot_store::{SlotKeys, SlotParts};
 
 impl<S: SlotParts + SlotKeys> NodeParts<S> {

@@ -4,7 +4,7 @@ use Rattle.std.specs.Coded.{Coded, codes, coded_list, coded_ℕ}
 use Rattle.std.specs.FinMap as map
 use Rattle.std.specs.Ordering.{nat_cmp}
 use Rattle.keyspace.specs.declared.value.Value.{Value}
-use Rattle.slot_moves.specs.declared.running.Move.{Move}
+use Rattle.slot_state.specs.declared.running.Move.{Move}
 use Rattle.node_step.specs.State.{NodeState}
 
 pub coded_state : Coded NodeState

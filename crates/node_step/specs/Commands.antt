@@ -11,13 +11,13 @@ use Rattle.command_table.specs.declared.command.DataCommand.{DataCommand}
 use Rattle.key_slot.specs.Slot.{hash_slot}
 use Rattle.keyspace.specs.Commands.{exec}
 use Rattle.cluster_config.specs.declared.config.NodeConfig.{NodeConfig}
-use Rattle.slot_decision.specs.Asked.{Asked}
-use Rattle.slot_decision.specs.Decision.{decision}
-use Rattle.slot_decision.specs.declared.asked.Asking.{Asking}
-use Rattle.slot_decision.specs.declared.decision.Decision.{Decision}
-use Rattle.slot_decision.specs.declared.decision.Decision.TheVariants.{Serve, ServeImport, CrossSlot, Down, TryAgain, Ask, Moved}
-use Rattle.slot_decision.specs.declared.decision.Reason.{Reason}
-use Rattle.slot_decision.specs.declared.decision.Reason.TheVariants.{Frozen, SomeAreMissing}
+use Rattle.redirect.specs.Asked.{Asked}
+use Rattle.redirect.specs.Decision.{decision}
+use Rattle.redirect.specs.declared.asked.Asking.{Asking}
+use Rattle.redirect.specs.declared.decision.Decision.{Decision}
+use Rattle.redirect.specs.declared.decision.Decision.TheVariants.{Serve, ServeImport, CrossSlot, Down, TryAgain, Ask, Moved}
+use Rattle.redirect.specs.declared.decision.Reason.{Reason}
+use Rattle.redirect.specs.declared.decision.Reason.TheVariants.{Frozen, SomeAreMissing}
 use Rattle.bus.specs.declared.message.Body.{Body}
 use Rattle.node_step.specs.Outcome.{Outcome, error, replied, replied_sending}
 use Rattle.node_step.specs.Slots.{drained_since}

@@ -12,7 +12,7 @@ use Rattle.keyspace.specs.Keyspace.{Keyspace}
 use Rattle.keyspace.specs.Rebuilding.{rebuilding, fits_request}
 use Rattle.keyspace.specs.declared.value.Value.{Value}
 use Rattle.cluster_config.specs.declared.config.NodeConfig.{NodeConfig}
-use Rattle.slot_moves.specs.Moves.{move_of}
+use Rattle.slot_state.specs.Moves.{move_of}
 use Rattle.migrate.specs.Sending.{copy_verdict, after_copy_order}
 use Rattle.migrate.specs.Arriving.{arrival_verdict, after_arrival}
 use Rattle.migrate.specs.Acknowledging.{acknowledged_key, after_ack}
@@ -59,11 +59,9 @@ parked node conn slot number copy ticks =
 
 -- the key is sent, or sent again
 abbrev pub sending : NodeState → Conn → List ℕ → ℕ → ℕ → ℕ → ℕ → Outcome
-sending node conn key ticks to number copy = record {
+sending node conn key ticks to number copy = record (silent (parked node conn (hash_slot key) number copy ticks)) {
   response = Parked;
-  released = [];
   sent = copy_of (hash_slot key) to number copy key (fin_map.get node.keyspace key);
-  state = parked node conn (hash_slot key) number copy ticks;
 }
 
 abbrev pub copy_outcome : NodeState → Conn → List ℕ → ℕ → CopyVerdict → Outcome

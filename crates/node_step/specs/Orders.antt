@@ -5,17 +5,19 @@ use Rattle.std.specs.List.{range_with_len}
 use Rattle.resp_values.specs.declared.reply.Reply.{Reply}
 use Rattle.resp_values.specs.declared.reply.Reply.TheVariants.{Simple}
 use Rattle.command_table.specs.declared.error_line.ErrorLine.TheVariants as line
+use Rattle.slot_table.specs.Runs.{runs_of}
+use Rattle.slot_table.specs.Table.{claim_at}
 use Rattle.slot_table.specs.declared.runs.Run.{Run}
-use Rattle.slot_moves.specs.Moves.{Moves, move_of, last_move_of, ended}
-use Rattle.slot_moves.specs.Importing.{import_verdict, after_import}
-use Rattle.slot_moves.specs.Migrating.{migrate_verdict, after_migrate}
-use Rattle.slot_moves.specs.Ending.{node_verdict}
-use Rattle.slot_moves.specs.declared.importing.ImportVerdict.{ImportVerdict}
-use Rattle.slot_moves.specs.declared.importing.ImportVerdict.TheVariants as import
-use Rattle.slot_moves.specs.declared.migrating.MigrateVerdict.{MigrateVerdict}
-use Rattle.slot_moves.specs.declared.migrating.MigrateVerdict.TheVariants as migrate
-use Rattle.slot_moves.specs.declared.ending.NodeVerdict.{NodeVerdict}
-use Rattle.slot_moves.specs.declared.ending.NodeVerdict.TheVariants as ending
+use Rattle.slot_state.specs.Moves.{Moves, move_of, last_move_of, ended}
+use Rattle.slot_state.specs.Importing.{import_verdict, after_import}
+use Rattle.slot_state.specs.Migrating.{migrate_verdict, after_migrate}
+use Rattle.slot_state.specs.Ending.{node_verdict}
+use Rattle.slot_state.specs.declared.importing.ImportVerdict.{ImportVerdict}
+use Rattle.slot_state.specs.declared.importing.ImportVerdict.TheVariants as import
+use Rattle.slot_state.specs.declared.migrating.MigrateVerdict.{MigrateVerdict}
+use Rattle.slot_state.specs.declared.migrating.MigrateVerdict.TheVariants as migrate
+use Rattle.slot_state.specs.declared.ending.NodeVerdict.{NodeVerdict}
+use Rattle.slot_state.specs.declared.ending.NodeVerdict.TheVariants as ending
 use Rattle.bus.specs.declared.message.Body.{Body}
 use Rattle.bus.specs.declared.message.Body.TheVariants.{Claim as Claims}
 use Rattle.node_step.specs.Outcome.{Outcome, error, replied, replied_sending}
@@ -99,11 +101,15 @@ others node = filter (λ number. not (number == node.number)) (range_with_len 0 
 abbrev pub to_all : List ℕ → Body → List (ℕ × Body)
 to_all numbers body = map (λ number. (number, body)) numbers
 
--- by the verdict; the claim is that of the node with the slot
-abbrev pub ending_outcome : NodeState → ℕ → List (Run ℕ) → NodeVerdict → Outcome
-ending_outcome node slot claim (ending.Ends drained) =
-    replied_sending (with_slot node slot (new_epoch node slot drained)) (Ends (ending.Ends drained)) done (to_all (others node) (Claims claim))
-ending_outcome node slot claim verdict = replied node (Ends verdict) (ending_reply verdict)
+-- all slots that the node owns, each in the epoch in which it claims it
+abbrev pub claim_of : NodeState → List (Run ℕ)
+claim_of node = runs_of (claim_at node.table node.number)
+
+-- by the verdict
+abbrev pub ending_outcome : NodeState → ℕ → NodeVerdict → Outcome
+ending_outcome node slot (ending.Ends drained) = let after = with_slot node slot (new_epoch node slot drained) in
+    replied_sending after (Ends (ending.Ends drained)) done (to_all (others node) (Claims (claim_of after)))
+ending_outcome node slot verdict = replied node (Ends verdict) (ending_reply verdict)
 
 abbrev pub ending_verdict : NodeState → ℕ → Option ℕ → Option ℕ → NodeVerdict
 ending_verdict node slot to number = node_verdict (standing node slot) (move_of node.moves slot) to number

@@ -47,10 +47,13 @@ release reply conn = record { conn = conn; reply = reply }
 abbrev pub stamped : ℕ → ℕ → ℕ → ℕ × Body → Message
 stamped from ticket epoch body = record { from = from; to = body.0; ticket = ticket; epoch = epoch; body = body.1 }
 
+-- nothing comes out of a step under the ticket
+abbrev pub no_outputs : ℕ → Outputs
+no_outputs ticket = record { ticket = ticket; response = Nothing; released = []; sent = [] }
+
 -- the outputs of a step
 abbrev pub outputs_of : ℕ → Outcome → Outputs
-outputs_of ticket outcome = record {
-  ticket = ticket;
+outputs_of ticket outcome = record (no_outputs ticket) {
   response = outcome.response;
   released = outcome.released;
   sent = map (stamped outcome.state.number ticket outcome.state.current_epoch) outcome.sent;

@@ -6,12 +6,12 @@ use Rattle.resp_values.specs.declared.reply.Reply.{Reply}
 use Rattle.resp_values.specs.declared.reply.Reply.TheVariants.{Integer, Bulk, Null, Array}
 use Rattle.slot_table.specs.declared.runs.Run.{Run}
 use Rattle.slot_table.specs.Table.{owner_at}
-use Rattle.slot_moves.specs.Moves.{move_of, last_move_of}
-use Rattle.slot_moves.specs.State.{state_of}
-use Rattle.slot_moves.specs.declared.running.Move.{Move}
-use Rattle.slot_moves.specs.declared.running.Move.TheVariants.{Leaves, Comes}
-use Rattle.slot_moves.specs.declared.state.SlotState.{SlotState}
-use Rattle.slot_moves.specs.declared.state.SlotState.TheVariants.{Owned, Foreign, Moving}
+use Rattle.slot_state.specs.Moves.{move_of, last_move_of}
+use Rattle.slot_state.specs.State.{state_of}
+use Rattle.slot_state.specs.declared.running.Move.{Move}
+use Rattle.slot_state.specs.declared.running.Move.TheVariants.{Leaves, Comes}
+use Rattle.slot_state.specs.declared.state.SlotState.{SlotState}
+use Rattle.slot_state.specs.declared.state.SlotState.TheVariants.{Owned, Foreign, Moving}
 use Rattle.cluster_config.specs.Config.{ClusterConfig}
 use Rattle.cluster_config.specs.declared.config.NodeConfig.{NodeConfig}
 use Rattle.node_step.specs.Slots.{count_in, keys_in}

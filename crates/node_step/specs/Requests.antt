@@ -12,20 +12,19 @@ use Rattle.command_table.specs.declared.command.SlotOrder.{SlotOrder}
 use Rattle.command_table.specs.declared.command.SlotOrder.TheVariants.{Importing, Migrating, Node}
 use Rattle.command_table.specs.declared.fault.CommandFault.{CommandFault}
 use Rattle.key_slot.specs.Slot.{hash_slot}
-use Rattle.slot_table.specs.Runs.{AreRunsOf}
-use Rattle.slot_table.specs.Table.{owner_at, claim_at}
-use Rattle.slot_table.specs.declared.runs.Run.{Run}
-use Rattle.slot_moves.specs.declared.ending.NodeVerdict.{NodeVerdict}
-use Rattle.slot_moves.specs.declared.ending.NodeVerdict.TheVariants as ending
+use Rattle.slot_table.specs.Runs.{runs_of}
+use Rattle.slot_table.specs.Table.{owner_at}
+use Rattle.slot_state.specs.declared.ending.NodeVerdict.{NodeVerdict}
+use Rattle.slot_state.specs.declared.ending.NodeVerdict.TheVariants as ending
 use Rattle.cluster_config.specs.declared.config.NodeConfig.{NodeConfig}
-use Rattle.slot_decision.specs.declared.asked.Asking.{Asking}
-use Rattle.slot_decision.specs.declared.asked.Asking.TheVariants.{No, Any, Of}
+use Rattle.redirect.specs.declared.asked.Asking.{Asking}
+use Rattle.redirect.specs.declared.asked.Asking.TheVariants.{No, Any, Of}
 use Rattle.node_step.specs.Commands.{command_outcome, decision_on}
 use Rattle.connections.specs.Connections.{connection_at, with_change}
 use Rattle.migrate.specs.declared.sending.CopyVerdict.{CopyVerdict}
 use Rattle.migrate.specs.declared.sending.CopyVerdict.TheVariants as copies
 use Rattle.node_step.specs.Copies.{copy_verdict_on, migration, node_at}
-use Rattle.node_step.specs.Orders.{done, ending_outcome, ending_verdict, importing, migrating, new_epoch, with_slot}
+use Rattle.node_step.specs.Orders.{done, ending_outcome, ending_verdict, importing, migrating, new_epoch}
 use Rattle.node_step.specs.Outcome.{Outcome, error, replied}
 use Rattle.node_step.specs.Reports.{count_reply, id_of, keys_reply, slots_reply, state_reply}
 use Rattle.node_step.specs.State.{NodeState}
@@ -70,51 +69,24 @@ with_numbers node conn = at_connection node conn (λ connection. record connecti
 abbrev pub node_with_id : NodeState → List ℕ → Option ℕ
 node_with_id node id = position (λ (other : NodeConfig). bytes_eq other.id id) node.config.nodes
 
--- what a step may choose: the runs in which CLUSTER SLOTS lists the owners, and those of a claim
-pub record Listing : Type 0 where
-  pub owners : List (Run ℕ)
-  pub claim : List (Run ℕ)
-
 -- a row an order
-abbrev pub order_outcome : NodeState → ℕ → SlotOrder → Option ℕ → Option ℕ → Listing → Outcome
-order_outcome node slot Importing other number listing = importing node slot other number
-order_outcome node slot Migrating other number listing = migrating node slot other number
-order_outcome node slot Node other number listing = ending_outcome node slot listing.claim (ending_verdict node slot other number)
+abbrev pub order_outcome : NodeState → ℕ → SlotOrder → Option ℕ → Option ℕ → Outcome
+order_outcome node slot Importing other number = importing node slot other number
+order_outcome node slot Migrating other number = migrating node slot other number
+order_outcome node slot Node other number = ending_outcome node slot (ending_verdict node slot other number)
 
 -- a row a command
-abbrev pub cluster_outcome : NodeState → Conn → ClusterCommand → Listing → Outcome
-cluster_outcome node conn (cluster.KeySlot key) listing = replied node Reported (Integer (pos (hash_slot key)))
-cluster_outcome node conn cluster.MyId listing = replied node Reported (id_of node.config node.number)
-cluster_outcome node conn cluster.Slots listing = replied node Reported (slots_reply node.config listing.owners)
-cluster_outcome node conn (cluster.CountKeysInSlot slot) listing = replied node Reported (count_reply node slot)
-cluster_outcome node conn (cluster.GetKeysInSlot slot count) listing = replied node Reported (keys_reply node slot count)
-cluster_outcome node conn (cluster.SlotState slot) listing = replied node Reported (state_reply node slot)
-cluster_outcome node conn (cluster.SetSlot slot order id number) listing = order_outcome node slot order (node_with_id node id) number listing
-cluster_outcome node conn cluster.Numbered listing = replied (with_numbers node conn) Told done
-cluster_outcome node conn (cluster.Asking number) listing = replied (with_asking node conn number) Told done
-cluster_outcome node conn (cluster.Migrate host port key timeout) listing = migration node conn host port key timeout
-
--- ---- the listing
-
--- the claim that a node makes as its import ends
-abbrev pub IsClaimAfter : NodeState → ℕ → List (Run ℕ) → NodeVerdict → Type 0
-IsClaimAfter node slot claim (ending.Ends drained) = AreRunsOf (claim_at (with_slot node slot (new_epoch node slot drained)).table node.number) claim
-IsClaimAfter node slot claim ending.UnknownNode = Unit {0}
-IsClaimAfter node slot claim ending.OldMove = Unit {0}
-IsClaimAfter node slot claim ending.NotDrained = Unit {0}
-IsClaimAfter node slot claim ending.IsOwner = Unit {0}
-IsClaimAfter node slot claim ending.NotYetOwner = Unit {0}
-
-abbrev pub MayClaim : NodeState → ℕ → SlotOrder → Option ℕ → Option ℕ → List (Run ℕ) → Type 0
-MayClaim node slot Importing other number claim = Unit {0}
-MayClaim node slot Migrating other number claim = Unit {0}
-MayClaim node slot Node other number claim = IsClaimAfter node slot claim (ending_verdict node slot other number)
-
--- where a listing is needed, it has the longest runs, in rising order
-abbrev pub MayList : NodeState → Result Command CommandFault → Listing → Type 0
-MayList node (Ok (Cluster cluster.Slots)) listing = AreRunsOf (owner_at node.table) listing.owners
-MayList node (Ok (Cluster (cluster.SetSlot slot order id number))) listing = MayClaim node slot order (node_with_id node id) number listing.claim
-MayList node command listing = Unit {0}
+abbrev pub cluster_outcome : NodeState → Conn → ClusterCommand → Outcome
+cluster_outcome node conn (cluster.KeySlot key) = replied node Reported (Integer (pos (hash_slot key)))
+cluster_outcome node conn cluster.MyId = replied node Reported (id_of node.config node.number)
+cluster_outcome node conn cluster.Slots = replied node Reported (slots_reply node.config (runs_of (owner_at node.table)))
+cluster_outcome node conn (cluster.CountKeysInSlot slot) = replied node Reported (count_reply node slot)
+cluster_outcome node conn (cluster.GetKeysInSlot slot count) = replied node Reported (keys_reply node slot count)
+cluster_outcome node conn (cluster.SlotState slot) = replied node Reported (state_reply node slot)
+cluster_outcome node conn (cluster.SetSlot slot order id number) = order_outcome node slot order (node_with_id node id) number
+cluster_outcome node conn cluster.Numbered = replied (with_numbers node conn) Told done
+cluster_outcome node conn (cluster.Asking number) = replied (with_asking node conn number) Told done
+cluster_outcome node conn (cluster.Migrate host port key timeout) = migration node conn host port key timeout
 
 -- ---- numbers that only grow
 
@@ -149,11 +121,11 @@ has_number node command = true
 
 -- ---- by the words
 
-abbrev pub by_command : NodeState → Conn → Option Connection → Result Command CommandFault → Listing → Outcome
-by_command node conn connection (Err fault) listing = replied node (NotACommand fault) (error (line_of fault))
-by_command node conn connection (Ok (Cluster command)) listing = cluster_outcome node conn command listing
-by_command node conn connection (Ok (Data command)) listing =
+abbrev pub by_command : NodeState → Conn → Option Connection → Result Command CommandFault → Outcome
+by_command node conn connection (Err fault) = replied node (NotACommand fault) (error (line_of fault))
+by_command node conn connection (Ok (Cluster command)) = cluster_outcome node conn command
+by_command node conn connection (Ok (Data command)) =
     command_outcome node (is_numbered connection) command (decision_on node command (asking_of connection))
 
-abbrev pub request_outcome : NodeState → Conn → Result Command CommandFault → Listing → Outcome
-request_outcome node conn command listing = by_command (using_up node conn) conn (connection_at node.connections conn) command listing
+abbrev pub request_outcome : NodeState → Conn → Result Command CommandFault → Outcome
+request_outcome node conn command = by_command (using_up node conn) conn (connection_at node.connections conn) command

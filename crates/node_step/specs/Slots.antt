@@ -6,9 +6,9 @@ use Rattle.keyspace.specs.Keyspace.{Keyspace}
 use Rattle.slot_store.specs.InSlot.{in_slot}
 use Rattle.slot_table.specs.declared.entry.SlotEntry.{SlotEntry}
 use Rattle.slot_table.specs.Table.{entry_at}
-use Rattle.slot_moves.specs.Moves.{move_of}
-use Rattle.slot_moves.specs.declared.running.Move.{Move}
-use Rattle.slot_moves.specs.declared.running.Move.TheVariants.{Leaves, Comes}
+use Rattle.slot_state.specs.Moves.{move_of}
+use Rattle.slot_state.specs.declared.running.Move.{Move}
+use Rattle.slot_state.specs.declared.running.Move.TheVariants.{Leaves, Comes}
 use Rattle.bus.specs.declared.message.Body.{Body}
 use Rattle.bus.specs.declared.message.Body.TheVariants.{Drained}
 use Rattle.node_step.specs.State.{NodeState}

@@ -5,8 +5,8 @@ use Rattle.std.specs.FinMap as fin_map
 use Rattle.keyspace.specs.Keyspace.{Keyspace}
 use Rattle.slot_table.specs.declared.entry.SlotEntry.{SlotEntry}
 use Rattle.slot_table.specs.Table.{first_table, owner_at}
-use Rattle.slot_moves.specs.Moves.{Moves, no_moves}
-use Rattle.slot_moves.specs.declared.order.Standing.{Standing}
+use Rattle.slot_state.specs.Moves.{Moves, no_moves}
+use Rattle.slot_state.specs.declared.order.Standing.{Standing}
 use Rattle.cluster_config.specs.Config.{ClusterConfig, first_owners}
 use Rattle.cluster_config.specs.declared.config.NodeConfig.{NodeConfig}
 use Rattle.cluster_config.specs.declared.config.Role.{Role}

@@ -4,7 +4,7 @@ use Rattle.command_table.specs.Table.{command_of}
 use Rattle.connections.specs.Connections.{connection_at, may_ask, Opens, Closes}
 use Rattle.node_step.specs.Messages.{delivered}
 use Rattle.node_step.specs.Outcome.{Outcome, outputs_of, silent}
-use Rattle.node_step.specs.Requests.{Listing, MayList, has_number, request_outcome, using_up}
+use Rattle.node_step.specs.Requests.{has_number, request_outcome, using_up}
 use Rattle.node_step.specs.State.{NodeState}
 use Rattle.node_step.specs.Ticks.{tick}
 use Rattle.connections.specs.declared.conn.Conn.{Conn}
@@ -26,10 +26,8 @@ pub record IsClosing (old : NodeState) (conn : Conn) (outcome : Outcome) : Type 
 
 -- the words were read as a command and answered
 pub record IsAnswering (old : NodeState) (conn : Conn) (words : List (List ℕ)) (outcome : Outcome) : Type 0 where
-  pub listing : Listing
-  pub may_list : MayList (using_up old conn) (command_of words) listing
   pub number : has_number (using_up old conn) (command_of words) ≡ true
-  pub comes_to : outcome ≡ request_outcome old conn (command_of words) listing
+  pub comes_to : outcome ≡ request_outcome old conn (command_of words)
 
 -- what may come of an event. A connection that isn't open, or waits for a reply, is not answered
 abbrev pub MayCome : NodeState → Event → Outcome → Type 0

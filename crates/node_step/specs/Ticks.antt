@@ -3,15 +3,14 @@ use Rattle.std.specs.Prelude.{ℕ, List, [], map, Some, None}
 use Rattle.std.specs.List.{flat_map}
 use Rattle.std.specs.FinMap as fin_map
 use Rattle.command_table.specs.declared.error_line.ErrorLine.TheVariants as line
-use Rattle.slot_moves.specs.declared.running.Move.{Move}
-use Rattle.slot_moves.specs.declared.running.Move.TheVariants.{Leaves, Comes}
+use Rattle.slot_state.specs.declared.running.Move.{Move}
+use Rattle.slot_state.specs.declared.running.Move.TheVariants.{Leaves, Comes}
 use Rattle.bus.specs.declared.message.Body.{Body}
 use Rattle.connections.specs.Connections.{all_aged, all_freed, is_over, waiting}
 use Rattle.node_step.specs.Copies.{copy_of}
-use Rattle.node_step.specs.Outcome.{Outcome, error, release}
+use Rattle.node_step.specs.Outcome.{Outcome, error, release, silent}
 use Rattle.node_step.specs.Slots.{drained_if_empty}
 use Rattle.node_step.specs.State.{NodeState}
-use Rattle.node_step.specs.declared.response.Response.TheVariants.{Nothing}
 
 -- of a slot that leaves: the copy that is not acknowledged, or the word that no key is left
 abbrev pub sent_again : NodeState → ℕ × Move → List (ℕ × Body)
@@ -24,9 +23,7 @@ abbrev pub older : NodeState → NodeState
 older node = record node { connections = all_aged (all_freed node.connections is_over) }
 
 abbrev pub tick : NodeState → Outcome
-tick node = record {
-  response = Nothing;
+tick node = record (silent (older node)) {
   released = map (release (error line.NotAcknowledged)) (waiting node.connections is_over);
   sent = flat_map (sent_again node) (fin_map.entries node.moves.running);
-  state = older node;
 }

@@ -5,9 +5,9 @@ ghost use Rattle.node_step.specs.Plain.{HasNoReply};
 use command_table::CommandFault;
 use connections::Conn;
 use migrate::CopyVerdict;
+use redirect::Decision;
 use resp_values::Reply;
-use slot_decision::Decision;
-use slot_moves::{ImportVerdict, MigrateVerdict, NodeVerdict};
+use slot_state::{ImportVerdict, MigrateVerdict, NodeVerdict};
 use std::alloc::AllocError;
 
 /// Why a request is answered as it is.

@@ -1,5 +1,5 @@
 //! The short callers of the libraries.
-ghost use Rattle.std.specs.Prelude.{◌≡◌};
+ghost use Rattle.std.specs.Prelude.{◌≡◌, length};
 ghost use Rattle.tickets.specs.Tickets.{IsFresh};
 
 use crate::acts::push_response;
@@ -9,7 +9,7 @@ use anyhow::{Context, Result};
 use byte_string::ByteString;
 use cluster_config::Config;
 use keyspace::{Store, TreeStore, Value};
-use node_cell::{Deployment, Entered, Journal, NodeCell};
+use node_cell::{Admission, Asks, Deployment, Entered, Journal, NodeCell};
 use node_core::StepFault;
 use slot_table::NodeNo;
 use std::alloc::{AllocError, Global};
@@ -101,26 +101,33 @@ fn gets<R: AllocGlobal>(rt: &R) -> Result<bool> {
 }
 
 fn gets_at<K: Deployment>(alloc: Global, config: &Config, seat: Seat) -> Result<bool>
+    requires three { length config.now.nodes ≡ 3 }
     requires cluster { config.now ≡ K.config }
     requires seat { IsFresh K.table K.seats seat }
 {
     let node = NodeNo::new(2).context("there is no such node")?;
     let mut cell = NodeCell::<K, Journal>::new(alloc, config, node, seat)?;
-    got_of(alloc, &mut cell)
+    let mut asks = Admission::<K>::new(config).begin();
+    got_of(alloc, &mut asks, &mut cell)
 }
 
-fn got_of<K: Deployment>(alloc: Global, cell: &mut NodeCell<K, Journal>) -> Result<bool> {
-    let entered = entered_by(alloc, cell)?;
+fn got_of<K: Deployment>(
+    alloc: Global,
+    asks: &mut Asks<K>,
+    cell: &mut NodeCell<K, Journal>,
+) -> Result<bool> {
+    let entered = entered_by(alloc, asks, cell)?;
     Ok(is_third(alloc, &entered)?)
 }
 
 fn entered_by<K: Deployment>(
     alloc: Global,
+    asks: &mut Asks<K>,
     cell: &mut NodeCell<K, Journal>,
 ) -> Result<Entered<K>, StepFault> {
     let key = ByteString::inline(b"a");
     let value = ByteString::inline(b"1");
-    set_then_get(alloc, cell, &key, &value)
+    set_then_get(alloc, asks, cell, &key, &value)
 }
 
 fn is_third<K: Deployment>(alloc: Global, entered: &Entered<K>) -> Result<bool, AllocError> {

@@ -1,5 +1,5 @@
 //! A node with its journal: what it is asked, in order, and what is left of it.
-ghost use Rattle.std.specs.Prelude.{◌≡◌};
+ghost use Rattle.std.specs.Prelude.{◌≡◌, length};
 ghost use Rattle.node_gate.specs.Asks.{IsOwn};
 ghost use Rattle.tickets.specs.Tickets.{IsFresh};
 
@@ -12,10 +12,10 @@ use anyhow::{Context, Result};
 use bus::{Body, Message};
 use cluster_config::Config;
 use key_slot::Slot;
-use node_cell::{DeliveryFault, Deployment, Entered, Entry, Journal, NodeCell};
+use node_cell::{Admission, Asks, DeliveryFault, Deployment, Entered, Entry, Journal, NodeCell};
 use node_core::Event;
 use resp2::append_reply;
-use slot_moves::MoveNo;
+use slot_state::MoveNo;
 use slot_table::{Epoch, NodeNo};
 use std::alloc::{AllocError, Global};
 use std::marker::Brand;
@@ -98,7 +98,9 @@ pub fn try_out<R: AllocGlobal + Print>(rt: &R) -> Result<()> {
     Ok(tell(rt, "cells", other)?)
 }
 
-fn other_answer<R: AllocGlobal>(rt: &R, config: &Config) -> Result<Option<String>> {
+fn other_answer<R: AllocGlobal>(rt: &R, config: &Config) -> Result<Option<String>>
+    requires three { length config.now.nodes ≡ 3 }
+{
     for case in &CASES {
         let given = given_by(rt, config, case.calls)?;
         if given.as_slice() != case.given.as_bytes() {
@@ -109,7 +111,9 @@ fn other_answer<R: AllocGlobal>(rt: &R, config: &Config) -> Result<Option<String
 }
 
 // What the calls give, and the journal.
-fn given_by<R: AllocGlobal>(rt: &R, config: &Config, calls: &[Call]) -> Result<Vec<u8>> {
+fn given_by<R: AllocGlobal>(rt: &R, config: &Config, calls: &[Call]) -> Result<Vec<u8>>
+    requires three { length config.now.nodes ≡ 3 }
+{
     let (_table, mut seats) = open(rt.alloc(), 1)?;
     let seat = seats.pop().context("there is no seat")?;
     given_at::<Brand>(rt.alloc(), config, seat, calls)
@@ -121,12 +125,14 @@ fn given_at<K: Deployment>(
     seat: Seat,
     calls: &[Call],
 ) -> Result<Vec<u8>>
+    requires three { length config.now.nodes ≡ 3 }
     requires cluster { config.now ≡ K.config }
     requires seat { IsFresh K.table K.seats seat }
 {
     let node = NodeNo::new(NODE).context("there is no such node")?;
     let mut cell = NodeCell::<K, Journal>::new(alloc, config, node, seat)?;
-    let mut given = make_all(alloc, &mut cell, calls)?;
+    let mut asks = Admission::<K>::new(config).begin();
+    let mut given = make_all(alloc, &mut asks, &mut cell, calls)?;
     push_journal(&mut given, entries_of(cell).as_slice())?;
     Ok(given)
 }
@@ -138,24 +144,26 @@ fn entries_of<K: Deployment>(cell: NodeCell<K, Journal>) -> Vec<Entry> {
 
 fn make_all<K: Deployment>(
     alloc: Global,
+    asks: &mut Asks<K>,
     cell: &mut NodeCell<K, Journal>,
     calls: &[Call],
 ) -> Result<Vec<u8>> {
     let mut given = Vec::new(alloc);
     for call in calls {
-        make(alloc, cell, &mut given, *call)?;
+        make(alloc, asks, cell, &mut given, *call)?;
     }
     Ok(given)
 }
 
 fn make<K: Deployment>(
     alloc: Global,
+    asks: &mut Asks<K>,
     cell: &mut NodeCell<K, Journal>,
     given: &mut Vec<u8>,
     call: Call,
 ) -> Result<()> {
     match call {
-        Apply(act) => apply(alloc, cell, given, act),
+        Apply(act) => apply(alloc, asks, cell, given, act),
         Deliver(ticket) => deliver(cell, given, message(ticket)?),
         TakeReply(key) => Ok(take_reply(cell, given, key)?),
         TakeSent => Ok(take_sent(alloc, cell, given)?),
@@ -165,30 +173,33 @@ fn make<K: Deployment>(
 // Makes the step, and tells its ticket and what its sender got back.
 fn apply<K: Deployment>(
     alloc: Global,
+    asks: &mut Asks<K>,
     cell: &mut NodeCell<K, Journal>,
     given: &mut Vec<u8>,
     act: Act<'_>,
 ) -> Result<()> {
     match act {
-        Open => step(cell, given, Event::Open),
-        Close(key) => step(cell, given, Event::Close(conn_of(key))),
+        Open => step(asks, cell, given, Event::Open),
+        Close(key) => step(asks, cell, given, Event::Close(conn_of(key))),
         Ask(key, words) => step(
+            asks,
             cell,
             given,
             Event::Request(conn_of(key), words_of(alloc, words)?),
         ),
-        Tick => step(cell, given, Event::Tick),
+        Tick => step(asks, cell, given, Event::Tick),
     }
 }
 
 fn step<K: Deployment>(
+    asks: &mut Asks<K>,
     cell: &mut NodeCell<K, Journal>,
     given: &mut Vec<u8>,
     event: Event,
 ) -> Result<()>
     requires own { IsOwn event }
 {
-    let entered = cell.apply(event)?;
+    let entered = asks.ask_node(cell, event)?;
     Ok(push_entered(given, &entered)?)
 }
 

@@ -1,4 +1,5 @@
 //! The cluster of the trials.
+ghost use Rattle.std.specs.Prelude.{◌≡◌, IfOk, length};
 
 use cluster_config::{Config, ConfigFault, read_config};
 use std::alloc::Global;
@@ -11,6 +12,12 @@ const THREE_MASTERS: &[u8] = b"{\"tick_ms\":10,\"node_timeout\":20,\"nodes\":[\
 \"voters\":[\"0000000000000000000000000000000000000000\"]}";
 
 /// Three masters with a third of the slots each.
-pub fn three_masters(alloc: Global) -> Result<Config, ConfigFault> {
-    read_config(alloc, THREE_MASTERS)
+pub fn three_masters(alloc: Global) -> Result<Config, ConfigFault>
+    ensures { IfOk result (λ config. length config.nodes ≡ 3) }
+{
+    let config = read_config(alloc, THREE_MASTERS)?;
+    match config.nodes().len() {
+        3 => Ok(config),
+        _ => Err(ConfigFault::Syntax),
+    }
 }

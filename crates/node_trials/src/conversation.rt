@@ -1,12 +1,12 @@
 //! A conversation over memory with the third node of the cluster.
-ghost use Rattle.std.specs.Prelude.{◌≡◌};
+ghost use Rattle.std.specs.Prelude.{◌≡◌, length};
 ghost use Rattle.tickets.specs.Tickets.{IsFresh};
 
 use crate::streams::{Pieces, Written};
 use cluster::{Gate, SharedNode};
 use cluster_config::Config;
 use listener::{ConnFault, serve_conn};
-use node_cell::{Deployment, Journal, NodeCell};
+use node_cell::{Admission, Asks, Deployment, Journal, NodeCell};
 use resp2::Counting;
 use slot_table::NodeNo;
 use std::alloc::{AllocError, Global};
@@ -49,7 +49,9 @@ pub fn hold<R: Wait + Drop>(
     alloc: Global,
     config: &Config,
     client: Client<'_>,
-) -> Result<Held, AllocError> {
+) -> Result<Held, AllocError>
+    requires three { length config.now.nodes ≡ 3 }
+{
     let (_table, mut seats) = open(alloc, 1)?;
     let seat = seats.pop().unwrap();
     let reader = Pieces {
@@ -74,15 +76,17 @@ fn hold_at<K: Deployment, R: Wait + Drop>(
     reader: Pieces<'_>,
     writer: Written,
 ) -> Result<Held, AllocError>
+    requires three { length config.now.nodes ≡ 3 }
     requires cluster { config.now ≡ K.config }
     requires seat { IsFresh K.table K.seats seat }
 {
     let node = NodeNo::new(NODE).unwrap();
     let node = SharedNode::new(NodeCell::<K, Journal>::new(alloc, config, node, seat)?);
     node.close(&rt);
+    let asks = Admission::<K>::new(config).begin();
     let mut reader = Counting::new(reader);
     let mut writer = Counting::new(writer);
-    let ended = converse(rt, alloc, &node, &mut reader, &mut writer);
+    let ended = converse(rt, alloc, &node, asks, &mut reader, &mut writer);
     let (_config, _node, log, _seat) = node.into_cell().finish();
     Ok(Held {
         ended,
@@ -96,9 +100,10 @@ fn converse<K: Deployment, R: Wait + Drop>(
     rt: R,
     alloc: Global,
     node: &SharedNode<K, Journal>,
+    asks: Asks<K>,
     reader: &mut Counting<Pieces<'_>>,
     writer: &mut Counting<Written>,
 ) -> Result<(), ConnFault> {
-    let mut gate = Gate::new(rt, node);
+    let mut gate = Gate::new(rt, node, asks);
     serve_conn(alloc, &mut gate, reader, writer)
 }

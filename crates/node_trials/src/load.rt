@@ -9,7 +9,6 @@ use cluster::{Journals, Place, finish_nodes, serve_nodes};
 use cluster_config::Config;
 use node_cell::{Deployment, Entry, Journal};
 use node_core::Event;
-use slot_table::NodeNo;
 use std::alloc::{AllocError, Global};
 use std::io::{Read, Write};
 use std::marker::Brand;
@@ -98,6 +97,7 @@ where
     requires cluster { config.now ≡ K.config }
     requires table { id_of table.now ≡ K.table }
     requires whole { vec_len seats ≡ K.seats }
+    requires nodes { vec_len seats ≡ length config.now.nodes }
     requires fresh { All (λ seat. IsFresh K.table K.seats seat) seats.items }
 {
     let alloc = rt.alloc();
@@ -129,19 +129,10 @@ where
     ensures fresh { IfOk result (λ places. All (λ place. IsFresh K.table K.seats place.seat) places.items) }
 {
     let mut places = Vec::with_capacity(rt.alloc(), seats.len())?;
-    let mut number = 0u8;
     for seat in seats {
-        let Some(node) = NodeNo::new(number) else {
-            return Err(io::Error::other("there are too many nodes"));
-        };
         let listener = TcpListener::bind(rt, "127.0.0.1:0")?;
-        let place = Place {
-            node,
-            seat,
-            listener,
-        };
+        let place = Place { seat, listener };
         places.push(place).map_err(AllocError::from)?;
-        number = number.saturating_add(1);
     }
     Ok(places)
 }

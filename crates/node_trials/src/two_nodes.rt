@@ -1,5 +1,5 @@
 //! A request that is held up at one node, and one that is asked at another node meanwhile.
-ghost use Rattle.std.specs.Prelude.{◌≡◌, ◌<◌};
+ghost use Rattle.std.specs.Prelude.{◌≡◌, ◌<◌, length};
 ghost use Rattle.tickets.specs.Tickets.{IsFresh};
 
 use crate::clusters::three_masters;
@@ -9,7 +9,7 @@ use anyhow::Result;
 use cluster::{Gate, SharedNode};
 use cluster_config::Config;
 use listener::serve_conn;
-use node_cell::{Deployment, GhostJournal, NodeCell, NodeGate};
+use node_cell::{Admission, Asks, Deployment, GhostJournal, NodeCell, NodeGate};
 use resp2::Counting;
 use slot_table::NodeNo;
 use std::alloc::{AllocError, Global};
@@ -56,6 +56,7 @@ where
 fn answers<R>(rt: R, config: &Config, locks: Locks) -> Result<bool>
 where
     R: AllocGlobal + Threads + Wait + Copy + Drop + Send + Sync + 'static,
+    requires three { length config.now.nodes ≡ 3 }
 {
     let (_table, mut seats) = open(rt.alloc(), 2)?;
     let second = seats.pop().unwrap();
@@ -74,13 +75,15 @@ fn answers_meanwhile<
     third_seat: Seat,
     locks: Locks,
 ) -> Result<bool, AllocError>
+    requires three { length config.now.nodes ≡ 3 }
     requires cluster { config.now ≡ K.config }
     requires second { IsFresh K.table K.seats second_seat }
     requires third { IsFresh K.table K.seats third_seat }
 {
     let second = node::<K>(alloc, config, 1, second_seat)?;
     let third = Arc::new(alloc, node::<K>(alloc, config, 2, third_seat)?)?;
-    ask_both(rt, alloc, &second, third, locks)
+    let admission = Admission::<K>::new(config);
+    ask_both(rt, alloc, &admission, &second, third, locks)
 }
 
 fn node<K: Deployment>(
@@ -89,7 +92,8 @@ fn node<K: Deployment>(
     number: u8,
     seat: Seat,
 ) -> Result<SharedNode<K, GhostJournal>, AllocError>
-    requires number { number < 16 }
+    requires number { number < 3 }
+    requires three { length config.now.nodes ≡ 3 }
     requires cluster { config.now ≡ K.config }
     requires seat { IsFresh K.table K.seats seat }
 {
@@ -104,16 +108,18 @@ fn ask_both<
 >(
     rt: R,
     alloc: Global,
+    admission: &Admission<K>,
     second: &SharedNode<K, GhostJournal>,
     third: Arc<SharedNode<K, GhostJournal>>,
     locks: Locks,
 ) -> Result<bool, AllocError> {
     let signals = Arc::new(alloc, Signals::new())?;
     let theirs = Arc::try_clone(&signals)?;
+    let asks = admission.begin();
     let other = thread::spawn(&rt, move || {
-        ask_meanwhile(rt, alloc, &*third, &*theirs, locks);
+        ask_meanwhile(rt, alloc, &*third, asks, &*theirs, locks);
     })?;
-    hold_up(rt, alloc, second, &*signals, locks);
+    hold_up(rt, alloc, second, admission.begin(), &*signals, locks);
     other.join(&rt);
     Ok(!signals.ran_out.load(Ordering::SeqCst))
 }
@@ -123,6 +129,7 @@ fn hold_up<K: Deployment, R: Wait + Copy + Drop>(
     rt: R,
     alloc: Global,
     node: &SharedNode<K, GhostJournal>,
+    asks: Asks<K>,
     signals: &Signals,
     locks: Locks,
 ) {
@@ -131,7 +138,7 @@ fn hold_up<K: Deployment, R: Wait + Copy + Drop>(
         Locks::Own => &own,
         Locks::One => &signals.all,
     };
-    let gate = Gate::new(rt, node);
+    let gate = Gate::new(rt, node, asks);
     let mut gate = HoldingGate {
         rt,
         gate,
@@ -146,10 +153,11 @@ fn ask_meanwhile<K: Deployment, R: Wait + Copy + Drop>(
     rt: R,
     alloc: Global,
     node: &SharedNode<K, GhostJournal>,
+    asks: Asks<K>,
     signals: &Signals,
     locks: Locks,
 ) {
-    let gate = Gate::new(rt, node);
+    let gate = Gate::new(rt, node, asks);
     match locks {
         Locks::Own => {
             let mut gate = TellingGate { gate, signals };

@@ -1,4 +1,5 @@
 //! Connections that fail, and how often a conversation writes.
+ghost use Rattle.std.specs.Prelude.{◌≡◌, length};
 
 use crate::clusters::three_masters;
 use crate::conversation::{Client, Held, hold};
@@ -180,7 +181,9 @@ pub fn try_out<R: Wait + AllocGlobal + Print + Copy + Drop>(rt: R) -> Result<()>
     judge(rt, &config)
 }
 
-fn judge<R: Wait + AllocGlobal + Print + Copy + Drop>(rt: R, config: &Config) -> Result<()> {
+fn judge<R: Wait + AllocGlobal + Print + Copy + Drop>(rt: R, config: &Config) -> Result<()>
+    requires three { length config.now.nodes ≡ 3 }
+{
     say(
         &rt,
         "broken connections end as they have to",
@@ -194,7 +197,9 @@ fn judge<R: Wait + AllocGlobal + Print + Copy + Drop>(rt: R, config: &Config) ->
     judge_writes(rt, config)
 }
 
-fn judge_writes<R: Wait + AllocGlobal + Print + Copy + Drop>(rt: R, config: &Config) -> Result<()> {
+fn judge_writes<R: Wait + AllocGlobal + Print + Copy + Drop>(rt: R, config: &Config) -> Result<()>
+    requires three { length config.now.nodes ≡ 3 }
+{
     let together = all_written(rt, config, &TOGETHER, true)?;
     say(&rt, "replies of one read are one write", together)?;
     let apart = all_written(rt, config, &APART, false)?;
@@ -204,7 +209,9 @@ fn judge_writes<R: Wait + AllocGlobal + Print + Copy + Drop>(rt: R, config: &Con
 fn all_break<R: Wait + AllocGlobal + Copy + Drop>(
     rt: R,
     config: &Config,
-) -> Result<bool, AllocError> {
+) -> Result<bool, AllocError>
+    requires three { length config.now.nodes ≡ 3 }
+{
     for row in &BROKEN {
         let client = Client {
             pieces: row.pieces,
@@ -232,7 +239,9 @@ fn all_written<R: Wait + AllocGlobal + Copy + Drop>(
     config: &Config,
     rows: &[Reads],
     at_once: bool,
-) -> Result<bool, AllocError> {
+) -> Result<bool, AllocError>
+    requires three { length config.now.nodes ≡ 3 }
+{
     for row in rows {
         let held = read(rt, config, *row, MANY)?;
         let answer = replies(rt.alloc(), *row)?;
@@ -244,7 +253,9 @@ fn all_written<R: Wait + AllocGlobal + Copy + Drop>(
 }
 
 // What was written of a long value ends where the writer fails, and isn't begun again.
-fn is_cut<R: Wait + AllocGlobal + Copy + Drop>(rt: R, config: &Config) -> Result<bool, AllocError> {
+fn is_cut<R: Wait + AllocGlobal + Copy + Drop>(rt: R, config: &Config) -> Result<bool, AllocError>
+    requires three { length config.now.nodes ≡ 3 }
+{
     let held = read(rt, config, LONG, ROOM)?;
     let answer = replies(rt.alloc(), LONG)?;
     Ok(
@@ -259,7 +270,9 @@ fn read<R: Wait + AllocGlobal + Copy + Drop>(
     config: &Config,
     reads: Reads,
     room: usize,
-) -> Result<Held, AllocError> {
+) -> Result<Held, AllocError>
+    requires three { length config.now.nodes ≡ 3 }
+{
     let piece = requests(rt.alloc(), reads)?;
     let client = Client {
         pieces: &[piece.as_slice()],

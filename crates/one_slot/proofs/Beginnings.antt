@@ -3,7 +3,7 @@ use Rattle.std.proofs.Common.{◌≡◌, ◌≢◌, ◌≤◌, ℕ, List, Option
 use Rattle.std.proofs.lemmas.Bool.{cases_eq}
 use Rattle.slot_table.specs.declared.entry.SlotEntry.{SlotEntry}
 use Rattle.slot_table.specs.Table.{owner_in}
-use Rattle.slot_moves.specs.declared.running.Move.{Move}
+use Rattle.slot_state.specs.declared.running.Move.{Move}
 use Rattle.one_slot.specs.View.{Views}
 use Rattle.one_slot.specs.Slot.{Holds, IsAtMost, IsHolder, IsElsewhere, IsCounted, installed}
 use Rattle.one_slot.specs.Events.{Changes, Keeps, Starts, ImportBegins, import_begun, MigrationBegins, migration_begun}

@@ -2,7 +2,7 @@
 use Rattle.std.proofs.Common.{◌≡◌, ◌≢◌, ℕ, List, Option, Some, None, Contains, sym, ap, subst, ◌∙◌, inl, inr, arith}
 use Rattle.std.proofs.lemmas.Bool.{cases_eq}
 use Rattle.slot_table.specs.declared.entry.SlotEntry.{SlotEntry}
-use Rattle.slot_moves.specs.declared.running.Move.TheVariants.{Leaves}
+use Rattle.slot_state.specs.declared.running.Move.TheVariants.{Leaves}
 use Rattle.one_slot.specs.View.{View, Views}
 use Rattle.one_slot.specs.Slot.{Holds, IsLeaving, IsComing, IsShared}
 use Rattle.one_slot.specs.Sent.{Told, IsTold, IsSent}

@@ -2,7 +2,7 @@
 -- "Hash slots configuration propagation"; the messages of a move are ours).
 use Rattle.std.specs.Prelude.{◌≡◌, ◌≤◌, ℕ, ◌⊎◌, List, Option, Some, None, Contains}
 use Rattle.slot_table.specs.declared.entry.SlotEntry.{SlotEntry}
-use Rattle.slot_moves.specs.declared.running.Move.TheVariants.{Leaves}
+use Rattle.slot_state.specs.declared.running.Move.TheVariants.{Leaves}
 use Rattle.one_slot.specs.View.{View, Views}
 use Rattle.one_slot.specs.Slot.{IsAtMost, IsOver, IsLeaving, IsDrained, installed}
 

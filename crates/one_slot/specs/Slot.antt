@@ -3,8 +3,8 @@
 use Rattle.std.specs.Prelude.{◌≡◌, ◌≢◌, ◌≤◌, ◌+◌, ◌==◌, ◌&&◌, ℕ, if◌then◌else◌, List, Option, Some, None}
 use Rattle.slot_table.specs.declared.entry.SlotEntry.{SlotEntry}
 use Rattle.slot_table.specs.Table.{owner_in}
-use Rattle.slot_moves.specs.declared.running.Move.{Move}
-use Rattle.slot_moves.specs.declared.running.Move.TheVariants.{Leaves, Comes}
+use Rattle.slot_state.specs.declared.running.Move.{Move}
+use Rattle.slot_state.specs.declared.running.Move.TheVariants.{Leaves, Comes}
 use Rattle.one_slot.specs.View.{View, Views}
 
 -- an entry is older than the newest one, or of the same owner

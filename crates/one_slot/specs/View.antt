@@ -1,7 +1,7 @@
 -- One slot at one node (Redis Cluster specification, "Cluster live reconfiguration"; that moves have numbers is ours).
 use Rattle.std.specs.Prelude.{ℕ, List, Option}
 use Rattle.slot_table.specs.declared.entry.SlotEntry.{SlotEntry}
-use Rattle.slot_moves.specs.declared.running.Move.{Move}
+use Rattle.slot_state.specs.declared.running.Move.{Move}
 
 -- what the node's table has of the slot, the move that is under way, the greatest number of a move that the node took part in,
 -- and its values at the keys of the slot

@@ -32,6 +32,8 @@ impl<R: Clock + Drop, N: Network + Drop> Network for Patient<R, N> {
 
     ghost pool = { λ patient. N.pool patient.network };
 
+    ghost wires = { λ patient. N.wires patient.network };
+
     fn perform(&mut self, action: Action) -> Event {
         if matches!(&action, Action::Send(_)) {
             pause(&self.rt, self.refusals);

@@ -181,6 +181,8 @@ impl<N: Network + Drop> Network for Watched<'_, N> {
 
     ghost pool = { λ watched. N.pool watched.network };
 
+    ghost wires = { λ watched. N.wires watched.network };
+
     fn perform(&mut self, action: Action) -> Event {
         if let Ok(mut seen) = self.seen.try_borrow_mut() {
             seen.see_action(&action);

@@ -3,7 +3,6 @@ pub mod HostLemmas
 pub mod LineLemmas
 pub mod Numbers
 pub mod Parts
-pub mod PlaceLemmas
 pub mod Redirections
 pub mod Splits
 mod WorkedValues

@@ -9,9 +9,9 @@ use Rattle.key_slot.specs.Slot.{hash_slot}
 use Rattle.migrate.specs.Sending.{copy_verdict}
 use Rattle.migrate.specs.declared.sending.CopyVerdict.{CopyVerdict}
 use Rattle.migrate.specs.declared.sending.CopyVerdict.TheVariants.{WrongTarget, NoKey, CopyOutstanding, Exhausted, SendAgain, Copies}
-use Rattle.slot_moves.specs.Moves.{move_of}
-use Rattle.slot_moves.specs.declared.running.Move.{Move}
-use Rattle.slot_moves.specs.declared.running.Move.TheVariants.{Leaves}
+use Rattle.slot_state.specs.Moves.{move_of}
+use Rattle.slot_state.specs.declared.running.Move.{Move}
+use Rattle.slot_state.specs.declared.running.Move.TheVariants.{Leaves}
 use Rattle.node_step.specs.Copies.{copy_outcome, copy_verdict_on, node_at}
 use Rattle.node_step.specs.Outcome.{Outcome, stamped}
 use Rattle.node_step.specs.State.{NodeState}

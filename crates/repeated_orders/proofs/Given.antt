@@ -9,7 +9,7 @@ use Rattle.command_table.specs.declared.fault.CommandFault.{CommandFault}
 use Rattle.connections.specs.Connections.{connection_at, may_ask}
 use Rattle.connections.specs.declared.conn.Conn.{Conn}
 use Rattle.node_step.specs.Outcome.{Outcome, silent}
-use Rattle.node_step.specs.Requests.{Listing, cluster_outcome, request_outcome, using_up}
+use Rattle.node_step.specs.Requests.{cluster_outcome, request_outcome, using_up}
 use Rattle.node_step.specs.State.{NodeState}
 use Rattle.node_step.specs.Step.{IsAnswering}
 use Rattle.node_step.specs.declared.outputs.Outputs.{Outputs}
@@ -17,13 +17,13 @@ use Rattle.repeated_orders.specs.Law.{IsGiven}
 
 -- the node takes the command, or ignores it
 pub data Came (command : ClusterCommand) (node : NodeState) (conn : Conn) (outcome : Outcome) : Type 0 where
-  took : (listing : Listing) → outcome ≡ cluster_outcome (using_up node conn) conn command listing → Came command node conn outcome
+  took : outcome ≡ cluster_outcome (using_up node conn) conn command → Came command node conn outcome
   ignored : outcome ≡ silent node → Came command node conn outcome
 
 by_asking : (command : ClusterCommand) (node : NodeState) (conn : Conn) (words : List (List ℕ)) (outcome : Outcome) (asks : Bool) → command_of words ≡ Ok (Cluster command)
     → MatchBool asks (IsAnswering node conn words outcome) (outcome ≡ silent node) → Came command node conn outcome
 by_asking command node conn words outcome true reads may =
-    Came.took may.listing (may.comes_to ∙ ap (λ (r : Result Command CommandFault). request_outcome node conn r may.listing) reads)
+    Came.took (may.comes_to ∙ ap (λ (r : Result Command CommandFault). request_outcome node conn r) reads)
 by_asking command node conn words outcome false reads may = Came.ignored may
 
 pub came : (command : ClusterCommand) (old : NodeState) (outputs : Outputs) (new : NodeState) (given : IsGiven command old outputs new) → Came command old given.conn given.step.outcome

@@ -53,20 +53,20 @@ module _ (slot : ℕ) (order : SlotOrder) (id : List ℕ) (number : Option ℕ) 
   second_order : (old after later : NodeState) (conn other : Conn) (first second : Outcome) → first.response ≢ Nothing → after ≡ first.state → KeepsAllButConnections after later
       → Came command old conn first → Came command later other second → IsRepeat (slot < length old.table) first later second
   second_order old after later conn other first second took_it are keeps (ignored is) next = absurd (took_it (ap (λ (o : Outcome). o.response) is))
-  second_order old after later conn other first second took_it are keeps (took listing is) (ignored nothing) =
+  second_order old after later conn other first second took_it are keeps (took is) (ignored nothing) =
       subst (IsRepeat (slot < length old.table) first later) (sym nothing)
       (record { state = refl; released = refl; sent = refl; reply = λ has answer repeated one again. cc })
-  second_order old after later conn other first second took_it are keeps (took listing is) (took newer next) =
+  second_order old after later conn other first second took_it are keeps (took is) (took next) =
       let node : NodeState = using_up old conn in
-      let ordered : Outcome = order_outcome node slot order (node_with_id node id) number listing in
+      let ordered : Outcome = order_outcome node slot order (node_with_id node id) number in
       let found : NodeState = behind ordered later.connections in
       let same : found ≡ later = sym (keeps ∙ ap (λ (n : NodeState). record n { connections = later.connections }) (are ∙ ap (λ (o : Outcome). o.state) is)) in
-      let repeat : IsRepeat (slot < length old.table) ordered found (cluster_outcome (using_up found other) other command newer) =
+      let repeat : IsRepeat (slot < length old.table) ordered found (cluster_outcome (using_up found other) other command) =
       only_replies (slot < length old.table) ordered found (using_up found other) _ refl
-      (order_repeats node (using_up found other).connections slot order id number listing newer) in
+      (order_repeats node (using_up found other).connections slot order id number) in
       subst (IsRepeat (slot < length old.table) first later) (sym next)
-      (subst (λ (n : NodeState). IsRepeat (slot < length old.table) first n (cluster_outcome (using_up n other) other command newer)) same
-      (subst (λ (o : Outcome). IsRepeat (slot < length old.table) o found (cluster_outcome (using_up found other) other command newer)) (sym is) repeat))
+      (subst (λ (n : NodeState). IsRepeat (slot < length old.table) first n (cluster_outcome (using_up n other) other command)) same
+      (subst (λ (o : Outcome). IsRepeat (slot < length old.table) o found (cluster_outcome (using_up found other) other command)) (sym is) repeat))
 
   repeats : (old after later new : NodeState) (outputs again : Outputs) (first : IsGiven command old outputs after) → IsTaken outputs → KeepsAllButConnections after later
       → (second : IsGiven command later again new) → IsRepeat (slot < length old.table) first.step.outcome later second.step.outcome
@@ -104,21 +104,21 @@ module _ (host : List ℕ) (port : ℤ) (key : List ℕ) (timeout ticks : ℕ) w
   second_copy : (old after later : NodeState) (conn other : Conn) (first second : Outcome) → first.response ≢ Nothing → after ≡ first.state → KeepsAllButConnections after later
       → Came (Migrate host port key timeout) old conn first → Came (Migrate host port key ticks) later other second → IsCopyRepeat first later second
   second_copy old after later conn other first second took_it are keeps (ignored is) next = absurd (took_it (ap (λ (o : Outcome). o.response) is))
-  second_copy old after later conn other first second took_it are keeps (took listing is) (ignored nothing) =
+  second_copy old after later conn other first second took_it are keeps (took is) (ignored nothing) =
       subst (IsCopyRepeat first later) (sym nothing)
       (record { state = refl; released = refl; response = λ answers. absurd (answers refl); sent = λ answers. absurd (answers refl) })
-  second_copy old after later conn other first second took_it are keeps (took listing is) (took newer next) =
+  second_copy old after later conn other first second took_it are keeps (took is) (took next) =
       let node : NodeState = using_up old conn in
       let ordered : Outcome = copy_outcome node conn key timeout (copy_verdict_on node key (node_at node host port)) in
       let found : NodeState = behind ordered later.connections in
       let same : found ≡ later = sym (keeps ∙ ap (λ (n : NodeState). record n { connections = later.connections }) (are ∙ ap (λ (o : Outcome). o.state) is)) in
-      let only : OnlySends (using_up found other) ordered (cluster_outcome (using_up found other) other (Migrate host port key ticks) newer) =
+      let only : OnlySends (using_up found other) ordered (cluster_outcome (using_up found other) other (Migrate host port key ticks)) =
       copy_repeats node (using_up found other).connections conn other key timeout ticks host port (copy_verdict_on node key (node_at node host port)) refl in
-      let repeat : IsCopyRepeat ordered found (cluster_outcome (using_up found other) other (Migrate host port key ticks) newer) =
+      let repeat : IsCopyRepeat ordered found (cluster_outcome (using_up found other) other (Migrate host port key ticks)) =
       record { state = only.state; released = only.released; response = λ answers. only.response; sent = λ answers. only.sent } in
       subst (IsCopyRepeat first later) (sym next)
-      (subst (λ (n : NodeState). IsCopyRepeat first n (cluster_outcome (using_up n other) other (Migrate host port key ticks) newer)) same
-      (subst (λ (o : Outcome). IsCopyRepeat o found (cluster_outcome (using_up found other) other (Migrate host port key ticks) newer)) (sym is) repeat))
+      (subst (λ (n : NodeState). IsCopyRepeat first n (cluster_outcome (using_up n other) other (Migrate host port key ticks))) same
+      (subst (λ (o : Outcome). IsCopyRepeat o found (cluster_outcome (using_up found other) other (Migrate host port key ticks))) (sym is) repeat))
 
 pub are_sent_again : CopiesAreSentAgain
 are_sent_again host port key timeout ticks old after later new outputs again first took_it keeps second =

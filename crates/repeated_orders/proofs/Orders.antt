@@ -9,23 +9,22 @@ use Rattle.command_table.specs.declared.command.SlotOrder.TheVariants.{Importing
 use Rattle.connections.specs.Connections.{ConnectionTable}
 use Rattle.resp_values.specs.declared.reply.Reply.{Reply}
 use Rattle.slot_table.specs.Table.{owner_at, owner_in}
-use Rattle.slot_table.specs.declared.runs.Run.{Run}
-use Rattle.slot_moves.specs.Ending.{node_verdict}
-use Rattle.slot_moves.specs.Importing.{import_verdict}
-use Rattle.slot_moves.specs.Migrating.{migrate_verdict}
-use Rattle.slot_moves.specs.Moves.{move_of, last_move_of}
-use Rattle.slot_moves.specs.declared.ending.NodeVerdict.{NodeVerdict}
-use Rattle.slot_moves.specs.declared.ending.NodeVerdict.TheVariants as ending
-use Rattle.slot_moves.specs.declared.importing.ImportVerdict.{ImportVerdict}
-use Rattle.slot_moves.specs.declared.importing.ImportVerdict.TheVariants as import
-use Rattle.slot_moves.specs.declared.migrating.MigrateVerdict.{MigrateVerdict}
-use Rattle.slot_moves.specs.declared.migrating.MigrateVerdict.TheVariants as migrate
-use Rattle.slot_moves.specs.declared.order.Standing.{Standing}
-use Rattle.slot_moves.specs.declared.running.Move.{Move}
-use Rattle.slot_moves.specs.declared.running.Move.TheVariants.{Leaves, Comes}
+use Rattle.slot_state.specs.Ending.{node_verdict}
+use Rattle.slot_state.specs.Importing.{import_verdict}
+use Rattle.slot_state.specs.Migrating.{migrate_verdict}
+use Rattle.slot_state.specs.Moves.{move_of, last_move_of}
+use Rattle.slot_state.specs.declared.ending.NodeVerdict.{NodeVerdict}
+use Rattle.slot_state.specs.declared.ending.NodeVerdict.TheVariants as ending
+use Rattle.slot_state.specs.declared.importing.ImportVerdict.{ImportVerdict}
+use Rattle.slot_state.specs.declared.importing.ImportVerdict.TheVariants as import
+use Rattle.slot_state.specs.declared.migrating.MigrateVerdict.{MigrateVerdict}
+use Rattle.slot_state.specs.declared.migrating.MigrateVerdict.TheVariants as migrate
+use Rattle.slot_state.specs.declared.order.Standing.{Standing}
+use Rattle.slot_state.specs.declared.running.Move.{Move}
+use Rattle.slot_state.specs.declared.running.Move.TheVariants.{Leaves, Comes}
 use Rattle.node_step.specs.Orders.{ending_outcome, ending_reply, ending_verdict, import_outcome, import_reply, migrate_outcome, migrate_reply, new_epoch}
 use Rattle.node_step.specs.Outcome.{Outcome, replied}
-use Rattle.node_step.specs.Requests.{Listing, node_with_id, order_outcome}
+use Rattle.node_step.specs.Requests.{node_with_id, order_outcome}
 use Rattle.node_step.specs.State.{NodeState, standing}
 use Rattle.node_step.specs.declared.response.Response.{Response}
 use Rattle.node_step.specs.declared.response.Response.TheVariants.{Replied}
@@ -137,29 +136,29 @@ module _ (node : NodeState) (connections : ConnectionTable) (slot : ℕ) where
   -- ---- NODE
 
   -- what ends no import changes nothing
-  ends_nothing : (at : NodeState) (claim : List (Run ℕ)) (verdict : NodeVerdict) → ((epoch : ℕ) → verdict ≢ ending.Ends epoch)
-      → ending_outcome at slot claim verdict ≡ replied at (Ends verdict) (ending_reply verdict)
-  ends_nothing at claim ending.UnknownNode never = refl
-  ends_nothing at claim ending.OldMove never = refl
-  ends_nothing at claim ending.NotDrained never = refl
-  ends_nothing at claim ending.IsOwner never = refl
-  ends_nothing at claim ending.NotYetOwner never = refl
-  ends_nothing at claim (ending.Ends epoch) never = absurd (never epoch refl)
+  ends_nothing : (at : NodeState) (verdict : NodeVerdict) → ((epoch : ℕ) → verdict ≢ ending.Ends epoch)
+      → ending_outcome at slot verdict ≡ replied at (Ends verdict) (ending_reply verdict)
+  ends_nothing at ending.UnknownNode never = refl
+  ends_nothing at ending.OldMove never = refl
+  ends_nothing at ending.NotDrained never = refl
+  ends_nothing at ending.IsOwner never = refl
+  ends_nothing at ending.NotYetOwner never = refl
+  ends_nothing at (ending.Ends epoch) never = absurd (never epoch refl)
 
-  module _ (claim later : List (Run ℕ)) (id : List ℕ) (number : Option ℕ) where
+  module _ (id : List ℕ) (number : Option ℕ) where
     ending_refused : (verdict : NodeVerdict) → ending_verdict node slot (node_with_id node id) number ≡ verdict → ((epoch : ℕ) → verdict ≢ ending.Ends epoch)
-        → OnlyReplies has_slot (replied node (Ends verdict) (ending_reply verdict)).response still (ending_outcome still slot later (ending_verdict still slot (node_with_id still id) number))
+        → OnlyReplies has_slot (replied node (Ends verdict) (ending_reply verdict)).response still (ending_outcome still slot (ending_verdict still slot (node_with_id still id) number))
     ending_refused verdict is never = record {
       why = Ends verdict;
       before = Ends verdict;
       reply = ending_reply verdict;
-      is = ap (ending_outcome still slot later) is ∙ ends_nothing still later verdict never;
+      is = ap (ending_outcome still slot) is ∙ ends_nothing still verdict never;
       same = λ has. refl;
     }
 
     ending_repeats : (verdict : NodeVerdict) → ending_verdict node slot (node_with_id node id) number ≡ verdict
-        → (let first = ending_outcome node slot claim verdict in let after = behind first connections in
-        OnlyReplies has_slot first.response after (ending_outcome after slot later (ending_verdict after slot (node_with_id after id) number)))
+        → (let first = ending_outcome node slot verdict in let after = behind first connections in
+        OnlyReplies has_slot first.response after (ending_outcome after slot (ending_verdict after slot (node_with_id after id) number)))
     ending_repeats ending.UnknownNode is = ending_refused ending.UnknownNode is (λ epoch same. cc)
     ending_repeats ending.OldMove is = ending_refused ending.OldMove is (λ epoch same. cc)
     ending_repeats ending.NotDrained is = ending_refused ending.NotDrained is (λ epoch same. cc)
@@ -167,7 +166,7 @@ module _ (node : NodeState) (connections : ConnectionTable) (slot : ℕ) where
     ending_repeats ending.NotYetOwner is = ending_refused ending.NotYetOwner is (λ epoch same. cc)
     ending_repeats (ending.Ends drained) is =
         let other : Option ℕ = node_with_id node id in
-        let after : NodeState = behind (ending_outcome node slot claim (ending.Ends drained)) connections in
+        let after : NodeState = behind (ending_outcome node slot (ending.Ends drained)) connections in
         let second : NodeVerdict = ending_verdict after slot other number in
         let no_move : second ≡ node_verdict (standing after slot) None other number =
         ap (λ (m : Option Move). node_verdict (standing after slot) m other number) (gone_here node.moves.running slot) in
@@ -179,15 +178,15 @@ module _ (node : NodeState) (connections : ConnectionTable) (slot : ℕ) where
           why = Ends second;
           before = Ends (ending.Ends drained);
           reply = ending_reply second;
-          is = ends_nothing after later second (λ epoch ends. none_ends (standing after slot) other number epoch (sym no_move ∙ ends));
+          is = ends_nothing after second (λ epoch ends. none_ends (standing after slot) other number epoch (sym no_move ∙ ends));
           same = λ has. ap (λ (v : NodeVerdict). Replied (record { why = Ends (ending.Ends drained); reply = ending_reply v })) (sym (is_owner has));
         }
 
   -- ---- any order
 
-  pub order_repeats : (order : SlotOrder) (id : List ℕ) (number : Option ℕ) (listing later : Listing)
-      → (let first = order_outcome node slot order (node_with_id node id) number listing in let after = behind first connections in
-      OnlyReplies has_slot first.response after (order_outcome after slot order (node_with_id after id) number later))
-  order_repeats Importing id number listing later = import_repeats (node_with_id node id) number (verdict_at imports node (node_with_id node id) number) refl
-  order_repeats Migrating id number listing later = migration_repeats (node_with_id node id) number (verdict_at migrations node (node_with_id node id) number) refl
-  order_repeats Node id number listing later = ending_repeats listing.claim later.claim id number (ending_verdict node slot (node_with_id node id) number) refl
+  pub order_repeats : (order : SlotOrder) (id : List ℕ) (number : Option ℕ)
+      → (let first = order_outcome node slot order (node_with_id node id) number in let after = behind first connections in
+      OnlyReplies has_slot first.response after (order_outcome after slot order (node_with_id after id) number))
+  order_repeats Importing id number = import_repeats (node_with_id node id) number (verdict_at imports node (node_with_id node id) number) refl
+  order_repeats Migrating id number = migration_repeats (node_with_id node id) number (verdict_at migrations node (node_with_id node id) number) refl
+  order_repeats Node id number = ending_repeats id number (ending_verdict node slot (node_with_id node id) number) refl

@@ -3,15 +3,15 @@ use Rattle.std.proofs.Common.{◌≡◌, ◌≢◌, ℕ, nat_eq, Bool, true, Lis
 use Rattle.std.proofs.lemmas.Bool.Decides.{nat_tests}
 use Rattle.std.proofs.lemmas.Cmp.{nat_list_eq_equiv}
 use Rattle.std.specs.Cmp.Lexicographic.{pointwise}
-use Rattle.slot_moves.specs.Ending.{node_verdict}
-use Rattle.slot_moves.specs.Importing.{import_verdict}
-use Rattle.slot_moves.specs.Migrating.{migrate_verdict}
-use Rattle.slot_moves.specs.declared.ending.NodeVerdict.TheVariants as ending
-use Rattle.slot_moves.specs.declared.importing.ImportVerdict.TheVariants as import
-use Rattle.slot_moves.specs.declared.migrating.MigrateVerdict.TheVariants as migrate
-use Rattle.slot_moves.specs.declared.order.Standing.{Standing}
-use Rattle.slot_moves.specs.declared.running.Move.{Move}
-use Rattle.slot_moves.specs.declared.running.Move.TheVariants.{Leaves, Comes}
+use Rattle.slot_state.specs.Ending.{node_verdict}
+use Rattle.slot_state.specs.Importing.{import_verdict}
+use Rattle.slot_state.specs.Migrating.{migrate_verdict}
+use Rattle.slot_state.specs.declared.ending.NodeVerdict.TheVariants as ending
+use Rattle.slot_state.specs.declared.importing.ImportVerdict.TheVariants as import
+use Rattle.slot_state.specs.declared.migrating.MigrateVerdict.TheVariants as migrate
+use Rattle.slot_state.specs.declared.order.Standing.{Standing}
+use Rattle.slot_state.specs.declared.running.Move.{Move}
+use Rattle.slot_state.specs.declared.running.Move.TheVariants.{Leaves, Comes}
 use Rattle.migrate.specs.Sending.{copy_verdict}
 use Rattle.migrate.specs.declared.sending.CopyVerdict.TheVariants as copies
 

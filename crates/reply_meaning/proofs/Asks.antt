@@ -31,24 +31,24 @@ use Rattle.redirection.specs.Splitting.{is_without, number_text}
 use Rattle.redirection.specs.declared.redirection.Redirection.TheVariants as redirection
 use Rattle.resp_values.specs.declared.reply.Reply.{Reply}
 use Rattle.resp_values.specs.declared.reply.Reply.TheVariants.{Simple, Error, Bulk, Null}
-use Rattle.slot_decision.specs.declared.decision.Decision.{Decision}
-use Rattle.slot_decision.specs.declared.decision.Decision.TheVariants.{Serve, ServeImport, CrossSlot, Down, TryAgain, Ask, Moved}
-use Rattle.slot_decision.specs.declared.decision.Reason.TheVariants.{Frozen, SomeAreMissing}
-use Rattle.slot_moves.specs.declared.ending.NodeVerdict.{NodeVerdict}
-use Rattle.slot_moves.specs.declared.ending.NodeVerdict.TheVariants as ending
-use Rattle.slot_moves.specs.declared.importing.ImportVerdict.{ImportVerdict}
-use Rattle.slot_moves.specs.declared.importing.ImportVerdict.TheVariants as import
-use Rattle.slot_moves.specs.declared.migrating.MigrateVerdict.{MigrateVerdict}
-use Rattle.slot_moves.specs.declared.migrating.MigrateVerdict.TheVariants as migrate
-use Rattle.slot_moves.specs.Importing.{import_verdict}
-use Rattle.slot_moves.specs.Migrating.{migrate_verdict}
-use Rattle.slot_moves.specs.Moves.{last_move_of, move_of}
+use Rattle.redirect.specs.declared.decision.Decision.{Decision}
+use Rattle.redirect.specs.declared.decision.Decision.TheVariants.{Serve, ServeImport, CrossSlot, Down, TryAgain, Ask, Moved}
+use Rattle.redirect.specs.declared.decision.Reason.TheVariants.{Frozen, SomeAreMissing}
+use Rattle.slot_state.specs.declared.ending.NodeVerdict.{NodeVerdict}
+use Rattle.slot_state.specs.declared.ending.NodeVerdict.TheVariants as ending
+use Rattle.slot_state.specs.declared.importing.ImportVerdict.{ImportVerdict}
+use Rattle.slot_state.specs.declared.importing.ImportVerdict.TheVariants as import
+use Rattle.slot_state.specs.declared.migrating.MigrateVerdict.{MigrateVerdict}
+use Rattle.slot_state.specs.declared.migrating.MigrateVerdict.TheVariants as migrate
+use Rattle.slot_state.specs.Importing.{import_verdict}
+use Rattle.slot_state.specs.Migrating.{migrate_verdict}
+use Rattle.slot_state.specs.Moves.{last_move_of, move_of}
 use Rattle.node_step.specs.Commands.{ask_reply, command_outcome, decision_on, moved_reply, named}
 use Rattle.node_step.specs.Copies.{copy_outcome, copy_verdict_on, node_at}
 use Rattle.node_step.specs.Orders.{done, ending_outcome, ending_verdict, import_reply, migrate_reply}
 use Rattle.node_step.specs.Outcome.{error}
 use Rattle.node_step.specs.Reports.{id_reply}
-use Rattle.node_step.specs.Requests.{Listing, asking_of, by_command, cluster_outcome, is_numbered, node_with_id, order_outcome, using_up}
+use Rattle.node_step.specs.Requests.{asking_of, by_command, cluster_outcome, is_numbered, node_with_id, order_outcome, using_up}
 use Rattle.node_step.specs.State.{NodeState, standing}
 use Rattle.node_step.specs.declared.response.Answer.{Answer}
 use Rattle.world_run.specs.Executed.{decision_in}
@@ -254,20 +254,20 @@ migrate_is_none migrate.NotOwner = line_is_none line.NotOwner
 migrate_is_none migrate.OldMove = line_is_none line.OldMove
 migrate_is_none (migrate.Begins to number) = done_is_none
 
-ending_right : (node : NodeState) (slot : ℕ) (listing : Listing) (verdict : NodeVerdict) → Says (IsRight node) (ending_outcome node slot listing.claim verdict).response
-ending_right node slot listing (ending.Ends drained) = right_if_none node _ _ done_is_none
-ending_right node slot listing ending.UnknownNode = right_if_none node _ _ (line_is_none line.UnknownNode)
-ending_right node slot listing ending.OldMove = right_if_none node _ _ (line_is_none line.OldMove)
-ending_right node slot listing ending.NotDrained = right_if_none node _ _ (line_is_none line.NotDrained)
-ending_right node slot listing ending.IsOwner = right_if_none node _ _ done_is_none
-ending_right node slot listing ending.NotYetOwner = right_if_none node _ _ (line_is_none line.TableNotUpdated)
+ending_right : (node : NodeState) (slot : ℕ) (verdict : NodeVerdict) → Says (IsRight node) (ending_outcome node slot verdict).response
+ending_right node slot (ending.Ends drained) = right_if_none node _ _ done_is_none
+ending_right node slot ending.UnknownNode = right_if_none node _ _ (line_is_none line.UnknownNode)
+ending_right node slot ending.OldMove = right_if_none node _ _ (line_is_none line.OldMove)
+ending_right node slot ending.NotDrained = right_if_none node _ _ (line_is_none line.NotDrained)
+ending_right node slot ending.IsOwner = right_if_none node _ _ done_is_none
+ending_right node slot ending.NotYetOwner = right_if_none node _ _ (line_is_none line.TableNotUpdated)
 
-order_right : (node : NodeState) (slot : ℕ) (which : SlotOrder) (other number : Option ℕ) (listing : Listing) → Says (IsRight node) (order_outcome node slot which other number listing).response
-order_right node slot Importing other number listing =
+order_right : (node : NodeState) (slot : ℕ) (which : SlotOrder) (other number : Option ℕ) → Says (IsRight node) (order_outcome node slot which other number).response
+order_right node slot Importing other number =
     right_if_none node _ _ (import_is_none (import_verdict (standing node slot) (move_of node.moves slot) (last_move_of node.moves slot) other number))
-order_right node slot Migrating other number listing =
+order_right node slot Migrating other number =
     right_if_none node _ _ (migrate_is_none (migrate_verdict (standing node slot) (move_of node.moves slot) (last_move_of node.moves slot) other number))
-order_right node slot Node other number listing = ending_right node slot listing (ending_verdict node slot other number)
+order_right node slot Node other number = ending_right node slot (ending_verdict node slot other number)
 
 copy_right : (node : NodeState) (conn : Conn) (key : List ℕ) (ticks : ℕ) (verdict : CopyVerdict) → Says (IsRight node) (copy_outcome node conn key ticks verdict).response
 copy_right node conn key ticks copies.WrongTarget = right_if_none node _ _ (line_is_none line.WrongTarget)
@@ -277,29 +277,29 @@ copy_right node conn key ticks copies.Exhausted = tt
 copy_right node conn key ticks (copies.SendAgain to number copy) = tt
 copy_right node conn key ticks (copies.Copies to number copy) = tt
 
-cluster_right : (node : NodeState) (conn : Conn) (which : ClusterCommand) (listing : Listing) → Says (IsRight node) (cluster_outcome node conn which listing).response
-cluster_right node conn (cluster.KeySlot key) listing = right_if_none node _ _ (told_is_none _ refl)
-cluster_right node conn cluster.MyId listing = right_if_none node _ _ (id_is_none (slice_get node.config.nodes node.number))
-cluster_right node conn cluster.Slots listing = right_if_none node _ _ (told_is_none _ refl)
-cluster_right node conn (cluster.CountKeysInSlot slot) listing = right_if_none node _ _ (told_is_none _ refl)
-cluster_right node conn (cluster.GetKeysInSlot slot count) listing = right_if_none node _ _ (told_is_none _ refl)
-cluster_right node conn (cluster.SlotState slot) listing = right_if_none node _ _ (told_is_none _ refl)
-cluster_right node conn (cluster.SetSlot slot which id number) listing = order_right node slot which (node_with_id node id) number listing
-cluster_right node conn cluster.Numbered listing = right_if_none node _ _ done_is_none
-cluster_right node conn (cluster.Asking number) listing = right_if_none node _ _ done_is_none
-cluster_right node conn (cluster.Migrate host port key timeout) listing = copy_right node conn key timeout (copy_verdict_on node key (node_at node host port))
+cluster_right : (node : NodeState) (conn : Conn) (which : ClusterCommand) → Says (IsRight node) (cluster_outcome node conn which).response
+cluster_right node conn (cluster.KeySlot key) = right_if_none node _ _ (told_is_none _ refl)
+cluster_right node conn cluster.MyId = right_if_none node _ _ (id_is_none (slice_get node.config.nodes node.number))
+cluster_right node conn cluster.Slots = right_if_none node _ _ (told_is_none _ refl)
+cluster_right node conn (cluster.CountKeysInSlot slot) = right_if_none node _ _ (told_is_none _ refl)
+cluster_right node conn (cluster.GetKeysInSlot slot count) = right_if_none node _ _ (told_is_none _ refl)
+cluster_right node conn (cluster.SlotState slot) = right_if_none node _ _ (told_is_none _ refl)
+cluster_right node conn (cluster.SetSlot slot which id number) = order_right node slot which (node_with_id node id) number
+cluster_right node conn cluster.Numbered = right_if_none node _ _ done_is_none
+cluster_right node conn (cluster.Asking number) = right_if_none node _ _ done_is_none
+cluster_right node conn (cluster.Migrate host port key timeout) = copy_right node conn key timeout (copy_verdict_on node key (node_at node host port))
 
 -- ---- all words
 
-words_right : (node : NodeState) (conn : Conn) (connection : Option Connection) (words : Result Command CommandFault) (listing : Listing)
-    → Says (IsRight node) (by_command node conn connection words listing).response
-words_right node conn connection (Err why) listing = right_if_none node _ _ (line_is_none (line_of why))
-words_right node conn connection (Ok (Cluster which)) listing = cluster_right node conn which listing
-words_right node conn connection (Ok (Data which)) listing = command_right node (is_numbered connection) which (decision_on node which (asking_of connection))
+words_right : (node : NodeState) (conn : Conn) (connection : Option Connection) (words : Result Command CommandFault)
+    → Says (IsRight node) (by_command node conn connection words).response
+words_right node conn connection (Err why) = right_if_none node _ _ (line_is_none (line_of why))
+words_right node conn connection (Ok (Cluster which)) = cluster_right node conn which
+words_right node conn connection (Ok (Data which)) = command_right node (is_numbered connection) which (decision_on node which (asking_of connection))
 
 -- that an asking is used up changes no node
 pub of_moves : AsksAreOfMoves
 of_moves node conn words answer text slot place number answers is ask =
     let right = says_so (IsRight (using_up node conn)) node conn words answer answers
-    (λ listing. words_right (using_up node conn) conn (connection_at node.connections conn) (command_of words) listing) text slot place number is ask in
+    (words_right (using_up node conn) conn (connection_at node.connections conn) (command_of words)) text slot place number is ask in
     record { to = right.to; config = right.config; decision = right.decision; is_node = right.is_node; is_there = right.is_there }

@@ -22,17 +22,17 @@ use Rattle.migrate.specs.declared.sending.CopyVerdict.{CopyVerdict}
 use Rattle.migrate.specs.declared.sending.CopyVerdict.TheVariants as copies
 use Rattle.redirection.proofs.Parts.{positive_is_read}
 use Rattle.redirection.specs.Redirection.{IsMove}
-use Rattle.slot_decision.specs.declared.decision.Decision.{Decision}
-use Rattle.slot_decision.specs.declared.decision.Decision.TheVariants.{Serve, ServeImport, CrossSlot, Down, TryAgain, Ask, Moved}
-use Rattle.slot_decision.specs.declared.decision.Reason.TheVariants.{Frozen, SomeAreMissing}
-use Rattle.slot_moves.specs.declared.ending.NodeVerdict.{NodeVerdict}
-use Rattle.slot_moves.specs.declared.ending.NodeVerdict.TheVariants as ending
+use Rattle.redirect.specs.declared.decision.Decision.{Decision}
+use Rattle.redirect.specs.declared.decision.Decision.TheVariants.{Serve, ServeImport, CrossSlot, Down, TryAgain, Ask, Moved}
+use Rattle.redirect.specs.declared.decision.Reason.TheVariants.{Frozen, SomeAreMissing}
+use Rattle.slot_state.specs.declared.ending.NodeVerdict.{NodeVerdict}
+use Rattle.slot_state.specs.declared.ending.NodeVerdict.TheVariants as ending
 use Rattle.smart_client.specs.Words.{asking_words}
 use Rattle.node_step.specs.Commands.{ask_reply, command_outcome, decision_on, moved_reply, named}
 use Rattle.node_step.specs.Copies.{copy_outcome, copy_verdict_on, node_at}
 use Rattle.node_step.specs.Orders.{done, ending_outcome, ending_verdict}
 use Rattle.node_step.specs.Outcome.{Outcome, silent}
-use Rattle.node_step.specs.Requests.{Listing, asking_of, by_command, cluster_outcome, is_numbered, node_with_id, order_outcome, request_outcome, using_up}
+use Rattle.node_step.specs.Requests.{asking_of, by_command, cluster_outcome, is_numbered, node_with_id, order_outcome, request_outcome, using_up}
 use Rattle.node_step.specs.State.{NodeState}
 use Rattle.node_step.specs.Step.{IsAnswering}
 use Rattle.node_step.specs.declared.outputs.Outputs.{Outputs}
@@ -55,18 +55,18 @@ use Rattle.reply_meaning.proofs.Words.IsOfData.{command, fault}
 abbrev IsIdle : Answer → Type 0
 IsIdle answer = is_served (decision_in answer.why) ≡ false
 
-ending_idle : (node : NodeState) (slot : ℕ) (listing : Listing) (verdict : NodeVerdict) → Says IsIdle (ending_outcome node slot listing.claim verdict).response
-ending_idle node slot listing (ending.Ends drained) = refl
-ending_idle node slot listing ending.UnknownNode = refl
-ending_idle node slot listing ending.OldMove = refl
-ending_idle node slot listing ending.NotDrained = refl
-ending_idle node slot listing ending.IsOwner = refl
-ending_idle node slot listing ending.NotYetOwner = refl
+ending_idle : (node : NodeState) (slot : ℕ) (verdict : NodeVerdict) → Says IsIdle (ending_outcome node slot verdict).response
+ending_idle node slot (ending.Ends drained) = refl
+ending_idle node slot ending.UnknownNode = refl
+ending_idle node slot ending.OldMove = refl
+ending_idle node slot ending.NotDrained = refl
+ending_idle node slot ending.IsOwner = refl
+ending_idle node slot ending.NotYetOwner = refl
 
-order_idle : (node : NodeState) (slot : ℕ) (which : SlotOrder) (other number : Option ℕ) (listing : Listing) → Says IsIdle (order_outcome node slot which other number listing).response
-order_idle node slot Importing other number listing = refl
-order_idle node slot Migrating other number listing = refl
-order_idle node slot Node other number listing = ending_idle node slot listing (ending_verdict node slot other number)
+order_idle : (node : NodeState) (slot : ℕ) (which : SlotOrder) (other number : Option ℕ) → Says IsIdle (order_outcome node slot which other number).response
+order_idle node slot Importing other number = refl
+order_idle node slot Migrating other number = refl
+order_idle node slot Node other number = ending_idle node slot (ending_verdict node slot other number)
 
 copy_idle : (node : NodeState) (conn : Conn) (key : List ℕ) (ticks : ℕ) (verdict : CopyVerdict) → Says IsIdle (copy_outcome node conn key ticks verdict).response
 copy_idle node conn key ticks copies.WrongTarget = refl
@@ -76,28 +76,28 @@ copy_idle node conn key ticks copies.Exhausted = tt
 copy_idle node conn key ticks (copies.SendAgain to number copy) = tt
 copy_idle node conn key ticks (copies.Copies to number copy) = tt
 
-cluster_idle : (node : NodeState) (conn : Conn) (which : ClusterCommand) (listing : Listing) → Says IsIdle (cluster_outcome node conn which listing).response
-cluster_idle node conn (cluster.KeySlot key) listing = refl
-cluster_idle node conn cluster.MyId listing = refl
-cluster_idle node conn cluster.Slots listing = refl
-cluster_idle node conn (cluster.CountKeysInSlot slot) listing = refl
-cluster_idle node conn (cluster.GetKeysInSlot slot count) listing = refl
-cluster_idle node conn (cluster.SlotState slot) listing = refl
-cluster_idle node conn (cluster.SetSlot slot which id number) listing = order_idle node slot which (node_with_id node id) number listing
-cluster_idle node conn cluster.Numbered listing = refl
-cluster_idle node conn (cluster.Asking number) listing = refl
-cluster_idle node conn (cluster.Migrate host port key timeout) listing = copy_idle node conn key timeout (copy_verdict_on node key (node_at node host port))
+cluster_idle : (node : NodeState) (conn : Conn) (which : ClusterCommand) → Says IsIdle (cluster_outcome node conn which).response
+cluster_idle node conn (cluster.KeySlot key) = refl
+cluster_idle node conn cluster.MyId = refl
+cluster_idle node conn cluster.Slots = refl
+cluster_idle node conn (cluster.CountKeysInSlot slot) = refl
+cluster_idle node conn (cluster.GetKeysInSlot slot count) = refl
+cluster_idle node conn (cluster.SlotState slot) = refl
+cluster_idle node conn (cluster.SetSlot slot which id number) = order_idle node slot which (node_with_id node id) number
+cluster_idle node conn cluster.Numbered = refl
+cluster_idle node conn (cluster.Asking number) = refl
+cluster_idle node conn (cluster.Migrate host port key timeout) = copy_idle node conn key timeout (copy_verdict_on node key (node_at node host port))
 
-words_idle : (node : NodeState) (conn : Conn) (connection : Option Connection) (words : Result Command CommandFault) (listing : Listing) → IsOfCluster words
-    → Says IsIdle (by_command node conn connection words listing).response
-words_idle node conn connection (Ok (Cluster _)) listing (order which) = cluster_idle node conn which listing
-words_idle node conn connection (Ok (Data _)) listing is = elim is [ ]
-words_idle node conn connection (Err _) listing (none why) = refl
+words_idle : (node : NodeState) (conn : Conn) (connection : Option Connection) (words : Result Command CommandFault) → IsOfCluster words
+    → Says IsIdle (by_command node conn connection words).response
+words_idle node conn connection (Ok (Cluster _)) (order which) = cluster_idle node conn which
+words_idle node conn connection (Ok (Data _)) is = elim is [ ]
+words_idle node conn connection (Err _) (none why) = refl
 
 pub not_executed : ClusterWordsAreNotExecuted
 not_executed node conn words answer answers is =
     says_so IsIdle node conn words answer answers
-    (λ listing. words_idle (using_up node conn) conn (connection_at node.connections conn) (command_of words) listing (cluster_words words is))
+    (words_idle (using_up node conn) conn (connection_at node.connections conn) (command_of words) (cluster_words words is))
 
 -- ---- what stands in front of a command
 
@@ -105,11 +105,11 @@ abbrev IsDone : Answer → Type 0
 IsDone answer = answer.reply ≡ done
 
 done_by : (node : NodeState) (conn : Conn) (words : List (List ℕ)) (answer : Answer) (which : ClusterCommand)
-    → ((listing : Listing) → Says IsDone (cluster_outcome (using_up node conn) conn which listing).response)
+    → Says IsDone (cluster_outcome (using_up node conn) conn which).response
     → command_of words ≡ Ok (Cluster which) → Answers node conn words answer → answer.reply ≡ done
 done_by node conn words answer which says is answers =
     says_so IsDone node conn words answer answers
-    (λ listing. subst (λ (c : Result Command CommandFault). Says IsDone (request_outcome node conn c listing).response) (sym is) (says listing))
+    (subst (λ (c : Result Command CommandFault). Says IsDone (request_outcome node conn c).response) (sym is) says)
 
 pub asking_is : (number : ℕ) → IsMove (Some number) → command_of (asking_words number) ≡ Ok (Cluster (cluster.Asking (Some number)))
 asking_is number is =
@@ -117,9 +117,9 @@ asking_is number is =
 
 pub welcome : PreparationsAreWelcome
 welcome node conn words answer answers (numbers is) =
-    done_by node conn words answer cluster.Numbered (λ listing. refl) (ap command_of is ∙ refl) answers
+    done_by node conn words answer cluster.Numbered refl (ap command_of is ∙ refl) answers
 welcome node conn words answer answers (asks number move is) =
-    done_by node conn words answer (cluster.Asking (Some number)) (λ listing. refl) (ap command_of is ∙ asking_is number move) answers
+    done_by node conn words answer (cluster.Asking (Some number)) refl (ap command_of is ∙ asking_is number move) answers
 
 -- ---- commands on keys
 
@@ -145,16 +145,16 @@ command_told node numbered which (TryAgain SomeAreMissing) = refl
 command_told node numbered which (Ask slot to number) = ap not (sym (ask_refuses slot (slice_get node.config.nodes to) numbered number))
 command_told node numbered which (Moved slot to) = ap not (sym (moved_refuses slot (slice_get node.config.nodes to)))
 
-words_told : (node : NodeState) (conn : Conn) (connection : Option Connection) (words : Result Command CommandFault) (listing : Listing) → IsOfData words
-    → Says IsTold (by_command node conn connection words listing).response
-words_told node conn connection (Ok (Data _)) listing (command which) = command_told node (is_numbered connection) which (decision_on node which (asking_of connection))
-words_told node conn connection (Ok (Cluster _)) listing is = elim is [ ]
-words_told node conn connection (Err _) listing (fault why refuses) = ap not (sym refuses)
+words_told : (node : NodeState) (conn : Conn) (connection : Option Connection) (words : Result Command CommandFault) → IsOfData words
+    → Says IsTold (by_command node conn connection words).response
+words_told node conn connection (Ok (Data _)) (command which) = command_told node (is_numbered connection) which (decision_on node which (asking_of connection))
+words_told node conn connection (Ok (Cluster _)) is = elim is [ ]
+words_told node conn connection (Err _) (fault why refuses) = ap not (sym refuses)
 
 pub tell : RepliesTellExecution
 tell node conn words answer answers plain =
     says_so IsTold node conn words answer answers
-    (λ listing. words_told (using_up node conn) conn (connection_at node.connections conn) (command_of words) listing (data_words words plain))
+    (words_told (using_up node conn) conn (connection_at node.connections conn) (command_of words) (data_words words plain))
 
 -- ---- a client is answered
 
@@ -170,27 +170,27 @@ command_answered node numbered which (TryAgain reason) = (_, refl)
 command_answered node numbered which (Ask slot to number) = (_, refl)
 command_answered node numbered which (Moved slot to) = (_, refl)
 
-words_answered : (node : NodeState) (conn : Conn) (connection : Option Connection) (words : Result Command CommandFault) (listing : Listing) → IsOfData words
-    → IsAnswered (by_command node conn connection words listing).response
-words_answered node conn connection (Ok (Data _)) listing (command which) = command_answered node (is_numbered connection) which (decision_on node which (asking_of connection))
-words_answered node conn connection (Ok (Cluster _)) listing is = elim is [ ]
-words_answered node conn connection (Err _) listing (fault why refuses) = (_, refl)
+words_answered : (node : NodeState) (conn : Conn) (connection : Option Connection) (words : Result Command CommandFault) → IsOfData words
+    → IsAnswered (by_command node conn connection words).response
+words_answered node conn connection (Ok (Data _)) (command which) = command_answered node (is_numbered connection) which (decision_on node which (asking_of connection))
+words_answered node conn connection (Ok (Cluster _)) is = elim is [ ]
+words_answered node conn connection (Err _) (fault why refuses) = (_, refl)
 
-asking_answered : (node : NodeState) (conn : Conn) (number : Option ℕ) (listing : Listing) → IsAnswered (request_outcome node conn (asking (number_or_fault number)) listing).response
-asking_answered node conn None listing = (_, refl)
-asking_answered node conn (Some number) listing = (_, refl)
+asking_answered : (node : NodeState) (conn : Conn) (number : Option ℕ) → IsAnswered (request_outcome node conn (asking (number_or_fault number))).response
+asking_answered node conn None = (_, refl)
+asking_answered node conn (Some number) = (_, refl)
 
-client_answered : (node : NodeState) (conn : Conn) (words : List (List ℕ)) (listing : Listing) → IsOfClient words → IsAnswered (request_outcome node conn (command_of words) listing).response
-client_answered node conn words listing (plain_command plain) =
-    words_answered (using_up node conn) conn (connection_at node.connections conn) (command_of words) listing (data_words words plain)
-client_answered node conn words listing (plain_numbers is) =
-    subst (λ (ws : List (List ℕ)). IsAnswered (request_outcome node conn (command_of ws) listing).response) (sym is) (_, refl)
-client_answered node conn words listing (plain_asks number is) =
-    subst (λ (ws : List (List ℕ)). IsAnswered (request_outcome node conn (command_of ws) listing).response) (sym is) (asking_answered node conn (positive_of (decimal number)) listing)
+client_answered : (node : NodeState) (conn : Conn) (words : List (List ℕ)) → IsOfClient words → IsAnswered (request_outcome node conn (command_of words)).response
+client_answered node conn words (plain_command plain) =
+    words_answered (using_up node conn) conn (connection_at node.connections conn) (command_of words) (data_words words plain)
+client_answered node conn words (plain_numbers is) =
+    subst (λ (ws : List (List ℕ)). IsAnswered (request_outcome node conn (command_of ws)).response) (sym is) (_, refl)
+client_answered node conn words (plain_asks number is) =
+    subst (λ (ws : List (List ℕ)). IsAnswered (request_outcome node conn (command_of ws)).response) (sym is) (asking_answered node conn (positive_of (decimal number)))
 
 pub client_is_answered : ClientsAreAnswered
 client_is_answered ticket node after conn words outputs step may_be client =
     let may = subst (λ (b : Bool). MatchBool b (IsAnswering node conn words step.outcome) (step.outcome ≡ silent node)) may_be step.may_come in
-    let same : (request_outcome node conn (command_of words) may.listing).response ≡ outputs.response =
+    let same : (request_outcome node conn (command_of words)).response ≡ outputs.response =
     ap (λ (o : Outcome). o.response) (sym may.comes_to) ∙ sym (ap (λ (o : Outputs). o.response) step.outputs_are) in
-    subst IsAnswered same (client_answered node conn words may.listing client)
+    subst IsAnswered same (client_answered node conn words client)

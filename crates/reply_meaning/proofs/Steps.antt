@@ -5,7 +5,7 @@ use Rattle.command_table.specs.Table.{command_of}
 use Rattle.connections.specs.Connections.{connection_at, may_ask}
 use Rattle.connections.specs.declared.conn.Conn.{Conn}
 use Rattle.node_step.specs.Outcome.{Outcome, silent}
-use Rattle.node_step.specs.Requests.{Listing, request_outcome}
+use Rattle.node_step.specs.Requests.{request_outcome}
 use Rattle.node_step.specs.State.{NodeState}
 use Rattle.node_step.specs.Step.{IsAnswering}
 use Rattle.node_step.specs.declared.outputs.Outputs.{Outputs}
@@ -22,14 +22,14 @@ Says P (Opened conn) = ⊤
 Says P Parked = ⊤
 
 by_asking : (P : Answer → Type 0) (node : NodeState) (conn : Conn) (words : List (List ℕ)) (asks : Bool) (outcome : Outcome)
-    → ((listing : Listing) → Says P (request_outcome node conn (command_of words) listing).response)
+    → Says P (request_outcome node conn (command_of words)).response
     → MatchBool asks (IsAnswering node conn words outcome) (outcome ≡ silent node) → Says P outcome.response
-by_asking P node conn words true outcome says may = subst (λ (o : Outcome). Says P o.response) (sym may.comes_to) (says may.listing)
+by_asking P node conn words true outcome says may = subst (λ (o : Outcome). Says P o.response) (sym may.comes_to) says
 by_asking P node conn words false outcome says may = subst (λ (o : Outcome). Says P o.response) (sym may) tt
 
 -- what each outcome of the request says is true of the answer
 pub says_so : (P : Answer → Type 0) (node : NodeState) (conn : Conn) (words : List (List ℕ)) (answer : Answer) → Answers node conn words answer
-    → ((listing : Listing) → Says P (request_outcome node conn (command_of words) listing).response) → P answer
+    → Says P (request_outcome node conn (command_of words)).response → P answer
 says_so P node conn words answer answers says =
     let outcome = answers.step.outcome in
     let same : outcome.response ≡ Replied answer = sym (ap (λ (o : Outputs). o.response) answers.step.outputs_are) ∙ answers.response in

@@ -8,8 +8,8 @@ use Rattle.connections.specs.declared.conn.Conn.{Conn}
 use Rattle.redirection.specs.Address.{Place}
 use Rattle.redirection.specs.Redirection.{IsMove, IsRedirection}
 use Rattle.redirection.specs.declared.redirection.Redirection.TheVariants as redirection
-use Rattle.slot_decision.specs.declared.decision.Decision.{Decision}
-use Rattle.slot_decision.specs.declared.decision.Decision.TheVariants.{Ask}
+use Rattle.redirect.specs.declared.decision.Decision.{Decision}
+use Rattle.redirect.specs.declared.decision.Decision.TheVariants.{Ask}
 use Rattle.smart_client.specs.Calls.{IsRefusal}
 use Rattle.smart_client.specs.Step.{is_last_line}
 use Rattle.smart_client.specs.declared.action.Event.TheVariants as happened

@@ -2,7 +2,7 @@
 ghost use Rattle.std.specs.Prelude.{◌≡◌, ◌∷◌, ◌<◌, ◌^◌, [], pos, IfOk, IsTrue, map, option_copied, take};
 ghost use Rattle.report_rows.specs.Questions.{IsReport, is_question};
 ghost use Rattle.resp_values.specs.Reply.{array_of};
-ghost use Rattle.slot_moves.specs.State.{seen};
+ghost use Rattle.slot_state.specs.State.{seen};
 ghost use Rattle.report_rows.specs.SlotStates.{state_other};
 ghost use Rattle.node_step.specs.Reports.{state_drained, state_number, state_word, count_reply, id_of, id_reply, keys_reply, master_reply, run_reply, slots_reply, state_reply};
 
@@ -12,7 +12,7 @@ use command_table::ClusterCommand;
 use key_slot::{Slot, slot};
 use node_parts::NodeParts;
 use resp_values::{Array, Reply};
-use slot_moves::{Move, SlotState};
+use slot_state::{Move, SlotState};
 use slot_store::{SlotKeys, SlotParts};
 use slot_table::{NodeNo, Run};
 use std::alloc::{AllocError, Global};

@@ -9,7 +9,7 @@ use Rattle.std.proofs.KnownBytes.{Appends-trans}
 use Rattle.std.specs.Prelude.{decimal}
 use Rattle.resp_values.specs.Reply.{line_spelling}
 use Rattle.resp_values.specs.Request.{bulks_spelling, request_spelling}
-use Rattle.resp2.specs.Writing.{AppendsBeginning, Continues}
+use Rattle.resp2.specs.Writing.{AppendsBeginning}
 
 -- what is written and what is left are still all, once the first bytes of what was left are written
 pub moves_on : (all written rest : List ℕ) (n : ℕ) → written ++ rest ≡ all → (written ++ take n rest) ++ take (length rest - n) (drop n rest) ≡ all
@@ -43,10 +43,6 @@ begun_at a b c f xs i d bytes lt at wrote begun =
     let whole : flat_map f xs ≡ flat_map f (take i xs) ++ (f (get_or xs i d) ++ flat_map f (drop (suc i) xs)) =
     ap (flat_map f) (split_at xs i d lt) ∙ flat_map-append f (take i xs) (get_or xs i d ∷ drop (suc i) xs) in
     rw (whole, ← at) (begun_behind a b c _ _ wrote (begun_before b c bytes _ begun))
-
--- what continues a continuation continues its beginning
-pub continues_from : (old middle new xs : List ℕ) → middle ≡ old ++ xs → Continues middle new → Continues old new
-continues_from old middle new xs e c = (xs ++ c.0, c.1 ∙ ap (λ ys. ys ++ c.0) e ∙ append_assoc old xs c.0)
 
 -- a request is the line of its count, in these digits, and its words
 count_first : (digits : List ℕ) (shown words : List (List ℕ)) → digits ≡ decimal (length shown) → shown ≡ words → line_spelling 42 digits ++ bulks_spelling shown ≡ request_spelling words

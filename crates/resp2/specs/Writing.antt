@@ -8,7 +8,3 @@ pub record AppendsBeginning (old new : Option (List ℕ)) (bytes : List ℕ) : T
   pub rest : List ℕ
   pub appends : Appends old new written
   pub split : written ++ rest ≡ bytes
-
--- the new bytes are the old ones, and perhaps more behind them
-abbrev pub Continues : List ℕ → List ℕ → Type 0
-Continues old new = (more : List ℕ) × (new ≡ old ++ more)

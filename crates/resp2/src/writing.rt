@@ -3,10 +3,9 @@ ghost use Rattle.std.specs.Prelude.{◌≡◌, ◌++◌, OnOk, OnErr};
 ghost use Rattle.std.specs.List.{flat_map};
 ghost use Rattle.std.specs.Io.KnownBytes.{Appends};
 ghost use Rattle.resp2.specs.Counting.{inner_of, failures_of, HasRisen};
-ghost use Rattle.resp_values.specs.Reply.{element_spelling, line_spelling, reply_spelling};
-ghost use Rattle.resp2.specs.Writing.{AppendsBeginning, Continues};
-ghost use Rattle.resp_values.specs.Request.{crlf};
-ghost use Rattle.resp2.specs.Parts.{parts_spelling, spelled_by};
+ghost use Rattle.resp_values.specs.Reply.{element_spelling, reply_spelling};
+ghost use Rattle.resp2.specs.Writing.{AppendsBeginning};
+ghost use Rattle.resp2.specs.Parts.{parts_spelling};
 
 use crate::counting::{Counting, counted};
 use crate::parts::{Parts, Pieces, parts_of, pieces_of};
@@ -49,71 +48,16 @@ pub fn send_reply<W: Write>(reply: &Reply, out: &mut Counting<W>) -> io::Result<
 }
 
 /// Appends the reply to `out`, or nothing where memory is refused.
-///
-/// It does what `write_reply` does, and costs less: most replies go this way, and are short.
 pub fn append_reply(reply: &Reply, out: &mut Vec<u8>) -> Result<(), AllocError>
     ensures ok { OnOk result (out.new.items ≡ out.old.items ++ reply_spelling reply.now) }
     ensures err { OnErr result (out.new.items ≡ out.old.items) }
 {
     let before = out.len();
-    let mut digits = Buffer::new();
-    let Ok(()) = append_pieces(pieces_of(reply, &mut digits), out) else {
+    if write_reply(reply, out).is_err() {
         out.truncate(before);
         return Err(AllocError);
-    };
-    Ok(())
-}
-
-fn append_pieces(pieces: Pieces<'_>, out: &mut Vec<u8>) -> Result<(), AllocError>
-    ensures ok { OnOk result (out.new.items ≡ out.old.items ++ spelled_by pieces.entry) }
-    ensures err { OnErr result (Continues out.old.items out.new.items) }
-{
-    match pieces {
-        Pieces::One(parts) => append_parts(&parts, out),
-        Pieces::Many(elements) => append_elements(elements, out),
-    }
-}
-
-fn append_elements(elements: &[Element], out: &mut Vec<u8>) -> Result<(), AllocError>
-    ensures ok { OnOk result (out.new.items ≡ out.old.items ++ flat_map element_spelling elements.now) }
-    ensures err { OnErr result (Continues out.old.items out.new.items) }
-{
-    for element in elements {
-        append_parts(&parts_of(element, &mut Buffer::new()), out)?;
     }
     Ok(())
-}
-
-#[inline(always)]
-fn append_parts(parts: &Parts, out: &mut Vec<u8>) -> Result<(), AllocError>
-    ensures ok { OnOk result (out.new.items ≡ out.old.items ++ parts_spelling parts.now) }
-    ensures err { OnErr result (Continues out.old.items out.new.items) }
-{
-    match parts {
-        Parts::Line(mark, text) => append_line(*mark, text, out),
-        Parts::Bulk(len, bytes) => {
-            append_line(b'$', len, out)?;
-            append_end(bytes, out)
-        }
-    }
-}
-
-#[inline(always)]
-fn append_line(mark: u8, text: &[u8], out: &mut Vec<u8>) -> Result<(), AllocError>
-    ensures ok { OnOk result (out.new.items ≡ out.old.items ++ line_spelling mark text.now) }
-    ensures err { OnErr result (Continues out.old.items out.new.items) }
-{
-    out.extend_from_slice(&[mark])?;
-    append_end(text, out)
-}
-
-// Appends bytes and the end of their line.
-fn append_end(bytes: &[u8], out: &mut Vec<u8>) -> Result<(), AllocError>
-    ensures ok { OnOk result (out.new.items ≡ out.old.items ++ (bytes.now ++ crlf)) }
-    ensures err { OnErr result (Continues out.old.items out.new.items) }
-{
-    out.extend_from_slice(bytes)?;
-    out.extend_from_slice(b"\r\n")
 }
 
 fn write_elements<W: Write>(elements: &[Element], out: &mut W) -> io::Result<()>

@@ -1,52 +1,69 @@
 -- What a gate answers.
-use Rattle.std.proofs.Common.{◌≡◌, ℕ, List, IfErr, IfOk, Option, Some, None, subst}
+use Rattle.std.proofs.Common.{◌≡◌, ◌⊎◌, ◌<◌, ◌≤◌, ◌^◌, ℕ, List, IfErr, IfOk, Option, Some, None, inl, inr, length, subst}
 use Rattle.std.specs.Prelude.{IfSome, Result, Ok, Err}
 use Rattle.cluster_config.specs.Config.{ClusterConfig}
 use Rattle.connections.specs.declared.conn.Conn.{Conn}
 use Rattle.node_step.specs.State.{NodeState, first_state}
 use Rattle.node_step.specs.declared.event.Event.{Event}
-use Rattle.node_cell.specs.Journal.{CellView, EnteredView, Enters, IsGiven, IsHistory, IsRefused}
+use Rattle.node_cell.specs.Journal.{CellView, EnteredView, Enters, IsGiven, IsHistory, IsReachable, IsReason, IsRefused}
 use Rattle.node_cell.specs.declared.entry.Entry.{Entry}
 use Rattle.step_fault.specs.declared.fault.StepFault.{StepFault}
+use Rattle.step_fault.specs.declared.fault.StepFault.TheVariants.{Memory, Exhausted}
 use Rattle.resp_values.specs.declared.reply.Reply.{Reply}
 use Rattle.shared_node.specs.Answers.{MayAnswer, MayGive, MayRefuse}
 
+-- the state of a cell of the cluster is one that a node of it comes to
+reachable : (config own : ClusterConfig) (node : ℕ) (journal : List Entry) (state : NodeState) → own ≡ config → node < length own.nodes
+    → IsHistory (first_state own node) journal state → IsReachable config journal state
+reachable config own node journal state same is_node history =
+    subst (λ c. IsReachable c journal state) same (record { number = node; is_node = is_node; history = history })
+
 -- a step that a cell of the cluster entered is one that a node of it may answer
-pub may_answer : (config : ClusterConfig) (old new : CellView) (event : Event) (entered : EnteredView) → old.config ≡ config
-    → IsHistory (first_state old.config old.node) old.journal old.state → Enters old event entered new → MayAnswer config event entered.outputs
-may_answer config old new event entered same history enters =
+pub may_answer_if_made : (config : ClusterConfig) (old new : CellView) (event : Event) (result : Result EnteredView StepFault) → old.config ≡ config
+    → old.node < length old.config.nodes → IsHistory (first_state old.config old.node) old.journal old.state
+    → IfOk result (λ entered. Enters old event entered new) → IfOk result (λ entered. MayAnswer config event entered.outputs)
+may_answer_if_made config old new event (Ok entered) same is_node history made =
     record {
+      journal = old.journal;
       old = old.state;
       new = new.state;
-      reachable = record {
-        number = old.node;
-        journal = old.journal;
-        history = subst (λ c. IsHistory (first_state c old.node) old.journal old.state) same history;
-      };
-      step = enters.makes.step;
+      reachable = reachable config old.config old.node old.journal old.state same is_node history;
+      step = made.makes.step;
     }
+may_answer_if_made config old new event (Err fault) same is_node history made = tt
 
-pub may_answer_if_made : (config : ClusterConfig) (old new : CellView) (event : Event) (result : Result EnteredView StepFault) → old.config ≡ config
-    → IsHistory (first_state old.config old.node) old.journal old.state → IfOk result (λ entered. Enters old event entered new)
-    → IfOk result (λ entered. MayAnswer config event entered.outputs)
-may_answer_if_made config old new event (Ok entered) same history made = may_answer config old new event entered same history made
-may_answer_if_made config old new event (Err fault) same history made = tt
+-- a node that was reached so may refuse an event for want of memory, of tickets, or of a number that the event needs
+module _ (config : ClusterConfig) (journal : List Entry) (state : NodeState) (event : Event) (fault : StepFault) (comes : IsReachable config journal state) where
+  turned_away_so : (fault ≡ Memory) ⊎ ((fault ≡ Exhausted) × (2 ^ 48 ≤ length journal)) → MayRefuse config event fault
+  turned_away_so (inl memory) = inl memory
+  turned_away_so (inr (out, all)) = inr (out, record { journal = journal; state = state; reachable = comes; reason = inr all })
 
-pub may_refuse_if_refused : (old new : CellView) (event : Event) (result : Result EnteredView StepFault) → IfErr result (λ fault. IsRefused old event fault new)
-    → IfErr result (λ fault. MayRefuse event fault)
-may_refuse_if_refused old new event (Ok entered) refused = tt
-may_refuse_if_refused old new event (Err fault) refused = record { old = old; new = new; refused = refused }
+  skipped_so : IsReason state event fault → MayRefuse config event fault
+  skipped_so (inl memory) = inl memory
+  skipped_so (inr (out, none)) = inr (out, record { journal = journal; state = state; reachable = comes; reason = inl none })
+
+may_refuse : (config : ClusterConfig) (old new : CellView) (event : Event) (fault : StepFault) → IsReachable config old.journal old.state
+    → IsRefused old event fault new → MayRefuse config event fault
+may_refuse config old new event fault comes (inl away) = turned_away_so config old.journal old.state event fault comes away.reason
+may_refuse config old new event fault comes (inr skipped) = skipped_so config old.journal old.state event fault comes skipped.skips.reason
+
+-- why a cell of the cluster refuses an event is why a node of it may
+pub may_refuse_if_refused : (config : ClusterConfig) (old new : CellView) (event : Event) (result : Result EnteredView StepFault) → old.config ≡ config
+    → old.node < length old.config.nodes → IsHistory (first_state old.config old.node) old.journal old.state
+    → IfErr result (λ fault. IsRefused old event fault new) → IfErr result (λ fault. MayRefuse config event fault)
+may_refuse_if_refused config old new event (Ok entered) same is_node history refused = tt
+may_refuse_if_refused config old new event (Err fault) same is_node history refused =
+    may_refuse config old new event fault (reachable config old.config old.node old.journal old.state same is_node history) refused
 
 -- a reply that was taken from a cell of the cluster is one that a node of it may give
 pub may_give_if_taken : (config own : ClusterConfig) (node : ℕ) (journal : List Entry) (state : NodeState) (conn : Conn) (result : Option Reply) → own ≡ config
-    → IsHistory (first_state own node) journal state → IfSome result (λ reply. IsGiven journal (record { conn = conn; reply = reply }))
-    → IfSome result (λ reply. MayGive config conn reply)
-may_give_if_taken config own node journal state conn None same history given = tt
-may_give_if_taken config own node journal state conn (Some reply) same history given =
+    → node < length own.nodes → IsHistory (first_state own node) journal state
+    → IfSome result (λ reply. IsGiven journal (record { conn = conn; reply = reply })) → IfSome result (λ reply. MayGive config conn reply)
+may_give_if_taken config own node journal state conn None same is_node history given = tt
+may_give_if_taken config own node journal state conn (Some reply) same is_node history given =
     record {
-      number = node;
       journal = journal;
       state = state;
-      history = subst (λ c. IsHistory (first_state c node) journal state) same history;
+      reachable = reachable config own node journal state same is_node history;
       given = given;
     }

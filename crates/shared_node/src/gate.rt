@@ -16,17 +16,19 @@ pub struct Gate<'n, K: Deployment, L: Log, R: Wait> {
     node: &'n SharedNode<K, L>,
     // The node with its lock, from a step on until others are let in.
     held: Option<MutexGuard<'n, NodeCell<K, L>>>,
-    asks: Asks,
+    asks: Asks<K>,
 }
 
 impl<'n, K: Deployment, L: Log, R: Wait> Gate<'n, K, L, R> {
-    /// A way through which nothing was asked yet.
-    pub fn new(rt: R, node: &'n SharedNode<K, L>) -> Gate<'n, K, L, R> {
+    /// The way to the node of what is asked so.
+    pub fn new(rt: R, node: &'n SharedNode<K, L>, asks: Asks<K>) -> Gate<'n, K, L, R>
+        ensures { ⟦<Gate<'n, K, L, R> as NodeGate>⟧.asked result ≡ asks }
+    {
         Gate {
             rt,
             node,
             held: None,
-            asks: Asks::new(),
+            asks,
         }
     }
 
@@ -50,7 +52,7 @@ impl<'n, K: Deployment, L: Log, R: Wait> NodeGate for Gate<'n, K, L, R> {
 
     ghost may = { MayAnswer K.config };
 
-    ghost may_refuse = { MayRefuse };
+    ghost may_refuse = { MayRefuse K.config };
 
     ghost may_give = { MayGive K.config };
 

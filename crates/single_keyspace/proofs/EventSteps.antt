@@ -36,8 +36,8 @@ module _ {past : List Entry} {n : ℕ} {before : NodeState} {one : Keyspace} (wa
       → StepStands was (answered_with words outcome.response) outcome
   answering_stands conn words outcome answering may =
       let inner = command_stands (λ slot. again (was slot) (using_up before conn) refl) (record { number_is = stands.number_is; slots = stands.slots }) local words conn (connection_at before.connections conn)
-      (command_of words) answering.listing refl answering.may_list (subst (λ (o : Outcome). MayAsk past n (answered_with words o.response)) answering.comes_to may) in
-      let asked : Outcome = request_outcome before conn (command_of words) answering.listing in
+      (command_of words) refl (subst (λ (o : Outcome). MayAsk past n (answered_with words o.response)) answering.comes_to may) in
+      let asked : Outcome = request_outcome before conn (command_of words) in
       let answered_so : StepStands was (answered_with words asked.response) asked =
       record { node = inner.node; holds = inner.holds; sent = inner.sent; told = inner.told; replies = inner.replies } in
       subst (λ (o : Outcome). StepStands was (answered_with words o.response) o) (sym answering.comes_to) answered_so

@@ -1,7 +1,7 @@
 -- What is proved of one slot, for values, at a node that is seen so.
 use Rattle.std.proofs.Common.{◌≡◌, ◌≤◌, ◌+◌, ℕ, List, Option, Some, None, Contains, subst}
 use Rattle.slot_table.specs.declared.entry.SlotEntry.{SlotEntry}
-use Rattle.slot_moves.specs.declared.running.Move.TheVariants.{Leaves, Comes}
+use Rattle.slot_state.specs.declared.running.Move.TheVariants.{Leaves, Comes}
 use Rattle.keyspace.specs.declared.value.Value.{Value}
 use Rattle.one_slot.specs.View.{View, Views}
 use Rattle.one_slot.specs.Slot.{Holds, IsComing}

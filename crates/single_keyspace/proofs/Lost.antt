@@ -13,7 +13,7 @@ use Rattle.slot_table.specs.Claims.{claimed, greater, is_above, merged}
 use Rattle.slot_table.specs.Table.{entry_at, owner_at, owner_in}
 use Rattle.slot_table.specs.declared.entry.SlotEntry.{SlotEntry}
 use Rattle.slot_table.specs.declared.runs.Run.{Run}
-use Rattle.slot_moves.specs.Moves.{move_of}
+use Rattle.slot_state.specs.Moves.{move_of}
 use Rattle.migrate.specs.Losing.{is_leaving}
 use Rattle.one_slot.specs.Sent.{IsSent}
 use Rattle.one_slot.specs.Sent.Sent.{Claimed}

@@ -10,9 +10,9 @@ use Rattle.keyspace.specs.declared.value.Value.{Value}
 use Rattle.slot_store.specs.InSlot.{is_in_slot}
 use Rattle.slot_table.specs.Claims.{merged}
 use Rattle.slot_table.specs.declared.runs.Run.{Run}
-use Rattle.slot_moves.specs.Moves.{Moves, move_of}
-use Rattle.slot_moves.specs.declared.running.Move.{Move}
-use Rattle.slot_moves.specs.declared.running.Move.TheVariants.{Leaves, Comes}
+use Rattle.slot_state.specs.Moves.{Moves, move_of}
+use Rattle.slot_state.specs.declared.running.Move.{Move}
+use Rattle.slot_state.specs.declared.running.Move.TheVariants.{Leaves, Comes}
 use Rattle.migrate.specs.Acknowledging.{acknowledged_key, unfrozen}
 use Rattle.migrate.specs.Arriving.{arrival_verdict, changed_at, one_more}
 use Rattle.migrate.specs.Draining.{note_drained}

@@ -3,8 +3,8 @@ use Rattle.std.proofs.Common.{◌≡◌, ◌≢◌, ℕ, Some, refl, ap}
 use Rattle.std.specs.FinMap as map
 use Rattle.std.specs.Prelude.{unwrap_or}
 use Rattle.keyspace.specs.Keyspace.{Keyspace}
-use Rattle.slot_moves.specs.Moves.{Moves, begun}
-use Rattle.slot_moves.specs.declared.running.Move.{Move}
+use Rattle.slot_state.specs.Moves.{Moves, begun}
+use Rattle.slot_state.specs.declared.running.Move.{Move}
 use Rattle.node_step.specs.State.{NodeState}
 use Rattle.single_keyspace.specs.Slots.{values_in, view_of}
 use Rattle.single_keyspace.proofs.Maps.{put_here, put_apart}

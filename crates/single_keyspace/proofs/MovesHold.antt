@@ -9,9 +9,9 @@ use Rattle.keyspace.specs.declared.value.Value.{Value}
 use Rattle.slot_store.specs.InSlot.{is_in_slot}
 use Rattle.slot_table.specs.declared.entry.SlotEntry.{SlotEntry}
 use Rattle.slot_table.specs.Table.{owner_at}
-use Rattle.slot_moves.specs.Moves.{move_of, last_move_of, begun, ended}
-use Rattle.slot_moves.specs.declared.running.Move.{Move}
-use Rattle.slot_moves.specs.declared.running.Move.TheVariants.{Leaves, Comes}
+use Rattle.slot_state.specs.Moves.{move_of, last_move_of, begun, ended}
+use Rattle.slot_state.specs.declared.running.Move.{Move}
+use Rattle.slot_state.specs.declared.running.Move.TheVariants.{Leaves, Comes}
 use Rattle.one_slot.specs.View.{View, Views}
 use Rattle.one_slot.specs.Slot.{Holds, IsComing, IsCounted, installed}
 use Rattle.one_slot.specs.Sent.{IsSent}

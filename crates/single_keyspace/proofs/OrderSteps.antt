@@ -8,27 +8,26 @@ use Rattle.key_slot.specs.Slot.{hash_slot}
 use Rattle.keyspace.specs.Keyspace.{Keyspace}
 use Rattle.keyspace.specs.declared.value.Value.{Value}
 use Rattle.slot_store.specs.InSlot.{is_in_slot}
-use Rattle.slot_table.specs.Runs.{AreRunsOf}
+use Rattle.slot_table.specs.Runs.{runs_of}
 use Rattle.slot_table.specs.Table.{claim_at}
 use Rattle.slot_table.specs.declared.runs.Run.{Run}
-use Rattle.slot_moves.specs.Moves.{move_of, last_move_of, begun}
-use Rattle.slot_moves.specs.Importing.{import_verdict}
-use Rattle.slot_moves.specs.Migrating.{migrate_verdict}
-use Rattle.slot_moves.specs.declared.running.Move.TheVariants.{Leaves, Comes}
-use Rattle.slot_moves.specs.declared.importing.ImportVerdict.{ImportVerdict}
-use Rattle.slot_moves.specs.declared.importing.ImportVerdict.TheVariants as import
-use Rattle.slot_moves.specs.declared.migrating.MigrateVerdict.{MigrateVerdict}
-use Rattle.slot_moves.specs.declared.migrating.MigrateVerdict.TheVariants as migrate
-use Rattle.slot_moves.specs.declared.ending.NodeVerdict.{NodeVerdict}
-use Rattle.slot_moves.specs.declared.ending.NodeVerdict.TheVariants as ending
+use Rattle.slot_state.specs.Moves.{move_of, last_move_of, begun}
+use Rattle.slot_state.specs.Importing.{import_verdict}
+use Rattle.slot_state.specs.Migrating.{migrate_verdict}
+use Rattle.slot_state.specs.declared.running.Move.TheVariants.{Leaves, Comes}
+use Rattle.slot_state.specs.declared.importing.ImportVerdict.{ImportVerdict}
+use Rattle.slot_state.specs.declared.importing.ImportVerdict.TheVariants as import
+use Rattle.slot_state.specs.declared.migrating.MigrateVerdict.{MigrateVerdict}
+use Rattle.slot_state.specs.declared.migrating.MigrateVerdict.TheVariants as migrate
+use Rattle.slot_state.specs.declared.ending.NodeVerdict.{NodeVerdict}
+use Rattle.slot_state.specs.declared.ending.NodeVerdict.TheVariants as ending
 use Rattle.migrate.specs.declared.sending.CopyVerdict.{CopyVerdict}
 use Rattle.migrate.specs.declared.sending.CopyVerdict.TheVariants as copies
 use Rattle.bus.specs.declared.message.Body.{Body}
 use Rattle.bus.specs.declared.message.Body.TheVariants as body
 use Rattle.node_step.specs.Copies.{copy_of, copy_outcome, copy_verdict_on, parked}
-use Rattle.node_step.specs.Orders.{ending_outcome, ending_verdict, import_outcome, migrate_outcome, new_epoch, others, with_slot}
+use Rattle.node_step.specs.Orders.{claim_of, ending_outcome, ending_verdict, import_outcome, migrate_outcome, new_epoch, others, with_slot}
 use Rattle.node_step.specs.Outcome.{Outcome}
-use Rattle.node_step.specs.Requests.{IsClaimAfter}
 use Rattle.node_step.specs.Slots.{slot_epoch}
 use Rattle.node_step.specs.State.{NodeState, standing}
 use Rattle.connections.specs.declared.conn.Conn.{Conn}
@@ -114,27 +113,27 @@ module _ {past : List Entry} {n : ℕ} {before : NodeState} {one : Keyspace} (wa
       over : (a d b : ℕ) → d < 1 + max (max a d) b
       over a d b = omega arith
 
-  pub ending_stands : (slot : ℕ) (claim : List (Run ℕ)) (other asked : Option ℕ) (verdict : NodeVerdict)
-      → ending_verdict before slot other asked ≡ verdict → IsClaimAfter before slot claim verdict → Answers (ending_outcome before slot claim verdict)
-  ending_stands slot claim other asked ending.UnknownNode is runs = refused (ending_outcome before slot claim ending.UnknownNode) refl refl refl refl
-  ending_stands slot claim other asked ending.OldMove is runs = refused (ending_outcome before slot claim ending.OldMove) refl refl refl refl
-  ending_stands slot claim other asked ending.NotDrained is runs = refused (ending_outcome before slot claim ending.NotDrained) refl refl refl refl
-  ending_stands slot claim other asked ending.IsOwner is runs = refused (ending_outcome before slot claim ending.IsOwner) refl refl refl refl
-  ending_stands slot claim other asked ending.NotYetOwner is runs = refused (ending_outcome before slot claim ending.NotYetOwner) refl refl refl refl
-  ending_stands slot claim other asked (ending.Ends drained) is runs =
+  pub ending_stands : (slot : ℕ) (other asked : Option ℕ) (verdict : NodeVerdict)
+      → ending_verdict before slot other asked ≡ verdict → Answers (ending_outcome before slot verdict)
+  ending_stands slot other asked ending.UnknownNode is = refused (ending_outcome before slot ending.UnknownNode) refl refl refl refl
+  ending_stands slot other asked ending.OldMove is = refused (ending_outcome before slot ending.OldMove) refl refl refl refl
+  ending_stands slot other asked ending.NotDrained is = refused (ending_outcome before slot ending.NotDrained) refl refl refl refl
+  ending_stands slot other asked ending.IsOwner is = refused (ending_outcome before slot ending.IsOwner) refl refl refl refl
+  ending_stands slot other asked ending.NotYetOwner is = refused (ending_outcome before slot ending.NotYetOwner) refl refl refl refl
+  ending_stands slot other asked (ending.Ends drained) is =
       let facts = import_ends (standing before slot) (move_of before.moves slot) other asked drained is in
       let newer : ℕ = new_epoch before slot drained in
       let after : NodeState = with_slot before slot newer in
-      quiet was _ refl refl (ending_outcome before slot claim (ending.Ends drained))
+      quiet was _ refl refl (ending_outcome before slot (ending.Ends drained))
       (record { number_is = stands.number_is; slots = length-set before.table slot (Some (record { epoch = newer; owner = before.number })) ∙ stands.slots })
       (holds_but was after one slot
       (subst (λ (o : ℕ). HoldsAfter (was slot) (with_entry before slot (record { epoch = newer; owner = o }) newer) one) (sym stands.number_is)
       (import_ended_holds (was slot) facts.0 facts.1 facts.2 drained newer facts.3 (epoch_above slot drained) stands.slots))
       (ended_apart before slot (record { epoch = newer; owner = before.number }) newer) (λ other apart key. refl))
       (λ to said among.
-      let found = from_map (λ (number : ℕ). (number, body.Claim claim)) (others before) (to, said) among in
+      let found = from_map (λ (number : ℕ). (number, body.Claim (claim_of after))) (others before) (to, said) among in
       subst (λ (p : ℕ × Body). IsJustified past n after p.0 p.1) found.2
-      (claim_justified past n after found.0 claim (subst (λ (o : ℕ). AreRunsOf (claim_at after.table o) claim) stands.number_is runs)))
+      (subst (λ (o : ℕ). IsJustified past n after found.0 (body.Claim (runs_of (claim_at after.table o)))) (sym stands.number_is) (claim_justified past n after found.0 (length-set before.table slot (Some (record { epoch = newer; owner = before.number })) ∙ stands.slots))))
 
   -- ---- MIGRATE
 

@@ -15,12 +15,12 @@ use Rattle.key_slot.specs.Slot.{hash_slot}
 use Rattle.keyspace.specs.Commands.{exec, execution_of}
 use Rattle.keyspace.specs.Keyspace.{Keyspace}
 use Rattle.keyspace.specs.Locality.{CommandsAreLocal}
-use Rattle.slot_moves.specs.Importing.{import_verdict}
-use Rattle.slot_moves.specs.Migrating.{migrate_verdict}
-use Rattle.slot_moves.specs.Moves.{move_of, last_move_of}
-use Rattle.slot_decision.specs.declared.asked.Asking.{Asking}
-use Rattle.slot_decision.specs.declared.decision.Decision.{Decision}
-use Rattle.slot_decision.specs.declared.decision.Decision.TheVariants.{Serve, ServeImport, CrossSlot, Down, TryAgain, Ask, Moved}
+use Rattle.slot_state.specs.Importing.{import_verdict}
+use Rattle.slot_state.specs.Migrating.{migrate_verdict}
+use Rattle.slot_state.specs.Moves.{move_of, last_move_of}
+use Rattle.redirect.specs.declared.asked.Asking.{Asking}
+use Rattle.redirect.specs.declared.decision.Decision.{Decision}
+use Rattle.redirect.specs.declared.decision.Decision.TheVariants.{Serve, ServeImport, CrossSlot, Down, TryAgain, Ask, Moved}
 use Rattle.one_slot.specs.Events.{IsAsked}
 use Rattle.one_slot.specs.Sent.{IsSent}
 use Rattle.one_slot.specs.Sent.Sent.{Told}
@@ -28,7 +28,7 @@ use Rattle.node_step.specs.Commands.{command_outcome, decision_on, drained_by_co
 use Rattle.node_step.specs.Copies.{copy_verdict_on, node_at}
 use Rattle.node_step.specs.Orders.{ending_verdict}
 use Rattle.node_step.specs.Outcome.{Outcome, silent}
-use Rattle.node_step.specs.Requests.{Listing, MayClaim, MayList, asking_of, by_command, cluster_outcome, is_numbered, node_with_id, order_outcome}
+use Rattle.node_step.specs.Requests.{asking_of, by_command, cluster_outcome, is_numbered, node_with_id, order_outcome}
 use Rattle.node_step.specs.State.{NodeState, standing}
 use Rattle.connections.specs.declared.conn.Conn.{Conn}
 use Rattle.connections.specs.declared.conn.Connection.{Connection}
@@ -101,35 +101,35 @@ module _ {past : List Entry} {n : ℕ} {before : NodeState} {one : Keyspace} (wa
 
   -- ---- commands about the cluster
 
-  order_stands : (slot : ℕ) (order : SlotOrder) (other number : Option ℕ) (listing : Listing) → MayClaim before slot order other number listing.claim → Answers (order_outcome before slot order other number listing)
-  order_stands slot Importing other number listing may =
+  order_stands : (slot : ℕ) (order : SlotOrder) (other number : Option ℕ) → Answers (order_outcome before slot order other number)
+  order_stands slot Importing other number =
       import_stands was stands words slot other number (import_verdict (standing before slot) (move_of before.moves slot) (last_move_of before.moves slot) other number) refl
-  order_stands slot Migrating other number listing may =
+  order_stands slot Migrating other number =
       migration_stands was stands words slot other number (migrate_verdict (standing before slot) (move_of before.moves slot) (last_move_of before.moves slot) other number) refl
-  order_stands slot Node other number listing may = ending_stands was stands words slot listing.claim other number (ending_verdict before slot other number) refl may
+  order_stands slot Node other number = ending_stands was stands words slot other number (ending_verdict before slot other number) refl
 
-  cluster_stands : (conn : Conn) (command : ClusterCommand) (listing : Listing) → MayList before (Ok (Cluster command)) listing → Answers (cluster_outcome before conn command listing)
-  cluster_stands conn (cluster.KeySlot key) listing may = quiet_still was _ refl refl (cluster_outcome before conn (cluster.KeySlot key) listing) stands (λ slot. refl) (nothing_sent past n before)
-  cluster_stands conn cluster.MyId listing may = quiet_still was _ refl refl (cluster_outcome before conn cluster.MyId listing) stands (λ slot. refl) (nothing_sent past n before)
-  cluster_stands conn cluster.Slots listing may = quiet_still was _ refl refl (cluster_outcome before conn cluster.Slots listing) stands (λ slot. refl) (nothing_sent past n before)
-  cluster_stands conn (cluster.CountKeysInSlot slot) listing may = quiet_still was _ refl refl (cluster_outcome before conn (cluster.CountKeysInSlot slot) listing) stands (λ s. refl) (nothing_sent past n before)
-  cluster_stands conn (cluster.GetKeysInSlot slot count) listing may = quiet_still was _ refl refl (cluster_outcome before conn (cluster.GetKeysInSlot slot count) listing) stands (λ s. refl) (nothing_sent past n before)
-  cluster_stands conn (cluster.SlotState slot) listing may = quiet_still was _ refl refl (cluster_outcome before conn (cluster.SlotState slot) listing) stands (λ s. refl) (nothing_sent past n before)
-  cluster_stands conn (cluster.SetSlot slot order id number) listing may = order_stands slot order (node_with_id before id) number listing may
-  cluster_stands conn cluster.Numbered listing may =
-      quiet_still was _ refl refl (cluster_outcome before conn cluster.Numbered listing) (record { number_is = stands.number_is; slots = stands.slots }) (λ slot. refl)
-      (nothing_sent past n (cluster_outcome before conn cluster.Numbered listing).state)
-  cluster_stands conn (cluster.Asking number) listing may =
-      quiet_still was _ refl refl (cluster_outcome before conn (cluster.Asking number) listing) (record { number_is = stands.number_is; slots = stands.slots }) (λ slot. refl)
-      (nothing_sent past n (cluster_outcome before conn (cluster.Asking number) listing).state)
-  cluster_stands conn (cluster.Migrate host port key timeout) listing may =
+  cluster_stands : (conn : Conn) (command : ClusterCommand) → Answers (cluster_outcome before conn command)
+  cluster_stands conn (cluster.KeySlot key) = quiet_still was _ refl refl (cluster_outcome before conn (cluster.KeySlot key)) stands (λ slot. refl) (nothing_sent past n before)
+  cluster_stands conn cluster.MyId = quiet_still was _ refl refl (cluster_outcome before conn cluster.MyId) stands (λ slot. refl) (nothing_sent past n before)
+  cluster_stands conn cluster.Slots = quiet_still was _ refl refl (cluster_outcome before conn cluster.Slots) stands (λ slot. refl) (nothing_sent past n before)
+  cluster_stands conn (cluster.CountKeysInSlot slot) = quiet_still was _ refl refl (cluster_outcome before conn (cluster.CountKeysInSlot slot)) stands (λ s. refl) (nothing_sent past n before)
+  cluster_stands conn (cluster.GetKeysInSlot slot count) = quiet_still was _ refl refl (cluster_outcome before conn (cluster.GetKeysInSlot slot count)) stands (λ s. refl) (nothing_sent past n before)
+  cluster_stands conn (cluster.SlotState slot) = quiet_still was _ refl refl (cluster_outcome before conn (cluster.SlotState slot)) stands (λ s. refl) (nothing_sent past n before)
+  cluster_stands conn (cluster.SetSlot slot order id number) = order_stands slot order (node_with_id before id) number
+  cluster_stands conn cluster.Numbered =
+      quiet_still was _ refl refl (cluster_outcome before conn cluster.Numbered) (record { number_is = stands.number_is; slots = stands.slots }) (λ slot. refl)
+      (nothing_sent past n (cluster_outcome before conn cluster.Numbered).state)
+  cluster_stands conn (cluster.Asking number) =
+      quiet_still was _ refl refl (cluster_outcome before conn (cluster.Asking number)) (record { number_is = stands.number_is; slots = stands.slots }) (λ slot. refl)
+      (nothing_sent past n (cluster_outcome before conn (cluster.Asking number)).state)
+  cluster_stands conn (cluster.Migrate host port key timeout) =
       copy_stands was stands words conn key timeout (node_at before host port) (copy_verdict_on before key (node_at before host port)) refl
 
   -- ---- any command
 
-  pub command_stands : (conn : Conn) (connection : Option Connection) (command : Result Command CommandFault) (listing : Listing) → command_of words ≡ command → MayList before command listing
-      → MayAsk past n (answered_with words (by_command before conn connection command listing).response) → Answers (by_command before conn connection command listing)
-  command_stands conn connection (Err fault) listing reads may_list may_ask = quiet_still was _ refl refl (by_command before conn connection (Err fault) listing) stands (λ slot. refl) (nothing_sent past n before)
-  command_stands conn connection (Ok (Cluster command)) listing reads may_list may_ask = cluster_stands conn command listing may_list
-  command_stands conn connection (Ok (Data command)) listing reads may_list may_ask =
+  pub command_stands : (conn : Conn) (connection : Option Connection) (command : Result Command CommandFault) → command_of words ≡ command
+      → MayAsk past n (answered_with words (by_command before conn connection command).response) → Answers (by_command before conn connection command)
+  command_stands conn connection (Err fault) reads may_ask = quiet_still was _ refl refl (by_command before conn connection (Err fault)) stands (λ slot. refl) (nothing_sent past n before)
+  command_stands conn connection (Ok (Cluster command)) reads may_ask = cluster_stands conn command
+  command_stands conn connection (Ok (Data command)) reads may_ask =
       data_stands command reads (asking_of connection) (is_numbered connection) (decision_on before command (asking_of connection)) refl may_ask

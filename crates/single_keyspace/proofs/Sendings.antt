@@ -1,5 +1,5 @@
 -- What a node may send, by its state, and that it is true of the slot.
-use Rattle.std.proofs.Common.{◌≡◌, ◌≤◌, ◌==◌, ℕ, List, [], ◌∷◌, false, Option, Some, None, All, Contains, refl, sym, ap, ap₂, subst, ◌∙◌, inl, inr, arith}
+use Rattle.std.proofs.Common.{length, ◌≡◌, ◌≤◌, ◌==◌, ℕ, List, [], ◌∷◌, false, Option, Some, None, All, Contains, refl, sym, ap, ap₂, subst, ◌∙◌, inl, inr, arith}
 use Rattle.std.proofs.lemmas.Bool.{cases_Bool, cases_eq, cond-true, cond-false, eqb-true, ltb-false}
 use Rattle.std.proofs.lemmas.List.Elements.{All-head, All-tail}
 use Rattle.std.proofs.lemmas.Map.Lookups.{exact_bytes}
@@ -11,13 +11,14 @@ use Rattle.keyspace.specs.Keyspace.{Keyspace}
 use Rattle.keyspace.specs.declared.value.Value.{Value}
 use Rattle.slot_store.specs.InSlot.{is_in_slot}
 use Rattle.slot_table.specs.Claims.{claimed}
-use Rattle.slot_table.specs.Runs.{IsRun, AreRunsOf}
+use Rattle.slot_table.proofs.RunsOfLemmas.{are_runs_of, no_claim_behind}
+use Rattle.slot_table.specs.Runs.{IsRun, AreRunsOf, runs_of}
 use Rattle.slot_table.specs.Table.{entry_at, epoch_in, claim_at}
 use Rattle.slot_table.specs.declared.entry.SlotEntry.{SlotEntry}
 use Rattle.slot_table.specs.declared.runs.Run.{Run}
-use Rattle.slot_moves.specs.Moves.{move_of}
-use Rattle.slot_moves.specs.declared.running.Move.{Move}
-use Rattle.slot_moves.specs.declared.running.Move.TheVariants.{Leaves, Comes}
+use Rattle.slot_state.specs.Moves.{move_of}
+use Rattle.slot_state.specs.declared.running.Move.{Move}
+use Rattle.slot_state.specs.declared.running.Move.TheVariants.{Leaves, Comes}
 use Rattle.bus.specs.declared.message.Body.{Body}
 use Rattle.bus.specs.declared.message.Body.TheVariants as body
 use Rattle.bus.specs.declared.message.Message.{Message}
@@ -172,6 +173,7 @@ named_in number (Some entry) epoch is =
     ]
 
 -- the longest runs of a node's own slots are what it may claim
-pub claim_justified : (past : List Entry) (n : ℕ) (node : NodeState) (to : ℕ) (runs : List (Run ℕ)) → AreRunsOf (claim_at node.table n) runs → IsJustified past n node to (body.Claim runs)
-claim_justified past n node to runs are slot epoch is =
-    named_in n (entry_at node.table slot) epoch (claimed_value (claim_at node.table n) runs n slot epoch are.each is)
+pub claim_justified : (past : List Entry) (n : ℕ) (node : NodeState) (to : ℕ) → length node.table ≡ 16384 → IsJustified past n node to (body.Claim (runs_of (claim_at node.table n)))
+claim_justified past n node to whole slot epoch is =
+    let are : AreRunsOf (claim_at node.table n) (runs_of (claim_at node.table n)) = are_runs_of (claim_at node.table n) (no_claim_behind node.table n whole) in
+    named_in n (entry_at node.table slot) epoch (claimed_value (claim_at node.table n) (runs_of (claim_at node.table n)) n slot epoch are.each is)

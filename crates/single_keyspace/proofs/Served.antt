@@ -15,12 +15,12 @@ use Rattle.keyspace.specs.Locality.{Agree, IsLocal}
 use Rattle.keyspace.specs.declared.value.Value.{Value}
 use Rattle.slot_store.specs.InSlot.{is_in_slot}
 use Rattle.slot_table.specs.Table.{owner_at}
-use Rattle.slot_moves.specs.Moves.{move_of}
-use Rattle.slot_decision.specs.Asked.{is_one_of}
-use Rattle.slot_decision.specs.Decision.{has_other_slot, by_keys, decision_at}
-use Rattle.slot_decision.specs.declared.asked.Asking.{Asking}
-use Rattle.slot_decision.specs.declared.decision.Decision.{Decision}
-use Rattle.slot_decision.specs.declared.decision.Decision.TheVariants.{Serve, ServeImport, CrossSlot, Ask}
+use Rattle.slot_state.specs.Moves.{move_of}
+use Rattle.redirect.specs.Asked.{is_one_of}
+use Rattle.redirect.specs.Decision.{has_other_slot, by_keys, decision_at}
+use Rattle.redirect.specs.declared.asked.Asking.{Asking}
+use Rattle.redirect.specs.declared.decision.Decision.{Decision}
+use Rattle.redirect.specs.declared.decision.Decision.TheVariants.{Serve, ServeImport, CrossSlot, Ask}
 use Rattle.one_slot.specs.View.{Views}
 use Rattle.one_slot.specs.Sent.{IsSent}
 use Rattle.one_slot.specs.Sent.Sent.{Told}

@@ -4,24 +4,24 @@ use Rattle.std.proofs.lemmas.Bool.{and_parts, both_ways, eqb-true}
 use Rattle.std.proofs.lemmas.Bool.Decides.{nat_tests}
 use Rattle.std.proofs.lemmas.Cmp.{nat_list_eq_equiv}
 use Rattle.std.specs.Cmp.Lexicographic.{pointwise}
-use Rattle.slot_moves.specs.declared.running.Move.{Move}
-use Rattle.slot_moves.specs.declared.running.Move.TheVariants.{Leaves, Comes}
-use Rattle.slot_moves.specs.declared.order.Standing.{Standing}
-use Rattle.slot_moves.specs.Importing.{import_verdict}
-use Rattle.slot_moves.specs.Migrating.{migrate_verdict}
-use Rattle.slot_moves.specs.Ending.{node_verdict}
-use Rattle.slot_moves.specs.State.{state_of}
-use Rattle.slot_moves.specs.declared.importing.ImportVerdict.TheVariants as import
-use Rattle.slot_moves.specs.declared.migrating.MigrateVerdict.TheVariants as migrate
-use Rattle.slot_moves.specs.declared.ending.NodeVerdict.TheVariants as ending
+use Rattle.slot_state.specs.declared.running.Move.{Move}
+use Rattle.slot_state.specs.declared.running.Move.TheVariants.{Leaves, Comes}
+use Rattle.slot_state.specs.declared.order.Standing.{Standing}
+use Rattle.slot_state.specs.Importing.{import_verdict}
+use Rattle.slot_state.specs.Migrating.{migrate_verdict}
+use Rattle.slot_state.specs.Ending.{node_verdict}
+use Rattle.slot_state.specs.State.{state_of}
+use Rattle.slot_state.specs.declared.importing.ImportVerdict.TheVariants as import
+use Rattle.slot_state.specs.declared.migrating.MigrateVerdict.TheVariants as migrate
+use Rattle.slot_state.specs.declared.ending.NodeVerdict.TheVariants as ending
 use Rattle.migrate.specs.Sending.{copy_verdict}
 use Rattle.migrate.specs.Arriving.{arrival_verdict}
 use Rattle.migrate.specs.Acknowledging.{acknowledged_key}
 use Rattle.migrate.specs.declared.sending.CopyVerdict.TheVariants as copies
 use Rattle.migrate.specs.declared.arriving.ArrivalVerdict.TheVariants.{Installs, Repeats}
-use Rattle.slot_decision.specs.Asked.{Asked, are_several, is_one_of, all_there, none_there}
-use Rattle.slot_decision.specs.Decision.{in_slot}
-use Rattle.slot_decision.specs.declared.decision.Decision.TheVariants.{Serve, ServeImport, Ask}
+use Rattle.redirect.specs.Asked.{Asked, are_several, is_one_of, all_there, none_there}
+use Rattle.redirect.specs.Decision.{in_slot}
+use Rattle.redirect.specs.declared.decision.Decision.TheVariants.{Serve, ServeImport, Ask}
 
 -- ---- words
 

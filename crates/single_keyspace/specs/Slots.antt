@@ -5,7 +5,7 @@ use Rattle.keyspace.specs.Keyspace.{Keyspace}
 use Rattle.keyspace.specs.declared.value.Value.{Value}
 use Rattle.cluster_config.specs.Config.{ClusterConfig, first_owners}
 use Rattle.slot_store.specs.InSlot.{is_in_slot}
-use Rattle.slot_moves.specs.Moves.{last_move_of, move_of}
+use Rattle.slot_state.specs.Moves.{last_move_of, move_of}
 use Rattle.slot_table.specs.Table.{entry_at, first_table}
 use Rattle.slot_table.specs.declared.entry.SlotEntry.{SlotEntry}
 use Rattle.one_slot.specs.View.{View, Views}

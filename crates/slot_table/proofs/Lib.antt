@@ -1,4 +1,5 @@
 pub mod RunLemmas
+pub mod RunsOfLemmas
 pub mod TableLemmas
 pub mod MergeLemmas
 pub mod JoinLemmas

@@ -12,15 +12,15 @@ use Rattle.slot_table.specs.declared.runs.Run.{Run}
 use Rattle.slot_table.specs.Runs.{IsRun, AreRunsBelow}
 
 -- a slot from the first to the last is one of the range
-in_range : (range : SlotRange) (slot : ℕ) → range.first ≤ slot → slot ≤ range.last → IsTrue (is_in range slot)
+pub in_range : (range : SlotRange) (slot : ℕ) → range.first ≤ slot → slot ≤ range.last → IsTrue (is_in range slot)
 in_range range slot from to = ap₂ (λ (a : Bool) (b : Bool). a && b) (le-leb range.first slot from) (le-leb slot range.last to)
 
 -- a slot of the range is not before the first
-from_first : (range : SlotRange) (slot : ℕ) → IsTrue (is_in range slot) → range.first ≤ slot
+pub from_first : (range : SlotRange) (slot : ℕ) → IsTrue (is_in range slot) → range.first ≤ slot
 from_first range slot is = leb-true range.first slot (and_parts (nat_le range.first slot) (nat_le slot range.last) is).0
 
 -- a slot of the range is not behind the last
-to_last : (range : SlotRange) (slot : ℕ) → IsTrue (is_in range slot) → slot ≤ range.last
+pub to_last : (range : SlotRange) (slot : ℕ) → IsTrue (is_in range slot) → slot ≤ range.last
 to_last range slot is = leb-true slot range.last (and_parts (nat_le range.first slot) (nat_le slot range.last) is).1
 
 -- the runs below the bound are whole: no run continues at the bound

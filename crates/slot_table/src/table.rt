@@ -2,7 +2,7 @@
 ghost use Rattle.std.specs.Prelude.{◌≡◌, ◌<◌, ℕ, length, IfOk, OnOk, OnErr, Some, None, slice_set, if◌then◌else◌};
 ghost use Rattle.slot_table.specs.Table.{entry_at, owner_at, claim_at, first_table, HasFirstEntries};
 ghost use Rattle.key_slot.specs.SlotRange.{is_in};
-ghost use Rattle.slot_table.specs.Runs.{AreRunsOf};
+ghost use Rattle.slot_table.specs.Runs.{runs_of};
 ghost use Rattle.slot_table.specs.Claims.{merged, changed};
 
 use crate::claim::Claim;
@@ -60,14 +60,14 @@ impl SlotTable {
 
     /// The longest runs of neighbouring slots with one owner, in rising order. No run has a slot without an owner.
     pub fn runs(&self, alloc: Global) -> Result<Vec<Run<NodeNo>>, AllocError>
-        ensures { IfOk result (λ runs. AreRunsOf (owner_at self.now) runs.items) }
+        ensures { IfOk result (λ runs. runs.items ≡ runs_of (owner_at self.now)) }
     {
         runs_of(alloc, self.entries.as_slice(), Owner)
     }
 
     /// All slots of the node with their epochs, as the longest runs of one epoch, in rising order.
     pub fn claim_of(&self, alloc: Global, node: NodeNo) -> Result<Claim, AllocError>
-        ensures { IfOk result (λ claim. AreRunsOf (claim_at self.now node) claim) }
+        ensures { IfOk result (λ claim. claim ≡ runs_of (claim_at self.now node)) }
     {
         let runs = runs_of(alloc, self.entries.as_slice(), ClaimOf(node))?;
         let claim = Claim::new(alloc, runs)?;

@@ -1,7 +1,8 @@
 -- A call that goes on from deed to deed.
-use Rattle.std.proofs.Common.{◌≡◌, ◌≢◌, ◌<◌, ◌+◌, ◌++◌, ◌∷◌, ℕ, List, [], Option, Some, None, refl, ap, sym, subst, ◌∙◌, append_assoc, arith}
-use Rattle.smart_client.specs.Calls.{AreWithin, ClientView, Deed, IsCallOf, IsRun, IsWaiting, IsWithin, MayAnswer, Nears, left_of, moments_of, pool_behind}
+use Rattle.std.proofs.Common.{◌≡◌, ◌≢◌, ◌<◌, ◌+◌, ◌++◌, ◌∷◌, ℕ, List, [], Option, Some, None, refl, ap, sym, subst, ◌∙◌, append_assoc, append-nil, arith}
+use Rattle.smart_client.specs.Calls.{AreWithin, ClientView, Deed, IsCallOf, IsRun, IsWaiting, IsWithin, MayAnswer, Nears, WiresMove, left_of, moments_of, pool_behind}
 use Rattle.smart_client.specs.Pool.{Pool, pool_after}
+use Rattle.smart_client.specs.Wires.{Moves, Wires}
 use Rattle.smart_client.specs.State.{ClientState}
 use Rattle.smart_client.specs.Step.{MayCome, MayComeTo, Steps}
 use Rattle.smart_client.specs.declared.action.Action.{Action}
@@ -18,6 +19,18 @@ pub record Goes (words : List (List ℕ)) (old : ClientView) (wanted : Action) (
   pub done : now.deeds ≡ old.deeds ++ deeds
   pub call : IsCallOf words old.state (moments_of (happened.Call words) deeds wanted) now.state
   pub pool : now.pool ≡ pool_behind deeds old.pool
+  pub moved : WiresMove deeds old.pool old.wires now.wires
+
+-- nothing was done yet
+pub begins : (words : List (List ℕ)) (old now : ClientView) (wanted : Action) → MayCome old.state.call (happened.Call words)
+    → Steps old.state (happened.Call words) wanted now.state → now.deeds ≡ old.deeds → now.pool ≡ old.pool → now.wires ≡ old.wires → Goes words old wanted now
+begins words old now wanted may steps same same_pool same_wires = record {
+  deeds = [];
+  done = same ∙ sym (append-nil old.deeds);
+  call = (refl, tt, (now.state, may, steps, refl));
+  pool = same_pool;
+  moved = same_wires;
+}
 
 -- how many events may still come
 abbrev pub left_at : ℕ → Option Call → ℕ
@@ -82,13 +95,21 @@ pool_on : (deeds : List Deed) (deed : Deed) (pool : Pool) → pool_behind (deeds
 pool_on [] deed pool = refl
 pool_on (first ∷ deeds) deed pool = pool_on deeds deed (pool_after first.action first.event pool)
 
+wires_on : (deeds : List Deed) (deed : Deed) (pool : Pool) (old middle new : Wires) → WiresMove deeds pool old middle
+    → Moves deed.action deed.event (pool_behind deeds pool) middle new → WiresMove (deeds ++ deed ∷ []) pool old new
+wires_on [] deed pool old middle new same moves = (new, subst (λ (wires : Wires). Moves deed.action deed.event pool wires new) same moves, refl)
+wires_on (first ∷ deeds) deed pool old middle new moved moves =
+    (moved.0, moved.1, wires_on deeds deed (pool_after first.action first.event pool) moved.0 middle new moved.2 moves)
+
 pub passes_on : (words : List (List ℕ)) (old middle new : ClientView) (wanted later : Action) (event : Event) → Goes words old wanted middle → new.deeds ≡ middle.deeds ++ record { action = wanted; event = event } ∷ []
-    → new.pool ≡ pool_after wanted event middle.pool → MayAnswer wanted event → IsWaiting wanted middle.state.call → Steps middle.state event later new.state → Goes words old later new
-passes_on words old middle new wanted later event goes grown pool_then may waits steps = record {
+    → new.pool ≡ pool_after wanted event middle.pool → Moves wanted event middle.pool middle.wires new.wires → MayAnswer wanted event → IsWaiting wanted middle.state.call → Steps middle.state event later new.state → Goes words old later new
+passes_on words old middle new wanted later event goes grown pool_then moves may waits steps = record {
   deeds = goes.deeds ++ record { action = wanted; event = event } ∷ [];
   done = grown ∙ ap (λ (deeds : List Deed). deeds ++ record { action = wanted; event = event } ∷ []) goes.done ∙ append_assoc old.deeds goes.deeds (record { action = wanted; event = event } ∷ []);
   call = goes_on words old.state middle.state new.state event wanted later goes.deeds goes.call (is_within wanted event may) (may_come wanted event middle.state.call waits may) steps;
   pool = pool_then ∙ ap (λ (pool : Pool). pool_after wanted event pool) goes.pool ∙ sym (pool_on goes.deeds (record { action = wanted; event = event }) old.pool);
+  moved = wires_on goes.deeds (record { action = wanted; event = event }) old.pool old.wires middle.wires new.wires goes.moved
+      (subst (λ (pool : Pool). Moves wanted event pool middle.wires new.wires) goes.pool moves);
 }
 
 -- each event leaves fewer

@@ -1,4 +1,6 @@
 pub mod LawLemmas
+pub mod LeadLemmas
+pub mod ReadLemmas
 pub mod PoolLemmas
 pub mod RequestLemmas
 pub mod CallLemmas

@@ -2,18 +2,22 @@
 use Rattle.std.proofs.Common.{◌≡◌, ◌+◌, ◌++◌, ◌∷◌, ◌<◌, ◌≤◌, ◌==◌, ℕ, suc, Bool, true, false, cond, not, ltb, List, [], map, remove, take, drop, set, get_or, length, Option, Some, None, is_some, IsTrue, IsFalse, inl, inr, refl, ap, sym, subst, ◌∙◌, arith}
 use Rattle.std.specs.List.{position_or_len}
 use Rattle.std.proofs.lemmas.Bool.{cases_lt, lt-ltb, le-ltb, ne_eqb}
-use Rattle.std.proofs.lemmas.List.{map-append, take-map, drop-map, length-map}
+use Rattle.std.specs.Prelude.{option_map}
+use Rattle.std.proofs.lemmas.List.{map-append, map-set, take-map, drop-map, length-map}
+use Rattle.std.proofs.lemmas.Option.{slice_get-get_or, slice_get-map}
 use Rattle.std.proofs.Math.Seq.{map-set_same}
 use Rattle.redirection.specs.Address.{Place}
-use Rattle.smart_client.specs.Pool.{Pool, closed, is_same, place_in, turned_to, unused, with_new}
-use Rattle.redirection.proofs.PlaceLemmas.{position-le}
+use Rattle.smart_client.specs.Pool.{Pool, closed, is_lost, is_same, place_in, turned_to, unused, with_new, without_place}
+use Rattle.smart_client.specs.Wires.{Brings, Channel, Uses, left_by}
+use Rattle.smart_client.specs.declared.action.Event.{Event}
+use Rattle.cluster_config.proofs.PlaceLemmas.{position-le}
 
 -- the first element whose image passes is where the first image passes
 position-map : {A B : Type 0} (passes : B → Bool) (f : A → B) (xs : List A) → position_or_len passes (map f xs) ≡ position_or_len (λ x. passes (f x)) xs
 position-map passes f [] = refl
 position-map passes f (x ∷ xs) = ap (λ (n : ℕ). cond (not (passes (f x))) (1 + n) 0) (position-map passes f xs)
 
-map-remove : {A B : Type 0} (f : A → B) (xs : List A) (n : ℕ) → map f (remove xs n) ≡ remove (map f xs) n
+pub map-remove : {A B : Type 0} (f : A → B) (xs : List A) (n : ℕ) → map f (remove xs n) ≡ remove (map f xs) n
 map-remove {B = B} f xs n =
     map-append f (take n xs) (drop (suc n) xs)
     ∙ ap (λ (front : List B). front ++ map f (drop (suc n) xs)) (sym (take-map f n xs))
@@ -27,6 +31,35 @@ is_true same = cc
 
 is_false : IsTrue false → ⊥
 is_false so = cc
+
+pub is_without : {A B : Type 0} (f : A → B) (old new : List A) (place : ℕ) (used : Option ℕ) → used ≡ Some place → new ≡ remove old place
+    → map f new ≡ without_place (map f old) used
+is_without f old new place used is then = rw is (rw then (map-remove f old place))
+
+-- ---- the connection in use takes a request
+
+module _ {A : Type 0} (channel_of : A → Channel) (items : List A) (place : ℕ) (item before : A) (used : Option ℕ) (words : List (List ℕ)) (event : Event) where
+  takes : (new : List Channel) → used ≡ Some place → place < length items → get_or items place before ≡ before → Brings words (channel_of before) event (channel_of item)
+      → new ≡ left_by event place (map channel_of (set items place item)) → Uses words event used (map channel_of items) new
+  takes new is lt same brings then = rw is (record {
+    before = channel_of before;
+    after = channel_of item;
+    there = slice_get-map channel_of items place ∙ ap (option_map channel_of) (slice_get-get_or items place before lt ∙ ap Some same);
+    brings = brings;
+    left = then ∙ ap (left_by event place) (map-set channel_of items place item);
+  })
+
+  pub stays : used ≡ Some place → place < length items → get_or items place before ≡ before → Brings words (channel_of before) event (channel_of item)
+      → false ≡ is_lost event → Uses words event used (map channel_of items) (map channel_of (set items place item))
+  stays is lt same brings kept =
+      takes _ is lt same brings (ap (λ (lost : Bool). cond lost (remove (map channel_of (set items place item)) place) (map channel_of (set items place item))) kept)
+
+  pub leaves : (new : List Channel) → used ≡ Some place → place < length items → get_or items place before ≡ before → Brings words (channel_of before) event (channel_of item)
+      → new ≡ without_place (map channel_of (set items place item)) used → true ≡ is_lost event → Uses words event used (map channel_of items) new
+  leaves new is lt same brings then lost =
+      takes new is lt same brings
+      (then ∙ ap (without_place (map channel_of (set items place item))) is
+      ∙ ap (λ (lost : Bool). cond lost (remove (map channel_of (set items place item)) place) (map channel_of (set items place item))) lost)
 
 module _ {A : Type 0} (address_of : A → Place) where
   abbrev pub pool_as : List A → Option ℕ → Pool
@@ -65,6 +98,13 @@ module _ {A : Type 0} (address_of : A → Place) where
             | inl lt ↦
                 ap (λ (o : Option ℕ). pool_as items o) (found_there lt ∙ ap (λ (n : ℕ). Some n) (sym there))
                 ∙ sym (ap (λ (b : Bool). cond b (with_new (pool_as items used) address) (pool_as items (Some (place_in (map address_of items) address)))) (apart lt))
+            | inr le ↦ absurd (is_false (subst (λ (o : Option ℕ). IsTrue (is_some o)) (found_none le) some))
+          ]
+
+      pub turns_apart : IsTrue (is_some found) → (place_in (map address_of items) address == length (map address_of items)) ≡ false
+      turns_apart some =
+          elim (cases_lt place (length items)) [
+            | inl lt ↦ apart lt
             | inr le ↦ absurd (is_false (subst (λ (o : Option ℕ). IsTrue (is_some o)) (found_none le) some))
           ]
 

@@ -16,7 +16,7 @@ use Rattle.smart_client.specs.declared.action.Action.TheVariants.{Connect}
 use Rattle.smart_client.specs.declared.call.Call.{Call}
 use Rattle.smart_client.specs.declared.call.Stage.TheVariants.{Connecting}
 use Rattle.smart_client.specs.declared.client_core.TheConstants.{MOST_ADDRESSES}
-use Rattle.redirection.proofs.PlaceLemmas.{position-le}
+use Rattle.cluster_config.proofs.PlaceLemmas.{position-le}
 use Rattle.smart_client.specs.declared.peers.Peer.{Peer}
 
 both : (a b : Bool) → (a && b) ≡ true → (a ≡ true) × (b ≡ true)

@@ -1,10 +1,12 @@
 -- A client's call as a whole: how it goes on, and when a command is sent again.
-use Rattle.std.specs.Prelude.{◌≡◌, ◌≢◌, ◌+◌, ◌-◌, ◌*◌, ◌<◌, ◌++◌, ◌∷◌, ◌⊎◌, ℕ, Bool, List, [], Option, Some, None, ⊤, if◌then◌else◌}
+use Rattle.std.specs.Prelude.{◌≡◌, ◌≢◌, ◌+◌, ◌-◌, ◌*◌, ◌<◌, ◌++◌, ◌∷◌, ◌⊎◌, ℕ, Bool, List, [], map, Option, Some, None, Ok, ⊤, if◌then◌else◌}
+use Rattle.resp_values.specs.declared.reply.Reply.{Reply}
 use Rattle.resp_values.specs.declared.reply.Reply.TheVariants.{Error}
 use Rattle.smart_client.specs.ErrorKind.{kind_of}
 use Rattle.smart_client.specs.Pool.{Pool, closed, pool_after}
 use Rattle.smart_client.specs.State.{ClientState}
 use Rattle.smart_client.specs.Step.{Answer, MayCome, MayComeTo, Steps}
+use Rattle.smart_client.specs.Wires.{Channel, Moves, Uses, Wires, wires_without}
 use Rattle.smart_client.specs.declared.action.Action.{Action}
 use Rattle.smart_client.specs.declared.action.Action.TheVariants.{Connect, Send, Done}
 use Rattle.smart_client.specs.declared.action.Event.{Event}
@@ -93,11 +95,21 @@ pool_behind (deed ∷ deeds) pool = pool_behind deeds (pool_after deed.action de
 abbrev pub closed_if : Bool → Pool → Pool
 closed_if close pool = if close then closed pool else pool
 
--- a client, all that it had done, and the connections that there are
+-- what these deeds do to the connections and their bytes, one after another
+abbrev pub WiresMove : List Deed → Pool → Wires → Wires → Type 0
+WiresMove [] pool old new = new ≡ old
+WiresMove (deed ∷ deeds) pool old new =
+    (between : Wires) × Moves deed.action deed.event pool old between × WiresMove deeds (pool_after deed.action deed.event pool) between new
+
+abbrev pub wires_closed_if : Bool → Option ℕ → Wires → Wires
+wires_closed_if close used wires = if close then wires_without used wires else wires
+
+-- a client, all that it had done, the connections that there are, and the bytes on them
 pub record ClientView : Type 0 where
   pub state : ClientState
   pub deeds : List Deed
   pub pool : Pool
+  pub wires : Wires
 
 -- a call with these words: what came of each thing that it wanted led to the next one, and the last of them was this answer; the
 -- connection that is in use then is closed, if the client wants that
@@ -107,6 +119,9 @@ pub record Calls (words : List (List ℕ)) (old : ClientView) (answer : Answer) 
   pub done : new.deeds ≡ old.deeds ++ deeds
   pub call : IsCallOf words old.state (moments_of (happened.Call words) deeds (Done answer close)) new.state
   pub pool : new.pool ≡ closed_if close (pool_behind deeds old.pool)
+  pub reached : Wires
+  pub moved : WiresMove deeds old.pool old.wires reached
+  pub wires : new.wires ≡ wires_closed_if close (pool_behind deeds old.pool).used reached
 
 -- MOVED, ASK or TRYAGAIN: the node did not execute the command
 abbrev pub is_refusing : ErrorKind → Type 0
@@ -127,3 +142,26 @@ IsDone _ = ⊥
 abbrev pub SendsOnce : Type 0
 SendsOnce = (words : List (List ℕ)) (old new : ClientState) (before after : List Moment) (sending next : Moment)
     → IsCallOf words old (before ++ sending ∷ next ∷ after) new → sending.action ≡ Send words → IsDone next.action ⊎ IsRefusal next.event
+
+-- both ends of each connection reach the node at its address
+pub record Lead (pool : Pool) (wires : Wires) : Type 0 where
+  pub readers : map (λ channel. channel.reads_from) wires.channels ≡ pool.addresses
+  pub writers : map (λ channel. channel.writes_to) wires.channels ≡ pool.addresses
+
+-- and so they do after each call
+abbrev pub ConnectionsLead : Type 0
+ConnectionsLead = (words : List (List ℕ)) (old new : ClientView) (answer : Answer) → Lead old.pool old.wires → Calls words old answer new → Lead new.pool new.wires
+
+-- this reply was read last, on the connection in use, for what was sent on it; the bytes of both are in `reads`
+pub record IsRead (old : ClientView) (reply : Reply) (new : ClientView) : Type 0 where
+  pub front : List Deed
+  pub sent : List (List ℕ)
+  pub done : new.deeds ≡ old.deeds ++ (front ++ record { action = Send sent; event = happened.Reply reply } ∷ [])
+  pub between : Wires
+  pub moved : WiresMove front old.pool old.wires between
+  pub after : List Channel
+  pub reads : Uses sent (happened.Reply reply) (pool_behind front old.pool).used between.channels after
+
+-- a call gives no reply but one that was read so
+abbrev pub RepliesAreRead : Type 0
+RepliesAreRead = (words : List (List ℕ)) (old new : ClientView) (reply : Reply) → Calls words old (Ok reply) new → IsRead old reply new

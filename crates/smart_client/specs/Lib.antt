@@ -6,3 +6,4 @@ pub mod Pool
 pub mod Turns
 pub mod Calls
 pub mod Faults
+pub mod Wires

@@ -39,9 +39,9 @@ abbrev pub unused : Pool → Pool
 unused pool = record pool { used = None }
 
 -- the one at the place is closed
-abbrev pub without_place : List Place → Option ℕ → List Place
-without_place addresses None = addresses
-without_place addresses (Some place) = remove addresses place
+abbrev pub without_place : {A : Type 0} → List A → Option ℕ → List A
+without_place items None = items
+without_place items (Some place) = remove items place
 
 -- the one in use is closed, if there is one
 abbrev pub closed : Pool → Pool

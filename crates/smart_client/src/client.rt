@@ -25,7 +25,7 @@ impl<N: Network + Drop> Model for Client<N> {
 
     ghost Value = { ClientView };
 
-    ghost view = { λ client. record { state = client.core; deeds = N.deeds client.network; pool = N.pool client.network } };
+    ghost view = { λ client. record { state = client.core; deeds = N.deeds client.network; pool = N.pool client.network; wires = N.wires client.network } };
 
     ghost invariant = { λ client. client.core.call ≡ None };
 }
@@ -38,7 +38,7 @@ impl<N: Network + Drop> Client<N> {
         start: Address,
         limit: u64,
     ) -> Result<Client<N>, AllocError>
-        ensures { IfOk result (λ client. client ≡ record { state = first_client start limit; deeds = N.deeds network; pool = N.pool network }) }
+        ensures { IfOk result (λ client. client ≡ record { state = first_client start limit; deeds = N.deeds network; pool = N.pool network; wires = N.wires network }) }
     {
         Ok(Client {
             core: ClientCore::new(alloc, start, limit)?,

@@ -1,22 +1,37 @@
 //! How connections are made.
+ghost use Rattle.std.specs.Prelude.{◌≡◌, IfOk, IfErr, OnOk};
+ghost use Rattle.smart_client.specs.Wires.{Misses};
 
 use redirection::Address;
-use resp2::Counting;
 use std::alloc::AllocError;
 use std::io::{Read, Write};
 
+/// An end of a connection: what comes from a node, or goes to it.
+pub trait Reaches {
+    ghost use Rattle.redirection.specs.Address.{Place};
+
+    /// Where that node is.
+    ghost place: { Self → Place };
+}
+
 /// Makes connections to nodes.
 pub trait Connect {
+    ghost use Rattle.std.specs.Prelude.{ℕ};
+
     /// What a node's replies are read from.
-    type Reader: Read + Drop;
+    type Reader: Read + Reaches + Drop;
     /// What requests are written to.
-    type Writer: Write + Drop;
+    type Writer: Write + Reaches + Drop;
+
+    /// How often no node was reached, up to `u64::MAX`.
+    ghost failures: { Self → ℕ };
 
     /// A new connection to the node at the address: what its replies are read from, and what requests are written to.
-    fn connect(
-        &mut self,
-        address: &Address,
-    ) -> Result<(Counting<Self::Reader>, Counting<Self::Writer>), ConnectFault>;
+    fn connect(&mut self, address: &Address) -> Result<(Self::Reader, Self::Writer), ConnectFault>
+        ensures reader { IfOk result (λ ends. Self.Reader.place ends.0 ≡ address.now) }
+        ensures writer { IfOk result (λ ends. Self.Writer.place ends.1 ≡ address.now) }
+        ensures ok { OnOk result (failures self.new ≡ failures self.old) }
+        ensures fault { IfErr result (λ fault. Misses fault (failures self.old) (failures self.new)) };
 }
 
 /// Why there is no connection.
@@ -31,6 +46,11 @@ pub enum ConnectFault {
 }
 
 impl From<AllocError> for ConnectFault {
+    ghost use Rattle.std.specs.Prelude.{◌≡◌};
+    ghost use Rattle.smart_client.specs.declared.connect.ConnectFault.TheVariants.{Memory};
+
+    ghost from_gives = { λ _ fault. fault ≡ Memory };
+
     fn from(_refused: AllocError) -> ConnectFault {
         ConnectFault::Memory
     }

@@ -1,57 +1,55 @@
 //! A connection to a node.
-ghost use Rattle.std.specs.Prelude.{◌≡◌, ◌<◌, vec_len, IfErr, IfOk};
+ghost use Rattle.std.specs.Prelude.{◌≡◌, IfOk};
 ghost use Rattle.smart_client.specs.Step.{MayComeTo};
+ghost use Rattle.smart_client.specs.Wires.{Brings, IsFresh, channel_at, event_of};
 ghost use Rattle.smart_client.specs.declared.call.Stage.TheVariants.{Sent};
 
 use crate::action::Event;
+use crate::connect::Reaches;
+use exchange::{Buffers, Outcome, Sender, exchange};
 use redirection::Address;
-use resp2::{Counting, Fault, ReplyReader, Words, write_words};
+use resp2::{Counting, ReplyReader, Words};
 use std::alloc::{AllocError, Global};
-use std::io::{ErrorKind, Read, Write};
-use std::marker::Model;
-
-// A read gives so many bytes at most, as Redis' client library reads them.
-const READ_SIZE: usize = 16_384;
+use std::io::{Read, Write};
+use std::snapshot::Snapshot;
 
 /// A connection to a node, on which one request at a time is answered.
 #[derive(Drop)]
-pub(crate) struct Connection<R: Read + Drop, W: Write + Drop> {
+pub(crate) struct Connection<R: Read + Reaches + Drop, W: Write + Reaches + Drop> {
     /// Where the node is.
     pub address: Address,
     reader: Counting<R>,
-    writer: Counting<W>,
+    sender: Sender<W>,
     replies: ReplyReader,
-    // The bytes of one read.
-    input: Vec<u8>,
-    // The bytes of the last request.
-    output: Vec<u8>,
+    buffers: Buffers,
+    // The ends as they were made: no read or write makes another connection of them.
+    reads_from: Snapshot<R>,
+    writes_to: Snapshot<W>,
 }
 
-// Why a request wasn't sent.
-#[derive(Clone, Copy, Debug)]
-enum Unsent {
-    Memory,
-    // The connection failed. `handed` says whether a byte of the request was handed to it.
-    Broken { handed: bool },
-}
-
-impl<R: Read + Drop, W: Write + Drop> Connection<R, W> {
+impl<R: Read + Reaches + Drop, W: Write + Reaches + Drop> Connection<R, W> {
     /// A connection on which nothing was sent.
     pub(crate) fn new(
         alloc: Global,
         address: Address,
-        reader: Counting<R>,
-        writer: Counting<W>,
+        reader: R,
+        writer: W,
     ) -> Result<Connection<R, W>, AllocError>
-        ensures { IfOk result (λ connection. connection.address ≡ address) }
+        requires reader { R.place reader ≡ address }
+        requires writer { W.place writer ≡ address }
+        ensures address { IfOk result (λ connection. connection.address ≡ address) }
+        ensures fresh { IfOk result (λ connection. IsFresh address (channel_at R.remaining W.contents R.place W.place connection)) }
     {
+        let reads_from = Snapshot::of(&reader);
+        let writes_to = Snapshot::of(&writer);
         Ok(Connection {
             address,
-            reader,
-            writer,
+            reader: Counting::new(reader),
+            sender: Sender::new(writer),
             replies: ReplyReader::new(alloc),
-            input: vec![in alloc; 0u8; READ_SIZE]?,
-            output: Vec::new(alloc),
+            buffers: Buffers::new(alloc)?,
+            reads_from,
+            writes_to,
         })
     }
 
@@ -59,84 +57,28 @@ impl<R: Read + Drop, W: Write + Drop> Connection<R, W> {
     pub(crate) fn exchange(&mut self, words: &Words) -> Event
         ensures event { MayComeTo Sent result }
         ensures address { self.new.address ≡ self.old.address }
+        ensures brings { Brings words.now (channel_at R.remaining W.contents R.place W.place self.old) result
+            (channel_at R.remaining W.contents R.place W.place self.new) }
     {
-        match self.send(words) {
-            Ok(()) => receive(
-                &mut self.reader,
-                &mut self.replies,
-                self.input.as_mut_slice(),
-            ),
-            Err(Unsent::Memory) => Event::NoMemory,
-            Err(Unsent::Broken { handed }) => Event::Broken { handed },
-        }
-    }
-
-    fn send(&mut self, words: &Words) -> Result<(), Unsent>
-        ensures { self.new.address ≡ self.old.address }
-    {
-        self.output.clear();
-        let Ok(()) = write_words(words, &mut self.output) else {
-            return Err(Unsent::Memory);
-        };
-        hand_over(self.output.as_slice(), &mut self.writer)
+        event_of(exchange(
+            words,
+            &mut self.reader,
+            &mut self.sender,
+            &mut self.replies,
+            &mut self.buffers,
+        ))
     }
 }
 
-// Reads until there is a reply. The input holds the bytes of one read.
-fn receive<R: Read>(reader: &mut Counting<R>, replies: &mut ReplyReader, input: &mut [u8]) -> Event
-    ensures { MayComeTo Sent result }
+// What came of a request, as a client's core is told.
+fn event_of(outcome: Outcome) -> Event
+    ensures same { result ≡ event_of outcome }
+    ensures event { MayComeTo Sent result }
 {
-    // A loop has to end, so this one counts its reads; each gives a byte at least.
-    'reads: for _ in 0..u64::MAX {
-        let count = match reader.read(input) {
-            Ok(0) => return Event::Broken { handed: true },
-            Ok(count) => count,
-            Err(error) if error.kind() == ErrorKind::Interrupted => continue 'reads,
-            Err(_) => return Event::Broken { handed: true },
-        };
-        let Ok(()) = replies.feed(&input[..count]) else {
-            return Event::NoMemory;
-        };
-        match replies.next() {
-            Ok(Some(reply)) => return Event::Reply(reply),
-            Ok(None) => {}
-            Err(fault) => return event_of(fault),
-        }
+    match outcome {
+        Outcome::Reply(reply) => Event::Reply(reply),
+        Outcome::BadReply => Event::BadReply,
+        Outcome::Broken { handed } => Event::Broken { handed },
+        Outcome::NoMemory => Event::NoMemory,
     }
-    Event::Broken { handed: true }
-}
-
-// What a fault of the bytes is to the client.
-fn event_of(fault: Fault) -> Event
-    ensures { MayComeTo Sent result }
-{
-    match fault {
-        Fault::Memory => Event::NoMemory,
-        Fault::Protocol | Fault::TooLong => Event::BadReply,
-    }
-}
-
-// Hands all bytes to the writer.
-fn hand_over<W: Write>(bytes: &[u8], writer: &mut W) -> Result<(), Unsent> {
-    let mut rest = bytes;
-    let mut handed = false;
-    // A loop has to end, so this one counts its turns.
-    'turns: for _ in 0..u64::MAX {
-        if rest.is_empty() {
-            return match writer.flush() {
-                Ok(()) => Ok(()),
-                Err(_) => Err(Unsent::Broken { handed }),
-            };
-        }
-        match writer.write(rest) {
-            Ok(0) => return Err(Unsent::Broken { handed }),
-            Ok(count) => {
-                handed = true;
-                rest = &rest[count..];
-            }
-            Err(error) if error.kind() == ErrorKind::Interrupted => {}
-            Err(_) => return Err(Unsent::Broken { handed }),
-        }
-    }
-    Err(Unsent::Broken { handed })
 }

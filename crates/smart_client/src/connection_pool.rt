@@ -1,11 +1,13 @@
 //! The open connections of a client.
-ghost use Rattle.std.specs.Prelude.{◌≡◌, length, IsTrue, IsFalse, OnOk, OnErr};
-ghost use Rattle.smart_client.specs.Pool.{closed, empty_pool, is_lost, is_same, place_in, pool_after, turned_to, unused, with_new};
+ghost use Rattle.std.specs.Prelude.{◌≡◌, ◌==◌, ◌++◌, ◌∷◌, [], false, length, IsTrue, IsFalse, OnOk, OnErr};
+ghost use Rattle.smart_client.specs.Pool.{closed, empty_pool, is_lost, is_same, place_in, pool_after, turned_to, unused, with_new, without_place};
+ghost use Rattle.smart_client.specs.Wires.{Uses, channel_at};
 ghost use Rattle.smart_client.specs.Step.{MayComeTo};
 ghost use Rattle.smart_client.specs.declared.action.Action.TheVariants.{Send};
 ghost use Rattle.smart_client.specs.declared.call.Stage.TheVariants.{Sent};
 
 use crate::action::Event;
+use crate::connect::Reaches;
 use crate::connection::Connection;
 use crate::peers::is_same;
 use redirection::Address;
@@ -16,27 +18,30 @@ use std::marker::Model;
 
 /// The open connections of a client, one for each address, and which of them is in use.
 #[derive(Drop)]
-pub(crate) struct ConnectionPool<R: Read + Drop, W: Write + Drop> {
+pub(crate) struct ConnectionPool<R: Read + Reaches + Drop, W: Write + Reaches + Drop> {
     items: Vec<Connection<R, W>>,
     // The place of the one in use.
     used: Option<usize>,
 }
 
-impl<R: Read + Drop, W: Write + Drop> Model for ConnectionPool<R, W> {
+impl<R: Read + Reaches + Drop, W: Write + Reaches + Drop> Model for ConnectionPool<R, W> {
     ghost use Rattle.std.specs.Prelude.{◌<◌, IfSome, length, map};
-    ghost use Rattle.smart_client.specs.Pool.{Pool};
+    ghost use Rattle.smart_client.specs.Wires.{Lines, channel_at};
 
-    ghost Value = { Pool };
+    ghost Value = { Lines };
 
-    ghost view = { λ pool. record { addresses = map (λ connection. connection.address) pool.items.items; used = pool.used } };
+    ghost view = { λ pool. record {
+      pool = record { addresses = map (λ connection. connection.address) pool.items.items; used = pool.used };
+      channels = map (channel_at R.remaining W.contents R.place W.place) pool.items.items;
+    } };
 
     ghost invariant = { λ pool. IfSome pool.used (λ place. place < length pool.items.items) };
 }
 
-impl<R: Read + Drop, W: Write + Drop> ConnectionPool<R, W> {
+impl<R: Read + Reaches + Drop, W: Write + Reaches + Drop> ConnectionPool<R, W> {
     /// None yet.
     pub(crate) fn new(alloc: Global) -> ConnectionPool<R, W>
-        ensures { result ≡ empty_pool }
+        ensures { result ≡ record { pool = empty_pool; channels = [] } }
     {
         ConnectionPool {
             items: Vec::new(alloc),
@@ -46,8 +51,10 @@ impl<R: Read + Drop, W: Write + Drop> ConnectionPool<R, W> {
 
     /// Uses the connection to the address, if there is one, and says whether there is.
     pub(crate) fn turn_to(&mut self, address: &Address) -> bool
-        ensures there { IsTrue result → self.new ≡ turned_to address.now self.old }
-        ensures none { IsFalse result → (self.new ≡ unused self.old) × (place_in self.old.addresses address.now ≡ length self.old.addresses) }
+        ensures there { IsTrue result → self.new.pool ≡ turned_to address.now self.old.pool }
+        ensures known { IsTrue result → (place_in self.old.pool.addresses address.now == length self.old.pool.addresses) ≡ false }
+        ensures none { IsFalse result → (self.new.pool ≡ unused self.old.pool) × (place_in self.old.pool.addresses address.now ≡ length self.old.pool.addresses) }
+        ensures channels { self.new.channels ≡ self.old.channels }
     {
         self.used = self
             .items
@@ -65,7 +72,8 @@ impl<R: Read + Drop, W: Write + Drop> ConnectionPool<R, W> {
 
     /// Puts a connection behind the others, and uses it.
     pub(crate) fn add(&mut self, connection: Connection<R, W>) -> Result<(), AllocError>
-        ensures ok { OnOk result (self.new ≡ with_new self.old connection.address) }
+        ensures ok { OnOk result (self.new.pool ≡ with_new self.old.pool connection.address) }
+        ensures grown { OnOk result (self.new.channels ≡ self.old.channels ++ channel_at R.remaining W.contents R.place W.place connection ∷ []) }
         ensures err { OnErr result (self.new ≡ self.old) }
     {
         let place = self.items.len();
@@ -78,7 +86,8 @@ impl<R: Read + Drop, W: Write + Drop> ConnectionPool<R, W> {
     /// closed.
     pub(crate) fn exchange(&mut self, words: &Words) -> Event
         ensures event { MayComeTo Sent result }
-        ensures pool { self.new ≡ pool_after (Send words.now) result self.old }
+        ensures pool { self.new.pool ≡ pool_after (Send words.now) result self.old.pool }
+        ensures channels { Uses words.now result self.old.pool.used self.old.channels self.new.channels }
     {
         let Some(place) = self.used else {
             return Event::Broken { handed: false };
@@ -92,7 +101,8 @@ impl<R: Read + Drop, W: Write + Drop> ConnectionPool<R, W> {
 
     /// Closes the connection in use, if there is one.
     pub(crate) fn close(&mut self)
-        ensures { self.new ≡ closed self.old }
+        ensures pool { self.new.pool ≡ closed self.old.pool }
+        ensures channels { self.new.channels ≡ without_place self.old.channels self.old.pool.used }
     {
         if let Some(place) = self.used.take() {
             let _closed = self.items.remove(place);
@@ -101,7 +111,7 @@ impl<R: Read + Drop, W: Write + Drop> ConnectionPool<R, W> {
 }
 
 // Whether the connection leads to the address.
-fn leads_to<R: Read + Drop, W: Write + Drop>(
+fn leads_to<R: Read + Reaches + Drop, W: Write + Reaches + Drop>(
     connection: &Connection<R, W>,
     address: &Address,
 ) -> bool

@@ -1,7 +1,9 @@
 //! The connections of a client, one for each address.
-ghost use Rattle.std.specs.Prelude.{◌≡◌, [], OnOk, OnErr};
+ghost use Rattle.std.specs.Prelude.{◌≡◌, [], IfErr, OnOk, OnErr};
+ghost use Rattle.smart_client.specs.Calls.{IsDone, MayAnswer};
 ghost use Rattle.smart_client.specs.Pool.{empty_pool, pool_after, with_new};
 ghost use Rattle.smart_client.specs.Step.{MayComeTo};
+ghost use Rattle.smart_client.specs.Wires.{Joins, Misses, Moves, wires_of};
 ghost use Rattle.smart_client.specs.declared.action.Action.TheVariants.{Connect};
 ghost use Rattle.smart_client.specs.declared.call.Stage.TheVariants.{Connecting};
 
@@ -44,7 +46,7 @@ impl<C: Connect + Drop> Connections<C> {
     /// No connection yet.
     pub fn new(alloc: Global, connect: C) -> Connections<C>
         ensures deeds { result.deeds ≡ [] }
-        ensures pool { result.pool ≡ empty_pool }
+        ensures pool { result.pool ≡ record { pool = empty_pool; channels = [] } }
     {
         Connections {
             alloc,
@@ -54,11 +56,29 @@ impl<C: Connect + Drop> Connections<C> {
         }
     }
 
+    // Does what is wanted. It is noted later.
+    fn carry_out(&mut self, action: &Action) -> Event
+        requires { ¬ IsDone action.now }
+        ensures event { MayAnswer action.now result }
+        ensures deeds { self.new.deeds ≡ self.old.deeds }
+        ensures pool { self.new.pool.pool ≡ pool_after action.now result self.old.pool.pool }
+        ensures wires { Moves action.now result self.old.pool.pool
+            (wires_of self.old.pool.channels (C.failures self.old.connect)) (wires_of self.new.pool.channels (C.failures self.new.connect)) }
+    {
+        match action {
+            Action::Connect(address) => self.turn_to(address),
+            Action::Send(words) => self.pool.exchange(words),
+            Action::Done { .. } => unreachable!(),
+        }
+    }
+
     // Uses the connection to the address, the one that is kept or else a new one.
     fn turn_to(&mut self, address: &Address) -> Event
         ensures event { MayComeTo Connecting result }
         ensures deeds { self.new.deeds ≡ self.old.deeds }
-        ensures pool { self.new.pool ≡ pool_after (Connect address.now) result self.old.pool }
+        ensures pool { self.new.pool.pool ≡ pool_after (Connect address.now) result self.old.pool.pool }
+        ensures wires { Moves (Connect address.now) result self.old.pool.pool
+            (wires_of self.old.pool.channels (C.failures self.old.connect)) (wires_of self.new.pool.channels (C.failures self.new.connect)) }
     {
         if self.pool.turn_to(address) {
             return Event::Connected;
@@ -73,8 +93,11 @@ impl<C: Connect + Drop> Connections<C> {
     // Makes a new connection, and uses it.
     fn open(&mut self, address: &Address) -> Result<(), ConnectFault>
         ensures deeds { self.new.deeds ≡ self.old.deeds }
-        ensures ok { OnOk result (self.new.pool ≡ with_new self.old.pool address.now) }
+        ensures ok { OnOk result (self.new.pool.pool ≡ with_new self.old.pool.pool address.now) }
+        ensures joins { OnOk result (Joins address.now
+            (wires_of self.old.pool.channels (C.failures self.old.connect)) (wires_of self.new.pool.channels (C.failures self.new.connect))) }
         ensures err { OnErr result (self.new.pool ≡ self.old.pool) }
+        ensures misses { IfErr result (λ fault. Misses fault (C.failures self.old.connect) (C.failures self.new.connect)) }
     {
         self.pool.reserve()?;
         let address = address.clone()?;
@@ -86,16 +109,16 @@ impl<C: Connect + Drop> Connections<C> {
 }
 
 impl<C: Connect + Drop> Network for Connections<C> {
+    ghost use Rattle.smart_client.specs.Wires.{wires_of};
+
     ghost deeds = { λ connections. connections.deeds };
 
-    ghost pool = { λ connections. connections.pool };
+    ghost pool = { λ connections. connections.pool.pool };
+
+    ghost wires = { λ connections. wires_of connections.pool.channels (C.failures connections.connect) };
 
     fn perform(&mut self, action: Action) -> Event {
-        let event = match &action {
-            Action::Connect(address) => self.turn_to(address),
-            Action::Send(words) => self.pool.exchange(words),
-            Action::Done { .. } => unreachable!(),
-        };
+        let event = self.carry_out(&action);
         self.deeds.push(&Noted {
             action: Snapshot::of(&action),
             event: Snapshot::of(&event),

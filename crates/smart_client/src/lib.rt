@@ -22,8 +22,11 @@ mod requests;
 pub use action::{Action, Event};
 pub use client::Client;
 pub use client_core::{ClientCore, MOST_ADDRESSES, MOST_REDIRECTIONS};
-pub use connect::{Connect, ConnectFault};
+pub use connect::{Connect, ConnectFault, Reaches};
 pub use connections::Connections;
 pub use fault::ClientFault;
-pub use law::a_command_is_sent_again_only_after_a_refusal;
+pub use law::{
+    a_command_is_sent_again_only_after_a_refusal, connections_lead_to_their_addresses,
+    replies_are_read_from_the_connection_in_use,
+};
 pub use network::Network;

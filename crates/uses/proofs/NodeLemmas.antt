@@ -13,19 +13,19 @@ use Rattle.command_table.specs.declared.command.Condition.TheVariants.{Always}
 use Rattle.keyspace.specs.Strings.{string_reply}
 use Rattle.keyspace.specs.declared.value.Value.TheVariants.{Str}
 use Rattle.slot_table.specs.declared.entry.SlotEntry.{SlotEntry}
-use Rattle.slot_moves.specs.Moves.{Moves}
-use Rattle.slot_moves.specs.declared.running.Move.{Move}
-use Rattle.slot_moves.specs.declared.running.Move.TheVariants.{Leaves, Comes}
-use Rattle.slot_moves.specs.declared.state.SlotState.{SlotState}
-use Rattle.slot_moves.specs.declared.state.SlotState.TheVariants.{Owned, Foreign, Moving}
+use Rattle.slot_state.specs.Moves.{Moves}
+use Rattle.slot_state.specs.declared.running.Move.{Move}
+use Rattle.slot_state.specs.declared.running.Move.TheVariants.{Leaves, Comes}
+use Rattle.slot_state.specs.declared.state.SlotState.{SlotState}
+use Rattle.slot_state.specs.declared.state.SlotState.TheVariants.{Owned, Foreign, Moving}
 use Rattle.key_slot.specs.Slot.{hash_slot}
 use Rattle.slot_table.specs.Table.{owner_at}
-use Rattle.slot_decision.specs.Asked.{Asked, is_one_of}
-use Rattle.slot_decision.specs.Decision.{decision, in_slot, leaving, state_at}
-use Rattle.slot_decision.specs.declared.asked.Asking.TheVariants.{No}
-use Rattle.slot_decision.specs.declared.decision.Decision.{Decision}
-use Rattle.slot_decision.specs.declared.decision.Decision.TheVariants.{Serve, Ask, TryAgain}
-use Rattle.slot_decision.specs.declared.decision.Reason.TheVariants.{Frozen}
+use Rattle.redirect.specs.Asked.{Asked, is_one_of}
+use Rattle.redirect.specs.Decision.{decision, in_slot, leaving, state_at}
+use Rattle.redirect.specs.declared.asked.Asking.TheVariants.{No}
+use Rattle.redirect.specs.declared.decision.Decision.{Decision}
+use Rattle.redirect.specs.declared.decision.Decision.TheVariants.{Serve, Ask, TryAgain}
+use Rattle.redirect.specs.declared.decision.Reason.TheVariants.{Frozen}
 use Rattle.connections.specs.Connections.{ConnectionTable, connection_at, open_at, updated, with_generation, may_ask, fresh}
 use Rattle.connections.specs.declared.conn.Conn.{Conn}
 use Rattle.connections.specs.declared.conn.Connection.{Connection}
@@ -126,8 +126,8 @@ answered : (ticket : ℕ) (old new : NodeState) (conn : Conn) (words : List (Lis
     → outputs ≡ outputs_of ticket (served_by (using_up old conn) command Serve) × (new ≡ executed (using_up old conn) command)
 answered ticket old new conn words outputs command step is_command is serves =
     let answering = rw (may old conn is) at step.may_come in
-    let read : step.outcome ≡ request_outcome old conn (Ok (Data command)) answering.listing =
-    answering.comes_to ∙ ap (λ c. request_outcome old conn c answering.listing) is_command in
+    let read : step.outcome ≡ request_outcome old conn (Ok (Data command)) =
+    answering.comes_to ∙ ap (λ c. request_outcome old conn c) is_command in
     let known : step.outcome ≡ command_outcome (using_up old conn) false command (decision_on (using_up old conn) command No) =
     read ∙ ap (λ c. command_outcome (using_up old conn) (is_numbered c) command (decision_on (using_up old conn) command (asking_of c))) is in
     let made : step.outcome ≡ served_by (using_up old conn) command Serve = known ∙ ap (command_outcome (using_up old conn) false command) serves in

@@ -8,6 +8,7 @@ use Rattle.resp2.specs.declared.fault.Fault.{Fault}
 use Rattle.resp_values.specs.declared.reply.Reply.{Reply}
 use Rattle.resp_values.specs.declared.reply.Reply.TheVariants.{Simple}
 use Rattle.command_table.specs.declared.error_line.ErrorLine.TheVariants as line
+use Rattle.node_step.specs.Outcome.{no_outputs}
 use Rattle.node_step.specs.declared.event.Event.{Event}
 use Rattle.node_step.specs.declared.event.Event.TheVariants.{Open, Close, Request, Deliver, Tick}
 use Rattle.node_step.specs.declared.outputs.Outputs.{Outputs}
@@ -15,7 +16,7 @@ use Rattle.node_step.specs.declared.response.Answer.{Answer}
 use Rattle.node_step.specs.declared.response.Response.{Response}
 use Rattle.node_step.specs.declared.response.Response.TheVariants.{Nothing, Opened, Replied}
 use Rattle.node_step.specs.declared.response.Why.TheVariants.{Decided}
-use Rattle.slot_decision.specs.declared.decision.Decision.TheVariants.{Serve}
+use Rattle.redirect.specs.declared.decision.Decision.TheVariants.{Serve}
 use Rattle.listener.specs.Conversation.{error_bytes}
 
 abbrev pub pong : Reply
@@ -34,7 +35,7 @@ response_for Tick = Nothing
 
 -- what comes out for an event
 abbrev pub outputs_for : Event → Outputs
-outputs_for event = record { ticket = 0; response = response_for event; released = []; sent = [] }
+outputs_for event = record (no_outputs 0) { response = response_for event }
 
 -- the bytes of n PONGs
 abbrev pub pongs : ℕ → List ℕ

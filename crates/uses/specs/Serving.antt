@@ -6,10 +6,10 @@ use Rattle.node_step.specs.State.{NodeState}
 use Rattle.node_step.specs.declared.response.Response.{Response}
 use Rattle.node_step.specs.declared.response.Response.TheVariants.{Replied}
 use Rattle.node_step.specs.declared.response.Why.TheVariants.{Decided}
-use Rattle.slot_decision.specs.Asked.{Asked}
-use Rattle.slot_decision.specs.Decision.{decision}
-use Rattle.slot_decision.specs.declared.asked.Asking.TheVariants.{No}
-use Rattle.slot_decision.specs.declared.decision.Decision.TheVariants.{Serve}
+use Rattle.redirect.specs.Asked.{Asked}
+use Rattle.redirect.specs.Decision.{decision}
+use Rattle.redirect.specs.declared.asked.Asking.TheVariants.{No}
+use Rattle.redirect.specs.declared.decision.Decision.TheVariants.{Serve}
 
 -- a command with these keys on a connection that sent no ASKING
 abbrev pub asked_at : NodeState → List (List ℕ) → Asked

@@ -6,7 +6,7 @@ ghost use Rattle.resp_values.specs.declared.reply.Reply.TheVariants.{Bulk};
 ghost use Rattle.uses.specs.Serving.{IsServedBy, served};
 
 use byte_string::ByteString;
-use node_cell::{Deployment, Entered, Log, NodeCell};
+use node_cell::{Asks, Deployment, Entered, Log, NodeCell};
 use node_step::{Event, Response, StepFault};
 use resp2::Words;
 use std::alloc::{AllocError, Global};
@@ -14,6 +14,7 @@ use std::alloc::{AllocError, Global};
 /// Sets the key on a connection of its own, and asks for it. A node that serves the key answers its value.
 pub fn set_then_get<K: Deployment, L: Log>(
     alloc: Global,
+    asks: &mut Asks<K>,
     cell: &mut NodeCell<K, L>,
     key: &ByteString,
     value: &ByteString,
@@ -25,13 +26,13 @@ pub fn set_then_get<K: Deployment, L: Log>(
 {
     let set = set_words(alloc, key, value)?;
     let get = get_words(alloc, key)?;
-    let opened = cell.apply(Event::Open)?;
+    let opened = asks.ask_node(cell, Event::Open)?;
     let Response::Opened(conn) = opened.response() else {
         unreachable!()
     };
     let conn = *conn;
-    let _set = cell.apply(Event::Request(conn, set))?;
-    cell.apply(Event::Request(conn, get))
+    let _set = asks.ask_node(cell, Event::Request(conn, set))?;
+    asks.ask_node(cell, Event::Request(conn, get))
 }
 
 fn set_words(alloc: Global, key: &ByteString, value: &ByteString) -> Result<Words, AllocError>

@@ -10,17 +10,17 @@ use Rattle.node_step.specs.declared.outputs.Outputs.{Outputs}
 use Rattle.node_step.specs.declared.response.Answer.{Answer}
 use Rattle.node_step.specs.declared.response.Response.{Response}
 use Rattle.node_step.specs.declared.response.Response.TheVariants.{Nothing, Opened, Replied, Parked}
-use Rattle.slot_decision.specs.Asked.{is_right}
-use Rattle.slot_decision.specs.declared.asked.Asking.{Asking}
-use Rattle.slot_decision.specs.declared.asked.Asking.TheVariants.{No, Any, Of}
-use Rattle.slot_decision.specs.declared.decision.Decision.{Decision}
-use Rattle.slot_decision.specs.declared.decision.Decision.TheVariants.{Serve, ServeImport, CrossSlot, Down, TryAgain, Ask, Moved}
+use Rattle.redirect.specs.Asked.{is_right}
+use Rattle.redirect.specs.declared.asked.Asking.{Asking}
+use Rattle.redirect.specs.declared.asked.Asking.TheVariants.{No, Any, Of}
+use Rattle.redirect.specs.declared.decision.Decision.{Decision}
+use Rattle.redirect.specs.declared.decision.Decision.TheVariants.{Serve, ServeImport, CrossSlot, Down, TryAgain, Ask, Moved}
 use Rattle.world_run.specs.Executed.{MayAsk, WasRedirected, answered, answered_with, decision_in}
 use Rattle.world_run.specs.Run.{Entry}
 use Rattle.world_run.specs.Run.Deed.{Made}
 use Rattle.world.specs.Asking.{IsAllowed, IsTold, MayTake, asking_in, past_of}
-use Rattle.world.specs.Entered.{EntersAt, NeedsNumber}
-use Rattle.world.specs.NodeSteps.{Makes}
+use Rattle.world.specs.Entered.{EntersAt}
+use Rattle.world.specs.NodeSteps.{IsUnasked, Makes}
 use Rattle.world.specs.View.{RunView}
 use Rattle.world.proofs.Connected.{asking_on, served_if_allowed}
 use Rattle.world.proofs.Leaving.{opened_is_fresh}
@@ -65,13 +65,13 @@ taken_may_ask old node Tick outputs entries nodes may enters = tt
 
 -- ---- who may ask
 
--- an event that needs no number is no request
-pub needless_may_come : (run : RunView) (node : ℕ) (event : Event) → (NeedsNumber event → ⊥) → MayTake run node event
-needless_may_come run node (Request conn words) none = absurd (none tt)
-needless_may_come run node Open none = tt
-needless_may_come run node (Close conn) none = tt
-needless_may_come run node (Deliver message) none = tt
-needless_may_come run node Tick none = tt
+-- what no connection asks for may always come
+pub unasked_may_come : (run : RunView) (node : ℕ) (event : Event) → IsUnasked event → MayTake run node event
+unasked_may_come run node (Request conn words) unasked = absurd unasked
+unasked_may_come run node Open unasked = tt
+unasked_may_come run node (Close conn) unasked = tt
+unasked_may_come run node (Deliver message) unasked = tt
+unasked_may_come run node Tick unasked = tt
 
 -- any request may come on a connection that was just opened
 pub opened_may_ask : (old new : RunView) (node : ℕ) (conn : Conn) (outputs : Outputs) (words : List (List ℕ)) → Makes old node Open outputs new → outputs.response ≡ Opened conn → MayTake new node (Request conn words)

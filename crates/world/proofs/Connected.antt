@@ -25,20 +25,20 @@ use Rattle.key_slot.specs.Slot.{hash_slot}
 use Rattle.migrate.specs.Acknowledging.{acknowledged_key}
 use Rattle.migrate.specs.declared.sending.CopyVerdict.{CopyVerdict}
 use Rattle.migrate.specs.declared.sending.CopyVerdict.TheVariants as copies
-use Rattle.slot_decision.specs.Asked.{Asked, are_several, all_there, is_one_of, is_right, none_there}
-use Rattle.slot_decision.specs.Decision.{at_owner, by_keys, coming, has_other_slot, in_slot}
-use Rattle.slot_decision.specs.declared.asked.Asking.{Asking}
-use Rattle.slot_decision.specs.declared.asked.Asking.TheVariants.{No}
-use Rattle.slot_decision.specs.declared.decision.Decision.{Decision}
-use Rattle.slot_decision.specs.declared.decision.Decision.TheVariants.{Serve, ServeImport, CrossSlot, Down, TryAgain, Ask, Moved}
-use Rattle.slot_decision.specs.declared.decision.Reason.TheVariants.{SomeAreMissing}
-use Rattle.slot_moves.specs.Moves.{Moves, move_of}
-use Rattle.slot_moves.specs.declared.ending.NodeVerdict.{NodeVerdict}
-use Rattle.slot_moves.specs.declared.ending.NodeVerdict.TheVariants as ending
-use Rattle.slot_moves.specs.declared.running.Move.{Move}
-use Rattle.slot_moves.specs.declared.running.Move.TheVariants.{Leaves as Goes, Comes}
-use Rattle.slot_moves.specs.declared.state.SlotState.{SlotState}
-use Rattle.slot_moves.specs.declared.state.SlotState.TheVariants.{Owned, Foreign, Moving}
+use Rattle.redirect.specs.Asked.{Asked, are_several, all_there, is_one_of, is_right, none_there}
+use Rattle.redirect.specs.Decision.{at_owner, by_keys, coming, has_other_slot, in_slot}
+use Rattle.redirect.specs.declared.asked.Asking.{Asking}
+use Rattle.redirect.specs.declared.asked.Asking.TheVariants.{No}
+use Rattle.redirect.specs.declared.decision.Decision.{Decision}
+use Rattle.redirect.specs.declared.decision.Decision.TheVariants.{Serve, ServeImport, CrossSlot, Down, TryAgain, Ask, Moved}
+use Rattle.redirect.specs.declared.decision.Reason.TheVariants.{SomeAreMissing}
+use Rattle.slot_state.specs.Moves.{Moves, move_of}
+use Rattle.slot_state.specs.declared.ending.NodeVerdict.{NodeVerdict}
+use Rattle.slot_state.specs.declared.ending.NodeVerdict.TheVariants as ending
+use Rattle.slot_state.specs.declared.running.Move.{Move}
+use Rattle.slot_state.specs.declared.running.Move.TheVariants.{Leaves as Goes, Comes}
+use Rattle.slot_state.specs.declared.state.SlotState.{SlotState}
+use Rattle.slot_state.specs.declared.state.SlotState.TheVariants.{Owned, Foreign, Moving}
 use Rattle.slot_table.specs.Claims.{merged}
 use Rattle.slot_table.specs.declared.entry.SlotEntry.{SlotEntry}
 use Rattle.node_step.specs.Claiming.{claimed_by}
@@ -47,7 +47,7 @@ use Rattle.node_step.specs.Copies.{acknowledged, copy_outcome, copy_verdict_on, 
 use Rattle.node_step.specs.Messages.{delivered, knowing, taken}
 use Rattle.node_step.specs.Orders.{ending_outcome, ending_verdict}
 use Rattle.node_step.specs.Outcome.{Outcome, silent}
-use Rattle.node_step.specs.Requests.{Listing, asking_for, asking_of, by_command, cluster_outcome, is_numbered, node_with_id, order_outcome, request_outcome, using_up, with_asking}
+use Rattle.node_step.specs.Requests.{asking_for, asking_of, by_command, cluster_outcome, is_numbered, node_with_id, order_outcome, request_outcome, using_up, with_asking}
 use Rattle.node_step.specs.State.{NodeState}
 use Rattle.node_step.specs.Step.{IsAnswering, IsClosing, IsOpening, MayCome, NodeStep}
 use Rattle.node_step.specs.Ticks.{tick}
@@ -87,16 +87,16 @@ pub record Leaves (event : Event) (old new : NodeState) : Type 0 where
 
 -- ---- tables of connections
 
-no_some : {A : Type 0} {o : Option A} {x : A} → o ≡ None → o ≡ Some x → ⊥
+pub no_some : {A : Type 0} {o : Option A} {x : A} → o ≡ None → o ≡ Some x → ⊥
 no_some none some = cc
 
 in_some : {A : Type 0} {x y : A} → Some x ≡ Some y → x ≡ y
 in_some same = cc
 
-same_conn : (one other : Conn) → one.key ≡ other.key → one.generation ≡ other.generation → one ≡ other
+pub same_conn : (one other : Conn) → one.key ≡ other.key → one.generation ≡ other.generation → one ≡ other
 same_conn one other key generation = λ i. record { key = key i; generation = generation i }
 
-cases_conn : (one other : Conn) → (one ≡ other) ⊎ (one ≢ other)
+pub cases_conn : (one other : Conn) → (one ≡ other) ⊎ (one ≢ other)
 cases_conn one other =
     elim (cases_eq one.key other.key) [
       | inr apart ↦ inr (λ same. apart (ap (λ (conn : Conn). conn.key) same))
@@ -108,15 +108,15 @@ cases_conn one other =
     ]
 
 -- a connection is found by its generation
-is_with : (generation : ℕ) (connection : Connection) → connection.generation ≡ generation → with_generation generation (Some connection) ≡ Some connection
+pub is_with : (generation : ℕ) (connection : Connection) → connection.generation ≡ generation → with_generation generation (Some connection) ≡ Some connection
 is_with generation connection is =
     cond-true (connection.generation == generation) (Some connection) None (eq-eqb connection.generation generation is)
 
-is_not_with : (generation : ℕ) (connection : Connection) → connection.generation ≢ generation → with_generation generation (Some connection) ≡ None
+pub is_not_with : (generation : ℕ) (connection : Connection) → connection.generation ≢ generation → with_generation generation (Some connection) ≡ None
 is_not_with generation connection apart =
     cond-false (connection.generation == generation) (Some connection) None (ne_eqb connection.generation generation apart)
 
-found_with : (generation : ℕ) (slot : Option Connection) (connection : Connection) → with_generation generation slot ≡ Some connection
+pub found_with : (generation : ℕ) (slot : Option Connection) (connection : Connection) → with_generation generation slot ≡ Some connection
     → (slot ≡ Some connection) × (connection.generation ≡ generation)
 found_with generation None connection is = absurd (no_some refl is)
 found_with generation (Some there) connection is =
@@ -132,13 +132,13 @@ set_here [] key old new is = absurd (no_some refl is)
 set_here (slot ∷ slots) zero old new is = refl
 set_here (slot ∷ slots) (suc key) old new is = set_here slots key old new is
 
-abbrev changed : (Connection → Connection) → Option Connection → Option Connection
+abbrev pub changed : (Connection → Connection) → Option Connection → Option Connection
 changed change None = None
 changed change (Some connection) = Some (change connection)
 
 -- a change of one connection, which keeps its generation
 module _ (table : ConnectionTable) (conn : Conn) (change : Connection → Connection) (same_generation : (connection : Connection) → (change connection).generation ≡ connection.generation) where
-  changed_here : connection_at (with_change table conn change) conn ≡ changed change (connection_at table conn)
+  pub changed_here : connection_at (with_change table conn change) conn ≡ changed change (connection_at table conn)
   changed_here = by_found (connection_at table conn) refl
     where
       by_found : (found : Option Connection) → connection_at table conn ≡ found → connection_at (updated table conn.key change found) conn ≡ changed change found
@@ -148,7 +148,7 @@ module _ (table : ConnectionTable) (conn : Conn) (change : Connection → Connec
           ap (with_generation conn.generation) (set_here table.slots conn.key connection (change connection) was.0)
           ∙ is_with conn.generation (change connection) (same_generation connection ∙ was.1)
 
-  unchanged_there : (other : Conn) → other ≢ conn → connection_at (with_change table conn change) other ≡ connection_at table other
+  pub unchanged_there : (other : Conn) → other ≢ conn → connection_at (with_change table conn change) other ≡ connection_at table other
   unchanged_there other apart = by_found (connection_at table conn) refl
     where
       by_found : (found : Option Connection) → connection_at table conn ≡ found → connection_at (updated table conn.key change found) other ≡ connection_at table other
@@ -167,7 +167,7 @@ module _ (table : ConnectionTable) (conn : Conn) (change : Connection → Connec
                 ∙ is_not_with other.generation connection (λ same. different (sym was.1 ∙ same)))
           ]
 
-  same_opens : (with_change table conn change).opens ≡ table.opens
+  pub same_opens : (with_change table conn change).opens ≡ table.opens
   same_opens = by_found (connection_at table conn)
     where
       by_found : (found : Option Connection) → (updated table conn.key change found).opens ≡ table.opens
@@ -175,7 +175,7 @@ module _ (table : ConnectionTable) (conn : Conn) (change : Connection → Connec
       by_found (Some connection) = refl
 
   -- where it keeps what the connection allows, all connections allow what they did
-  same_asking : ((connection : Connection) → (change connection).asking ≡ connection.asking) → (other : Conn) → asking_of (connection_at (with_change table conn change) other) ≡ asking_of (connection_at table other)
+  pub same_asking : ((connection : Connection) → (change connection).asking ≡ connection.asking) → (other : Conn) → asking_of (connection_at (with_change table conn change) other) ≡ asking_of (connection_at table other)
   same_asking quiet other =
       elim (cases_conn other conn) [
         | inr apart ↦ ap asking_of (unchanged_there other apart)
@@ -251,18 +251,18 @@ command_stays node numbered command (TryAgain reason) = still refl refl
 command_stays node numbered command (Ask slot to number) = still refl refl
 command_stays node numbered command (Moved slot to) = still refl refl
 
-ending_stays : (node : NodeState) (slot : ℕ) (listing : Listing) (verdict : NodeVerdict) → Stays node (ending_outcome node slot listing.claim verdict).state
-ending_stays node slot listing (ending.Ends drained) = still refl refl
-ending_stays node slot listing ending.UnknownNode = still refl refl
-ending_stays node slot listing ending.OldMove = still refl refl
-ending_stays node slot listing ending.NotDrained = still refl refl
-ending_stays node slot listing ending.IsOwner = still refl refl
-ending_stays node slot listing ending.NotYetOwner = still refl refl
+ending_stays : (node : NodeState) (slot : ℕ) (verdict : NodeVerdict) → Stays node (ending_outcome node slot verdict).state
+ending_stays node slot (ending.Ends drained) = still refl refl
+ending_stays node slot ending.UnknownNode = still refl refl
+ending_stays node slot ending.OldMove = still refl refl
+ending_stays node slot ending.NotDrained = still refl refl
+ending_stays node slot ending.IsOwner = still refl refl
+ending_stays node slot ending.NotYetOwner = still refl refl
 
-order_stays : (node : NodeState) (slot : ℕ) (order : SlotOrder) (other number : Option ℕ) (listing : Listing) → Stays node (order_outcome node slot order other number listing).state
-order_stays node slot Importing other number listing = still refl refl
-order_stays node slot Migrating other number listing = still refl refl
-order_stays node slot Node other number listing = ending_stays node slot listing (ending_verdict node slot other number)
+order_stays : (node : NodeState) (slot : ℕ) (order : SlotOrder) (other number : Option ℕ) → Stays node (order_outcome node slot order other number).state
+order_stays node slot Importing other number = still refl refl
+order_stays node slot Migrating other number = still refl refl
+order_stays node slot Node other number = ending_stays node slot (ending_verdict node slot other number)
 
 copy_stays : (node : NodeState) (conn : Conn) (key : List ℕ) (ticks : ℕ) (verdict : CopyVerdict) → Stays node (copy_outcome node conn key ticks verdict).state
 copy_stays node conn key ticks copies.WrongTarget = still refl refl
@@ -284,27 +284,27 @@ copy_stays node conn key ticks (copies.Copies to number copy) = record {
 abbrev IsAfter : NodeState → Conn → Result Command CommandFault → NodeState → Type 0
 IsAfter old conn command new = Stays old new ⊎ ((number : Option ℕ) × (command ≡ Ok (Cluster (cluster.Asking number))) × (new ≡ with_asking old conn number))
 
-cluster_after : (node : NodeState) (conn : Conn) (command : ClusterCommand) (listing : Listing) → IsAfter node conn (Ok (Cluster command)) (cluster_outcome node conn command listing).state
-cluster_after node conn (cluster.KeySlot key) listing = inl (still refl refl)
-cluster_after node conn cluster.MyId listing = inl (still refl refl)
-cluster_after node conn cluster.Slots listing = inl (still refl refl)
-cluster_after node conn (cluster.CountKeysInSlot slot) listing = inl (still refl refl)
-cluster_after node conn (cluster.GetKeysInSlot slot count) listing = inl (still refl refl)
-cluster_after node conn (cluster.SlotState slot) listing = inl (still refl refl)
-cluster_after node conn (cluster.SetSlot slot order id number) listing = inl (order_stays node slot order (node_with_id node id) number listing)
-cluster_after node conn cluster.Numbered listing = inl (record {
+cluster_after : (node : NodeState) (conn : Conn) (command : ClusterCommand) → IsAfter node conn (Ok (Cluster command)) (cluster_outcome node conn command).state
+cluster_after node conn (cluster.KeySlot key) = inl (still refl refl)
+cluster_after node conn cluster.MyId = inl (still refl refl)
+cluster_after node conn cluster.Slots = inl (still refl refl)
+cluster_after node conn (cluster.CountKeysInSlot slot) = inl (still refl refl)
+cluster_after node conn (cluster.GetKeysInSlot slot count) = inl (still refl refl)
+cluster_after node conn (cluster.SlotState slot) = inl (still refl refl)
+cluster_after node conn (cluster.SetSlot slot order id number) = inl (order_stays node slot order (node_with_id node id) number)
+cluster_after node conn cluster.Numbered = inl (record {
   config = refl;
   opens = same_opens node.connections conn (λ connection. record connection { numbered = true }) (λ connection. refl);
   asking = same_asking node.connections conn (λ connection. record connection { numbered = true }) (λ connection. refl) (λ connection. refl);
 })
-cluster_after node conn (cluster.Asking number) listing = inr (number, refl, refl)
-cluster_after node conn (cluster.Migrate host port key timeout) listing = inl (copy_stays node conn key timeout (copy_verdict_on node key (node_at node host port)))
+cluster_after node conn (cluster.Asking number) = inr (number, refl, refl)
+cluster_after node conn (cluster.Migrate host port key timeout) = inl (copy_stays node conn key timeout (copy_verdict_on node key (node_at node host port)))
 
-command_after : (node : NodeState) (conn : Conn) (connection : Option Connection) (command : Result Command CommandFault) (listing : Listing)
-    → IsAfter node conn command (by_command node conn connection command listing).state
-command_after node conn connection (Err fault) listing = inl (still refl refl)
-command_after node conn connection (Ok (Cluster command)) listing = cluster_after node conn command listing
-command_after node conn connection (Ok (Data command)) listing = inl (command_stays node (is_numbered connection) command (decision_on node command (asking_of connection)))
+command_after : (node : NodeState) (conn : Conn) (connection : Option Connection) (command : Result Command CommandFault)
+    → IsAfter node conn command (by_command node conn connection command).state
+command_after node conn connection (Err fault) = inl (still refl refl)
+command_after node conn connection (Ok (Cluster command)) = cluster_after node conn command
+command_after node conn connection (Ok (Data command)) = inl (command_stays node (is_numbered connection) command (decision_on node command (asking_of connection)))
 
 -- ---- requests
 
@@ -334,11 +334,11 @@ asked_for node conn number =
 same_count : {old new : List ℕ} → new ≡ old → (key : ℕ) → get_or old key 0 ≤ get_or new key 0
 same_count same key = omega (arith, ap (λ (opens : List ℕ). get_or opens key 0) same)
 
-request_leaves : (old : NodeState) (conn : Conn) (words : List (List ℕ)) (listing : Listing) → Leaves (Request conn words) old (request_outcome old conn (command_of words) listing).state
-request_leaves old conn words listing =
+request_leaves : (old : NodeState) (conn : Conn) (words : List (List ℕ)) → Leaves (Request conn words) old (request_outcome old conn (command_of words)).state
+request_leaves old conn words =
     let middle : NodeState = using_up old conn in
     let counts : middle.connections.opens ≡ old.connections.opens = same_opens old.connections conn used (λ connection. refl) in
-    elim (command_after middle conn (connection_at old.connections conn) (command_of words) listing) [
+    elim (command_after middle conn (connection_at old.connections conn) (command_of words)) [
       | inl stays ↦ record {
         config = stays.config;
         opens = same_count (stays.opens ∙ counts);
@@ -368,9 +368,9 @@ request_leaves old conn words listing =
 abbrev UsesUp : Conn → List (List ℕ) → NodeState → Type 0
 UsesUp conn words node = (asking_on node conn ≡ No) ⊎ ((number : Option ℕ) × (command_of words ≡ Ok (Cluster (cluster.Asking number))) × (asking_on node conn ≡ asking_for number))
 
-uses_up : (old : NodeState) (conn : Conn) (words : List (List ℕ)) (listing : Listing) → UsesUp conn words (request_outcome old conn (command_of words) listing).state
-uses_up old conn words listing =
-    elim (command_after (using_up old conn) conn (connection_at old.connections conn) (command_of words) listing) [
+uses_up : (old : NodeState) (conn : Conn) (words : List (List ℕ)) → UsesUp conn words (request_outcome old conn (command_of words)).state
+uses_up old conn words =
+    elim (command_after (using_up old conn) conn (connection_at old.connections conn) (command_of words)) [
       | inl stays ↦ inl (stays.asking conn ∙ used_up old conn)
       | inr asks ↦
           let same = ap (λ (node : NodeState). asking_on node conn) asks.2 in
@@ -464,7 +464,7 @@ close_leaves old conn false outcome may = silent_leaves (Close conn) old outcome
 
 answer_leaves : (old : NodeState) (conn : Conn) (words : List (List ℕ)) (asks : Bool) (outcome : Outcome) → MatchBool asks (IsAnswering old conn words outcome) (outcome ≡ silent old)
     → Leaves (Request conn words) old outcome.state
-answer_leaves old conn words true outcome may = subst (λ (o : Outcome). Leaves (Request conn words) old o.state) (sym may.comes_to) (request_leaves old conn words may.listing)
+answer_leaves old conn words true outcome may = subst (λ (o : Outcome). Leaves (Request conn words) old o.state) (sym may.comes_to) (request_leaves old conn words)
 answer_leaves old conn words false outcome may = silent_leaves (Request conn words) old outcome may
 
 event_leaves : (old : NodeState) (event : Event) (outcome : Outcome) → MayCome old event outcome → Leaves event old outcome.state
@@ -485,7 +485,7 @@ pub request_uses_up : (ticket : ℕ) (old new : NodeState) (conn : Conn) (words 
 request_uses_up ticket old new conn words outputs answer step answers =
     let answered : step.outcome.response ≡ Replied answer = sym (ap (λ (o : Outputs). o.response) step.outputs_are) ∙ answers in
     let may : IsAnswering old conn words step.outcome = is_answering old conn words (may_ask (connection_at old.connections conn)) step.outcome answer step.may_come answered in
-    subst (UsesUp conn words) (sym (step.state ∙ ap (λ (o : Outcome). o.state) may.comes_to)) (uses_up old conn words may.listing)
+    subst (UsesUp conn words) (sym (step.state ∙ ap (λ (o : Outcome). o.state) may.comes_to)) (uses_up old conn words)
 
 -- a connection that is opened wasn't opened before, and allows nothing
 pub record IsNew (old new : NodeState) (conn : Conn) : Type 0 where
@@ -582,18 +582,18 @@ module _ (asking : Asking) (number : ℕ) where
   data_allowed node numbered command (Ask slot to move) may = λ is. may (in_some is)
   data_allowed node numbered command (Moved slot to) may = λ is. may (in_some is)
 
-  ending_allowed : (node : NodeState) (slot : ℕ) (listing : Listing) (verdict : NodeVerdict) → Allows (ending_outcome node slot listing.claim verdict).response
-  ending_allowed node slot listing (ending.Ends drained) = λ is. absurd (no_some refl is)
-  ending_allowed node slot listing ending.UnknownNode = λ is. absurd (no_some refl is)
-  ending_allowed node slot listing ending.OldMove = λ is. absurd (no_some refl is)
-  ending_allowed node slot listing ending.NotDrained = λ is. absurd (no_some refl is)
-  ending_allowed node slot listing ending.IsOwner = λ is. absurd (no_some refl is)
-  ending_allowed node slot listing ending.NotYetOwner = λ is. absurd (no_some refl is)
+  ending_allowed : (node : NodeState) (slot : ℕ) (verdict : NodeVerdict) → Allows (ending_outcome node slot verdict).response
+  ending_allowed node slot (ending.Ends drained) = λ is. absurd (no_some refl is)
+  ending_allowed node slot ending.UnknownNode = λ is. absurd (no_some refl is)
+  ending_allowed node slot ending.OldMove = λ is. absurd (no_some refl is)
+  ending_allowed node slot ending.NotDrained = λ is. absurd (no_some refl is)
+  ending_allowed node slot ending.IsOwner = λ is. absurd (no_some refl is)
+  ending_allowed node slot ending.NotYetOwner = λ is. absurd (no_some refl is)
 
-  order_allowed : (node : NodeState) (slot : ℕ) (order : SlotOrder) (other move : Option ℕ) (listing : Listing) → Allows (order_outcome node slot order other move listing).response
-  order_allowed node slot Importing other move listing = λ is. absurd (no_some refl is)
-  order_allowed node slot Migrating other move listing = λ is. absurd (no_some refl is)
-  order_allowed node slot Node other move listing = ending_allowed node slot listing (ending_verdict node slot other move)
+  order_allowed : (node : NodeState) (slot : ℕ) (order : SlotOrder) (other move : Option ℕ) → Allows (order_outcome node slot order other move).response
+  order_allowed node slot Importing other move = λ is. absurd (no_some refl is)
+  order_allowed node slot Migrating other move = λ is. absurd (no_some refl is)
+  order_allowed node slot Node other move = ending_allowed node slot (ending_verdict node slot other move)
 
   copy_allowed : (node : NodeState) (conn : Conn) (key : List ℕ) (ticks : ℕ) (verdict : CopyVerdict) → Allows (copy_outcome node conn key ticks verdict).response
   copy_allowed node conn key ticks copies.WrongTarget = λ is. absurd (no_some refl is)
@@ -603,23 +603,23 @@ module _ (asking : Asking) (number : ℕ) where
   copy_allowed node conn key ticks (copies.SendAgain to move copy) = tt
   copy_allowed node conn key ticks (copies.Copies to move copy) = tt
 
-  cluster_allowed : (node : NodeState) (conn : Conn) (command : ClusterCommand) (listing : Listing) → Allows (cluster_outcome node conn command listing).response
-  cluster_allowed node conn (cluster.KeySlot key) listing = λ is. absurd (no_some refl is)
-  cluster_allowed node conn cluster.MyId listing = λ is. absurd (no_some refl is)
-  cluster_allowed node conn cluster.Slots listing = λ is. absurd (no_some refl is)
-  cluster_allowed node conn (cluster.CountKeysInSlot slot) listing = λ is. absurd (no_some refl is)
-  cluster_allowed node conn (cluster.GetKeysInSlot slot count) listing = λ is. absurd (no_some refl is)
-  cluster_allowed node conn (cluster.SlotState slot) listing = λ is. absurd (no_some refl is)
-  cluster_allowed node conn (cluster.SetSlot slot order id move) listing = order_allowed node slot order (node_with_id node id) move listing
-  cluster_allowed node conn cluster.Numbered listing = λ is. absurd (no_some refl is)
-  cluster_allowed node conn (cluster.Asking move) listing = λ is. absurd (no_some refl is)
-  cluster_allowed node conn (cluster.Migrate host port key timeout) listing = copy_allowed node conn key timeout (copy_verdict_on node key (node_at node host port))
+  cluster_allowed : (node : NodeState) (conn : Conn) (command : ClusterCommand) → Allows (cluster_outcome node conn command).response
+  cluster_allowed node conn (cluster.KeySlot key) = λ is. absurd (no_some refl is)
+  cluster_allowed node conn cluster.MyId = λ is. absurd (no_some refl is)
+  cluster_allowed node conn cluster.Slots = λ is. absurd (no_some refl is)
+  cluster_allowed node conn (cluster.CountKeysInSlot slot) = λ is. absurd (no_some refl is)
+  cluster_allowed node conn (cluster.GetKeysInSlot slot count) = λ is. absurd (no_some refl is)
+  cluster_allowed node conn (cluster.SlotState slot) = λ is. absurd (no_some refl is)
+  cluster_allowed node conn (cluster.SetSlot slot order id move) = order_allowed node slot order (node_with_id node id) move
+  cluster_allowed node conn cluster.Numbered = λ is. absurd (no_some refl is)
+  cluster_allowed node conn (cluster.Asking move) = λ is. absurd (no_some refl is)
+  cluster_allowed node conn (cluster.Migrate host port key timeout) = copy_allowed node conn key timeout (copy_verdict_on node key (node_at node host port))
 
-command_allowed : (node : NodeState) (conn : Conn) (connection : Option Connection) (command : Result Command CommandFault) (listing : Listing) (number : ℕ)
-    → Says (AnswersAllowed (asking_of connection) number) (by_command node conn connection command listing).response
-command_allowed node conn connection (Err fault) listing number = λ is. absurd (no_some refl is)
-command_allowed node conn connection (Ok (Cluster command)) listing number = cluster_allowed (asking_of connection) number node conn command listing
-command_allowed node conn connection (Ok (Data command)) listing number =
+command_allowed : (node : NodeState) (conn : Conn) (connection : Option Connection) (command : Result Command CommandFault) (number : ℕ)
+    → Says (AnswersAllowed (asking_of connection) number) (by_command node conn connection command).response
+command_allowed node conn connection (Err fault) number = λ is. absurd (no_some refl is)
+command_allowed node conn connection (Ok (Cluster command)) number = cluster_allowed (asking_of connection) number node conn command
+command_allowed node conn connection (Ok (Data command)) number =
     data_allowed (asking_of connection) number node (is_numbered connection) command (decision_on node command (asking_of connection))
     (keys_allowed node.table node.moves node.number (data_keys command) (asked_of node command (asking_of connection)) number)
 
@@ -630,4 +630,4 @@ served_if_allowed ticket old new conn words outputs answer number step answers =
     let answered : step.outcome.response ≡ Replied answer = sym (ap (λ (o : Outputs). o.response) step.outputs_are) ∙ answers in
     let may : IsAnswering old conn words step.outcome = is_answering old conn words (may_ask (connection_at old.connections conn)) step.outcome answer step.may_come answered in
     subst (Says (AnswersAllowed (asking_on old conn) number)) (ap (λ (o : Outcome). o.response) (sym may.comes_to) ∙ answered)
-    (command_allowed (using_up old conn) conn (connection_at old.connections conn) (command_of words) may.listing number)
+    (command_allowed (using_up old conn) conn (connection_at old.connections conn) (command_of words) number)

@@ -7,6 +7,7 @@ use Rattle.std.proofs.lemmas.Grind.{flat_map-append}
 use Rattle.std.proofs.lemmas.Option.{slice_get_within, get_or_from_slice_get}
 use Rattle.bus.specs.declared.message.Message.{Message}
 use Rattle.connections.specs.declared.conn.Conn.{Conn}
+use Rattle.node_step.specs.Numbers.{NoNumberLeft}
 use Rattle.node_step.specs.State.{NodeState}
 use Rattle.node_step.specs.declared.event.Event.{Event}
 use Rattle.node_step.specs.declared.event.Event.TheVariants.{Open, Close, Request, Deliver, Tick}
@@ -16,8 +17,8 @@ use Rattle.world_run.specs.Executed.{KeepsAsking, MayAsk, answered}
 use Rattle.world_run.specs.Run.{Deed, Entry, Goes, MayHappen, sent_by, sent_in}
 use Rattle.world_run.specs.Run.Deed.{Made, Skipped}
 use Rattle.world.specs.Asking.{MayTake}
-use Rattle.world.specs.Entered.{EntersAt, NeedsNumber, Steps}
-use Rattle.world.specs.NodeSteps.{Closes, Enters, Makes, message_at, released_conns, served_conns}
+use Rattle.world.specs.Entered.{EntersAt, SkipsAt, Steps}
+use Rattle.world.specs.NodeSteps.{IsUnasked, Skips, Closes, Enters, Makes, message_at, released_conns, served_conns}
 use Rattle.world.specs.Outputs.{shown, shown_from}
 use Rattle.std.proofs.Math.Seq.{drop-append_seam}
 use Rattle.world.specs.declared.output.Output.{Output}
@@ -84,10 +85,10 @@ enters_goes_on old new node deed enters asks = record {
 abbrev seen : List NodeState → List Bool → List Message → List Entry → RunView
 seen nodes stopped sent entries = record { nodes = nodes; stopped = stopped; sent = sent; entries = entries }
 
-pub skipped_goes_on : (old inside : RunView) (nodes : List NodeState) (stopped : List Bool) (sent : List Message) (entries : List Entry) (node : ℕ) → inside ≡ old
-    → EntersAt inside.entries inside.nodes node Skipped entries nodes → GoesOn old (record { nodes = nodes; stopped = stopped; sent = sent; entries = entries })
-skipped_goes_on old inside nodes stopped sent entries node is enters =
-    subst (λ (run : RunView). GoesOn run (seen nodes stopped sent entries)) is (enters_goes_on inside (seen nodes stopped sent entries) node Skipped enters tt)
+pub skipped_goes_on : (old inside : RunView) (nodes : List NodeState) (stopped : List Bool) (sent : List Message) (entries : List Entry) (node : ℕ) (event : Event) → inside ≡ old
+    → SkipsAt inside.entries inside.nodes node event entries nodes → GoesOn old (record { nodes = nodes; stopped = stopped; sent = sent; entries = entries })
+skipped_goes_on old inside nodes stopped sent entries node event is skips =
+    subst (λ (run : RunView). GoesOn run (seen nodes stopped sent entries)) is (enters_goes_on inside (seen nodes stopped sent entries) node Skipped skips.enters tt)
 
 pub made_goes_on : (old inside : RunView) (nodes : List NodeState) (stopped : List Bool) (sent : List Message) (entries : List Entry) (node : ℕ) (event : Event) (outputs : Outputs) → inside ≡ old
     → MayTake old node event → EntersAt inside.entries inside.nodes node (Made event outputs) entries nodes → GoesOn old (record { nodes = nodes; stopped = stopped; sent = sent; entries = entries })
@@ -101,18 +102,33 @@ pub made_at : (past : List Entry) (old : List NodeState) (node : ℕ) (event : E
     → new ≡ slice_set old node after → EntersAt past old node (Made event outputs) entries new
 made_at past old node event outputs entries new before after was may steps is = record {
   ticket = steps.ticket;
+  numbered = steps.numbered;
   step = record { before = before; after = after; was = was; leads = (may, steps.does); is = is };
   entered = steps.entered;
 }
 
 -- a node that made no step, among the others
-pub skipped_at : (past : List Entry) (old : List NodeState) (node : ℕ) (entries : List Entry) (new : List NodeState) (before after : NodeState)
-    → slice_get old node ≡ Some before → Steps past before node Skipped entries after → new ≡ slice_set old node after → EntersAt past old node Skipped entries new
-skipped_at past old node entries new before after was steps is = record {
-  ticket = steps.ticket;
-  step = record { before = before; after = after; was = was; leads = steps.does; is = is };
-  entered = steps.entered;
+pub skipped_at : (past : List Entry) (old : List NodeState) (node : ℕ) (event : Event) (entries : List Entry) (new : List NodeState) (before after : NodeState)
+    → slice_get old node ≡ Some before → NoNumberLeft before event → Steps past before node Skipped entries after → new ≡ slice_set old node after → SkipsAt past old node event entries new
+skipped_at past old node event entries new before after was why steps is = record {
+  enters = record {
+    ticket = steps.ticket;
+    numbered = steps.numbered;
+    step = record { before = before; after = after; was = was; leads = steps.does; is = is };
+    entered = steps.entered;
+  };
+  why = why;
 }
+
+-- so a run that was seen as it was skips the event
+pub skips_so : (old inside : RunView) (nodes : List NodeState) (entries : List Entry) (node : ℕ) (event : Event) → inside ≡ old → SkipsAt inside.entries inside.nodes node event entries nodes
+    → Skips old node event (record inside { nodes = nodes; entries = entries })
+skips_so old inside nodes entries node event is skips =
+    subst (λ (run : RunView). Skips run node event (record inside { nodes = nodes; entries = entries })) is
+    (record {
+      enters = record { enters = skips.enters; is = ap (λ (sent : List Message). record inside { nodes = nodes; sent = sent; entries = entries }) (sym (append-nil inside.sent)) };
+      why = skips.why;
+    })
 
 pub sent_by-push : (entries : List Entry) (entry : Entry) → sent_by (entries ++ entry ∷ []) ≡ sent_by entries ++ sent_in entry.deed
 sent_by-push entries entry =
@@ -157,14 +173,14 @@ pub closes_one_more : (old mid new : RunView) (node : ℕ) (first : List Release
 closes_one_more old mid new node [] release same closes = subst (λ (run : RunView). Closes run node (release.conn ∷ []) new) same closes
 closes_one_more old mid new node (earlier ∷ first) release closes more = (closes.0, closes.1, closes.2, closes_one_more closes.0 mid new node first release closes.3 more)
 
--- a step that isn't made for a request has no connection of its own
-pub closes_served : (event : Event) (outputs : Outputs) (after new : RunView) (node : ℕ) → (NeedsNumber event → ⊥) → Closes after node (released_conns outputs.released) new
+-- a step for which no connection asked has none of its own
+pub closes_served : (event : Event) (outputs : Outputs) (after new : RunView) (node : ℕ) → IsUnasked event → Closes after node (released_conns outputs.released) new
     → Closes after node (served_conns event outputs) new
-closes_served Open outputs after new node none closes = absurd (none tt)
-closes_served (Request conn words) outputs after new node none closes = absurd (none tt)
-closes_served (Close conn) outputs after new node none closes = closes
-closes_served (Deliver message) outputs after new node none closes = closes
-closes_served Tick outputs after new node none closes = closes
+closes_served Open outputs after new node unasked closes = absurd unasked
+closes_served (Request conn words) outputs after new node unasked closes = absurd unasked
+closes_served (Close conn) outputs after new node unasked closes = absurd unasked
+closes_served (Deliver message) outputs after new node unasked closes = closes
+closes_served Tick outputs after new node unasked closes = closes
 
 -- the messages behind those that were sent before are those of the step
 pub shown_since : (old after : RunView) (node : ℕ) (event : Event) (made : Outputs) (first : ℕ) (outputs : List Output) → Makes old node event made after → first ≡ length old.sent

@@ -12,8 +12,8 @@ use Rattle.node_step.specs.declared.outputs.Outputs.{Outputs}
 use Rattle.node_step.specs.declared.response.Response.TheVariants.{Opened}
 use Rattle.single_keyspace.proofs.Lists.{contains_more}
 use Rattle.single_keyspace.proofs.Seen.{same_some, set_apart, set_here}
-use Rattle.slot_decision.specs.declared.asked.Asking.{Asking}
-use Rattle.slot_decision.specs.declared.asked.Asking.TheVariants.{No}
+use Rattle.redirect.specs.declared.asked.Asking.{Asking}
+use Rattle.redirect.specs.declared.asked.Asking.TheVariants.{No}
 use Rattle.world_run.specs.Executed.{Redirection, answered, redirection_in, redirections}
 use Rattle.world_run.specs.Run.{Deed, Entry, Leads, WorldStep}
 use Rattle.world_run.specs.Run.Deed.{Made, Skipped}
@@ -119,19 +119,19 @@ changed_here node Skipped link same none = none
 changed_here node (Made event outputs) link same asked = (same, asked.1)
 
 module _ (old new : RunView) (node : ℕ) (deed : Deed) (enters : Enters old node deed new) where
-  step : WorldStep (past_of old) old.nodes (record { node = node; ticket = enters.enters.ticket; deed = deed }) new.nodes
+  abbrev step : WorldStep (past_of old) old.nodes (record { node = node; ticket = enters.enters.ticket; deed = deed }) new.nodes
   step = enters.enters.step
 
   left : NodeLeaves deed step.before step.after node
   left = deed_leaves (past_of old) enters.enters.ticket node step.before step.after deed step.leads
 
-  before_is : (number : ℕ) → number ≡ node → slice_get old.nodes number ≡ Some step.before
+  pub before_is : (number : ℕ) → number ≡ node → slice_get old.nodes number ≡ Some step.before
   before_is number same = ap (slice_get old.nodes) same ∙ step.was
 
-  after_is : (number : ℕ) → number ≡ node → slice_get new.nodes number ≡ Some step.after
+  pub after_is : (number : ℕ) → number ≡ node → slice_get new.nodes number ≡ Some step.after
   after_is number same = ap (λ (nodes : List NodeState). slice_get nodes number) step.is ∙ ap (slice_get (slice_set old.nodes node step.after)) same ∙ set_here old.nodes node step.before step.after step.was
 
-  apart_is : (number : ℕ) → number ≢ node → slice_get new.nodes number ≡ slice_get old.nodes number
+  pub apart_is : (number : ℕ) → number ≢ node → slice_get new.nodes number ≡ slice_get old.nodes number
   apart_is number apart = ap (λ (nodes : List NodeState). slice_get nodes number) step.is ∙ set_apart old.nodes node step.after number apart
 
   have : (config : ClusterConfig) → HaveConfig config old.nodes → HaveConfig config new.nodes

@@ -14,3 +14,6 @@ pub mod Requests
 pub mod Rule
 pub mod Stays
 pub mod Told
+pub mod Ready
+pub mod Readying
+pub mod ReadyParts

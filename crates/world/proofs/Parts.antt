@@ -9,7 +9,7 @@ use Rattle.node_step.specs.declared.event.Event.TheVariants.{Open}
 use Rattle.node_step.specs.declared.outputs.Outputs.{Outputs}
 use Rattle.node_step.specs.declared.response.Response.TheVariants.{Opened}
 use Rattle.redirection.specs.Address.{Place}
-use Rattle.slot_decision.specs.declared.asked.Asking.TheVariants.{No}
+use Rattle.redirect.specs.declared.asked.Asking.TheVariants.{No}
 use Rattle.smart_client.specs.declared.action.Action.{Action}
 use Rattle.smart_client.specs.declared.action.Action.TheVariants as wanted
 use Rattle.world.specs.Asking.{AreConnected, AsksWell, Holds, IsCutOff, IsInPool, IsKnown, IsOfCall, asking_at, past_of}
@@ -186,7 +186,7 @@ module _ (old : RunView) (pool : List (Option Conn)) (late : List Late) (connect
           (subst (λ (c : Option Conn). IsLinked old pool late node c old) (sym none) (unlinked old (leaves_all none_changed old)))
 
       opened_link : node < length pool → (conn : Option Conn) (new : RunView) → IsOpened old node conn new → IsLinked old pool late node conn new
-      opened_link within None new skips = unlinked new (skips_leaves old new node skips)
+      opened_link within None new skips = unlinked new (skips_leaves old new node skips.enters)
       opened_link within (Some one) new opened = newly_linked one opened.0 new within opened.1 opened.2
 
       used_link : node < length pool → (before : Option Conn) → get_or pool node None ≡ before → (conn : Option Conn) (new : RunView) → IsUsed old node before conn new → IsLinked old pool late node conn new

@@ -7,13 +7,19 @@ use Rattle.cluster_config.specs.Config.{ClusterConfig, IsCluster}
 use Rattle.cluster_config.specs.declared.config.NodeConfig.{NodeConfig}
 use Rattle.resp_values.specs.declared.reply.Reply.{Reply}
 use Rattle.single_keyspace.proofs.Lists.{contains_first, contains_more, contains_one, first_or_more}
-use Rattle.slot_decision.specs.declared.asked.Asking.TheVariants.{No}
+use Rattle.redirect.specs.declared.asked.Asking.{Asking}
+use Rattle.redirect.specs.declared.asked.Asking.TheVariants.{No}
+use Rattle.reply_meaning.specs.Law.{IsOfClient}
+use Rattle.reply_meaning.specs.Law.IsOfClient.{command as plain_command, numbers as plain_numbers, asks as plain_asks}
 use Rattle.smart_client.specs.State.{ClientState}
 use Rattle.smart_client.specs.Step.{Answer, without_call}
 use Rattle.smart_client.specs.declared.action.Event.TheVariants as happened
+use Rattle.smart_client.specs.Words.{is_refused}
 use Rattle.smart_client.specs.declared.call.Call.{Call}
-use Rattle.world.specs.Asking.{AreConnected, AsksWell, HaveConfig, Holds, IsAllowed, IsCutOff, IsInPool, IsOfCall, IsTold, MayBeCarried, MayComeLate, MayLinger, asking_at, past_of}
-use Rattle.world.specs.Calls.{Arrives, Begins, Carries, ComesLate, Cuts, IsBegun, IsCarried, IsCut, IsLate, IsRepliedTo, IsReturned, IsShut, Lingers, Rests, Returns, Serves, Takes}
+use Rattle.smart_client.specs.declared.call.Stage.{Stage}
+use Rattle.smart_client.specs.declared.call.Stage.TheVariants as stage
+use Rattle.world.specs.Asking.{AreConnected, AreReady, AsksWell, HaveConfig, Holds, IsAllowed, IsAsking, IsCutOff, IsInPool, IsOfCall, IsSent, IsTold, MayBeCarried, MayComeLate, MayLinger, asking_at, past_of}
+use Rattle.world.specs.Calls.{Arrives, Begins, Carries, ComesLate, Cuts, IsBegun, IsCarried, IsCut, IsLate, IsReturned, IsShut, Lingers, Rests, Returns, Serves, Takes}
 use Rattle.world.specs.Clients.{ClientView, broken_off, fault_of, is_elsewhere, leads_to, stopped_at, used_by, without_late}
 use Rattle.world.specs.View.{RunView, is_up}
 use Rattle.world.specs.declared.client.Late.{Late}
@@ -44,7 +50,7 @@ rests nodes old new client after outputs asks rested =
 used_so : (nodes : List NodeConfig) (run : RunView) (client : ClientView) (traffic : Traffic) → client.traffic ≡ traffic → AsksWell nodes run client → AreConnected run client.pool client.late (used_by traffic)
 used_so nodes run client traffic is asks = subst (λ (t : Traffic). AreConnected run client.pool client.late (used_by t)) is asks.connected
 
-of_call_so : (nodes : List NodeConfig) (run : RunView) (client : ClientView) (traffic : Traffic) → client.traffic ≡ traffic → AsksWell nodes run client
+pub of_call_so : (nodes : List NodeConfig) (run : RunView) (client : ClientView) (traffic : Traffic) → client.traffic ≡ traffic → AsksWell nodes run client
     → (under : Option Call) → client.core.call ≡ under → IsOfCall nodes run client.core client.pool traffic under
 of_call_so nodes run client traffic is asks under called =
     subst (IsOfCall nodes run client.core client.pool traffic) called (subst (λ (t : Traffic). IsOfCall nodes run client.core client.pool t client.core.call) is asks.call)
@@ -109,29 +115,20 @@ module _ (config : ClusterConfig) (cluster_is : IsCluster config) (old new : Run
   own : (in_use : IsInPool client.pool link) (other : Link) → Ask other → Holds client other
   own in_use other asked = inl (subst (IsInPool client.pool) (sym asked.0) in_use)
 
-  arrives_so : (under : Option Call) → client.core.call ≡ under → IsOfCall config.nodes old client.core client.pool (Asked link words) under → (reply : Option Reply) (shown outputs : List Output)
-      → Serves old link.node link.conn words reply shown new → IsRepliedTo client link reply shown outputs after → PartOf config.nodes old client new after
-  arrives_so None is of_call reply shown outputs serves replied = absurd of_call
-  arrives_so (Some call) is (under_way, sent) (Some reply) shown outputs serves replied =
-      let leaves : Leaves Ask old new = serves_leaves old new link.node link.conn words (Some reply) shown serves in
-      let answers = replied_so config cluster_is old have link.node link.conn words reply shown new call call.stage under_way.called.plain under_way.called.number sent serves in
+  arrives_so : (under : Option Call) → client.core.call ≡ under → IsOfCall config.nodes old client.core client.pool (Asked link words) under → (reply : Reply) (outputs : List Output)
+      → Serves old link.node link.conn words (Some reply) outputs new → after ≡ record client { traffic = Answered link reply } → PartOf config.nodes old client new after
+  arrives_so None is of_call reply outputs serves left = absurd of_call
+  arrives_so (Some call) is (under_way, sent) reply outputs serves left =
+      let leaves : Leaves Ask old new = serves_leaves old new link.node link.conn words (Some reply) outputs serves in
+      let answers = replied_so config cluster_is old have link.node link.conn words reply outputs new call call.stage under_way.called.plain under_way.called.number sent serves in
       let of_call : IsOfCall config.nodes new client.core client.pool (Answered link reply) client.core.call =
       subst (IsOfCall config.nodes new client.core client.pool (Answered link reply)) (sym is)
       (under_way_stays Ask old new leaves config.nodes client.core client.pool link call under_way, answers) in
-      subst (PartOf config.nodes old client new) (sym replied.0)
+      subst (PartOf config.nodes old client new) (sym left)
       (record {
         leaves = leaves_more Ask (Holds client) old new (own under_way.in_use) leaves;
         asks = record { connected = not_asked under_way.in_use leaves; call = of_call };
         holds = λ other held. inl held;
-      })
-  arrives_so (Some call) is (under_way, sent) None shown outputs serves replied =
-      let leaves : Leaves Ask old new = serves_leaves old new link.node link.conn words None shown serves in
-      subst (PartOf config.nodes old client new) (sym replied.0)
-      (record {
-        leaves = leaves_more Ask (Holds client) old new (own under_way.in_use) leaves;
-        asks = quiet_asks config.nodes new (broken_off link.node client) refl (broken_is_over link.node client)
-            (without new client.pool client.late (Some link) link.node (λ other apart. leads_elsewhere other link apart) (not_asked under_way.in_use leaves));
-        holds = λ other held. inl (still_held client.pool client.late link.node old other held);
       })
 
 pub carries_well : (config : ClusterConfig) → IsCluster config → (old new : RunView) → HaveConfig config old.nodes → (client after : ClientView) (outputs : List Output) → AsksWell config.nodes old client
@@ -142,7 +139,7 @@ carries_well config cluster_is old new have client after outputs asks = by_traff
         → PartOf config.nodes old client new after
     by_up link words is true arrives =
         arrives_so config cluster_is old new have client after link words (used_so config.nodes old client (Asked link words) is asks) client.core.call refl
-        (of_call_so config.nodes old client (Asked link words) is asks client.core.call refl) arrives.reply arrives.shown outputs arrives.serves arrives.replied
+        (of_call_so config.nodes old client (Asked link words) is asks client.core.call refl) arrives.reply outputs arrives.serves arrives.left
     by_up link words is false rested = rests config.nodes old new client after outputs asks rested
 
     by_traffic : (traffic : Traffic) → client.traffic ≡ traffic → IsCarried old client traffic outputs new after → PartOf config.nodes old client new after
@@ -309,8 +306,19 @@ lingers_well nodes old new client after outputs asks = by_late client.late refl
 
 -- ---- what a client asks may come to its node
 
-pub carried_if_asked : (nodes : List NodeConfig) (run : RunView) (client : ClientView) → AsksWell nodes run client → MayBeCarried run client.traffic
-carried_if_asked nodes run client asks = by_traffic client.traffic client.core.call asks.call
+-- what a call sends is a client's words
+words_of_client : (call : Call) (at : Stage) (words : List (List ℕ)) (asking : Asking) → is_refused call.words ≡ false → IsSent call at words asking → IsOfClient words
+words_of_client call stage.Connecting words asking plain sent = absurd sent
+words_of_client call stage.Introducing words asking plain sent = plain_numbers sent.0
+words_of_client call stage.Asking words asking plain sent = by_number call.asking sent.0
+  where
+    by_number : (asked : Option ℕ) → IsAsking asked words → IsOfClient words
+    by_number None is = absurd is
+    by_number (Some number) is = plain_asks number is
+words_of_client call stage.Sent words asking plain sent = plain_command (ap is_refused sent.0 ∙ plain)
+
+pub carried_if_asked : (nodes : List NodeConfig) (run : RunView) (client : ClientView) → AsksWell nodes run client → AreReady run client.pool → MayBeCarried run client.traffic
+carried_if_asked nodes run client asks ready = by_traffic client.traffic client.core.call asks.call
   where
     by_traffic : (traffic : Traffic) (under : Option Call) → IsOfCall nodes run client.core client.pool traffic under → MayBeCarried run traffic
     by_traffic Quiet under is = tt
@@ -318,7 +326,11 @@ carried_if_asked nodes run client asks = by_traffic client.traffic client.core.c
     by_traffic (Asked link words) (Some call) (under_way, sent) =
         let told : IfSome call.asking (IsTold (past_of run) call.words link.node) =
         subst (λ (node : ℕ). IfSome call.asking (IsTold (past_of run) call.words node)) (sym under_way.there) under_way.called.told in
-        sent_is_allowed (past_of run) words link.node call call.stage (asking_at run link) told sent
+        record {
+          allowed = sent_is_allowed (past_of run) words link.node call call.stage (asking_at run link) told sent;
+          ready = ready link under_way.in_use;
+          of_client = words_of_client call call.stage words (asking_at run link) under_way.called.plain sent;
+        }
     by_traffic (Answered link reply) under is = tt
 
 pub lingers_if_left : (nodes : List NodeConfig) (run : RunView) (client : ClientView) → AsksWell nodes run client → MayLinger run client.late

@@ -32,8 +32,8 @@ use Rattle.reply_meaning.specs.Law.{Answers, IsOfMove}
 use Rattle.resp_values.specs.declared.reply.Reply.{Reply}
 use Rattle.single_keyspace.proofs.Lists.{each_element}
 use Rattle.single_keyspace.proofs.Seen.{set_here}
-use Rattle.slot_decision.specs.declared.asked.Asking.{Asking}
-use Rattle.slot_decision.specs.declared.asked.Asking.TheVariants.{No, Any, Of}
+use Rattle.redirect.specs.declared.asked.Asking.{Asking}
+use Rattle.redirect.specs.declared.asked.Asking.TheVariants.{No, Any, Of}
 use Rattle.smart_client.specs.Words.{is_refused, numbered_words}
 use Rattle.smart_client.specs.declared.call.Call.{Call}
 use Rattle.smart_client.specs.declared.call.Stage.{Stage}
@@ -131,7 +131,7 @@ serves_leaves old new node conn words reply outputs (inl served) =
     leaves_further _ old served.after new
     (leaves_more _ _ old served.after (serves_changes node conn words served.made) (enters_leaves old served.after node (Made (Request conn words) served.made) served.makes))
     (leaves_none _ served.after new (closes_leaves served.after new node (released_conns served.made.released) served.closes))
-serves_leaves old new node conn words reply outputs (inr skipped) = leaves_none _ old new (skips_leaves old new node skipped.skips)
+serves_leaves old new node conn words reply outputs (inr skipped) = leaves_none _ old new (skips_leaves old new node skipped.skips.enters)
 
 in_some : {A : Type 0} {one other : A} → Some one ≡ Some other → one ≡ other
 in_some is = cc
@@ -213,9 +213,9 @@ module _ (config : ClusterConfig) (cluster_is : IsCluster config) (old : RunView
       subst (λ (ws : List (List ℕ)). TellsTruth config.nodes (past_of new) ws reply) sent.0 told_truly,
     )
 
-  module _ (skipped : IsSkipped old node (Some reply) outputs new) where
+  module _ (skipped : IsSkipped old node conn words (Some reply) outputs new) where
     skip_leaves : Leaves none_changed old new
-    skip_leaves = skips_leaves old new node skipped.skips
+    skip_leaves = skips_leaves old new node skipped.skips.enters
 
     skip_calm : IsCalm (asking_at old here) (asking_at new here)
     skip_calm = still_calm none_changed old new skip_leaves here (λ none. none)

@@ -14,9 +14,9 @@ use Rattle.node_step.specs.declared.outputs.Outputs.{Outputs}
 use Rattle.single_keyspace.proofs.Lists.{contains_nothing}
 use Rattle.single_keyspace.proofs.Seen.{no_some, same_some}
 use Rattle.world_run.specs.Run.Deed.{Made}
-use Rattle.world.specs.Asking.{AllAskWell, AreApart, AsksWell, HaveConfig, Holds, IsKnown, KeepsRule, MayBeCarried, MayLinger}
+use Rattle.world.specs.Asking.{AllReady, AreReady, AllAskWell, AreApart, AsksWell, HaveConfig, Holds, IsKnown, KeepsRule, MayBeCarried, MayLinger}
 use Rattle.world.specs.Clients.{ClientView, begun_at, client_at, new_client, place_of, stopped_at, with_client}
-use Rattle.world.specs.NodeSteps.{Administers, Delivers, IsAdministered, IsAsked, IsDelivered, IsHeard, IsIdle, Ticks, Turns, is_admin, message_at, served_conns}
+use Rattle.world.specs.NodeSteps.{Administers, Delivers, IsAdministered, IsAsked, IsDelivered, IsHeard, IsIdle, Reaches, Ticks, Turns, is_admin, message_at, served_conns}
 use Rattle.world.specs.Plays.{ClientStep, IsNothing, IsOfClient, IsOfNodes, IsOfSome, IsStopping, Plays}
 use Rattle.world.specs.View.{RunView, SceneView, first_scene, is_up}
 use Rattle.world.specs.declared.client.Link.{Link}
@@ -25,6 +25,8 @@ use Rattle.world.specs.declared.step.Step.{Step}
 use Rattle.world.specs.declared.step.Step.TheVariants as step
 use Rattle.world.proofs.Leaving.{ChangedBy, Leaves, closes_leaves, enters_leaves, leaves_all, leaves_further, leaves_more, leaves_none, none_changed, opened_is_fresh, opens_leaves, skips_leaves}
 use Rattle.world.proofs.Playing.{PartOf, begins_well_so, carried_if_asked, carries_well, cuts_well, lingers_if_left, lingers_well, returns_well, stops_held, stops_well}
+use Rattle.world.proofs.Readying.{Readies, Unknown, administers_readies, delivers_readies, ticks_readies}
+use Rattle.world.proofs.ReadyParts.{ReadyPartOf, begins_ready, carries_ready, cuts_ready, lingers_ready, returns_ready, stopped_ready}
 use Rattle.world.proofs.Stays.{asks_stays}
 
 -- ---- clients apart from each other
@@ -83,9 +85,36 @@ module _ (nodes : List NodeConfig) (old new : RunView) (client after : ClientVie
 
 -- ---- steps of nodes
 
--- nobody knew the connection
-abbrev Unknown : RunView → Link → Type 0
-Unknown run link = IsKnown run link → ⊥
+-- the connections of clients that are apart from the one that takes part stay ready
+module _ (nodes : List NodeConfig) (old new : RunView) (client after : ClientView) (part : ReadyPartOf old client new after) where
+  stays_ready : (other : ClientView) → AreApart client other → AsksWell nodes old other → AreReady old other.pool → AreReady new other.pool
+  stays_ready other apart asks ready link is =
+      elim (part.others link (ready link is)) [
+        | inl still ↦ still
+        | inr lost ↦
+            elim lost [
+              | inl among ↦ absurd (apart link among (inl is))
+              | inr unknown ↦ absurd (unknown (known_of nodes old other asks link (inl is)))
+            ]
+      ]
+
+  all_stay_ready : (others : List ClientView) → AllByRecursion (AreApart client) others → AllAskWell nodes old others → AllReady old others → AllReady new others
+  all_stay_ready [] apart all ready = tt
+  all_stay_ready (other ∷ others) apart all ready = (stays_ready other apart.0 all.0 ready.0, all_stay_ready others apart.1 all.2 ready.1)
+
+  is_apart : (one : ClientView) (others : List ClientView) (place : ℕ) → slice_get others place ≡ Some client → AllByRecursion (AreApart one) others → AreApart one client
+  is_apart one [] place is apart = absurd (no_some refl is)
+  is_apart one (other ∷ others) zero is apart = subst (AreApart one) (same_some refl is) apart.0
+  is_apart one (other ∷ others) (suc place) is apart = is_apart one others place is apart.1
+
+  pub one_steps_ready : (clients : List ClientView) (place : ℕ) → slice_get clients place ≡ Some client → AllAskWell nodes old clients → AllReady old clients → AllReady new (slice_set clients place after)
+  one_steps_ready [] place is all ready = tt
+  one_steps_ready (first ∷ clients) zero is all ready =
+      let apart : AllByRecursion (AreApart client) clients = subst (λ (c : ClientView). AllByRecursion (AreApart c) clients) (same_some refl is) all.1 in
+      (part.own, all_stay_ready clients apart all.2 ready.1)
+  one_steps_ready (first ∷ clients) (suc place) is all ready =
+      let apart : AreApart client first = turned first client (is_apart first clients place is all.1) in
+      (stays_ready first apart all.0 ready.0, one_steps_ready clients place is all.2 ready.1)
 
 pub none_steps : (nodes : List NodeConfig) (old new : RunView) → Leaves (Unknown old) old new → (clients : List ClientView) → AllAskWell nodes old clients → AllAskWell nodes new clients
 none_steps nodes old new leaves [] all = tt
@@ -95,6 +124,17 @@ none_steps nodes old new leaves (client ∷ clients) all = (
   none_steps nodes old new leaves clients all.2,
 )
 
+none_steps_ready : (nodes : List NodeConfig) (old new : RunView) → Readies (Unknown old) old new → (clients : List ClientView) → AllAskWell nodes old clients → AllReady old clients → AllReady new clients
+none_steps_ready nodes old new readies [] all ready = tt
+none_steps_ready nodes old new readies (client ∷ clients) all ready = (
+  λ link is.
+      elim (readies link (ready.0 link is)) [
+        | inl still ↦ still
+        | inr unknown ↦ absurd (unknown (known_of nodes old client all.0 link (inl is)))
+      ],
+  none_steps_ready nodes old new readies clients all.2 ready.1,
+)
+
 -- a step that isn't made for a request
 quiet_turn : (old new : RunView) (node : ℕ) (event : Event) (outputs : List Output) → ((made : Outputs) (link : Link) → ChangedBy node (Made event made) link → ⊥) → Turns old node event outputs new → Leaves none_changed old new
 quiet_turn old new node event outputs none turns =
@@ -102,21 +142,26 @@ quiet_turn old new node event outputs none turns =
     (leaves_more _ none_changed old turns.after (none turns.made) (enters_leaves old turns.after node (Made event turns.made) turns.makes))
     (closes_leaves turns.after new node (served_conns event turns.made) turns.closes)
 
+-- and one that is skipped
+quiet_reach : (old new : RunView) (node : ℕ) (event : Event) (outputs : List Output) → ((made : Outputs) (link : Link) → ChangedBy node (Made event made) link → ⊥) → Reaches old node event outputs new → Leaves none_changed old new
+quiet_reach old new node event outputs none (inl turns) = quiet_turn old new node event outputs none turns
+quiet_reach old new node event outputs none (inr passed) = skips_leaves old new node passed.skips.enters
+
 idle_leaves : (changed : Link → Type 0) (old new : RunView) (outputs : List Output) → IsIdle old outputs new → Leaves changed old new
 idle_leaves changed old new outputs idle = subst (Leaves changed old) (sym idle.unchanged) (leaves_all changed old)
 
 ticks_leaves : (old new : RunView) (node : ℕ) (outputs : List Output) → Ticks old node outputs new → Leaves (Unknown old) old new
 ticks_leaves old new node outputs = by_up (is_up old node)
   where
-    by_up : (up : Bool) → MatchBool up (Turns old node Tick outputs new) (IsIdle old outputs new) → Leaves (Unknown old) old new
-    by_up true turns = leaves_none (Unknown old) old new (quiet_turn old new node Tick outputs (λ made link asked. asked.1) turns)
+    by_up : (up : Bool) → MatchBool up (Reaches old node Tick outputs new) (IsIdle old outputs new) → Leaves (Unknown old) old new
+    by_up true reaches = leaves_none (Unknown old) old new (quiet_reach old new node Tick outputs (λ made link asked. asked.1) reaches)
     by_up false idle = idle_leaves (Unknown old) old new outputs idle
 
 delivers_leaves : (old new : RunView) (number : ℕ) (outputs : List Output) → Delivers old number outputs new → Leaves (Unknown old) old new
 delivers_leaves old new number outputs = by_message (message_at old.sent number)
   where
-    by_up : (message : Message) (up : Bool) → MatchBool up (Turns old message.to (Deliver message) outputs new) (IsIdle old outputs new) → Leaves (Unknown old) old new
-    by_up message true turns = leaves_none (Unknown old) old new (quiet_turn old new message.to (Deliver message) outputs (λ made link asked. asked.1) turns)
+    by_up : (message : Message) (up : Bool) → MatchBool up (Reaches old message.to (Deliver message) outputs new) (IsIdle old outputs new) → Leaves (Unknown old) old new
+    by_up message true reaches = leaves_none (Unknown old) old new (quiet_reach old new message.to (Deliver message) outputs (λ made link asked. asked.1) reaches)
     by_up message false idle = idle_leaves (Unknown old) old new outputs idle
 
     by_message : (message : Option Message) → IsDelivered old message outputs new → Leaves (Unknown old) old new
@@ -141,7 +186,7 @@ asked_leaves old new node words outputs asked =
         (leaves_none (Unknown old) turns.after new (closes_leaves turns.after new node (served_conns (Request asked.conn words) turns.made) turns.closes))
     heard (inr refused) =
         leaves_none (Unknown old) asked.opened new
-        (leaves_further none_changed asked.opened refused.after new (skips_leaves asked.opened refused.after node refused.skips)
+        (leaves_further none_changed asked.opened refused.after new (skips_leaves asked.opened refused.after node refused.skips.enters)
         (closes_leaves refused.after new node (asked.conn ∷ []) refused.closes))
 
 administers_leaves : (old new : RunView) (node : ℕ) (words : List (List ℕ)) (outputs : List Output) → Administers old node words outputs new → Leaves (Unknown old) old new
@@ -149,7 +194,7 @@ administers_leaves old new node words outputs = by_may (is_up old node && is_adm
   where
     administered : IsAdministered old node words outputs new → Leaves (Unknown old) old new
     administered (inl asked) = asked_leaves old new node words outputs asked
-    administered (inr away) = leaves_none (Unknown old) old new (skips_leaves old new node away.skips)
+    administered (inr away) = leaves_none (Unknown old) old new (skips_leaves old new node away.skips.enters)
 
     by_may : (may : Bool) → MatchBool may (IsAdministered old node words outputs new) (IsIdle old outputs new) → Leaves (Unknown old) old new
     by_may true made = administered made
@@ -200,7 +245,26 @@ module _ (config : ClusterConfig) (number : ℕ) where
       by_found (Some client) = all
       by_found None = inserted run same clients (place_of number clients) all
 
+  new_ready : (run : RunView) → AreReady run (new_client config number).pool
+  new_ready run link is = absurd (nothing_held link (inl is))
+
+  inserted_ready : (run : RunView) (clients : List ClientView) (place : ℕ) → AllReady run clients → AllReady run (insert clients place (new_client config number))
+  inserted_ready run clients zero ready = (new_ready run, ready)
+  inserted_ready run [] (suc place) ready = (new_ready run, tt)
+  inserted_ready run (client ∷ clients) (suc place) ready = (ready.0, inserted_ready run clients place ready.1)
+
+  begun_ready : (run : RunView) (clients : List ClientView) → AllReady run clients → AllReady run (with_client config number clients)
+  begun_ready run clients ready = by_found (client_at number clients)
+    where
+      by_found : (found : Option ClientView) → AllReady run (begun_at config number clients found)
+      by_found (Some client) = ready
+      by_found None = inserted_ready run clients (place_of number clients) ready
+
 -- ---- a node stops
+
+all_stopped_ready : (run : RunView) (node : ℕ) (clients : List ClientView) → AllReady run clients → AllReady run (map (stopped_at node) clients)
+all_stopped_ready run node [] ready = tt
+all_stopped_ready run node (client ∷ clients) ready = (stopped_ready run client node ready.0, all_stopped_ready run node clients ready.1)
 
 module _ (nodes : List NodeConfig) (run : RunView) (node : ℕ) where
   apart_stopped : (one : ClientView) (clients : List ClientView) → AllByRecursion (AreApart one) clients → AllByRecursion (AreApart (stopped_at node one)) (map (stopped_at node) clients)
@@ -226,9 +290,15 @@ at_place nodes run [] place client is all = absurd (no_some refl is)
 at_place nodes run (first ∷ clients) zero client is all = subst (AsksWell nodes run) (same_some refl is) all.0
 at_place nodes run (first ∷ clients) (suc place) client is all = at_place nodes run clients place client is all.2
 
+ready_at : (run : RunView) (clients : List ClientView) (place : ℕ) (client : ClientView) → slice_get clients place ≡ Some client → AllReady run clients → AreReady run client.pool
+ready_at run [] place client is ready = absurd (no_some refl is)
+ready_at run (first ∷ clients) zero client is ready = subst (λ (c : ClientView). AreReady run c.pool) (same_some refl is) ready.0
+ready_at run (first ∷ clients) (suc place) client is ready = ready_at run clients place client is ready.1
+
 -- what it asks may come to the node
 pub may_carry : (scene : SceneView) → KeepsRule scene → (place : ℕ) (client : ClientView) → slice_get scene.clients place ≡ Some client → MayBeCarried scene.run client.traffic
-may_carry scene rule place client is = carried_if_asked scene.config.nodes scene.run client (at_place scene.config.nodes scene.run scene.clients place client is rule.clients)
+may_carry scene rule place client is =
+    carried_if_asked scene.config.nodes scene.run client (at_place scene.config.nodes scene.run scene.clients place client is rule.clients) (ready_at scene.run scene.clients place client is rule.ready)
 
 pub may_linger : (scene : SceneView) → KeepsRule scene → (place : ℕ) (client : ClientView) → slice_get scene.clients place ≡ Some client → MayLinger scene.run client.late
 may_linger scene rule place client is = lingers_if_left scene.config.nodes scene.run client (at_place scene.config.nodes scene.run scene.clients place client is rule.clients)
@@ -237,22 +307,26 @@ may_linger scene rule place client is = lingers_if_left scene.config.nodes scene
 
 module _ (old : SceneView) (cluster_is : IsCluster old.config) (rule : KeepsRule old) where
   of_nodes : (does : RunView → List Output → RunView → Type 0) (outputs : List Output) (new : SceneView) → ((run : RunView) → does old.run outputs run → Leaves (Unknown old.run) old.run run)
-      → IsOfNodes does old outputs new → KeepsRule new
-  of_nodes does outputs new leaves of =
+      → ((run : RunView) → does old.run outputs run → Readies (Unknown old.run) old.run run) → IsOfNodes does old outputs new → KeepsRule new
+  of_nodes does outputs new leaves readies of =
       let left = leaves of.run of.steps in
       subst KeepsRule (sym of.is)
-      (record { nodes = left.nodes ∙ rule.nodes; configs = left.configs old.config rule.configs; clients = none_steps old.config.nodes old.run of.run left old.clients rule.clients })
+      (record { nodes = left.nodes ∙ rule.nodes; configs = left.configs old.config rule.configs; clients = none_steps old.config.nodes old.run of.run left old.clients rule.clients; ready = none_steps_ready old.config.nodes old.run of.run (readies of.run of.steps) old.clients rule.clients rule.ready })
 
-  of_client : (does : ClientStep) (clients : List ClientView) (place : ℕ) (outputs : List Output) (new : SceneView) → AllAskWell old.config.nodes old.run clients
+  of_client : (does : ClientStep) (clients : List ClientView) (place : ℕ) (outputs : List Output) (new : SceneView) → AllAskWell old.config.nodes old.run clients → AllReady old.run clients
       → ((client : ClientView) (run : RunView) (after : ClientView) → AsksWell old.config.nodes old.run client → does old.run client outputs run after → PartOf old.config.nodes old.run client run after)
+      → ((client : ClientView) (run : RunView) (after : ClientView) → AsksWell old.config.nodes old.run client → AreReady old.run client.pool → does old.run client outputs run after → ReadyPartOf old.run client run after)
       → IsOfClient does clients place old outputs new → KeepsRule new
-  of_client does clients place outputs new all well of =
-      let part : PartOf old.config.nodes old.run of.client of.run of.after = well of.client of.run of.after (at_place old.config.nodes old.run clients place of.client of.was all) of.steps in
+  of_client does clients place outputs new all ready well ready_then of =
+      let asks : AsksWell old.config.nodes old.run of.client = at_place old.config.nodes old.run clients place of.client of.was all in
+      let part : PartOf old.config.nodes old.run of.client of.run of.after = well of.client of.run of.after asks of.steps in
+      let ready_part : ReadyPartOf old.run of.client of.run of.after = ready_then of.client of.run of.after asks (ready_at old.run clients place of.client of.was ready) of.steps in
       subst KeepsRule (sym of.is)
       (record {
         nodes = part.leaves.nodes ∙ rule.nodes;
         configs = part.leaves.configs old.config rule.configs;
         clients = one_steps old.config.nodes old.run of.run of.client of.after part clients place of.was all;
+        ready = one_steps_ready old.config.nodes old.run of.run of.client of.after ready_part clients place of.was all ready;
       })
 
   nothing_to_do : (outputs : List Output) (new : SceneView) → IsNothing old outputs new → KeepsRule new
@@ -260,9 +334,10 @@ module _ (old : SceneView) (cluster_is : IsCluster old.config) (rule : KeepsRule
 
   of_some : (does : ClientStep) (number : ℕ) (outputs : List Output) (new : SceneView)
       → ((client : ClientView) (run : RunView) (after : ClientView) → AsksWell old.config.nodes old.run client → does old.run client outputs run after → PartOf old.config.nodes old.run client run after)
+      → ((client : ClientView) (run : RunView) (after : ClientView) → AsksWell old.config.nodes old.run client → AreReady old.run client.pool → does old.run client outputs run after → ReadyPartOf old.run client run after)
       → (found : Option ClientView) → IsOfSome does number found old outputs new → KeepsRule new
-  of_some does number outputs new well None idle = nothing_to_do outputs new idle
-  of_some does number outputs new well (Some client) of = of_client does old.clients (place_of number old.clients) outputs new rule.clients well of
+  of_some does number outputs new well ready_then None idle = nothing_to_do outputs new idle
+  of_some does number outputs new well ready_then (Some client) of = of_client does old.clients (place_of number old.clients) outputs new rule.clients rule.ready well ready_then of
 
   of_stop : (node : ℕ) (outputs : List Output) (new : SceneView) (up : Bool) → MatchBool up (IsStopping old node outputs new) (IsNothing old outputs new) → KeepsRule new
   of_stop node outputs new false idle = nothing_to_do outputs new idle
@@ -273,24 +348,30 @@ module _ (old : SceneView) (cluster_is : IsCluster old.config) (rule : KeepsRule
         configs = rule.configs;
         clients = none_steps old.config.nodes old.run (record old.run { stopped = slice_set old.run.stopped node true }) (stop_leaves old.run (slice_set old.run.stopped node true))
             (map (stopped_at node) old.clients) (all_stopped old.config.nodes old.run node old.clients rule.clients);
+        ready = all_stopped_ready old.run node old.clients rule.ready;
       })
 
   pub plays_well : (made : Step) (outputs : List Output) (new : SceneView) → Plays old made outputs new → KeepsRule new
   plays_well (step.Call number words) outputs new plays =
-      of_client _ (with_client old.config number old.clients) (place_of number old.clients) outputs new (begun old.config number old.run rule.nodes old.clients rule.clients)
-      (λ client run after asks begins. begins_well_so old.config.nodes old.run run client after words outputs asks begins) plays
+      of_client _ (with_client old.config number old.clients) (place_of number old.clients) outputs new (begun old.config number old.run rule.nodes old.clients rule.clients) (begun_ready old.config number old.run old.clients rule.ready)
+      (λ client run after asks begins. begins_well_so old.config.nodes old.run run client after words outputs asks begins)
+      (λ client run after asks ready begins. begins_ready old.config.nodes old.run run client after outputs asks ready words begins) plays
   plays_well (step.Carry number) outputs new plays =
-      of_some _ number outputs new (λ client run after asks carries. carries_well old.config cluster_is old.run run rule.configs client after outputs asks carries) (client_at number old.clients) plays
+      of_some _ number outputs new (λ client run after asks carries. carries_well old.config cluster_is old.run run rule.configs client after outputs asks carries)
+      (λ client run after asks ready carries. carries_ready old.config.nodes old.run run client after outputs asks ready carries) (client_at number old.clients) plays
   plays_well (step.Return number) outputs new plays =
-      of_some _ number outputs new (λ client run after asks returns. returns_well old.config.nodes old.run run client after outputs asks returns) (client_at number old.clients) plays
+      of_some _ number outputs new (λ client run after asks returns. returns_well old.config.nodes old.run run client after outputs asks returns)
+      (λ client run after asks ready returns. returns_ready old.config.nodes old.run run client after outputs asks ready returns) (client_at number old.clients) plays
   plays_well (step.Cut number) outputs new plays =
-      of_some _ number outputs new (λ client run after asks cuts. cuts_well old.config.nodes old.run run client after outputs asks cuts) (client_at number old.clients) plays
+      of_some _ number outputs new (λ client run after asks cuts. cuts_well old.config.nodes old.run run client after outputs asks cuts)
+      (λ client run after asks ready cuts. cuts_ready old.config.nodes old.run run client after outputs asks ready cuts) (client_at number old.clients) plays
   plays_well (step.Late number) outputs new plays =
-      of_some _ number outputs new (λ client run after asks lingers. lingers_well old.config.nodes old.run run client after outputs asks lingers) (client_at number old.clients) plays
-  plays_well (step.Admin node words) outputs new plays = of_nodes _ outputs new (λ run steps. administers_leaves old.run run node words outputs steps) plays
-  plays_well (step.Tick node) outputs new plays = of_nodes _ outputs new (λ run steps. ticks_leaves old.run run node outputs steps) plays
+      of_some _ number outputs new (λ client run after asks lingers. lingers_well old.config.nodes old.run run client after outputs asks lingers)
+      (λ client run after asks ready lingers. lingers_ready old.config.nodes old.run run client after outputs asks ready lingers) (client_at number old.clients) plays
+  plays_well (step.Admin node words) outputs new plays = of_nodes _ outputs new (λ run steps. administers_leaves old.run run node words outputs steps) (λ run steps. administers_readies old.run run node words outputs steps) plays
+  plays_well (step.Tick node) outputs new plays = of_nodes _ outputs new (λ run steps. ticks_leaves old.run run node outputs steps) (λ run steps. ticks_readies old.run run node outputs steps) plays
   plays_well (step.Stop node) outputs new plays = of_stop node outputs new (is_up old.run node) plays
-  plays_well (step.Deliver number) outputs new plays = of_nodes _ outputs new (λ run steps. delivers_leaves old.run run number outputs steps) plays
+  plays_well (step.Deliver number) outputs new plays = of_nodes _ outputs new (λ run steps. delivers_leaves old.run run number outputs steps) (λ run steps. delivers_readies old.run run number outputs steps) plays
 
 -- ---- the start
 
@@ -301,4 +382,4 @@ first_configs config first (suc count) zero node is = ap (λ (s : NodeState). s.
 first_configs config first (suc count) (suc number) node is = first_configs config (first + 1) count number node is
 
 pub first_rule : (config : ClusterConfig) → KeepsRule (first_scene config)
-first_rule config = record { nodes = length-map-range_with_len (first_state config) 0 (length config.nodes); configs = first_configs config 0 (length config.nodes); clients = tt }
+first_rule config = record { nodes = length-map-range_with_len (first_state config) 0 (length config.nodes); configs = first_configs config 0 (length config.nodes); clients = tt; ready = tt }

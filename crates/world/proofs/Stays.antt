@@ -7,8 +7,8 @@ use Rattle.cluster_config.specs.declared.config.NodeConfig.{NodeConfig}
 use Rattle.connections.specs.declared.conn.Conn.{Conn}
 use Rattle.resp_values.specs.declared.reply.Reply.{Reply}
 use Rattle.single_keyspace.proofs.Seen.{no_some, same_some}
-use Rattle.slot_decision.specs.declared.asked.Asking.{Asking}
-use Rattle.slot_decision.specs.declared.asked.Asking.TheVariants.{No, Any, Of}
+use Rattle.redirect.specs.declared.asked.Asking.{Asking}
+use Rattle.redirect.specs.declared.asked.Asking.TheVariants.{No, Any, Of}
 use Rattle.smart_client.specs.State.{ClientState}
 use Rattle.smart_client.specs.declared.call.Call.{Call}
 use Rattle.smart_client.specs.declared.call.Stage.{Stage}

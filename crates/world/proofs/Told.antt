@@ -14,8 +14,8 @@ use Rattle.redirection.specs.declared.redirection.Redirection.{Redirection}
 use Rattle.redirection.specs.declared.redirection.Redirection.TheVariants.{Moved, Ask}
 use Rattle.resp_values.specs.declared.reply.Reply.{Reply}
 use Rattle.resp_values.specs.declared.reply.Reply.TheVariants.{Simple, Error, Integer, Bulk, Null, Array}
-use Rattle.slot_decision.specs.declared.asked.Asking.{Asking}
-use Rattle.slot_decision.specs.declared.asked.Asking.TheVariants.{No}
+use Rattle.redirect.specs.declared.asked.Asking.{Asking}
+use Rattle.redirect.specs.declared.asked.Asking.TheVariants.{No}
 use Rattle.smart_client.specs.ErrorKind.{kind_of}
 use Rattle.smart_client.specs.State.{ClientState}
 use Rattle.smart_client.specs.Step.{Answer, Steps, Tells, Turn, again, allowed, answered, asked_at, begun, closes, connected, ended, failed, follows, introduced, is_at, is_beyond, is_last, is_last_line, is_ok, next, peer_at, place_of, redirected, replied, takes_memory, turn, unwelcome, uses, uses_for, with_address, with_connected, with_owner, without_call}
@@ -32,7 +32,7 @@ use Rattle.smart_client.specs.declared.call.Stage.TheVariants as stage
 use Rattle.smart_client.specs.declared.client_core.TheConstants.{MOST_REDIRECTIONS}
 use Rattle.smart_client.specs.declared.fault.ClientFault.TheVariants.{Memory, NotData, BadReply}
 use Rattle.smart_client.specs.declared.peers.Peer.{Peer}
-use Rattle.redirection.proofs.PlaceLemmas.{position-le}
+use Rattle.cluster_config.proofs.PlaceLemmas.{position-le}
 use Rattle.smart_client.proofs.TurnCases.{failed_so}
 use Rattle.world_run.specs.Run.{Entry}
 use Rattle.world.specs.Asking.{Follows, IsAsking, IsCalled, IsReplied, IsSent, IsTold, TellsTruth, target}

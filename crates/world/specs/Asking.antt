@@ -1,11 +1,11 @@
 -- Which clients keep to the asking rule (Redis Cluster specification, "ASK redirection": the next request alone is to be sent to
 -- the node that ASK names, behind ASKING).
-use Rattle.std.specs.Prelude.{◌≡◌, ◌<◌, ◌⊎◌, ◌∷◌, ℕ, false, List, [], length, reverse, slice_index_or, Contains, Option, Some, None, IfSome, slice_get, ⊤}
+use Rattle.std.specs.Prelude.{◌≡◌, ◌<◌, ◌⊎◌, ◌∷◌, ℕ, Bool, true, false, List, [], length, reverse, slice_index_or, Contains, Option, Some, None, IfSome, slice_get, ⊤}
 use Rattle.std.specs.List.{AllByRecursion}
 use Rattle.cluster_config.specs.Config.{ClusterConfig}
 use Rattle.cluster_config.specs.declared.config.NodeConfig.{NodeConfig}
 use Rattle.command_table.specs.declared.error_line.ErrorLine.TheVariants.{Exhausted}
-use Rattle.connections.specs.Connections.{connection_at, opens_at}
+use Rattle.connections.specs.Connections.{connection_at, may_ask, opens_at}
 use Rattle.connections.specs.declared.conn.Conn.{Conn}
 use Rattle.node_step.specs.Outcome.{error}
 use Rattle.node_step.specs.Requests.{asking_of}
@@ -15,10 +15,11 @@ use Rattle.node_step.specs.declared.event.Event.TheVariants.{Open, Close, Reques
 use Rattle.redirection.specs.Address.{Place}
 use Rattle.redirection.specs.Redirection.{IsMove, IsRedirection}
 use Rattle.redirection.specs.declared.redirection.Redirection.TheVariants as redirection
+use Rattle.reply_meaning.specs.Law.{IsOfClient}
 use Rattle.resp_values.specs.declared.reply.Reply.{Reply}
 use Rattle.resp_values.specs.declared.reply.Reply.TheVariants.{Error}
-use Rattle.slot_decision.specs.declared.asked.Asking.{Asking}
-use Rattle.slot_decision.specs.declared.asked.Asking.TheVariants.{No, Any, Of}
+use Rattle.redirect.specs.declared.asked.Asking.{Asking}
+use Rattle.redirect.specs.declared.asked.Asking.TheVariants.{No, Any, Of}
 use Rattle.smart_client.specs.State.{ClientState}
 use Rattle.smart_client.specs.Step.{peer_at}
 use Rattle.smart_client.specs.Words.{asking_words, is_refused, numbered_words}
@@ -52,6 +53,15 @@ opens_in (Some node) key = opens_at node.connections key
 -- the connection was opened at its node
 abbrev pub IsKnown : RunView → Link → Type 0
 IsKnown run link = link.conn.generation < opens_in (slice_get run.nodes link.node) link.conn.key
+
+-- whether the node takes a request of the connection
+abbrev pub may_ask_in : Option NodeState → Conn → Bool
+may_ask_in None conn = false
+may_ask_in (Some node) conn = may_ask (connection_at node.connections conn)
+
+-- the connection is open at its node, and waits for no reply
+abbrev pub IsReady : RunView → Link → Type 0
+IsReady run link = may_ask_in (slice_get run.nodes link.node) link.conn ≡ true
 
 -- ---- what was told
 
@@ -172,6 +182,15 @@ abbrev pub AllAskWell : List NodeConfig → RunView → List ClientView → Type
 AllAskWell nodes run [] = ⊤
 AllAskWell nodes run (client ∷ clients) = AsksWell nodes run client × AllByRecursion (AreApart client) clients × AllAskWell nodes run clients
 
+-- each connection that is kept is ready
+abbrev pub AreReady : RunView → List (Option Conn) → Type 0
+AreReady run pool = (link : Link) → IsInPool pool link → IsReady run link
+
+-- of each of these clients
+abbrev pub AllReady : RunView → List ClientView → Type 0
+AllReady run [] = ⊤
+AllReady run (client ∷ clients) = AreReady run client.pool × AllReady run clients
+
 -- the nodes have the configuration of the cluster
 abbrev pub HaveConfig : ClusterConfig → List NodeState → Type 0
 HaveConfig config nodes = (number : ℕ) (node : NodeState) → slice_get nodes number ≡ Some node → node.config ≡ config
@@ -180,13 +199,20 @@ pub record KeepsRule (scene : SceneView) : Type 0 where
   pub nodes : length scene.run.nodes ≡ length scene.config.nodes
   pub configs : HaveConfig scene.config scene.run.nodes
   pub clients : AllAskWell scene.config.nodes scene.run scene.clients
+  pub ready : AllReady scene.run scene.clients
 
 -- ---- requests
 
--- the request that is under way to its node may come there
+-- a request may come to its node, which answers it: its connection is ready, and its words are a client's
+pub record MayArrive (run : RunView) (link : Link) (words : List (List ℕ)) : Type 0 where
+  pub allowed : IsAllowed (past_of run) words link.node (asking_at run link)
+  pub ready : IsReady run link
+  pub of_client : IsOfClient words
+
+-- so may the one that is under way to its node
 abbrev pub MayBeCarried : RunView → Traffic → Type 0
 MayBeCarried run Quiet = ⊤
-MayBeCarried run (Asked link words) = IsAllowed (past_of run) words link.node (asking_at run link)
+MayBeCarried run (Asked link words) = MayArrive run link words
 MayBeCarried run (Answered link reply) = ⊤
 
 abbrev pub MayLinger : RunView → List Late → Type 0

@@ -16,9 +16,8 @@ use Rattle.smart_client.specs.declared.action.Action.{Action}
 use Rattle.smart_client.specs.declared.action.Action.TheVariants as wanted
 use Rattle.smart_client.specs.declared.action.Event.{Event}
 use Rattle.smart_client.specs.declared.action.Event.TheVariants as happened
-use Rattle.world_run.specs.Run.Deed.{Skipped}
 use Rattle.world.specs.Clients.{ClientView, broken_off, connection_to, lost_by, node_at, with_connection}
-use Rattle.world.specs.NodeSteps.{Closes, Enters, Makes, released_conns}
+use Rattle.world.specs.NodeSteps.{Closes, Makes, Skips, released_conns}
 use Rattle.world.specs.Outputs.{beside}
 use Rattle.world.specs.View.{RunView, is_up}
 use Rattle.world.specs.declared.client.Late.{Late}
@@ -32,7 +31,7 @@ use Rattle.world.specs.declared.output.Output.TheVariants as output
 
 -- a new connection, or none where a number has no next one
 abbrev pub IsOpened : RunView → ℕ → Option Conn → RunView → Type 0
-IsOpened old node None new = Enters old node Skipped new
+IsOpened old node None new = Skips old node Open new
 IsOpened old node (Some conn) new = (outputs : Outputs) × Makes old node Open outputs new × (outputs.response ≡ Opened conn)
 
 -- the one that is kept, or else a new one
@@ -150,25 +149,19 @@ pub record IsServed (old : RunView) (node : ℕ) (conn : Conn) (words : List (Li
   pub shows : outputs ≡ beside node old.sent made
 
 -- or says that a number has no next one
-pub record IsSkipped (old : RunView) (node : ℕ) (reply : Option Reply) (outputs : List Output) (new : RunView) : Type 0 where
-  pub skips : Enters old node Skipped new
+pub record IsSkipped (old : RunView) (node : ℕ) (conn : Conn) (words : List (List ℕ)) (reply : Option Reply) (outputs : List Output) (new : RunView) : Type 0 where
+  pub skips : Skips old node (Request conn words) new
   pub replies : reply ≡ Some (error Exhausted)
   pub shows : outputs ≡ []
 
 abbrev pub Serves : RunView → ℕ → Conn → List (List ℕ) → Option Reply → List Output → RunView → Type 0
-Serves old node conn words reply outputs new = IsServed old node conn words reply outputs new ⊎ IsSkipped old node reply outputs new
+Serves old node conn words reply outputs new = IsServed old node conn words reply outputs new ⊎ IsSkipped old node conn words reply outputs new
 
--- the reply is on its way; a request that gets none loses its connection
-abbrev pub IsRepliedTo : ClientView → Link → Option Reply → List Output → List Output → ClientView → Type 0
-IsRepliedTo client link (Some reply) shown outputs after = (after ≡ record client { traffic = Answered link reply }) × (outputs ≡ shown)
-IsRepliedTo client link None shown outputs after = (after ≡ broken_off link.node client) × (outputs ≡ lost_by client ++ shown)
-
--- the request reaches its node
+-- the request reaches its node, and the reply is on its way
 pub record Arrives (old : RunView) (client : ClientView) (link : Link) (words : List (List ℕ)) (outputs : List Output) (new : RunView) (after : ClientView) : Type 0 where
-  pub reply : Option Reply
-  pub shown : List Output
-  pub serves : Serves old link.node link.conn words reply shown new
-  pub replied : IsRepliedTo client link reply shown outputs after
+  pub reply : Reply
+  pub serves : Serves old link.node link.conn words (Some reply) outputs new
+  pub left : after ≡ record client { traffic = Answered link reply }
 
 abbrev pub IsCarried : RunView → ClientView → Traffic → List Output → RunView → ClientView → Type 0
 IsCarried old client (Asked link words) outputs new after =

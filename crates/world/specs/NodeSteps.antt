@@ -1,9 +1,10 @@
 -- What comes of the steps of nodes.
-use Rattle.std.specs.Prelude.{◌≡◌, ◌⊎◌, ◌++◌, ◌&&◌, ◌||◌, ◌∷◌, ℕ, zero, suc, Bool, false, List, [], map, Option, Some, None, MatchBool, slice_get, codes}
+use Rattle.std.specs.Prelude.{◌≡◌, ◌⊎◌, ◌++◌, ◌&&◌, ◌||◌, ◌∷◌, ℕ, zero, suc, Bool, false, List, [], map, Option, Some, None, MatchBool, slice_get, codes, ⊤}
 use Rattle.std.specs.Str.{str_eq_ignore_ascii_case}
 use Rattle.bus.specs.declared.message.Message.{Message}
 use Rattle.command_table.specs.declared.error_line.ErrorLine.TheVariants.{Exhausted}
 use Rattle.connections.specs.declared.conn.Conn.{Conn}
+use Rattle.node_step.specs.Numbers.{NoNumberLeft}
 use Rattle.node_step.specs.Outcome.{error}
 use Rattle.node_step.specs.declared.event.Event.{Event}
 use Rattle.node_step.specs.declared.event.Event.TheVariants.{Open, Close, Request, Deliver, Tick}
@@ -29,6 +30,11 @@ pub record Enters (old : RunView) (node : ℕ) (deed : Deed) (new : RunView) : T
 -- a node made a step for the event, of which this came out
 abbrev pub Makes : RunView → ℕ → Event → Outputs → RunView → Type 0
 Makes old node event outputs new = Enters old node (Made event outputs) new
+
+-- a node skips the event, which was entered: it needs a number that has no next one
+pub record Skips (old : RunView) (node : ℕ) (event : Event) (new : RunView) : Type 0 where
+  pub enters : Enters old node Skipped new
+  pub why : NoNumberLeft enters.enters.step.before event
 
 -- a node closed these connections, one after another
 abbrev pub Closes : RunView → ℕ → List Conn → RunView → Type 0
@@ -63,6 +69,23 @@ pub record Turns (old : RunView) (node : ℕ) (event : Event) (outputs : List Ou
   pub closes : Closes after node (served_conns event made) new
   pub shows : outputs ≡ shown node old.sent made
 
+-- the node skips the event, and nothing comes out
+pub record IsPassedOver (old : RunView) (node : ℕ) (event : Event) (outputs : List Output) (new : RunView) : Type 0 where
+  pub skips : Skips old node event new
+  pub shows : outputs ≡ []
+
+-- an event for which no connection asked reaches a node
+abbrev pub Reaches : RunView → ℕ → Event → List Output → RunView → Type 0
+Reaches old node event outputs new = Turns old node event outputs new ⊎ IsPassedOver old node event outputs new
+
+-- time passes, or a message arrives
+abbrev pub IsUnasked : Event → Type 0
+IsUnasked Tick = ⊤
+IsUnasked (Deliver message) = ⊤
+IsUnasked Open = ⊥
+IsUnasked (Close conn) = ⊥
+IsUnasked (Request conn words) = ⊥
+
 -- ---- requests of an administrator
 
 -- the first word is CLUSTER or MIGRATE, in letters of any case
@@ -79,18 +102,18 @@ exhausted node = output.Admin node (error Exhausted) ∷ []
 
 -- no connection was opened
 pub record IsTurnedAway (old : RunView) (node : ℕ) (outputs : List Output) (new : RunView) : Type 0 where
-  pub skips : Enters old node Skipped new
+  pub skips : Skips old node Open new
   pub shows : outputs ≡ exhausted node
 
 -- the request was skipped, and its connection closed
-pub record IsRefused (old : RunView) (node : ℕ) (conn : Conn) (outputs : List Output) (new : RunView) : Type 0 where
+pub record IsRefused (old : RunView) (node : ℕ) (conn : Conn) (words : List (List ℕ)) (outputs : List Output) (new : RunView) : Type 0 where
   pub after : RunView
-  pub skips : Enters old node Skipped after
+  pub skips : Skips old node (Request conn words) after
   pub closes : Closes after node (conn ∷ []) new
   pub shows : outputs ≡ exhausted node
 
 abbrev pub IsHeard : RunView → ℕ → Conn → List (List ℕ) → List Output → RunView → Type 0
-IsHeard old node conn words outputs new = Turns old node (Request conn words) outputs new ⊎ IsRefused old node conn outputs new
+IsHeard old node conn words outputs new = Turns old node (Request conn words) outputs new ⊎ IsRefused old node conn words outputs new
 
 -- the node was asked on a connection of its own
 pub record IsAsked (old : RunView) (node : ℕ) (words : List (List ℕ)) (outputs : List Output) (new : RunView) : Type 0 where
@@ -120,7 +143,7 @@ message_at sent (suc before) = slice_get sent before
 abbrev pub IsDelivered : RunView → Option Message → List Output → RunView → Type 0
 IsDelivered old None outputs new = IsIdle old outputs new
 IsDelivered old (Some message) outputs new =
-    MatchBool (is_up old message.to) (Turns old message.to (Deliver message) outputs new) (IsIdle old outputs new)
+    MatchBool (is_up old message.to) (Reaches old message.to (Deliver message) outputs new) (IsIdle old outputs new)
 
 -- ---- steps that no client makes
 
@@ -129,7 +152,7 @@ Administers old node words outputs new =
     MatchBool (is_up old node && is_admin words) (IsAdministered old node words outputs new) (IsIdle old outputs new)
 
 abbrev pub Ticks : RunView → ℕ → List Output → RunView → Type 0
-Ticks old node outputs new = MatchBool (is_up old node) (Turns old node Tick outputs new) (IsIdle old outputs new)
+Ticks old node outputs new = MatchBool (is_up old node) (Reaches old node Tick outputs new) (IsIdle old outputs new)
 
 abbrev pub Delivers : RunView → ℕ → List Output → RunView → Type 0
 Delivers old number outputs new = IsDelivered old (message_at old.sent number) outputs new

@@ -1,8 +1,7 @@
 //! A client of a world: what it knows, and what is under way between it and the nodes.
 ghost use Rattle.std.specs.Prelude.{◌≡◌, ◌∷◌, ◌++◌, [], true, slice_get, replicate, None, IfOk, OnOk};
 ghost use Rattle.smart_client.specs.Calls.{IsWaiting};
-ghost use Rattle.node_step.specs.declared.event.Event.TheVariants.{Request};
-ghost use Rattle.world.specs.Asking.{MayBeCarried, MayLinger, MayTake};
+ghost use Rattle.world.specs.Asking.{MayArrive, MayBeCarried, MayLinger};
 ghost use Rattle.world.specs.Calls.{Acts, Arrives, Begins, CanDo, Carries, Connects, Cuts, GivesUp, IsConnected, IsShut, Lingers, MayUse, Returns, Tells, Uses, told_of};
 ghost use Rattle.world.specs.Clients.{AwaitsConnection, AwaitsReply, IsSettled, broken_off, connection_to, is_at, leads_to, lost_at, lost_by, new_client, node_at, place_at, stopped_at, used_by, with_connection, without_late};
 ghost use Rattle.world.specs.View.{GoesOn, RemembersSent, is_up};
@@ -278,12 +277,13 @@ impl Client {
     }
 
     // The request reaches its node.
+    #[tactic(auto, using(crate::proofs::Readying::arriving_may_be_taken))]
     fn arrive(&mut self, run: &mut Run, link: Link, words: Words) -> Result<Vec<Output>, AllocError>
         requires quiet { self.old.traffic ≡ Quiet }
         requires awaits { AwaitsReply self.old.core.call }
         requires remembers { RemembersSent run.old }
         requires up { is_up run.old link.node ≡ true }
-        requires asks { MayTake run.old link.node (Request link.conn words) }
+        requires may { MayArrive run.old link words }
         ensures goes_on { GoesOn run.old run.new }
         ensures remembers { OnOk result (RemembersSent run.new) }
         ensures settled { OnOk result (IsSettled self.new) }
@@ -291,27 +291,9 @@ impl Client {
     {
         let Served { reply, outputs } = run.serve(link.node, link.conn, words)?;
         let Some(reply) = reply else {
-            return self.go_without_reply(run.allocator(), link.node, outputs);
+            unreachable!();
         };
         self.put(Traffic::Answered(link, reply));
-        Ok(outputs)
-    }
-
-    // No reply comes: the connection is lost.
-    fn go_without_reply(
-        &mut self,
-        alloc: Global,
-        node: u64,
-        shown: Vec<Output>,
-    ) -> Result<Vec<Output>, AllocError>
-        requires awaits { AwaitsReply self.old.core.call }
-        ensures settled { IsSettled self.new }
-        ensures broken { self.new ≡ broken_off node self.old }
-        ensures outputs { IfOk result (λ outputs. outputs.items ≡ lost_by self.old ++ shown.items) }
-    {
-        let mut shown = shown;
-        let mut outputs = one(alloc, self.break_off(node))?;
-        outputs.append(&mut shown)?;
         Ok(outputs)
     }
 

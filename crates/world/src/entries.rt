@@ -40,16 +40,20 @@ impl Model for Line {
 #[derive(Drop)]
 pub struct Entries {
     lines: History<Line>,
+    // How many there are, as far as 64 bits count.
     count: u64,
 }
 
 impl Model for Entries {
-    ghost use Rattle.std.specs.Prelude.{List};
+    ghost use Rattle.std.specs.Prelude.{◌≡◌, List};
     ghost use Rattle.world_run.specs.Run.{Entry};
+    ghost use Rattle.world.specs.Entered.{ticket_behind};
 
     ghost Value = { List Entry };
 
     ghost view = { λ entries. entries.lines };
+
+    ghost invariant = { λ entries. entries.count ≡ ticket_behind entries.lines };
 }
 
 // Of the outputs of a step only proofs keep something.
@@ -89,7 +93,7 @@ impl Entries {
         ensures number { IfOk result (λ made. IfNone made (NoNumberLeft core.old event.now)) }
         ensures err { OnErr result ((self.new ≡ self.old) × (core.new ≡ core.old)) }
     {
-        let ticket = self.count.saturating_add(1);
+        let ticket = self.count;
         match core.step::<Seen>(ticket, event) {
             Ok((outputs, recorded)) => {
                 let doing = Doing::Made(Snapshot::of(event), recorded);
@@ -112,6 +116,6 @@ impl Entries {
             ticket,
             doing,
         });
-        self.count = ticket;
+        self.count = self.count.saturating_add(1);
     }
 }

@@ -3,13 +3,12 @@ ghost use Rattle.std.specs.Prelude.{◌≡◌, ◌+◌, ◌<◌, ◌≤◌, ◌+
 ghost use Rattle.std.specs.List.{range_with_len};
 ghost use Rattle.cluster_config.specs.Config.{ClusterConfig};
 ghost use Rattle.node_step.specs.declared.event.Event.TheVariants.{Open, Close, Request, Deliver, Tick};
-ghost use Rattle.node_step.specs.Numbers.{NoNumberLeft};
 ghost use Rattle.node_step.specs.State.{first_state};
 ghost use Rattle.world_run.specs.Run.{MayHappen, WorldStep, first_nodes, sent_by};
-ghost use Rattle.world_run.specs.Run.Deed.{Made, Skipped};
+ghost use Rattle.world_run.specs.Run.Deed.{Made};
 ghost use Rattle.world.specs.Asking.{MayTake};
-ghost use Rattle.world.specs.Entered.{EntersAt, NeedsNumber};
-ghost use Rattle.world.specs.NodeSteps.{Administers, Closes, Delivers, Enters, IsAdministered, IsAsked, IsDelivered, IsHeard, IsIdle, IsRefused, Makes, Ticks, Turns, answered_conn, is_admin, is_admin_name, message_at, released_conns};
+ghost use Rattle.world.specs.Entered.{EntersAt, SkipsAt};
+ghost use Rattle.world.specs.NodeSteps.{Administers, Closes, Delivers, IsAdministered, IsHeard, IsUnasked, Makes, Reaches, Skips, Ticks, answered_conn, is_admin, is_admin_name, message_at, released_conns};
 ghost use Rattle.world.specs.Outputs.{beside_from, shown_from};
 ghost use Rattle.world.specs.View.{GoesOn, RemembersSent, first_run, is_up};
 
@@ -136,20 +135,20 @@ impl Run {
         }
     }
 
-    // A step of a node that needs no number of its own, and what comes out of it.
-    #[tactic(auto, using(crate::proofs::Allowing::needless_may_come))]
+    // A step of a node for an event that no connection asked for, and what comes out of it.
+    #[tactic(auto, using(crate::proofs::Allowing::unasked_may_come))]
     fn step_node(&mut self, node: u64, event: Event) -> Result<Vec<Output>, AllocError>
         requires remembers { RemembersSent self.old }
         requires there { node < length self.old.nodes }
         requires may { MayHappen (reverse self.old.entries) event }
-        requires number { NeedsNumber event → ⊥ }
+        requires unasked { IsUnasked event }
         ensures goes_on { GoesOn self.old self.new }
         ensures remembers { OnOk result (RemembersSent self.new) }
-        ensures turns { IfOk result (λ outputs. Turns self.old node event outputs.items self.new) }
+        ensures reaches { IfOk result (λ outputs. Reaches self.old node event outputs.items self.new) }
     {
         let first = self.sent.len();
         let Some(made) = self.make(node, event)? else {
-            unreachable!();
+            return Ok(Vec::new(self.alloc));
         };
         self.finish(node, first, &made)
     }
@@ -274,8 +273,7 @@ impl Run {
         ensures there { length self.new.nodes ≡ length self.old.nodes }
         ensures remembers { OnOk result (RemembersSent self.old → RemembersSent self.new) }
         ensures made { IfOk result (λ made. IfSome made (λ outputs. Makes self.old node event outputs self.new)) }
-        ensures skipped { IfOk result (λ made. IfNone made (Enters self.old node Skipped self.new)) }
-        ensures number { IfOk result (λ made. IfNone made (NeedsNumber event)) }
+        ensures skipped { IfOk result (λ made. IfNone made (Skips self.old node event self.new)) }
     {
         self.make_for(node, &event)
     }
@@ -288,8 +286,7 @@ impl Run {
         ensures there { length self.new.nodes ≡ length self.old.nodes }
         ensures remembers { OnOk result (RemembersSent self.old → RemembersSent self.new) }
         ensures made { IfOk result (λ made. IfSome made (λ outputs. Makes self.old node event.now outputs self.new)) }
-        ensures skipped { IfOk result (λ made. IfNone made (Enters self.old node Skipped self.new)) }
-        ensures number { IfOk result (λ made. IfNone made (NeedsNumber event.now)) }
+        ensures skipped { IfOk result (λ made. IfNone made (Skips self.old node event.now self.new)) }
     {
         let Some(outputs) = step_at(&mut self.nodes, &mut self.entries, node, event)? else {
             return Ok(None);
@@ -345,8 +342,7 @@ fn step_at(
     requires there { node < length nodes.old.items }
     requires may { MayHappen (reverse entries.old) event.now }
     ensures made { IfOk result (λ made. IfSome made (λ outputs. EntersAt entries.old nodes.old.items node (Made event.now outputs) entries.new nodes.new.items)) }
-    ensures skipped { IfOk result (λ made. IfNone made (EntersAt entries.old nodes.old.items node Skipped entries.new nodes.new.items)) }
-    ensures number { IfOk result (λ made. IfNone made (NeedsNumber event.now)) }
+    ensures skipped { IfOk result (λ made. IfNone made (SkipsAt entries.old nodes.old.items node event.now entries.new nodes.new.items)) }
     ensures err { OnErr result ((nodes.new.items ≡ nodes.old.items) × (entries.new ≡ entries.old)) }
 {
     match entries.step(&mut nodes[node as usize], node, event) {

@@ -7,4 +7,4 @@ pub loop-key-preserved : goal.loop-key-preserved
 loop-key-preserved c = changed_more aged _ _ _ _ c.loop-key.invariant c.age_at.ensures
 
 pub returns : goal.returns
-returns c = c.loop-key.invariant ∙ changed_all aged c.loop-key.key c.args.slots.now.slots (omega arith)
+returns c = c.loop-key.invariant ∙ changed_all aged c.loop-key.key c.args.places.now.slots (omega arith)

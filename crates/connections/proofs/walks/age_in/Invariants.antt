@@ -5,4 +5,4 @@ use Rattle.connections.proofs.walks.age_in.Given as goal
 
 -- the places below the key are done
 abbrev pub invariant-loop-key : goal.invariant-loop-key
-invariant-loop-key l = l.slots.slots ≡ changed_below aged l.key l.fn.slots.slots
+invariant-loop-key l = l.places.slots ≡ changed_below aged l.key l.fn.places.slots

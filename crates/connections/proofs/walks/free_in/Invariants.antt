@@ -8,6 +8,6 @@ use Rattle.connections.proofs.walks.free_in.Given as goal
 -- the places below the key are done, and what was freed there is counted
 abbrev pub invariant-loop-key : goal.invariant-loop-key
 invariant-loop-key l =
-    (l.slots.slots ≡ changed_below (freed (test_of l.which)) l.key l.fn.slots.slots)
-    × (l.count + count_of_waits l.slots.slots ≡ count_of_waits l.fn.slots.slots)
+    (l.places.slots ≡ changed_below (freed (test_of l.which)) l.key l.fn.places.slots)
+    × (l.count + count_of_waits l.places.slots ≡ count_of_waits l.fn.places.slots)
     × (l.count ≤ l.key)

@@ -1,8 +1,8 @@
 use Rattle.std.proofs.Common.{◌≡◌, ℕ, Bool, List, Bor, is_some, map, ap, ap₂, ◌∙◌}
 use Rattle.std.specs.FinMap as fin_map
 use Rattle.command_table.specs.Keys.{data_keys}
-use Rattle.slot_decision.specs.Asked.{asked}
-use Rattle.slot_decision.specs.Decision.{decision}
+use Rattle.redirect.specs.Asked.{asked}
+use Rattle.redirect.specs.Decision.{decision}
 use Rattle.node_step.specs.State.{NodeState}
 use Rattle.key_rows.proofs.DecisionLemmas.{there_of_words}
 use Rattle.key_rows.proofs.decisions.decision_in_move.Goals as goal

@@ -1,5 +1,5 @@
 use Rattle.std.proofs.Common.{refl, ap, ◌∙◌}
-use Rattle.slot_moves.specs.Moves.{move_of}
+use Rattle.slot_state.specs.Moves.{move_of}
 use Rattle.migrate.specs.Acknowledging.{acknowledged_key}
 use Rattle.node_step.specs.State.{NodeState}
 use Rattle.move_rows.proofs.Acknowledging.{acknowledges, nothing_acknowledged}

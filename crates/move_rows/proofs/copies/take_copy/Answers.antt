@@ -1,5 +1,5 @@
 use Rattle.std.proofs.Common.{ap, ◌∙◌}
-use Rattle.slot_moves.specs.Moves.{move_of}
+use Rattle.slot_state.specs.Moves.{move_of}
 use Rattle.migrate.specs.Arriving.{arrival_verdict}
 use Rattle.node_step.specs.State.{NodeState}
 use Rattle.move_rows.proofs.ArrivalLemmas.{ignores_copy, installs_copy, repeats_copy}

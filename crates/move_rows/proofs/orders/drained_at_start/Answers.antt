@@ -1,6 +1,6 @@
 use Rattle.std.proofs.Common.{◌∙◌, ap, sym}
-use Rattle.slot_moves.specs.declared.migrating.MigrateVerdict.{MigrateVerdict}
-use Rattle.slot_moves.specs.Migrating.{after_migrate}
+use Rattle.slot_state.specs.declared.migrating.MigrateVerdict.{MigrateVerdict}
+use Rattle.slot_state.specs.Migrating.{after_migrate}
 use Rattle.node_step.specs.Orders.{drained_at_start, with_moves}
 use Rattle.move_rows.proofs.OrderLemmas.{begins_drained}
 use Rattle.move_rows.proofs.orders.drained_at_start.Goals as goal

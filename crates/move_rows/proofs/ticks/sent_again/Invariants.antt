@@ -1,6 +1,6 @@
 use Rattle.std.proofs.Common.{◌≡◌, ◌++◌}
 use Rattle.std.specs.List.{flat_map}
-use Rattle.slot_moves.specs.Moves.{running_moves}
+use Rattle.slot_state.specs.Moves.{running_moves}
 use Rattle.node_step.specs.Ticks.{sent_again}
 use Rattle.move_rows.proofs.ticks.sent_again.Given as goal
 

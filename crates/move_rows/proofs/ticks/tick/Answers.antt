@@ -3,7 +3,7 @@ use Rattle.node_step.specs.State.{NodeState}
 use Rattle.move_rows.proofs.TickLemmas.{tick_drafted}
 use Rattle.move_rows.proofs.ticks.tick.Goals as goal
 
-pub returns : goal.returns
-returns g c =
+pub returns-clause-draft : goal.returns-clause-draft
+returns-clause-draft g c =
     tick_drafted c.args.node.now c.node.inside.current_epoch c.reply-reply.result _ _ c.write_releases.new.draft (ap (λ (node : NodeState). node.current_epoch) c.node.view_is)
     c.reply-reply.ensures c.in_ok-released.ensures c.in_ok-bodies.ensures c.write_releases.ensures

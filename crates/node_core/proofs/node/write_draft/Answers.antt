@@ -1,15 +1,16 @@
 use Rattle.std.proofs.Common.{sym, subst}
+use Rattle.std.specs.Prelude.{OnOk}
 use Rattle.node_parts.specs.Drafts.{IsDraftOf}
 use Rattle.node_step.specs.declared.event.Event.{Event}
-use Rattle.node_core.proofs.AnswerLemmas.{delivery_is_drafted, tick_is_drafted}
+use Rattle.node_core.proofs.AnswerLemmas.{delivery_drafted, tick_drafted}
 use Rattle.node_core.proofs.node.write_draft.Goals as goal
 
-pub returns-in_ok-deliver-in-Deliver-clause-draft : goal.returns-in_ok-deliver-in-Deliver-clause-draft
-returns-in_ok-deliver-in-Deliver-clause-draft g c =
-    let draft = c.deliver.new.draft in
-    subst (λ (event : Event). IsDraftOf c.args.node.now event draft) (sym c.in-Deliver.is) (delivery_is_drafted c.args.node.now c.in-Deliver.message draft c.in_ok-deliver-in-Deliver.ensures)
+pub returns-in-Deliver-clause-draft : goal.returns-in-Deliver-clause-draft
+returns-in-Deliver-clause-draft g c =
+    subst (λ (event : Event). OnOk c.deliver.result (IsDraftOf c.args.node.now event c.deliver.new.draft)) (sym c.in-Deliver.is)
+    (delivery_drafted c.args.node.now c.in-Deliver.message c.deliver.new.draft c.deliver.result c.deliver.ensures.draft)
 
-pub returns-in_ok-tick-in-Tick-clause-draft : goal.returns-in_ok-tick-in-Tick-clause-draft
-returns-in_ok-tick-in-Tick-clause-draft g c =
-    let draft = c.tick.new.draft in
-    subst (λ (event : Event). IsDraftOf c.args.node.now event draft) (sym c.in-Tick.is) (tick_is_drafted c.args.node.now draft c.in_ok-tick-in-Tick.ensures)
+pub returns-in-Tick-clause-draft : goal.returns-in-Tick-clause-draft
+returns-in-Tick-clause-draft g c =
+    subst (λ (event : Event). OnOk c.tick.result (IsDraftOf c.args.node.now event c.tick.new.draft)) (sym c.in-Tick.is)
+    (tick_drafted c.args.node.now c.tick.new.draft c.tick.result c.tick.ensures.draft)

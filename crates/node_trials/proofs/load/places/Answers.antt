@@ -12,7 +12,7 @@ loop-seat-preserved g c =
     let is_placed = λ (place : Place). IsFresh g.K.Deployment.table g.K.Deployment.seats place.seat in
     let begins : into_iter_items c.loop-seat.seat-iterator ≡ c.in-Some.seat ∷ into_iter_items c.next.new.self = search rules in
     let left = All-same is_fresh (c.in-Some.seat ∷ into_iter_items c.next.new.self) _ (sym begins) c.loop-seat.invariant.fresh in
-    let place : Place = record { node = c.in-Some-new.node; seat = c.in-Some.seat; listener = c.in_ok-listener.listener } in
+    let place : Place = record { seat = c.in-Some.seat; listener = c.in_ok-listener.listener } in
     let pushed : c.push.new.self.items ≡ c.loop-seat.places.items ++ place ∷ [] = search rules in
     record {
       count = search rules;

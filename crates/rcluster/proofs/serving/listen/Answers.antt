@@ -11,7 +11,7 @@ loop-number-preserved g c =
     let is_placed = λ (place : Place). IsFresh g.K.Deployment.table g.K.Deployment.seats place.seat in
     let popped : c.loop-number.seats.items ≡ c.pop.new.self.items ++ c.unwrap-seat.result ∷ [] = search rules in
     let seats = All-pop is_fresh c.loop-number.seats.items c.pop.new.self.items (Some c.unwrap-seat.result) popped c.loop-number.invariant.fresh in
-    let place : Place = record { node = c.unwrap-node.result; seat = c.unwrap-seat.result; listener = c.in_ok-listener.listener } in
+    let place : Place = record { seat = c.unwrap-seat.result; listener = c.in_ok-listener.listener } in
     let pushed : c.push.new.self.items ≡ c.loop-number.places.items ++ place ∷ [] = search rules in
     record {
       left = search rules;

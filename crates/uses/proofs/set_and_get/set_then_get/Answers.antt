@@ -7,7 +7,7 @@ pub returns-clause-answer : goal.returns-clause-answer
 returns-clause-answer g c =
     let opened = c.in_ok-opened.ensures.ok in
     let set = c.in_ok-_set.ensures.ok in
-    if_ok c.apply-3.result c.apply-3.ensures.ok (λ entered got serves.
+    if_ok c.ask_node-3.result c.ask_node-3.ensures.ok (λ entered got serves.
     let a = opened.makes.step in
     let b = rw c.in_ok-set.ensures at set.makes.step in
     let d = rw c.in_ok-get.ensures at got.makes.step in
@@ -17,6 +17,6 @@ pub returns-clause-entered : goal.returns-clause-entered
 returns-clause-entered g c =
     let opened = one_entry _ _ _ _ c.in_ok-opened.ensures.ok in
     let set = one_entry _ _ _ _ c.in_ok-_set.ensures.ok in
-    on_ok_from_if_ok c.apply-3.result c.apply-3.ensures.ok (λ entered got.
+    on_ok_from_if_ok c.ask_node-3.result c.ask_node-3.ensures.ok (λ entered got.
     let third = one_entry _ _ _ _ got in
     omega (arith, opened, set, third))

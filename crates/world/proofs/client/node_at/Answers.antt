@@ -2,7 +2,7 @@ use Rattle.std.proofs.Common.{◌∙◌, ap, rules, tests, ℕ, Option, length}
 use Rattle.std.specs.Option.{unwrap_or}
 use Rattle.std.proofs.lemmas.Iterator.{YieldsList-from_slice}
 use Rattle.std.proofs.lemmas.Iterator.Search.{position_from_yields_List}
-use Rattle.redirection.proofs.PlaceLemmas.{first_place}
+use Rattle.cluster_config.proofs.PlaceLemmas.{first_place}
 use Rattle.world.specs.Clients.{is_at}
 use Rattle.world.proofs.client.node_at.Goals as goal
 

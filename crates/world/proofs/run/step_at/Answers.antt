@@ -13,5 +13,6 @@ returns-in-Ok-Some-clause-made c =
 pub returns-in-Ok-None-clause-skipped : goal.returns-in-Ok-None-clause-skipped
 returns-in-Ok-None-clause-skipped c =
     let steps = rw c.in-Ok-None.field-0-is at c.in-Ok-None.ensures.skipped in
-    skipped_at c.args.entries.now c.args.nodes.now.items c.args.node c.step.new.self _ c.index_mut.result.now c.step.new.core
-    (slice_get-get_or c.args.nodes.now.items c.args.node c.index_mut.result.now c.requires.there ∙ ap Some (sym c.index_mut.ensures.value)) steps refl
+    let why = rw c.in-Ok-None.field-0-is at c.in-Ok-None.ensures.number in
+    skipped_at c.args.entries.now c.args.nodes.now.items c.args.node c.args.event.now c.step.new.self _ c.index_mut.result.now c.step.new.core
+    (slice_get-get_or c.args.nodes.now.items c.args.node c.index_mut.result.now c.requires.there ∙ ap Some (sym c.index_mut.ensures.value)) why steps refl

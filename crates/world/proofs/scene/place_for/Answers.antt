@@ -3,7 +3,7 @@ use Rattle.std.specs.Prelude.{nat_le}
 use Rattle.std.specs.Option.{unwrap_or}
 use Rattle.std.proofs.lemmas.Iterator.{YieldsList-from_slice}
 use Rattle.std.proofs.lemmas.Iterator.Search.{position_from_yields_List}
-use Rattle.redirection.proofs.PlaceLemmas.{first_place}
+use Rattle.cluster_config.proofs.PlaceLemmas.{first_place}
 use Rattle.world.specs.Clients.{ClientView}
 use Rattle.world.proofs.scene.place_for.Goals as goal
 

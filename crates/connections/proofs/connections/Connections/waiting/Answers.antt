@@ -7,4 +7,4 @@ use Rattle.connections.proofs.connections.Connections.waiting.Goals as goal
 
 pub returns-then-self-eq0 : goal.returns-then-self-eq0
 returns-then-self-eq0 c =
-    c.new.ensures.items ∙ sym (waiting_none c.args.self.now (test_of c.args.which.now) (sym (ap (λ (table : ConnectionTable). count_of_waits table.slots) c.self.view_is) ∙ sym c.self.invariant ∙ c.if-self-eq0.true))
+    c.new.ensures.items ∙ sym (waiting_none c.args.self.now (test_of c.args.which.now) (sym (ap (λ (table : ConnectionTable). count_of_waits table.slots) c.self.view_is) ∙ sym c.self.invariant.waiting ∙ c.if-self-eq0.true))

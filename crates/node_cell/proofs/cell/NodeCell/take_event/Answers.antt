@@ -9,11 +9,11 @@ use Rattle.node_cell.proofs.cell.NodeCell.take_event.Goals.{in-Ok, in-Err}
 
 pub invariant_of-self : goal.invariant_of-self
 invariant_of-self g c =
-    (search rules, rw (c.make_room.ensures.log, c.make_room.ensures.undelivered) c.self.invariant.1, search rules, search rules, search rules)
+    (search rules, rw (c.make_room.ensures.log, c.make_room.ensures.undelivered) c.self.invariant.1, search rules, search rules, search rules, search rules)
 
 pub invariant_of-self-in_default : goal.invariant_of-self-in_default
 invariant_of-self-in_default g c =
-    (search rules, rw (c.make_room.ensures.log, c.make_room.ensures.undelivered) c.self.invariant.1, search rules, search rules, search rules)
+    (search rules, rw (c.make_room.ensures.log, c.make_room.ensures.undelivered) c.self.invariant.1, search rules, search rules, search rules, search rules)
 
 pub invariant_of-self-then-not-comes_in_time : goal.invariant_of-self-then-not-comes_in_time
 invariant_of-self-then-not-comes_in_time g c =
@@ -21,6 +21,7 @@ invariant_of-self-then-not-comes_in_time g c =
       rw (c.enter_skip.ensures, c.make_room.ensures.log) (journal_adds _ _ _ _ _ _ (Skipped c.in-Some.ticket) _ c.self.invariant.0 refl refl drew.0 drew.1),
       rw (c.enter_skip.ensures, c.make_room.ensures.log, c.make_room.ensures.undelivered)
           (given_after_skip (g.L.Log.entries c.self.inside.log) c.in-Some.ticket (joined c.self.inside.undelivered.items) c.self.invariant.1),
+      search rules,
       search rules,
       search rules,
       search rules,
@@ -32,6 +33,7 @@ invariant_of-self-2 g c =
     let drew = c.in-Some.ensures.some in (
       rw (entered.entered, c.make_room.ensures.log) (journal_adds _ _ _ _ _ _ _ _ c.self.invariant.0 entered.under entered.leads drew.0 drew.1),
       c.advance.ensures.given (rw (c.make_room.ensures.log, c.make_room.ensures.undelivered) c.self.invariant.1),
+      search rules,
       search rules,
       search rules,
       search rules,

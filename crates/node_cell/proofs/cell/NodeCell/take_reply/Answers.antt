@@ -11,6 +11,7 @@ invariant_of-self g c = (
   search rules,
   search rules,
   search rules,
+  search rules,
 )
 
 pub returns-clause-given : goal.returns-clause-given

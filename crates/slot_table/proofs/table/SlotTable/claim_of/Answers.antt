@@ -1,12 +1,16 @@
-use Rattle.std.proofs.Common.{subst, sym, ◌∙◌, ℕ, List}
-use Rattle.slot_table.specs.declared.runs.Run.{Run}
+use Rattle.std.proofs.Common.{◌≡◌, ◌∙◌, ap, sym, subst, length, Option}
+use Rattle.slot_table.specs.declared.entry.SlotEntry.{SlotEntry}
 use Rattle.slot_table.specs.Table.{claim_at}
 use Rattle.slot_table.specs.Runs.{AreRunsOf}
+use Rattle.slot_table.proofs.RunsOfLemmas.{is_runs_of, no_claim_behind}
 use Rattle.slot_table.proofs.table.SlotTable.claim_of.Goals as goal
 
 pub returns : goal.returns
 returns c =
-    let same = c.as_slice.ensures.value ∙ c.self.view_is in
+    let table = c.args.self.now in
+    let node = c.args.node in
     let runs = c.in_ok-runs.runs.items in
-    subst (λ (claim : List (Run ℕ)). AreRunsOf (claim_at c.args.self.now c.args.node) claim) (sym c.in_ok-claim.ensures)
-    (subst (λ entries. AreRunsOf (claim_at entries c.args.node) runs) same c.in_ok-runs.ensures)
+    let same = c.as_slice.ensures.value ∙ c.self.view_is in
+    let whole : length table ≡ 16384 = ap (length {A = Option SlotEntry}) (sym c.self.view_is) ∙ c.self.invariant in
+    c.in_ok-claim.ensures
+    ∙ is_runs_of (claim_at table node) runs (no_claim_behind table node whole) (subst (λ entries. AreRunsOf (claim_at entries node) runs) same c.in_ok-runs.ensures)

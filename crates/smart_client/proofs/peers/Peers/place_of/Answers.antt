@@ -3,7 +3,7 @@ use Rattle.std.specs.Option.{unwrap_or}
 use Rattle.std.proofs.lemmas.Iterator.{YieldsList-from_slice}
 use Rattle.std.proofs.lemmas.Iterator.Search.{position_from_yields_List}
 use Rattle.smart_client.specs.Step.{is_at}
-use Rattle.redirection.proofs.PlaceLemmas.{first_place}
+use Rattle.cluster_config.proofs.PlaceLemmas.{first_place}
 use Rattle.smart_client.proofs.peers.Peers.place_of.Goals as goal
 
 pub returns-clause-place : goal.returns-clause-place

@@ -29,3 +29,6 @@ returns-clause-asks c =
 
 pub returns-clause-goes_on : goal.returns-clause-goes_on
 returns-clause-goes_on c = goes_further _ _ _ c.make.ensures.goes_on c.finish_request.ensures.goes_on
+
+pub returns-in_default-clause-goes_on : goal.returns-in_default-clause-goes_on
+returns-in_default-clause-goes_on c = goes_further _ _ _ c.make.ensures.goes_on c.close.ensures.goes_on

@@ -1,0 +1,44 @@
+-- What of a command bears on a move of its slot (Redis command reference, "ASKING"; that it may name a move is ours).
+use Rattle.std.specs.Prelude.{ℕ, ◌==◌, nat_eq, not, Bool, true, false, List, [], ◌∷◌, map, Option, Some, None}
+use Rattle.std.specs.Borrow.{Bor}
+use Rattle.std.specs.Cmp.Lexicographic.{pointwise}
+use Rattle.std.specs.List.{list_all, list_any}
+use Rattle.redirect.specs.declared.asked.Asking.{Asking}
+use Rattle.redirect.specs.declared.asked.Asking.TheVariants.{No, Any, Of}
+
+-- a command's keys, whether each is there, and the asking of its connection
+pub record Asked : Type 0 where
+  pub keys : List (List ℕ)
+  pub there : List Bool
+  pub asking : Asking
+
+-- the bytes of the keys
+abbrev pub bytes_of : List (Bor (List ℕ)) → List (List ℕ)
+bytes_of keys = map (λ key. key.now) keys
+
+abbrev pub asked : List (Bor (List ℕ)) → List Bool → Asking → Asked
+asked keys there asking = record { keys = bytes_of keys; there = there; asking = asking }
+
+-- the asking is right for an import of this number
+abbrev pub is_right : Asking → ℕ → Bool
+is_right No number = false
+is_right Any number = true
+is_right (Of named) number = named == number
+
+-- two of the keys differ
+abbrev pub are_several : List (List ℕ) → Bool
+are_several [] = false
+are_several (key ∷ others) = list_any (λ other. not (pointwise nat_eq other key)) others
+
+-- the key is one of these
+abbrev pub is_one_of : Option (List ℕ) → List (List ℕ) → Bool
+is_one_of None keys = false
+is_one_of (Some key) keys = list_any (λ other. pointwise nat_eq other key) keys
+
+-- all keys are there
+abbrev pub all_there : Asked → Bool
+all_there asked = list_all (λ is. is) asked.there
+
+-- no key is there
+abbrev pub none_there : Asked → Bool
+none_there asked = not (list_any (λ is. is) asked.there)

@@ -1,0 +1,236 @@
+//! The decision on a command, by its keys.
+ghost use Rattle.std.specs.Prelude.{◌≡◌, ◌≢◌, ◌↔◌, ◌==◌, ℕ, List, ◌∷◌, Bool, All, IfSome, IsSome, Some, None, not};
+ghost use Rattle.std.specs.List.{list_any};
+ghost use Rattle.std.specs.Option.{option_copied};
+ghost use Rattle.key_slot.specs.Slot.{hash_slot};
+ghost use Rattle.slot_state.specs.Moves.{move_of};
+ghost use Rattle.slot_state.specs.State.{state_of};
+ghost use Rattle.slot_table.specs.Table.{owner_at};
+ghost use Rattle.redirect.specs.Asked.{Asked, asked, bytes_of};
+ghost use Rattle.redirect.specs.Decision.{decision, decision_at, in_slot, at_owner, coming, leaving};
+ghost use Rattle.redirect.specs.Meaning.{AreInTwoSlots, IsOwned, IsSlotOf};
+
+use crate::asked::{Asking, are_all, are_several, is_any, is_one_of, is_right};
+use byte_string::ByteString;
+use key_slot::{Slot, slot};
+use slot_state::{Move, MoveNo, SlotMoves, SlotState};
+use slot_table::{NodeNo, SlotTable};
+
+/// What a node does with a command.
+#[derive(Clone, Copy, PartialEq, Eq, Debug)]
+pub enum Decision {
+    /// It executes the command.
+    Serve,
+    /// It executes the command in a slot that comes to it.
+    ServeImport {
+        /// The number of the move.
+        number: MoveNo,
+    },
+    /// It refuses the command, whose keys are in more than one slot.
+    CrossSlot,
+    /// It refuses the command, since no node has the slot.
+    Down,
+    /// It refuses the command until the move has gone on.
+    TryAgain(Reason),
+    /// It names the node that the slot goes to, for this command alone.
+    Ask {
+        /// The slot of the keys.
+        slot: Slot,
+        /// The node that the slot goes to.
+        to: NodeNo,
+        /// The number of the move.
+        number: MoveNo,
+    },
+    /// It names the node that has the slot.
+    Moved {
+        /// The slot of the keys.
+        slot: Slot,
+        /// The owner of the slot.
+        to: NodeNo,
+    },
+}
+
+/// Why a command is to be tried again.
+#[derive(Clone, Copy, PartialEq, Eq, Debug)]
+pub enum Reason {
+    /// One of its keys is on its way to the other node.
+    Frozen,
+    /// Some of its keys are here, and others aren't.
+    SomeAreMissing,
+}
+
+/// The decision on a command with these keys, by whether the store has each of them. It takes no memory and always answers.
+pub fn decide(
+    table: &SlotTable,
+    moves: &SlotMoves,
+    node: NodeNo,
+    keys: &[&[u8]],
+    there: &[bool],
+    asking: Asking,
+) -> Decision
+    ensures value { result ≡ decision table.now moves.now node (asked keys.now there.now asking) }
+    ensures crossed { result ≡ Decision.CrossSlot ↔ AreInTwoSlots (bytes_of keys.now) }
+    ensures served { result ≡ Decision.Serve → All (IsOwned table.now moves.now node) (bytes_of keys.now) }
+    ensures moved { (slot to : ℕ) → result ≡ Decision.Moved slot to → (owner_at table.now slot ≡ Some to) × All (λ key. hash_slot key ≡ slot) (bytes_of keys.now) }
+{
+    let Some((first, _)) = keys.split_first() else {
+        return Decision::Serve;
+    };
+    decide_in_slot(table, moves, node, slot(first), keys, there, asking)
+}
+
+/// The decision on a command with these keys, the first of which is in the slot. It does not hash the first key.
+pub fn decide_in_slot(
+    table: &SlotTable,
+    moves: &SlotMoves,
+    node: NodeNo,
+    slot: Slot,
+    keys: &[&[u8]],
+    there: &[bool],
+    asking: Asking,
+) -> Decision
+    ensures value { IsSlotOf slot (bytes_of keys.now) → result ≡ decision table.now moves.now node (asked keys.now there.now asking) }
+    ensures one_slot { IsSlotOf slot (bytes_of keys.now) → result ≢ Decision.CrossSlot → All (λ key. hash_slot key ≡ slot) (bytes_of keys.now) }
+{
+    let Some((_, others)) = keys.split_first() else {
+        return Decision::Serve;
+    };
+    if has_other_slot(slot, others) {
+        return Decision::CrossSlot;
+    }
+    in_one_slot(table, moves, node, slot, keys, there, asking)
+}
+
+/// The decision on a command whose first key is in the slot, and which has these other keys, or `None` where a move of the
+/// slot is under way.
+///
+/// Else neither which keys are there nor the asking matters. It does not hash the first key.
+pub fn decide_at_rest(
+    table: &SlotTable,
+    moves: &SlotMoves,
+    node: NodeNo,
+    slot: Slot,
+    others: &[&[u8]],
+) -> Option<Decision>
+    ensures value { IfSome result (λ made. (first : List ℕ) (there : List Bool) (asking : Asking) → hash_slot first ≡ slot → made ≡ decision table.now moves.now node (record { keys = first ∷ bytes_of others.now; there = there; asking = asking })) }
+    ensures one_slot { IfSome result (λ made. made ≢ Decision.CrossSlot → All (λ key. hash_slot key ≡ slot) (bytes_of others.now)) }
+    ensures none { result ≡ None ↔ IsSome (move_of moves.now slot) }
+{
+    if moves.get(slot).is_some() {
+        return None;
+    }
+    if has_other_slot(slot, others) {
+        return Some(Decision::CrossSlot);
+    }
+    Some(in_resting_slot(slot, table.owner(slot), node))
+}
+
+// Whether one of the keys isn't in the slot.
+fn has_other_slot(slot: Slot, keys: &[&[u8]]) -> bool
+    ensures { result ≡ list_any (λ key. not (hash_slot key.now == slot)) keys.now }
+{
+    keys.iter().any(|key| key_slot::slot(key) != slot)
+}
+
+// The decision on a command whose keys are all in the slot.
+fn in_one_slot(
+    table: &SlotTable,
+    moves: &SlotMoves,
+    node: NodeNo,
+    slot: Slot,
+    keys: &[&[u8]],
+    there: &[bool],
+    asking: Asking,
+) -> Decision
+    ensures { result ≡ decision_at table.now moves.now node slot (asked keys.now there.now asking) }
+{
+    let owner = table.owner(slot);
+    match moves.get(slot) {
+        Some(running) => in_moving_slot(slot, owner, running, keys, there, asking),
+        None => in_resting_slot(slot, owner, node),
+    }
+}
+
+// The decision in a slot without a move.
+fn in_resting_slot(slot: Slot, owner: Option<NodeNo>, node: NodeNo) -> Decision
+    ensures { (asked : Asked) → result ≡ in_slot slot owner (state_of owner None node) asked }
+{
+    match owner {
+        Some(owner) if owner == node => Decision::Serve,
+        _ => at_owner(slot, owner),
+    }
+}
+
+// The decision in a slot with a move.
+fn in_moving_slot(
+    slot: Slot,
+    owner: Option<NodeNo>,
+    running: &Move,
+    keys: &[&[u8]],
+    there: &[bool],
+    asking: Asking,
+) -> Decision
+    ensures { result ≡ in_slot slot owner (SlotState.Moving running.now) (asked keys.now there.now asking) }
+{
+    match running {
+        Move::Comes { number, .. } if is_right(asking, *number) => coming(*number, keys, there),
+        Move::Comes { .. } => at_owner(slot, owner),
+        Move::Leaves {
+            to,
+            number,
+            frozen,
+            ..
+        } => match owner {
+            None => Decision::Down,
+            Some(_) => {
+                let elsewhere = Decision::Ask {
+                    slot,
+                    to: *to,
+                    number: *number,
+                };
+                leaving(elsewhere, frozen.as_ref(), keys, there)
+            }
+        },
+    }
+}
+
+// The decision in a slot that another node may have.
+fn at_owner(slot: Slot, owner: Option<NodeNo>) -> Decision
+    ensures { result ≡ at_owner slot owner }
+{
+    let Some(owner) = owner else {
+        return Decision::Down;
+    };
+    Decision::Moved { slot, to: owner }
+}
+
+// The decision in a slot that comes to the node, after the right ASKING.
+fn coming(number: MoveNo, keys: &[&[u8]], there: &[bool]) -> Decision
+    ensures { (asking : Asking) → result ≡ coming number (asked keys.now there.now asking) }
+{
+    if are_several(keys) && !are_all(there) {
+        return Decision::TryAgain(Reason::SomeAreMissing);
+    }
+    Decision::ServeImport { number }
+}
+
+// The decision in a slot that leaves the node; `elsewhere` is the one where no key is there.
+fn leaving(
+    elsewhere: Decision,
+    frozen: Option<&ByteString>,
+    keys: &[&[u8]],
+    there: &[bool],
+) -> Decision
+    ensures { (asking : Asking) → result ≡ leaving elsewhere (option_copied frozen.entry) (asked keys.now there.now asking) }
+{
+    if is_one_of(frozen, keys) {
+        return Decision::TryAgain(Reason::Frozen);
+    }
+    if are_all(there) {
+        return Decision::Serve;
+    }
+    if is_any(there) {
+        return Decision::TryAgain(Reason::SomeAreMissing);
+    }
+    elsewhere
+}

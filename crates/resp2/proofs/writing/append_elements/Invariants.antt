@@ -1,8 +1,0 @@
-use Rattle.std.proofs.Common.{◌≡◌, ◌++◌, take}
-use Rattle.std.specs.List.{flat_map}
-use Rattle.resp_values.specs.Reply.{element_spelling}
-use Rattle.resp2.proofs.writing.append_elements.Given as goal
-
--- the elements so far are appended
-abbrev pub invariant-loop-element : goal.invariant-loop-element
-invariant-loop-element l = l.out.items ≡ l.fn.out.items ++ flat_map element_spelling (take l.element-index l.elements)

@@ -1,6 +1,0 @@
-use Rattle.std.proofs.Common.{rules}
-use Rattle.slot_decision.proofs.AskedLemmas.{any_of_mapped}
-use Rattle.slot_decision.proofs.asked.are_several.Goals as goal
-
-pub returns-in-Some : goal.returns-in-Some
-returns-in-Some c = search (rules, any_of_mapped)

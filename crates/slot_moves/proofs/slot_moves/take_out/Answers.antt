@@ -1,5 +1,0 @@
-use Rattle.slot_moves.proofs.Maps.{by_slot_remove}
-use Rattle.slot_moves.proofs.slot_moves.take_out.Goals as goal
-
-pub returns : goal.returns
-returns g c = by_slot_remove _ _ _ c.remove-old.ensures.updates.0

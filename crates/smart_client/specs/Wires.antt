@@ -1,0 +1,112 @@
+-- The bytes on a client's connections, and where these lead (this project's own).
+use Rattle.std.specs.Prelude.{◌≡◌, ◌++◌, ◌∷◌, ◌==◌, ℕ, List, [], length, Option, Some, None, slice_get, set, remove, MatchBool, false, if◌then◌else◌}
+use Rattle.exchange.specs.Exchange.{Exchanges, HasFailed}
+use Rattle.exchange.specs.Wire.{Wire, wire_of}
+use Rattle.exchange.specs.declared.outcome.Outcome.{Outcome}
+use Rattle.exchange.specs.declared.outcome.Outcome.TheVariants as outcome
+use Rattle.redirection.specs.Address.{Place}
+use Rattle.smart_client.specs.Pool.{Pool, is_lost, place_in, without_place}
+use Rattle.smart_client.specs.declared.action.Action.{Action}
+use Rattle.smart_client.specs.declared.action.Action.TheVariants.{Connect, Send, Done}
+use Rattle.smart_client.specs.declared.action.Event.{Event}
+use Rattle.smart_client.specs.declared.action.Event.TheVariants as happened
+use Rattle.smart_client.specs.declared.connect.ConnectFault.{ConnectFault}
+use Rattle.smart_client.specs.declared.connect.ConnectFault.TheVariants as missed
+use Rattle.smart_client.specs.declared.connection.Connection.{Connection}
+
+-- ---- one connection
+
+-- the nodes that its two ends reach, and what went out on it and comes in
+pub record Channel : Type 0 where
+  pub reads_from : Place
+  pub writes_to : Place
+  pub wire : Wire
+
+-- it leads to the node at the address, and nothing was read on it
+pub record IsFresh (address : Place) (channel : Channel) : Type 0 where
+  pub reader : channel.reads_from ≡ address
+  pub writer : channel.writes_to ≡ address
+  pub unread : channel.wire.inlet.pending ≡ []
+  pub sound : channel.wire.inlet.fault ≡ None
+
+-- what came of a request, as the client's core is told
+abbrev pub event_of : Outcome → Event
+event_of (outcome.Reply reply) = happened.Reply reply
+event_of outcome.BadReply = happened.BadReply
+event_of (outcome.Broken handed) = happened.Broken handed
+event_of outcome.NoMemory = happened.NoMemory
+
+-- a request was sent, and this came of it
+pub record Brings (words : List (List ℕ)) (old : Channel) (event : Event) (new : Channel) : Type 0 where
+  pub outcome : Outcome
+  pub told : event ≡ event_of outcome
+  pub bytes : Exchanges words old.wire outcome new.wire
+  pub reader : new.reads_from ≡ old.reads_from
+  pub writer : new.writes_to ≡ old.writes_to
+
+-- ---- all of them
+
+-- one for each address of the pool, in its order, and how often no node was reached
+pub record Wires : Type 0 where
+  pub channels : List Channel
+  pub failures : ℕ
+
+abbrev pub wires_of : List Channel → ℕ → Wires
+wires_of channels failures = record { channels = channels; failures = failures }
+
+-- the one in use is closed, if there is one
+abbrev pub wires_without : Option ℕ → Wires → Wires
+wires_without used wires = record wires { channels = without_place wires.channels used }
+
+-- why there is no connection: a node that is not reached is counted
+abbrev pub Misses : ConnectFault → ℕ → ℕ → Type 0
+Misses missed.NotReached old new = HasFailed old new
+Misses missed.Memory old new = new ≡ old
+
+-- a fresh one to the address stands behind the others
+pub record Joins (address : Place) (old new : Wires) : Type 0 where
+  pub fresh : Channel
+  pub is_fresh : IsFresh address fresh
+  pub grown : new ≡ record old { channels = old.channels ++ fresh ∷ [] }
+
+-- the one that failed, or whose bytes are no reply, is closed
+abbrev pub left_by : Event → ℕ → List Channel → List Channel
+left_by event place channels = if is_lost event then remove channels place else channels
+
+-- the one at the place took the request, and the others are as they were
+pub record UsesAt (words : List (List ℕ)) (event : Event) (place : ℕ) (old new : List Channel) : Type 0 where
+  pub before : Channel
+  pub after : Channel
+  pub there : slice_get old place ≡ Some before
+  pub brings : Brings words before event after
+  pub left : new ≡ left_by event place (set old place after)
+
+-- the one in use took the request; where none is in use, none of its bytes went out
+abbrev pub Uses : List (List ℕ) → Event → Option ℕ → List Channel → List Channel → Type 0
+Uses words event None old new = (event ≡ happened.Broken false) × (new ≡ old)
+Uses words event (Some place) old new = UsesAt words event place old new
+
+-- how the connections of the pool change where this comes of what was wanted
+abbrev pub Moves : Action → Event → Pool → Wires → Wires → Type 0
+Moves (Connect address) happened.Connected pool old new =
+    MatchBool (place_in pool.addresses address == length pool.addresses) (Joins address old new) (new ≡ old)
+Moves (Connect address) happened.NotConnected pool old new = (new.channels ≡ old.channels) × HasFailed old.failures new.failures
+Moves (Connect address) happened.NoMemory pool old new = new ≡ old
+Moves (Connect address) event pool old new = ⊥
+Moves (Send words) event pool old new = Uses words event pool.used old.channels new.channels × (new.failures ≡ old.failures)
+Moves (Done answer close) event pool old new = ⊥
+
+-- ---- between calls of a body, where no public clause needs it
+
+-- a connection as clauses see it
+abbrev pub channel_at : {R W : Type 0} → (R → Option (List ℕ)) → (W → Option (List ℕ)) → (R → Place) → (W → Place) → Connection R W → Channel
+channel_at remaining contents reads writes connection = record {
+  reads_from = reads connection.reads_from.value;
+  writes_to = writes connection.writes_to.value;
+  wire = wire_of remaining contents connection.reader connection.sender connection.replies;
+}
+
+-- the pool, and the connections in it
+pub record Lines : Type 0 where
+  pub pool : Pool
+  pub channels : List Channel
