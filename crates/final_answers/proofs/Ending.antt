@@ -29,7 +29,7 @@ use Rattle.cluster_config.proofs.PlaceLemmas.{position-le}
 use Rattle.std.specs.Prelude.{nat_le}
 use Rattle.single_keyspace.proofs.Seen.{same_some}
 use Rattle.final_answers.proofs.Tallies.Touches.{stays}
-use Rattle.world.specs.Asking.{AllAskWell}
+use Rattle.world.specs.Asking.{AllAskWell, KeepsRule}
 use Rattle.world.specs.Calls.{Begins, Returns}
 use Rattle.world.specs.Clients.{begun_at, client_at, new_client, place_of, with_client}
 use Rattle.world.specs.Plays.{ClientStep, IsOfClient, IsOfSome, IsNothing, IsStopping, Plays, PlaysAll}
@@ -37,12 +37,13 @@ use Rattle.world.specs.View.{SceneView, first_scene}
 use Rattle.world.proofs.Rule.{first_rule, plays_well}
 use Rattle.world_run.specs.Executed.{executed}
 use Rattle.final_answers.specs.Book.{IsBook}
-use Rattle.final_answers.specs.Law.{FinalAnswers}
+use Rattle.final_answers.specs.Law.{AnswersHaveReasons, FinalAnswers}
 use Rattle.final_answers.specs.Moments.{PlaysSo}
 use Rattle.final_answers.proofs.Booking.{booked_elsewhere}
 use Rattle.final_answers.proofs.Carrying.{carries_booked, lingers_booked}
 use Rattle.final_answers.proofs.Losing.{breaks_with, cuts_booked}
 use Rattle.final_answers.proofs.Playing.{Written, administers_quiet, delivers_quiet, inserted_at, asks_at, booked_at, numbered_at, nothing_written, of_client, of_nodes, of_some, ticks_quiet}
+use Rattle.final_answers.proofs.Reasons.{have_reasons}
 use Rattle.final_answers.proofs.Scenes.{AllBooked, IsNoneOf, Rise, Stands, begins_in, below_all, others_booked, owner_apart}
 use Rattle.final_answers.proofs.Stepping.{begins_booked, returns_booked}
 use Rattle.final_answers.proofs.Tallies.{owned}
@@ -247,7 +248,7 @@ played old book stands cluster_is (made ∷ steps) outputs new (next, shown, oth
       moments = moment ∷ rest.moments;
       steps_are = ap (λ (them : List Step). made ∷ them) rest.steps_are;
       shown_are = ap (λ (them : List Output). shown ++ them) rest.shown_are ∙ sym are;
-      plays = (next, first, one.adds, rest.plays);
+      plays = (next, first, have_reasons old stands.rule shown next made first, one.adds, rest.plays);
       after = rest.after;
       is_book = (one.after, one.writes, rest.is_book);
       right = rest.right;
@@ -258,3 +259,13 @@ answers_are_final config steps outputs scene cluster_is plays =
     let none : Stands (first_scene config) [] = record { rule = first_rule config; rise = tt; booked = tt; owners = λ number missing. refl; right = tt } in
     let done = played (first_scene config) [] none cluster_is steps outputs scene plays in
     record { moments = done.moments; steps_are = done.steps_are; shown_are = done.shown_are; plays = done.plays; book = done.after; is_book = done.is_book; right = done.right }
+
+-- what is played keeps the rule
+keeps_rule : (old : SceneView) → KeepsRule old → IsCluster old.config → (steps : List Step) (outputs : List Output) (new : SceneView) → PlaysAll old steps outputs new → KeepsRule new
+keeps_rule old rule cluster_is [] outputs new plays = subst KeepsRule (sym plays.1) rule
+keeps_rule old rule cluster_is (made ∷ steps) outputs new (next, shown, others, first, more, are) =
+    keeps_rule next (plays_well old cluster_is rule made shown next first) (subst IsCluster (sym (config_stays old next made shown first)) cluster_is) steps others new more
+
+pub have_reasons_behind : AnswersHaveReasons
+have_reasons_behind config steps outputs old cluster_is plays made shown new step =
+    have_reasons old (keeps_rule (first_scene config) (first_rule config) cluster_is steps outputs old plays) shown new made step

@@ -8,5 +8,7 @@ pub mod Losing
 pub mod Carrying
 pub mod Scenes
 pub mod Playing
+pub mod Turns
+pub mod Reasons
 pub mod Ending
 pub mod WorkedValues

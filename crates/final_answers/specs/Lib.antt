@@ -1,3 +1,4 @@
+pub mod Reasons
 pub mod Moments
 pub mod Book
 pub mod Law

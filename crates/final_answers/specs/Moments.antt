@@ -5,6 +5,7 @@ use Rattle.world.specs.Plays.{Plays}
 use Rattle.world.specs.View.{SceneView}
 use Rattle.world.specs.declared.output.Output.{Output}
 use Rattle.world.specs.declared.step.Step.{Step}
+use Rattle.final_answers.specs.Reasons.{HaveReasons}
 
 -- a step, what it showed, and the commands that were executed by it
 pub record Moment : Type 0 where
@@ -12,8 +13,9 @@ pub record Moment : Type 0 where
   pub shown : List Output
   pub executed : List Answered
 
--- these moments lead from the old scene to the new one
+-- these moments lead from the old scene to the new one, and each answer has its reason
 abbrev pub PlaysSo : SceneView → List Moment → SceneView → Type 0
 PlaysSo old [] new = new ≡ old
 PlaysSo old (moment ∷ moments) new =
-    (next : SceneView) × Plays old moment.step moment.shown next × (executed next.run.entries ≡ executed old.run.entries ++ moment.executed) × PlaysSo next moments new
+    (next : SceneView) × Plays old moment.step moment.shown next × HaveReasons old moment.step moment.shown
+    × (executed next.run.entries ≡ executed old.run.entries ++ moment.executed) × PlaysSo next moments new

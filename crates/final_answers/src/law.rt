@@ -1,5 +1,5 @@
-//! The law of the answers of clients.
-ghost use Rattle.final_answers.specs.Law.{AreFinalIn, FinalAnswers};
+//! The laws of the answers of clients.
+ghost use Rattle.final_answers.specs.Law.{AnswersHaveReasons, AreFinalIn, FinalAnswers};
 
 use world::World;
 
@@ -8,6 +8,15 @@ use world::World;
 /// end says what became of its command.
 pub fn answers_tell_what_became_of_commands()
     ensures { FinalAnswers }
+{}
+
+/// Each answer has its reason. A reply is the node's answer to the command, and where it is an error, it is given for what it
+/// says. A reply is lost only where the connection was cut, or the node at its other end stopped, once the command was sent. There
+/// is no connection only there, or before the command was sent, or where the node isn't up or has no number left for one. A call
+/// is sent on too often only at the seventeenth time, and put off too often only above the limit. Memory is refused only while
+/// nothing that was sent is unanswered.
+pub fn answers_have_reasons()
+    ensures { AnswersHaveReasons }
 {}
 
 /// So it is in each world, whatever was done to it, as long as memory wasn't refused.

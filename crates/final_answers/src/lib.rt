@@ -3,4 +3,6 @@
 
 mod law;
 
-pub use law::{answers_in_a_world_are_final, answers_tell_what_became_of_commands};
+pub use law::{
+    answers_have_reasons, answers_in_a_world_are_final, answers_tell_what_became_of_commands,
+};

@@ -14,6 +14,7 @@ use Rattle.smart_client.specs.Calls.{IsRefusal}
 use Rattle.smart_client.specs.Step.{is_last_line}
 use Rattle.smart_client.specs.declared.action.Event.TheVariants as happened
 use Rattle.smart_client.specs.Words.{asking_words, is_refused, numbered_words}
+use Rattle.node_step.specs.Numbers.{NoNumberLeft}
 use Rattle.node_step.specs.Orders.{done}
 use Rattle.node_step.specs.State.{NodeState}
 use Rattle.node_step.specs.Step.{NodeStep}
@@ -22,6 +23,7 @@ use Rattle.node_step.specs.declared.outputs.Outputs.{Outputs}
 use Rattle.node_step.specs.declared.response.Answer.{Answer}
 use Rattle.node_step.specs.declared.response.Response.TheVariants.{Replied}
 use Rattle.world_run.specs.Executed.{decision_in, is_served}
+use Rattle.reply_meaning.specs.Reasons.{IsReason}
 use Rattle.reply_meaning.specs.Refusal.{is_refusal}
 
 -- a step of a node in this state answers a request so
@@ -47,6 +49,11 @@ CallsGoOnAfterRefusals = (reply : Reply) → IsRefusal (happened.Reply reply) �
 abbrev pub ClusterWordsAreNotExecuted : Type 0
 ClusterWordsAreNotExecuted = (node : NodeState) (conn : Conn) (words : List (List ℕ)) (answer : Answer) → Answers node conn words answer → is_refused words ≡ true
     → is_served (decision_in answer.why) ≡ false
+
+-- an error that answers a command is given for its reason
+abbrev pub ErrorsHaveReasons : Type 0
+ErrorsHaveReasons = (node : NodeState) (conn : Conn) (words : List (List ℕ)) (answer : Answer) (text : List ℕ) → Answers node conn words answer → is_refused words ≡ false
+    → answer.reply ≡ Error text → IsReason node.config.nodes text answer.why
 
 -- ---- what a client sends in front of a command
 
@@ -87,3 +94,7 @@ pub data IsOfClient (words : List (List ℕ)) : Type 0 where
 abbrev pub ClientsAreAnswered : Type 0
 ClientsAreAnswered = (ticket : ℕ) (node after : NodeState) (conn : Conn) (words : List (List ℕ)) (outputs : Outputs) → NodeStep ticket node (Request conn words) outputs after
     → may_ask (connection_at node.connections conn) ≡ true → IsOfClient words → (answer : Answer) × (outputs.response ≡ Replied answer)
+
+-- and it needs no number that could have no next one
+abbrev pub ClientsNeedNoNumber : Type 0
+ClientsNeedNoNumber = (node : NodeState) (conn : Conn) (words : List (List ℕ)) → IsOfClient words → NoNumberLeft node (Request conn words) → ⊥

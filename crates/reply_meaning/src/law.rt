@@ -1,5 +1,5 @@
 //! Laws of the replies of a node.
-ghost use Rattle.reply_meaning.specs.Law.{AsksAreOfMoves, CallsGoOnAfterRefusals, ClientsAreAnswered, ClusterWordsAreNotExecuted, PreparationsAreWelcome, RepliesTellExecution};
+ghost use Rattle.reply_meaning.specs.Law.{AsksAreOfMoves, CallsGoOnAfterRefusals, ClientsAreAnswered, ClientsNeedNoNumber, ClusterWordsAreNotExecuted, ErrorsHaveReasons, PreparationsAreWelcome, RepliesTellExecution};
 
 /// A command on keys was executed exactly where its reply is no refusal. This is said of all words whose name is not CLUSTER,
 /// MIGRATE or ASKING, also of words that are no command.
@@ -10,6 +10,13 @@ pub fn replies_tell_whether_the_command_was_executed()
 /// What makes a client ask again, or another node, is a refusal, and so are OOM and EXHAUSTED.
 pub fn a_call_goes_on_only_after_a_refusal()
     ensures { CallsGoOnAfterRefusals }
+{}
+
+/// An error that answers a command on keys, or words that are no command, has its reason: CROSSSLOT that the keys are in two slots,
+/// CLUSTERDOWN that nobody serves their slot, and the lines of faults that fault of the words. A step answers neither OOM nor
+/// EXHAUSTED.
+pub fn errors_have_reasons()
+    ensures { ErrorsHaveReasons }
 {}
 
 /// Words whose name is CLUSTER, MIGRATE or ASKING are never executed as a command on keys, whatever the reply.
@@ -31,4 +38,9 @@ pub fn an_ask_is_that_of_a_move()
 /// What a client sends is answered by the very step that takes it, on an open connection that waits for no reply.
 pub fn clients_are_answered()
     ensures { ClientsAreAnswered }
+{}
+
+/// What a client sends needs no number that could have no next one, so a node makes a step for it.
+pub fn clients_need_no_number()
+    ensures { ClientsNeedNoNumber }
 {}

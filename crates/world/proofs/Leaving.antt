@@ -10,7 +10,7 @@ use Rattle.node_step.specs.State.{NodeState}
 use Rattle.node_step.specs.declared.event.Event.TheVariants.{Open, Close}
 use Rattle.node_step.specs.declared.outputs.Outputs.{Outputs}
 use Rattle.node_step.specs.declared.response.Response.TheVariants.{Opened}
-use Rattle.single_keyspace.proofs.Lists.{contains_more}
+use Rattle.single_keyspace.proofs.Lists.{contains_first, contains_more}
 use Rattle.single_keyspace.proofs.Seen.{same_some, set_apart, set_here}
 use Rattle.redirect.specs.declared.asked.Asking.{Asking}
 use Rattle.redirect.specs.declared.asked.Asking.TheVariants.{No}
@@ -23,20 +23,22 @@ use Rattle.world.specs.View.{RunView}
 use Rattle.world.specs.declared.client.Link.{Link}
 use Rattle.world.proofs.Connected.{IsAskedBy, IsCalm, IsNew, close_is_calm, open_is_new, step_leaves}
 
--- all connections but those that are changed are as they were, or allow nothing any more; and what was told stays told
+-- all connections but those that are changed are as they were, or allow nothing any more; and what was told stays told, as all that
+-- was entered
 pub record Leaves (changed : Link → Type 0) (old new : RunView) : Type 0 where
   pub nodes : length new.nodes ≡ length old.nodes
   pub configs : (config : ClusterConfig) → HaveConfig config old.nodes → HaveConfig config new.nodes
   pub known : (link : Link) → IsKnown old link → IsKnown new link
   pub calm : (link : Link) → IsCalm (asking_at old link) (asking_at new link) ⊎ changed link
   pub told : (words : List (List ℕ)) (node number : ℕ) → IsTold (past_of old) words node number → IsTold (past_of new) words node number
+  pub entered : (entry : Entry) → Contains (past_of old) entry → Contains (past_of new) entry
 
 abbrev pub none_changed : Link → Type 0
 none_changed link = ⊥
 
 pub leaves_all : (changed : Link → Type 0) (run : RunView) → Leaves changed run run
 leaves_all changed run =
-    record { nodes = refl; configs = λ config have. have; known = λ link known. known; calm = λ link. inl (inl refl); told = λ words node number told. told }
+    record { nodes = refl; configs = λ config have. have; known = λ link known. known; calm = λ link. inl (inl refl); told = λ words node number told. told; entered = λ entry among. among }
 
 pub leaves_more : (changed others : Link → Type 0) (old new : RunView) → ((link : Link) → changed link → others link) → Leaves changed old new → Leaves others old new
 leaves_more changed others old new more leaves = record {
@@ -49,6 +51,7 @@ leaves_more changed others old new more leaves = record {
         | inr is ↦ inr (more link is)
       ];
   told = leaves.told;
+  entered = leaves.entered;
 }
 
 pub calm_further : (old mid new : Asking) → IsCalm old mid → IsCalm mid new → IsCalm old new
@@ -71,6 +74,7 @@ leaves_further changed old mid new first more = record {
         | inr is ↦ inr is
       ];
   told = λ words node number told. more.told words node number (first.told words node number told);
+  entered = λ entry among. more.entered entry (first.entered entry among);
 }
 
 -- what is left where nothing is changed
@@ -166,8 +170,18 @@ module _ (old new : RunView) (node : ℕ) (deed : Deed) (enters : Enters old nod
         | inr apart ↦ inl (inl (ap (λ (s : Option NodeState). asking_in s link.conn) (apart_is link.node apart)))
       ]
 
-  past_is : past_of new ≡ (record { node = node; ticket = enters.enters.ticket; deed = deed }) ∷ past_of old
-  past_is = ap reverse enters.enters.entered ∙ newest_first old.entries (record { node = node; ticket = enters.enters.ticket; deed = deed })
+  abbrev pub entry_now : Entry
+  entry_now = record { node = node; ticket = enters.enters.ticket; deed = deed }
+
+  past_is : past_of new ≡ entry_now ∷ past_of old
+  past_is = ap reverse enters.enters.entered ∙ newest_first old.entries entry_now
+
+  entered_after : (entry : Entry) → Contains (past_of old) entry → Contains (past_of new) entry
+  entered_after entry among = subst (λ (past : List Entry). Contains past entry) (sym past_is) (contains_more entry_now entry (past_of old) among)
+
+  -- the entry stands in the past
+  pub entered_now : Contains (past_of new) entry_now
+  entered_now = subst (λ (past : List Entry). Contains past entry_now) (sym past_is) (contains_first entry_now (past_of old))
 
   told_after : (words : List (List ℕ)) (to number : ℕ) → IsTold (past_of old) words to number → IsTold (past_of new) words to number
   told_after words to number was =
@@ -181,6 +195,7 @@ module _ (old new : RunView) (node : ℕ) (deed : Deed) (enters : Enters old nod
     known = known_after;
     calm = calm_after;
     told = told_after;
+    entered = entered_after;
   }
 
   -- what the entry itself tells

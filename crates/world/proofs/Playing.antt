@@ -9,16 +9,11 @@ use Rattle.resp_values.specs.declared.reply.Reply.{Reply}
 use Rattle.single_keyspace.proofs.Lists.{contains_first, contains_more, contains_one, first_or_more}
 use Rattle.redirect.specs.declared.asked.Asking.{Asking}
 use Rattle.redirect.specs.declared.asked.Asking.TheVariants.{No}
-use Rattle.reply_meaning.specs.Law.{IsOfClient}
-use Rattle.reply_meaning.specs.Law.IsOfClient.{command as plain_command, numbers as plain_numbers, asks as plain_asks}
 use Rattle.smart_client.specs.State.{ClientState}
 use Rattle.smart_client.specs.Step.{Answer, without_call}
 use Rattle.smart_client.specs.declared.action.Event.TheVariants as happened
-use Rattle.smart_client.specs.Words.{is_refused}
 use Rattle.smart_client.specs.declared.call.Call.{Call}
-use Rattle.smart_client.specs.declared.call.Stage.{Stage}
-use Rattle.smart_client.specs.declared.call.Stage.TheVariants as stage
-use Rattle.world.specs.Asking.{AreConnected, AreReady, AsksWell, HaveConfig, Holds, IsAllowed, IsAsking, IsCutOff, IsInPool, IsOfCall, IsSent, IsTold, MayBeCarried, MayComeLate, MayLinger, asking_at, past_of}
+use Rattle.world.specs.Asking.{AreConnected, AreReady, AsksWell, HaveConfig, Holds, IsAllowed, IsCutOff, IsInPool, IsOfCall, IsTold, MayBeCarried, MayComeLate, MayLinger, asking_at, past_of}
 use Rattle.world.specs.Calls.{Arrives, Begins, Carries, ComesLate, Cuts, IsBegun, IsCarried, IsCut, IsLate, IsReturned, IsShut, Lingers, Rests, Returns, Serves, Takes}
 use Rattle.world.specs.Clients.{ClientView, broken_off, fault_of, is_elsewhere, leads_to, stopped_at, used_by, without_late}
 use Rattle.world.specs.View.{RunView, is_up}
@@ -29,7 +24,7 @@ use Rattle.world.specs.declared.client.Traffic.TheVariants.{Quiet, Asked, Answer
 use Rattle.world.specs.declared.output.Output.{Output}
 use Rattle.world.proofs.Leaving.{Leaves, closed_is_calm, closes_leaves, leaves_all, leaves_further, leaves_more, leaves_none, none_changed}
 use Rattle.world.proofs.Parts.{Part, IsAmong, acts_none, acts_some, given_up, quiet_asks, still_held}
-use Rattle.world.proofs.Requests.{AskedOn, replied_so, sent_is_allowed, serves_leaves}
+use Rattle.world.proofs.Requests.{AskedOn, comes_so, replied_so, sent_is_allowed, serves_leaves, words_of_client}
 use Rattle.world.proofs.Stays.{allowed_stays, connected_stays, in_pool_before, leads_elsewhere, no_stays, of_call_stays, under_way_stays, with_fewer, without}
 use Rattle.world.proofs.Told.{answers_well, begins_well}
 
@@ -88,7 +83,7 @@ returns_well nodes old new client after outputs asks = by_traffic client.traffic
         → IsOfCall nodes old client.core client.pool (Answered link reply) under → Takes nodes old (record client { traffic = Quiet }) (Some link) (happened.Reply reply) outputs new after
         → PartOf nodes old client new after
     takes_reply link reply None is connected of_call takes = absurd of_call
-    takes_reply link reply (Some call) is connected (under_way, replied) takes =
+    takes_reply link reply (Some call) is connected (under_way, replied, comes) takes =
         let may = answers_well nodes (past_of old) link.node (asking_at old link) client.core takes.core call reply takes.action is under_way.called under_way.there replied takes.steps in
         quietly nodes old new client after
         (acts_some nodes old (record client { traffic = Quiet; core = takes.core }) refl link takes.action outputs new after connected under_way.in_use may takes.acts)
@@ -121,9 +116,10 @@ module _ (config : ClusterConfig) (cluster_is : IsCluster config) (old new : Run
   arrives_so (Some call) is (under_way, sent) reply outputs serves left =
       let leaves : Leaves Ask old new = serves_leaves old new link.node link.conn words (Some reply) outputs serves in
       let answers = replied_so config cluster_is old have link.node link.conn words reply outputs new call call.stage under_way.called.plain under_way.called.number sent serves in
+      let comes = comes_so config cluster_is old have link.node link.conn words reply outputs new call call.stage under_way.called.plain under_way.called.number sent serves in
       let of_call : IsOfCall config.nodes new client.core client.pool (Answered link reply) client.core.call =
       subst (IsOfCall config.nodes new client.core client.pool (Answered link reply)) (sym is)
-      (under_way_stays Ask old new leaves config.nodes client.core client.pool link call under_way, answers) in
+      (under_way_stays Ask old new leaves config.nodes client.core client.pool link call under_way, answers, comes) in
       subst (PartOf config.nodes old client new) (sym left)
       (record {
         leaves = leaves_more Ask (Holds client) old new (own under_way.in_use) leaves;
@@ -305,17 +301,6 @@ lingers_well nodes old new client after outputs asks = by_late client.late refl
     by_late (late ∷ others) all comes = by_up late others all (is_up old late.link.node) comes
 
 -- ---- what a client asks may come to its node
-
--- what a call sends is a client's words
-words_of_client : (call : Call) (at : Stage) (words : List (List ℕ)) (asking : Asking) → is_refused call.words ≡ false → IsSent call at words asking → IsOfClient words
-words_of_client call stage.Connecting words asking plain sent = absurd sent
-words_of_client call stage.Introducing words asking plain sent = plain_numbers sent.0
-words_of_client call stage.Asking words asking plain sent = by_number call.asking sent.0
-  where
-    by_number : (asked : Option ℕ) → IsAsking asked words → IsOfClient words
-    by_number None is = absurd is
-    by_number (Some number) is = plain_asks number is
-words_of_client call stage.Sent words asking plain sent = plain_command (ap is_refused sent.0 ∙ plain)
 
 pub carried_if_asked : (nodes : List NodeConfig) (run : RunView) (client : ClientView) → AsksWell nodes run client → AreReady run client.pool → MayBeCarried run client.traffic
 carried_if_asked nodes run client asks ready = by_traffic client.traffic client.core.call asks.call

@@ -15,6 +15,7 @@ use Rattle.command_table.specs.declared.command.Command.TheVariants.{Cluster}
 use Rattle.command_table.specs.declared.error_line.ErrorLine.TheVariants.{Exhausted}
 use Rattle.command_table.specs.declared.fault.CommandFault.{CommandFault}
 use Rattle.connections.specs.declared.conn.Conn.{Conn}
+use Rattle.node_step.specs.Orders.{done}
 use Rattle.node_step.specs.Outcome.{error}
 use Rattle.node_step.specs.Requests.{asking_for}
 use Rattle.node_step.specs.State.{NodeState}
@@ -26,9 +27,13 @@ use Rattle.node_step.specs.declared.response.Response.TheVariants.{Nothing, Open
 use Rattle.redirection.specs.Address.{Place}
 use Rattle.redirection.specs.Redirection.{IsMove}
 use Rattle.reply_meaning.proofs.Asks.{line_is_none, of_moves}
-use Rattle.reply_meaning.proofs.Laws.{asking_is}
+use Rattle.reply_meaning.proofs.Laws.{asking_is, welcome}
+use Rattle.reply_meaning.proofs.Reasons.{have_reasons, need_no_number}
 use Rattle.reply_meaning.proofs.Words.{IsOfData, data_words}
-use Rattle.reply_meaning.specs.Law.{Answers, IsOfMove}
+use Rattle.reply_meaning.specs.Law.{Answers, IsOfClient, IsOfMove, Prepares}
+use Rattle.reply_meaning.specs.Law.IsOfClient.{command as plain_command, numbers as plain_numbers, asks as plain_asks}
+use Rattle.reply_meaning.specs.Law.Prepares.{numbers, asks}
+use Rattle.reply_meaning.specs.Reasons.{IsReason}
 use Rattle.resp_values.specs.declared.reply.Reply.{Reply}
 use Rattle.single_keyspace.proofs.Lists.{each_element}
 use Rattle.single_keyspace.proofs.Seen.{set_here}
@@ -41,7 +46,7 @@ use Rattle.smart_client.specs.declared.call.Stage.TheVariants as stage
 use Rattle.world_run.specs.Executed.{Redirection, answered, answered_with, decision_in, redirected, redirection_in}
 use Rattle.world_run.specs.Run.{Entry}
 use Rattle.world_run.specs.Run.Deed.{Made}
-use Rattle.world.specs.Asking.{Follows, HaveConfig, IsAllowed, IsAsking, IsReplied, IsSent, IsTold, TellsTruth, asking_at, asking_in, past_of}
+use Rattle.world.specs.Asking.{ComesFrom, Follows, HaveConfig, IsAllowed, IsAsking, IsReplied, IsSent, IsTold, TellsTruth, WasAnswered, asking_at, asking_in, past_of}
 use Rattle.world.specs.Calls.{IsServed, IsSkipped, Serves, reply_in}
 use Rattle.world.specs.Clients.{is_at, node_at}
 use Rattle.world.specs.NodeSteps.{released_conns}
@@ -49,7 +54,7 @@ use Rattle.world.specs.View.{RunView}
 use Rattle.world.specs.declared.client.Link.{Link}
 use Rattle.world.specs.declared.output.Output.{Output}
 use Rattle.world.proofs.Connected.{IsAskingWords, IsCalm, asking_on, request_uses_up}
-use Rattle.world.proofs.Leaving.{ChangedBy, Leaves, closes_leaves, enters_leaves, leaves_further, leaves_more, leaves_none, none_changed, skips_leaves, tells_now}
+use Rattle.world.proofs.Leaving.{ChangedBy, Leaves, closes_leaves, entered_now, enters_leaves, entry_now, leaves_further, leaves_more, leaves_none, none_changed, skips_leaves, tells_now}
 use Rattle.world.proofs.Stays.{no_stays, still_calm}
 
 -- ---- addresses
@@ -117,6 +122,17 @@ asking_allows (Some named) words number asking move is command allows =
 
 -- ---- a request that a node answers
 
+-- what a call sends is a client's words
+pub words_of_client : (call : Call) (at : Stage) (words : List (List ℕ)) (asking : Asking) → is_refused call.words ≡ false → IsSent call at words asking → IsOfClient words
+words_of_client call stage.Connecting words asking plain sent = absurd sent
+words_of_client call stage.Introducing words asking plain sent = plain_numbers sent.0
+words_of_client call stage.Asking words asking plain sent = by_number call.asking sent.0
+  where
+    by_number : (asked : Option ℕ) → IsAsking asked words → IsOfClient words
+    by_number None is = absurd is
+    by_number (Some number) is = plain_asks number is
+words_of_client call stage.Sent words asking plain sent = plain_command (ap is_refused sent.0 ∙ plain)
+
 -- what is changed is the connection of the request, by ASKING
 abbrev pub AskedOn : Link → List (List ℕ) → Link → Type 0
 AskedOn link words other = (other ≡ link) × IsAskingWords words
@@ -176,12 +192,19 @@ module _ (config : ClusterConfig) (cluster_is : IsCluster config) (old : RunView
         later : IsCalm (asking_at served.after here) (asking_at new here)
         later = still_calm none_changed served.after new closes here (λ none. none)
 
+    answers : Answers served.makes.enters.step.before conn words given.0
+    answers = record {
+      ticket = served.makes.enters.ticket;
+      outputs = served.made;
+      after = served.makes.enters.step.after;
+      step = served.makes.enters.step.leads.1;
+      response = given.1;
+    }
+
     -- and what an ASK tells
     told_truly : TellsTruth config.nodes (past_of new) words reply
     told_truly text slot place number is tells =
         let step = served.makes.enters.step in
-        let answers : Answers step.before conn words given.0 =
-        record { ticket = served.makes.enters.ticket; outputs = served.made; after = step.after; step = step.leads.1; response = given.1 } in
         let moves : IsOfMove step.before slot place number (decision_in given.0.why) = of_moves step.before conn words given.0 text slot place number answers (given.2 ∙ is) tells in
         let config_is : slice_get config.nodes moves.to ≡ Some moves.config =
         ap (λ (c : ClusterConfig). slice_get c.nodes moves.to) (sym (have node step.before step.was)) ∙ moves.is_node in
@@ -213,6 +236,36 @@ module _ (config : ClusterConfig) (cluster_is : IsCluster config) (old : RunView
       subst (λ (ws : List (List ℕ)). TellsTruth config.nodes (past_of new) ws reply) sent.0 told_truly,
     )
 
+    -- the entry of the step gives it
+    was_answered : is_refused words ≡ false → WasAnswered config.nodes (past_of new) node words reply
+    was_answered plain =
+        let step = served.makes.enters.step in
+        record {
+          entry = entry_now old served.after node (Made (Request conn words) served.made) served.makes;
+          among = closes.entered _ (entered_now old served.after node (Made (Request conn words) served.made) served.makes);
+          there = refl;
+          answer = given.0;
+          gives = ap (answered_with words) given.1;
+          same = given.2;
+          reason = λ text is.
+              subst (λ (c : ClusterConfig). IsReason c.nodes text given.0.why) (have node step.before step.was)
+              (have_reasons step.before conn words given.0 text answers plain (given.2 ∙ is));
+        }
+
+    is_welcome : Prepares words → reply ≡ done
+    is_welcome prepares = sym given.2 ∙ welcome served.makes.enters.step.before conn words given.0 answers prepares
+
+    comes_if_served : (call : Call) (at : Stage) → is_refused call.words ≡ false → IsMove call.asking → IsSent call at words (asking_at old here) → ComesFrom config.nodes (past_of new) node call at reply
+    comes_if_served call stage.Connecting plain move sent = absurd sent
+    comes_if_served call stage.Introducing plain move sent = is_welcome (numbers sent.0)
+    comes_if_served call stage.Asking plain move sent = by_number call.asking move sent.0
+      where
+        by_number : (asked : Option ℕ) → IsMove asked → IsAsking asked words → reply ≡ done
+        by_number None move is = absurd is
+        by_number (Some number) move is = is_welcome (asks number move is)
+    comes_if_served call stage.Sent plain move sent =
+        subst (λ (ws : List (List ℕ)). WasAnswered config.nodes (past_of new) node ws reply) sent.0 (was_answered (ap is_refused sent.0 ∙ plain))
+
   module _ (skipped : IsSkipped old node conn words (Some reply) outputs new) where
     skip_leaves : Leaves none_changed old new
     skip_leaves = skips_leaves old new node skipped.skips.enters
@@ -234,6 +287,13 @@ module _ (config : ClusterConfig) (cluster_is : IsCluster config) (old : RunView
       → IsReplied config.nodes (past_of new) call at reply (asking_at new here)
   replied_so call at plain move sent (inl served) = replied_if_served served call at plain move sent
   replied_so call at plain move sent (inr skipped) = replied_if_skipped skipped call at sent
+
+  -- where it comes from: a node makes a step for what a client sends
+  pub comes_so : (call : Call) (at : Stage) → is_refused call.words ≡ false → IsMove call.asking → IsSent call at words (asking_at old here) → Serves old node conn words (Some reply) outputs new
+      → ComesFrom config.nodes (past_of new) node call at reply
+  comes_so call at plain move sent (inl served) = comes_if_served served call at plain move sent
+  comes_so call at plain move sent (inr skipped) =
+      absurd (need_no_number skipped.skips.enters.enters.step.before conn words (words_of_client call at words (asking_at old here) plain sent) skipped.skips.why)
 
 -- ---- a request that a client sends is one that it may send
 

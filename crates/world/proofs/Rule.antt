@@ -281,7 +281,7 @@ module _ (nodes : List NodeConfig) (run : RunView) (node : ℕ) where
 -- which nodes were stopped changes no connection
 stop_leaves : (run : RunView) (stopped : List Bool) → Leaves (Unknown run) run (record run { stopped = stopped })
 stop_leaves run stopped =
-    record { nodes = refl; configs = λ config have. have; known = λ link known. known; calm = λ link. inl (inl refl); told = λ words node number told. told }
+    record { nodes = refl; configs = λ config have. have; known = λ link known. known; calm = λ link. inl (inl refl); told = λ words node number told. told; entered = λ entry among. among }
 
 -- ---- one of the clients
 

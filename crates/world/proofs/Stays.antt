@@ -14,7 +14,7 @@ use Rattle.smart_client.specs.declared.call.Call.{Call}
 use Rattle.smart_client.specs.declared.call.Stage.{Stage}
 use Rattle.smart_client.specs.declared.call.Stage.TheVariants as stage
 use Rattle.world_run.specs.Run.{Entry}
-use Rattle.world.specs.Asking.{AreConnected, AsksWell, Follows, Holds, IsAllowed, IsCalled, IsCutOff, IsIdle, IsInPool, IsKnown, IsOfCall, IsReplied, IsSent, IsTold, IsUnderWay, MayComeLate, TellsTruth, asking_at, past_of}
+use Rattle.world.specs.Asking.{AreConnected, AsksWell, ComesFrom, Follows, Holds, IsAllowed, IsCalled, IsCutOff, IsIdle, IsInPool, IsKnown, IsOfCall, IsReplied, IsSent, IsTold, IsUnderWay, MayComeLate, TellsTruth, asking_at, past_of}
 use Rattle.world.specs.Clients.{ClientView, leads_to, used_by}
 use Rattle.world.specs.View.{RunView}
 use Rattle.world.specs.declared.client.Late.{Late}
@@ -120,6 +120,20 @@ module _ (changed : Link → Type 0) (old new : RunView) (leaves : Leaves change
   replied_stays nodes call stage.Sent reply before after calm (inl nothing, truth) = (inl (no_stays before after calm nothing), truth_stays nodes call.words reply truth)
   replied_stays nodes call stage.Sent reply before after calm (inr exhausted, truth) = (inr exhausted, truth_stays nodes call.words reply truth)
 
+  comes_stays : (nodes : List NodeConfig) (node : ℕ) (call : Call) (at : Stage) (reply : Reply) → ComesFrom nodes (past_of old) node call at reply → ComesFrom nodes (past_of new) node call at reply
+  comes_stays nodes node call stage.Connecting reply comes = comes
+  comes_stays nodes node call stage.Introducing reply comes = comes
+  comes_stays nodes node call stage.Asking reply comes = comes
+  comes_stays nodes node call stage.Sent reply was = record {
+    entry = was.entry;
+    among = leaves.entered was.entry was.among;
+    there = was.there;
+    answer = was.answer;
+    gives = was.gives;
+    same = was.same;
+    reason = was.reason;
+  }
+
   -- the connection in use is as it was, or allows nothing any more
   pub still_calm : (link : Link) → (changed link → ⊥) → IsCalm (asking_at old link) (asking_at new link)
   still_calm link unchanged =
@@ -138,10 +152,11 @@ module _ (changed : Link → Type 0) (old new : RunView) (leaves : Leaves change
           (still_calm link (unchanged link under_way.in_use)) sent,
     )
     of_call_stays (Answered link reply) None is = absurd is
-    of_call_stays (Answered link reply) (Some call) (under_way, replied) = (
+    of_call_stays (Answered link reply) (Some call) (under_way, replied, comes) = (
       under_way_stays nodes core pool link call under_way,
       replied_stays nodes call call.stage reply (asking_at old link) (asking_at new link)
           (still_calm link (unchanged link under_way.in_use)) replied,
+      comes_stays nodes link.node call call.stage reply comes,
     )
 
   -- a client whose connections nobody else uses

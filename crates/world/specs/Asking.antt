@@ -7,15 +7,18 @@ use Rattle.cluster_config.specs.declared.config.NodeConfig.{NodeConfig}
 use Rattle.command_table.specs.declared.error_line.ErrorLine.TheVariants.{Exhausted}
 use Rattle.connections.specs.Connections.{connection_at, may_ask, opens_at}
 use Rattle.connections.specs.declared.conn.Conn.{Conn}
+use Rattle.node_step.specs.Orders.{done}
 use Rattle.node_step.specs.Outcome.{error}
 use Rattle.node_step.specs.Requests.{asking_of}
 use Rattle.node_step.specs.State.{NodeState}
 use Rattle.node_step.specs.declared.event.Event.{Event}
 use Rattle.node_step.specs.declared.event.Event.TheVariants.{Open, Close, Request, Deliver, Tick}
+use Rattle.node_step.specs.declared.response.Answer.{Answer}
 use Rattle.redirection.specs.Address.{Place}
 use Rattle.redirection.specs.Redirection.{IsMove, IsRedirection}
 use Rattle.redirection.specs.declared.redirection.Redirection.TheVariants as redirection
 use Rattle.reply_meaning.specs.Law.{IsOfClient}
+use Rattle.reply_meaning.specs.Reasons.{IsReason}
 use Rattle.resp_values.specs.declared.reply.Reply.{Reply}
 use Rattle.resp_values.specs.declared.reply.Reply.TheVariants.{Error}
 use Rattle.redirect.specs.declared.asked.Asking.{Asking}
@@ -26,7 +29,7 @@ use Rattle.smart_client.specs.Words.{asking_words, is_refused, numbered_words}
 use Rattle.smart_client.specs.declared.call.Call.{Call}
 use Rattle.smart_client.specs.declared.call.Stage.{Stage}
 use Rattle.smart_client.specs.declared.call.Stage.TheVariants as stage
-use Rattle.world_run.specs.Executed.{redirections}
+use Rattle.world_run.specs.Executed.{answered, redirections}
 use Rattle.world_run.specs.Run.{Entry}
 use Rattle.world.specs.Clients.{ClientView, leads_to, node_at, used_by}
 use Rattle.world.specs.View.{RunView, SceneView}
@@ -117,6 +120,23 @@ IsReplied nodes past call stage.Introducing reply asking = asking ≡ No
 IsReplied nodes past call stage.Asking reply asking = Follows call.asking asking
 IsReplied nodes past call stage.Sent reply asking = ((asking ≡ No) ⊎ (reply ≡ error Exhausted)) × TellsTruth nodes past call.words reply
 
+-- the node answered a request with these words so, and for its reason
+pub record WasAnswered (nodes : List NodeConfig) (past : List Entry) (node : ℕ) (words : List (List ℕ)) (reply : Reply) : Type 0 where
+  pub entry : Entry
+  pub among : Contains past entry
+  pub there : entry.node ≡ node
+  pub answer : Answer
+  pub gives : answered entry.deed ≡ Some (record { words = words; answer = answer })
+  pub same : answer.reply ≡ reply
+  pub reason : (text : List ℕ) → reply ≡ Error text → IsReason nodes text answer.why
+
+-- where the reply to what the call sent comes from: what stands in front of its command is welcome
+abbrev pub ComesFrom : List NodeConfig → List Entry → ℕ → Call → Stage → Reply → Type 0
+ComesFrom nodes past node call stage.Connecting reply = ⊥
+ComesFrom nodes past node call stage.Introducing reply = reply ≡ done
+ComesFrom nodes past node call stage.Asking reply = reply ≡ done
+ComesFrom nodes past node call stage.Sent reply = WasAnswered nodes past node call.words reply
+
 -- ---- clients
 
 abbrev pub past_of : RunView → List Entry
@@ -161,6 +181,7 @@ IsOfCall nodes run core pool (Asked link words) (Some call) =
 IsOfCall nodes run core pool (Answered link reply) None = ⊥
 IsOfCall nodes run core pool (Answered link reply) (Some call) =
     IsUnderWay nodes (past_of run) core pool link call × IsReplied nodes (past_of run) call call.stage reply (asking_at run link)
+    × ComesFrom nodes (past_of run) link.node call call.stage reply
 
 -- a client asks only what it was told to ask
 pub record AsksWell (nodes : List NodeConfig) (run : RunView) (client : ClientView) : Type 0 where

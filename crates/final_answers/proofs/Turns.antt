@@ -1,0 +1,112 @@
+-- How a call ends, by what its client was told last.
+use Rattle.std.proofs.Common.{◌≡◌, ◌==◌, ℕ, Bool, true, false, true≢false, cond, List, Option, None, Some, Ok, Err, refl, sym, ap, subst, inl, inr, ◌∙◌}
+use Rattle.std.proofs.lemmas.Bool.{eqb-true}
+use Rattle.std.specs.Prelude.{⊤}
+use Rattle.node_step.specs.Orders.{done}
+use Rattle.redirection.specs.Address.{Place}
+use Rattle.redirection.specs.declared.redirection.Redirection.{Redirection}
+use Rattle.redirection.specs.declared.redirection.Redirection.TheVariants.{Moved, Ask}
+use Rattle.resp_values.specs.declared.reply.Reply.{Reply}
+use Rattle.resp_values.specs.declared.reply.Reply.TheVariants.{Simple, Error, Integer, Bulk, Null, Array}
+use Rattle.smart_client.specs.ErrorKind.{kind_of}
+use Rattle.smart_client.specs.State.{ClientState}
+use Rattle.smart_client.specs.Step.{Answer, Steps, Tells, Turn, again, allowed, begun, closes, connected, failed, follows, introduced, is_beyond, is_ok, next, peer_at, redirected, replied, uses, uses_for, with_connected, with_owner}
+use Rattle.smart_client.specs.Step as client
+use Rattle.smart_client.specs.Step.Turn.{Goes, Ends, Reads}
+use Rattle.smart_client.specs.Words.{is_refused}
+use Rattle.smart_client.specs.declared.action.Action.{Action}
+use Rattle.smart_client.specs.declared.action.Action.TheVariants.{Connect, Send, Done}
+use Rattle.smart_client.specs.declared.action.Event.{Event}
+use Rattle.smart_client.specs.declared.call.Call.{Call}
+use Rattle.smart_client.specs.declared.client_core.TheConstants.{MOST_REDIRECTIONS}
+use Rattle.smart_client.specs.declared.error_kind.ErrorKind.{ErrorKind}
+use Rattle.smart_client.specs.declared.error_kind.ErrorKind.TheVariants.{Redirection as Redirects, TryAgain, LastLine, Other}
+use Rattle.smart_client.specs.declared.fault.ClientFault.TheVariants.{Memory, NotData, BadReply, TooManyRedirects, StillTryAgain}
+
+-- the client wants more to be done
+abbrev IsMore : Action → Type 0
+IsMore (Connect address) = ⊤
+IsMore (Send words) = ⊤
+IsMore (Done answer close) = ⊥
+
+abbrev answer_in : Action → Answer
+answer_in (Done answer close) = answer
+answer_in _ = Err NotData
+
+module _ (P : Answer → Type 0) where
+  -- each answer to which the turn may come is such
+  abbrev pub EndsSo : Turn → Type 0
+  EndsSo (Goes core action) = IsMore action
+  EndsSo (Ends answer) = P answer
+  EndsSo (Reads text turn_by) = (redirection : Option Redirection) → Tells text redirection → EndsSo (turn_by redirection)
+
+  followed : (old new : ClientState) (made : Turn) (answer : Answer) (close : Bool) → EndsSo made → client.Follows made old (Done answer close) new → P answer
+  followed old new (Goes core action) answer close more follows = absurd (subst IsMore (sym follows.1) more)
+  followed old new (Ends last) answer close such follows = subst P (sym (ap answer_in follows.1)) such
+  followed old new (Reads text turn_by) answer close reads follows = followed old new (turn_by follows.0) answer close (reads follows.0 follows.1) follows.2
+
+  -- and so is the one to which it comes
+  pub ended_so : (old new : ClientState) (event : Event) (answer : Answer) (close : Bool) → EndsSo (next old.call old event) → P (Err Memory) → Steps old event (Done answer close) new → P answer
+  ended_so old new event answer close ends memory (inl follows) = followed old new (next old.call old event) answer close ends follows
+  ended_so old new event answer close ends memory (inr refused) = followed old new (Ends (Err Memory)) answer close memory refused.1
+
+  ends_if : (test : Bool) (one other : Turn) → (test ≡ true → EndsSo one) → (test ≡ false → EndsSo other) → EndsSo (cond test one other)
+  ends_if true one other first second = first refl
+  ends_if false one other first second = second refl
+
+  -- ---- turns
+
+  pub begun_ends : (core : ClientState) (words : List (List ℕ)) → (is_refused words ≡ true → P (Err NotData)) → EndsSo (begun core words)
+  begun_ends core words no_data = ends_if (is_refused words) _ _ no_data (λ plain. tt)
+
+  uses_ends : (core : ClientState) (call : Call) → EndsSo (uses core call)
+  uses_ends core call = by_asked call.asking
+    where
+      by_asked : (asked : Option ℕ) → EndsSo (uses_for asked core call)
+      by_asked None = tt
+      by_asked (Some number) = tt
+
+  pub connected_ends : (core : ClientState) (call : Call) → EndsSo (connected core call)
+  connected_ends core call = ends_if (peer_at core.peers call.to).is_connected _ _ (λ known. uses_ends core call) (λ new. tt)
+
+  -- what stands in front of the command was welcome
+  pub introduced_ends : (core : ClientState) (call : Call) (reply : Reply) → reply ≡ done → EndsSo (introduced core call reply)
+  introduced_ends core call reply welcome =
+      ends_if (is_ok reply) _ _ (λ ok. uses_ends (record core { peers = with_connected core.peers call.to true }) call) (λ other. absurd (true≢false (sym (ap is_ok welcome) ∙ other)))
+
+  pub allowed_ends : (core : ClientState) (call : Call) (reply : Reply) → reply ≡ done → EndsSo (allowed core call reply)
+  allowed_ends core call reply welcome = ends_if (is_ok reply) _ _ (λ ok. tt) (λ other. absurd (true≢false (sym (ap is_ok welcome) ∙ other)))
+
+  follows_ends : (core : ClientState) (call : Call) (address : Place) (number : Option ℕ) → P (Err BadReply) → EndsSo (follows core call address number)
+  follows_ends core call address number bad = ends_if (is_beyond core.peers address) _ _ (λ beyond. bad) (λ known. tt)
+
+  redirected_ends : (core : ClientState) (call : Call) (redirection : Option Redirection) → P (Err BadReply) → EndsSo (redirected core call redirection)
+  redirected_ends core call None bad = bad
+  redirected_ends core call (Some (Moved slot to)) bad = follows_ends (with_owner core slot to) call to None bad
+  redirected_ends core call (Some (Ask slot to None)) bad = bad
+  redirected_ends core call (Some (Ask slot to (Some number))) bad = follows_ends core call to (Some number) bad
+
+  -- an error answers the command
+  module _ (core : ClientState) (call : Call) (text : List ℕ) (over : P (Ok (Error text))) (bad : kind_of text ≡ Redirects → P (Err BadReply))
+      (too_many : kind_of text ≡ Redirects → call.redirections ≡ MOST_REDIRECTIONS → P (Err TooManyRedirects)) (too_often : kind_of text ≡ TryAgain → call.repeats ≡ core.limit → P (Err StillTryAgain)) where
+    failed_by : (kind : ErrorKind) → kind_of text ≡ kind → EndsSo (failed kind core call text)
+    failed_by Redirects is =
+        ends_if (call.redirections == MOST_REDIRECTIONS) _ _ (λ most. too_many is (eqb-true call.redirections MOST_REDIRECTIONS most))
+        (λ fewer. λ (redirection : Option Redirection). λ (tells : Tells text redirection). redirected_ends core call redirection (bad is))
+    failed_by TryAgain is = ends_if (call.repeats == core.limit) _ _ (λ most. too_often is (eqb-true call.repeats core.limit most)) (λ fewer. tt)
+    failed_by LastLine is = over
+    failed_by Other is = over
+
+    pub failed_ends : EndsSo (failed (kind_of text) core call text)
+    failed_ends = failed_by (kind_of text) refl
+
+  -- a reply does
+  pub replied_ends : (core : ClientState) (call : Call) (reply : Reply) → P (Ok reply) → ((text : List ℕ) → reply ≡ Error text → kind_of text ≡ Redirects → P (Err BadReply))
+      → ((text : List ℕ) → reply ≡ Error text → kind_of text ≡ Redirects → call.redirections ≡ MOST_REDIRECTIONS → P (Err TooManyRedirects))
+      → ((text : List ℕ) → reply ≡ Error text → kind_of text ≡ TryAgain → call.repeats ≡ core.limit → P (Err StillTryAgain)) → EndsSo (replied core call reply)
+  replied_ends core call (Error text) over bad too_many too_often = failed_ends core call text over (bad text refl) (too_many text refl) (too_often text refl)
+  replied_ends core call (Simple text) over bad too_many too_often = over
+  replied_ends core call (Integer number) over bad too_many too_often = over
+  replied_ends core call (Bulk bytes) over bad too_many too_often = over
+  replied_ends core call Null over bad too_many too_often = over
+  replied_ends core call (Array replies) over bad too_many too_often = over
