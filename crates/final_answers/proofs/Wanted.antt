@@ -1,13 +1,12 @@
 -- How a call goes on, or ends, by what became of its command.
 use Rattle.std.proofs.Common.{◌≡◌, ◌==◌, ◌+◌, ◌∙◌, ℕ, Bool, true, false, true≢false, cond, List, Option, None, Some, Ok, Err, refl, sym, ap, subst, inl, inr}
 use Rattle.std.proofs.lemmas.Bool.{cases_Bool, or_parts}
-use Rattle.std.specs.Prelude.{IsTrue, codes}
-use Rattle.std.specs.Str.{bytes_eq}
+use Rattle.std.specs.Prelude.{IsTrue}
 use Rattle.redirection.specs.Address.{Place}
-use Rattle.redirection.specs.ErrorWord.{first_word}
 use Rattle.redirection.specs.declared.redirection.Redirection.{Redirection}
 use Rattle.redirection.specs.declared.redirection.Redirection.TheVariants.{Moved, Ask}
 use Rattle.reply_meaning.proofs.Clients.{goes_on}
+use Rattle.reply_meaning.proofs.RefusalKinds.{other_so}
 use Rattle.reply_meaning.specs.Refusal.{begins_so, is_of_no_command, is_refusal}
 use Rattle.resp_values.specs.declared.reply.Reply.{Reply}
 use Rattle.resp_values.specs.declared.reply.Reply.TheVariants.{Simple, Error, Integer, Bulk, Null, Array}
@@ -135,16 +134,7 @@ module _ (words : List (List ℕ)) (execution : Option Reply) where
 
   -- an error that is no refusal ends the call
   no_refusal_ends : (P : Turn → Type 0) (core : ClientState) (call : Call) (text : List ℕ) → begins_so text ≡ false → P (Ends (Ok (Error text))) → P (failed (kind_of text) core call text)
-  no_refusal_ends P core call text is end =
-      let word = first_word text in
-      let moved = or_parts (bytes_eq word (codes "MOVED")) _ is in
-      let ask = or_parts (bytes_eq word (codes "ASK")) _ moved.1 in
-      let repeats = or_parts (bytes_eq word (codes "TRYAGAIN")) _ ask.1 in
-      let two_slots = or_parts (bytes_eq word (codes "CROSSSLOT")) _ repeats.1 in
-      let down = or_parts (bytes_eq word (codes "CLUSTERDOWN")) _ two_slots.1 in
-      let memory = or_parts (bytes_eq word (codes "OOM")) _ down.1 in
-      let exhausted = or_parts (bytes_eq word (codes "EXHAUSTED")) _ memory.1 in
-      rw (moved.0, ask.0, repeats.0, memory.0, exhausted.0) end
+  no_refusal_ends P core call text is end = let kinds = other_so text is in rw (kinds.moved, kinds.ask, kinds.again, kinds.memory, kinds.number) end
 
   failed_to : (core : ClientState) (call : Call) (text : List ℕ) → call.words ≡ words → execution ≡ told_by (Error text) → IsFine (failed (kind_of text) core call text)
   failed_to core call text is told =

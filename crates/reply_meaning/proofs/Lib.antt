@@ -1,3 +1,4 @@
+pub mod RefusalKinds
 pub mod Executions
 pub mod Words
 pub mod Steps

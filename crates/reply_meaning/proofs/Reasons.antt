@@ -35,6 +35,7 @@ use Rattle.reply_meaning.specs.Law.IsOfClient.{command as plain_command, numbers
 use Rattle.reply_meaning.specs.Reasons.{IsOfNobody, IsReason, is_of_kind}
 use Rattle.reply_meaning.specs.Refusal.{begins_so, is_of_no_command, is_refusal}
 use Rattle.reply_meaning.proofs.Executions.{told}
+use Rattle.reply_meaning.proofs.RefusalKinds.{other_so}
 use Rattle.reply_meaning.proofs.Steps.{Says, says_so}
 use Rattle.reply_meaning.proofs.Words.{IsOfData, data_words}
 use Rattle.reply_meaning.proofs.Words.IsOfData.{command, fault}
@@ -81,14 +82,8 @@ module _ (nodes : List NodeConfig) where
   no_refusal : (text : List ℕ) (why : Why) → (begins_so text || is_of_no_command text) ≡ false → IsReason nodes text why
   no_refusal text why is =
       let parts = or_parts (begins_so text) (is_of_no_command text) is in
-      let moved = or_parts (is_of_kind text (codes "MOVED")) _ parts.0 in
-      let ask = or_parts (is_of_kind text (codes "ASK")) _ moved.1 in
-      let again = or_parts (is_of_kind text (codes "TRYAGAIN")) _ ask.1 in
-      let two_slots = or_parts (is_of_kind text (codes "CROSSSLOT")) _ again.1 in
-      let nobody = or_parts (is_of_kind text (codes "CLUSTERDOWN")) _ two_slots.1 in
-      let memory = or_parts (is_of_kind text (codes "OOM")) _ nobody.1 in
-      let number = or_parts (is_of_kind text (codes "EXHAUSTED")) _ memory.1 in
-      other text why two_slots.0 nobody.0 parts.1 memory.0 number.0
+      let kinds = other_so text parts.0 in
+      other text why kinds.two_slots kinds.down parts.1 kinds.memory kinds.number
 
   executed_well : (why : Why) (reply : Reply) → is_refusal reply ≡ false → IsWell (record { why = why; reply = reply })
   executed_well why reply told text is = no_refusal text why (sym (ap is_refusal is) ∙ told)
