@@ -39,7 +39,7 @@ nothing_in slot key =
 
 module _ (config : ClusterConfig) where
   -- a node of the configuration, or none
-  first_node : (i : ℕ) → ((i < length config.nodes) × (slice_get (first_nodes config) i ≡ Some (first_state config i))) ⊎ (slice_get (first_nodes config) i ≡ None)
+  pub first_node : (i : ℕ) → ((i < length config.nodes) × (slice_get (first_nodes config) i ≡ Some (first_state config i))) ⊎ (slice_get (first_nodes config) i ≡ None)
   first_node i =
       let numbers : List ℕ = range_with_len 0 (length config.nodes) in
       let all : length numbers ≡ length config.nodes = length-range_with_len 0 (length config.nodes) in
