@@ -1,5 +1,5 @@
 -- Requests that reach their nodes, in time or late.
-use Rattle.std.proofs.Common.{◌≡◌, ◌∙◌, ◌++◌, ◌∷◌, ℕ, Bool, true, false, cond, List, [], Option, None, Some, refl, sym, ap, subst, inl, inr, arith}
+use Rattle.std.proofs.Common.{◌≡◌, ◌∙◌, ◌∷◌, ℕ, Bool, true, false, cond, List, [], Option, None, Some, refl, sym, ap, subst, inl, inr, arith}
 use Rattle.std.specs.Prelude.{MatchBool}
 use Rattle.cluster_config.specs.declared.config.NodeConfig.{NodeConfig}
 use Rattle.reply_meaning.specs.Refusal.{is_refusal}
@@ -11,7 +11,7 @@ use Rattle.smart_client.specs.declared.call.Stage.TheVariants as stage
 use Rattle.world_run.specs.Executed.{Answered as Execution}
 use Rattle.world.specs.Asking.{AsksWell, IsSent, asking_at}
 use Rattle.world.specs.Calls.{Arrives, Carries, ComesLate, IsCarried, IsLate, Lingers, Rests, Serves}
-use Rattle.world.specs.Clients.{ClientView, broken_off, lost_by}
+use Rattle.world.specs.Clients.{ClientView}
 use Rattle.world.specs.View.{RunView, is_up}
 use Rattle.world.specs.declared.client.Late.{Late}
 use Rattle.world.specs.declared.client.Link.{Link}
@@ -23,11 +23,11 @@ use Rattle.final_answers.specs.Book.{Answers, Book, IsRightSo}
 use Rattle.final_answers.proofs.Adding.{Adds, IsDone, IsSo, adds_first, adds_nothing, closes_adds, serves_so}
 use Rattle.final_answers.proofs.Booking.{Booked, Found, HasLine, HaveLines, IsBooked, Waits, execution_touches, execution_waits, found_line, late_apart, late_as_before, late_others, late_touches, late_waiting, right_set, still_waits, with_execution, with_late}
 use Rattle.final_answers.proofs.Doing.{executed_by}
-use Rattle.final_answers.proofs.Stepping.{call_so, of_call_so, rests_booked, served_silent, silent_answers, told_booked, writes_so}
+use Rattle.final_answers.proofs.Stepping.{call_so, of_call_so, rests_booked, served_silent, silent_answers, writes_so}
 use Rattle.final_answers.proofs.Tallies.Touches.{stays}
 use Rattle.final_answers.proofs.Tallies.{is_waiting, tally}
 use Rattle.final_answers.proofs.Wanted.{execution_at, told_by}
-use Rattle.final_answers.proofs.Losing.{breaks, broken_book, sent_so}
+use Rattle.final_answers.proofs.Losing.{sent_so}
 
 -- ---- what became of a request
 

@@ -1,12 +1,10 @@
 -- Each answer of a client has its reason.
-use Rattle.std.proofs.Common.{◌≡◌, ◌∙◌, ◌++◌, ◌∷◌, ℕ, Bool, true, false, cond, List, [], length, map, Contains, Option, None, Some, Ok, Err, refl, sym, ap, subst, inl, inr}
+use Rattle.std.proofs.Common.{◌≡◌, ◌∙◌, ◌++◌, ◌∷◌, ℕ, Bool, true, false, cond, List, [], Contains, Option, None, Some, Err, refl, sym, ap, subst, inl, inr}
 use Rattle.std.proofs.lemmas.Option.{slice_get_within, get_or_from_slice_get}
 use Rattle.std.specs.List.{flat_map}
-use Rattle.std.specs.Prelude.{MatchBool, nat_le, slice_get, ⊤}
+use Rattle.std.specs.Prelude.{MatchBool, nat_le, slice_get}
 use Rattle.cluster_config.proofs.PlaceLemmas.{position-le}
-use Rattle.cluster_config.specs.declared.config.NodeConfig.{NodeConfig}
 use Rattle.connections.specs.declared.conn.Conn.{Conn}
-use Rattle.node_step.specs.Orders.{done}
 use Rattle.redirection.specs.Address.{Place}
 use Rattle.resp_values.specs.declared.reply.Reply.{Reply}
 use Rattle.resp_values.specs.declared.reply.Reply.TheVariants.{Error}
@@ -21,7 +19,7 @@ use Rattle.smart_client.specs.declared.action.Event.TheVariants as happened
 use Rattle.smart_client.specs.declared.call.Call.{Call}
 use Rattle.smart_client.specs.declared.call.Stage.{Stage}
 use Rattle.smart_client.specs.declared.call.Stage.TheVariants as stage
-use Rattle.smart_client.specs.declared.fault.ClientFault.TheVariants.{Memory, NotConnected}
+use Rattle.smart_client.specs.declared.fault.ClientFault.TheVariants.{Memory}
 use Rattle.world.specs.Asking.{AsksWell, ComesFrom, IsOfCall, KeepsRule, past_of}
 use Rattle.world.specs.Calls.{Acts, Arrives, Begins, Carries, ComesLate, Connects, Cuts, IsBegun, IsCarried, IsConnected, IsCut, IsLate, IsReturned, IsUsed, Lingers, Rests, Returns, Takes, Tells, Uses, link_to, told_of}
 use Rattle.world.specs.Clients.{ClientView, begun_at, client_at, connection_to, fault_of, leads_to, lost_at, lost_by, new_client, node_at, place_of, used_by, with_client, with_connection}
@@ -68,7 +66,7 @@ none_there old new node before = by_up (is_up old node) refl
   where
     by_before : (before : Option Conn) → IsUsed old node before None new → HasNoConnection old node
     by_before None skips = inr (skips.enters.enters.step.before, skips.enters.enters.step.was, skips.why)
-    by_before (Some one) used = absurd (no_some used.1 refl)
+    by_before (Some one) used = absurd (no_some refl used.1)
 
     by_up : (up : Bool) → is_up old node ≡ up → MatchBool up (IsUsed old node before None new) ((new ≡ old) × (◌≡◌ {A = Option Conn} None None)) → HasNoConnection old node
     by_up true is used = by_before before used

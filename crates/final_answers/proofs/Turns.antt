@@ -1,11 +1,12 @@
 -- How a call ends, by what its client was told last.
-use Rattle.std.proofs.Common.{◌≡◌, ◌==◌, ℕ, Bool, true, false, true≢false, cond, List, Option, None, Some, Ok, Err, refl, sym, ap, subst, inl, inr, ◌∙◌}
-use Rattle.std.proofs.lemmas.Bool.{eqb-true}
-use Rattle.std.specs.Prelude.{⊤}
+use Rattle.std.proofs.Common.{◌≡◌, ◌==◌, ◌||◌, ℕ, Bool, true, false, true≢false, cond, List, Option, None, Some, Ok, Err, refl, sym, ap, subst, inl, inr, ◌∙◌}
+use Rattle.std.proofs.lemmas.Bool.{cases_Bool, eqb-true}
+use Rattle.std.specs.Prelude.{codes, ⊤}
 use Rattle.node_step.specs.Orders.{done}
 use Rattle.redirection.specs.Address.{Place}
 use Rattle.redirection.specs.declared.redirection.Redirection.{Redirection}
 use Rattle.redirection.specs.declared.redirection.Redirection.TheVariants.{Moved, Ask}
+use Rattle.reply_meaning.specs.Reasons.{is_of_kind}
 use Rattle.resp_values.specs.declared.reply.Reply.{Reply}
 use Rattle.resp_values.specs.declared.reply.Reply.TheVariants.{Simple, Error, Integer, Bulk, Null, Array}
 use Rattle.smart_client.specs.ErrorKind.{kind_of}
@@ -19,8 +20,6 @@ use Rattle.smart_client.specs.declared.action.Action.TheVariants.{Connect, Send,
 use Rattle.smart_client.specs.declared.action.Event.{Event}
 use Rattle.smart_client.specs.declared.call.Call.{Call}
 use Rattle.smart_client.specs.declared.client_core.TheConstants.{MOST_REDIRECTIONS}
-use Rattle.smart_client.specs.declared.error_kind.ErrorKind.{ErrorKind}
-use Rattle.smart_client.specs.declared.error_kind.ErrorKind.TheVariants.{Redirection as Redirects, TryAgain, LastLine, Other}
 use Rattle.smart_client.specs.declared.fault.ClientFault.TheVariants.{Memory, NotData, BadReply, TooManyRedirects, StillTryAgain}
 
 -- the client wants more to be done
@@ -32,6 +31,10 @@ IsMore (Done answer close) = ⊥
 abbrev answer_in : Action → Answer
 answer_in (Done answer close) = answer
 answer_in _ = Err NotData
+
+-- MOVED or ASK
+abbrev names_node : List ℕ → Bool
+names_node text = is_of_kind text (codes "MOVED") || is_of_kind text (codes "ASK")
 
 module _ (P : Answer → Type 0) where
   -- each answer to which the turn may come is such
@@ -87,23 +90,30 @@ module _ (P : Answer → Type 0) where
   redirected_ends core call (Some (Ask slot to (Some number))) bad = follows_ends core call to (Some number) bad
 
   -- an error answers the command
-  module _ (core : ClientState) (call : Call) (text : List ℕ) (over : P (Ok (Error text))) (bad : kind_of text ≡ Redirects → P (Err BadReply))
-      (too_many : kind_of text ≡ Redirects → call.redirections ≡ MOST_REDIRECTIONS → P (Err TooManyRedirects)) (too_often : kind_of text ≡ TryAgain → call.repeats ≡ core.limit → P (Err StillTryAgain)) where
-    failed_by : (kind : ErrorKind) → kind_of text ≡ kind → EndsSo (failed kind core call text)
-    failed_by Redirects is =
-        ends_if (call.redirections == MOST_REDIRECTIONS) _ _ (λ most. too_many is (eqb-true call.redirections MOST_REDIRECTIONS most))
-        (λ fewer. λ (redirection : Option Redirection). λ (tells : Tells text redirection). redirected_ends core call redirection (bad is))
-    failed_by TryAgain is = ends_if (call.repeats == core.limit) _ _ (λ most. too_often is (eqb-true call.repeats core.limit most)) (λ fewer. tt)
-    failed_by LastLine is = over
-    failed_by Other is = over
+  module _ (core : ClientState) (call : Call) (text : List ℕ) (over : P (Ok (Error text))) (bad : names_node text ≡ true → P (Err BadReply))
+      (too_many : names_node text ≡ true → call.redirections ≡ MOST_REDIRECTIONS → P (Err TooManyRedirects)) (too_often : is_of_kind text (codes "TRYAGAIN") ≡ true → call.repeats ≡ core.limit → P (Err StillTryAgain)) where
+    sent_on : (sends : Bool) → names_node text ≡ sends → EndsSo (failed (kind_of text) core call text)
+    sent_on true sends =
+        rw sends
+        (ends_if (call.redirections == MOST_REDIRECTIONS) _ _ (λ most. too_many sends (eqb-true call.redirections MOST_REDIRECTIONS most))
+        (λ fewer. λ (redirection : Option Redirection). λ (tells : Tells text redirection). redirected_ends core call redirection (bad sends)))
+    sent_on false stays =
+        elim (cases_Bool (is_of_kind text (codes "TRYAGAIN"))) [
+          | inl again ↦ rw (stays, again) (ends_if (call.repeats == core.limit) _ _ (λ most. too_often again (eqb-true call.repeats core.limit most)) (λ fewer. tt))
+          | inr other ↦
+              elim (cases_Bool (is_of_kind text (codes "OOM") || is_of_kind text (codes "EXHAUSTED"))) [
+                | inl last ↦ rw (stays, other, last) over
+                | inr none ↦ rw (stays, other, none) over
+              ]
+        ]
 
     pub failed_ends : EndsSo (failed (kind_of text) core call text)
-    failed_ends = failed_by (kind_of text) refl
+    failed_ends = sent_on (names_node text) refl
 
   -- a reply does
-  pub replied_ends : (core : ClientState) (call : Call) (reply : Reply) → P (Ok reply) → ((text : List ℕ) → reply ≡ Error text → kind_of text ≡ Redirects → P (Err BadReply))
-      → ((text : List ℕ) → reply ≡ Error text → kind_of text ≡ Redirects → call.redirections ≡ MOST_REDIRECTIONS → P (Err TooManyRedirects))
-      → ((text : List ℕ) → reply ≡ Error text → kind_of text ≡ TryAgain → call.repeats ≡ core.limit → P (Err StillTryAgain)) → EndsSo (replied core call reply)
+  pub replied_ends : (core : ClientState) (call : Call) (reply : Reply) → P (Ok reply) → ((text : List ℕ) → reply ≡ Error text → names_node text ≡ true → P (Err BadReply))
+      → ((text : List ℕ) → reply ≡ Error text → names_node text ≡ true → call.redirections ≡ MOST_REDIRECTIONS → P (Err TooManyRedirects))
+      → ((text : List ℕ) → reply ≡ Error text → is_of_kind text (codes "TRYAGAIN") ≡ true → call.repeats ≡ core.limit → P (Err StillTryAgain)) → EndsSo (replied core call reply)
   replied_ends core call (Error text) over bad too_many too_often = failed_ends core call text over (bad text refl) (too_many text refl) (too_often text refl)
   replied_ends core call (Simple text) over bad too_many too_often = over
   replied_ends core call (Integer number) over bad too_many too_often = over

@@ -1,13 +1,13 @@
 -- Why clients are told what they are told (Redis Cluster specification, "MOVED Redirection", "ASK redirection", "Clients first connection
 -- and handling of redirections"; the limits are this project's own).
-use Rattle.std.specs.Prelude.{◌≡◌, ◌⊎◌, ◌∷◌, ℕ, true, false, List, [], Option, Some, None, Ok, Err, Contains, slice_get, ⊤}
+use Rattle.std.specs.Prelude.{◌≡◌, ◌⊎◌, ◌||◌, ◌∷◌, ℕ, true, false, List, [], Option, Some, None, Ok, Err, Contains, codes, slice_get, ⊤}
 use Rattle.node_step.specs.Numbers.{NoNumberLeft}
 use Rattle.node_step.specs.State.{NodeState}
 use Rattle.node_step.specs.declared.event.Event.TheVariants.{Open}
 use Rattle.redirection.specs.Address.{Place}
+use Rattle.reply_meaning.specs.Reasons.{is_of_kind}
 use Rattle.resp_values.specs.declared.reply.Reply.{Reply}
 use Rattle.resp_values.specs.declared.reply.Reply.TheVariants.{Error}
-use Rattle.smart_client.specs.ErrorKind.{kind_of}
 use Rattle.smart_client.specs.State.{ClientState}
 use Rattle.smart_client.specs.Step.{Answer, Steps}
 use Rattle.smart_client.specs.Words.{is_refused}
@@ -17,7 +17,6 @@ use Rattle.smart_client.specs.declared.action.Event.TheVariants as happened
 use Rattle.smart_client.specs.declared.call.Call.{Call}
 use Rattle.smart_client.specs.declared.call.Stage.TheVariants.{Sent}
 use Rattle.smart_client.specs.declared.client_core.TheConstants.{MOST_REDIRECTIONS}
-use Rattle.smart_client.specs.declared.error_kind.ErrorKind.TheVariants.{Redirection, TryAgain}
 use Rattle.smart_client.specs.declared.fault.ClientFault.TheVariants.{Lost, TooManyRedirects, StillTryAgain, Memory, NotConnected, BadReply, NotData}
 use Rattle.world.specs.Asking.{WasAnswered, past_of}
 use Rattle.world.specs.Clients.{ClientView, leads_to, new_client, node_at, used_by}
@@ -86,19 +85,19 @@ pub record IsRefused (made : Step) (client : ClientView) (call : Call) (text : L
   pub returns : IsReturn made client call link (Error text)
   pub sent : call.stage ≡ Sent
 
--- MOVED or ASK does, after so many others
+-- MOVED or ASK does
 pub record IsSentOn (made : Step) (client : ClientView) : Type 0 where
   pub call : Call
   pub text : List ℕ
   pub refused : IsRefused made client call text
-  pub kind : kind_of text ≡ Redirection
+  pub kind : (is_of_kind text (codes "MOVED") || is_of_kind text (codes "ASK")) ≡ true
 
 -- TRYAGAIN does
 pub record IsPutOff (made : Step) (client : ClientView) : Type 0 where
   pub call : Call
   pub text : List ℕ
   pub refused : IsRefused made client call text
-  pub kind : kind_of text ≡ TryAgain
+  pub kind : is_of_kind text (codes "TRYAGAIN") ≡ true
 
 -- the client is told this in the step, from the scene before it; nothing that it sent is unanswered where memory is refused
 abbrev pub HasReason : SceneView → Step → ClientView → Answer → Type 0

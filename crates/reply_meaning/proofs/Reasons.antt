@@ -30,7 +30,7 @@ use Rattle.node_step.specs.declared.response.Answer.{Answer}
 use Rattle.node_step.specs.declared.response.Why.{Why}
 use Rattle.node_step.specs.declared.response.Why.TheVariants.{NotACommand, Decided}
 use Rattle.world_run.specs.Executed.{decision_in}
-use Rattle.reply_meaning.specs.Law.{Answers, ClientsNeedNoNumber, ErrorsHaveReasons, IsOfClient}
+use Rattle.reply_meaning.specs.Law.{ClientsNeedNoNumber, ErrorsHaveReasons, IsOfClient}
 use Rattle.reply_meaning.specs.Law.IsOfClient.{command as plain_command, numbers as plain_numbers, asks as plain_asks}
 use Rattle.reply_meaning.specs.Reasons.{IsOfNobody, IsReason, is_of_kind}
 use Rattle.reply_meaning.specs.Refusal.{begins_so, is_of_no_command, is_refusal}

@@ -7,7 +7,6 @@ use Rattle.cluster_config.specs.Config.{ClusterConfig, IsCluster}
 use Rattle.cluster_config.specs.declared.config.NodeConfig.{NodeConfig}
 use Rattle.resp_values.specs.declared.reply.Reply.{Reply}
 use Rattle.single_keyspace.proofs.Lists.{contains_first, contains_more, contains_one, first_or_more}
-use Rattle.redirect.specs.declared.asked.Asking.{Asking}
 use Rattle.redirect.specs.declared.asked.Asking.TheVariants.{No}
 use Rattle.smart_client.specs.State.{ClientState}
 use Rattle.smart_client.specs.Step.{Answer, without_call}

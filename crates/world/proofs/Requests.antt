@@ -32,7 +32,7 @@ use Rattle.reply_meaning.proofs.Reasons.{have_reasons, need_no_number}
 use Rattle.reply_meaning.proofs.Words.{IsOfData, data_words}
 use Rattle.reply_meaning.specs.Law.{Answers, IsOfClient, IsOfMove, Prepares}
 use Rattle.reply_meaning.specs.Law.IsOfClient.{command as plain_command, numbers as plain_numbers, asks as plain_asks}
-use Rattle.reply_meaning.specs.Law.Prepares.{numbers, asks}
+use Rattle.reply_meaning.specs.Law.Prepares.{numbers as prepares_numbers, asks as prepares_asks}
 use Rattle.reply_meaning.specs.Reasons.{IsReason}
 use Rattle.resp_values.specs.declared.reply.Reply.{Reply}
 use Rattle.single_keyspace.proofs.Lists.{each_element}
@@ -257,12 +257,12 @@ module _ (config : ClusterConfig) (cluster_is : IsCluster config) (old : RunView
 
     comes_if_served : (call : Call) (at : Stage) → is_refused call.words ≡ false → IsMove call.asking → IsSent call at words (asking_at old here) → ComesFrom config.nodes (past_of new) node call at reply
     comes_if_served call stage.Connecting plain move sent = absurd sent
-    comes_if_served call stage.Introducing plain move sent = is_welcome (numbers sent.0)
+    comes_if_served call stage.Introducing plain move sent = is_welcome (prepares_numbers sent.0)
     comes_if_served call stage.Asking plain move sent = by_number call.asking move sent.0
       where
         by_number : (asked : Option ℕ) → IsMove asked → IsAsking asked words → reply ≡ done
         by_number None move is = absurd is
-        by_number (Some number) move is = is_welcome (asks number move is)
+        by_number (Some number) move is = is_welcome (prepares_asks number move is)
     comes_if_served call stage.Sent plain move sent =
         subst (λ (ws : List (List ℕ)). WasAnswered config.nodes (past_of new) node ws reply) sent.0 (was_answered (ap is_refused sent.0 ∙ plain))
 
