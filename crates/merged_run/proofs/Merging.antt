@@ -1,18 +1,18 @@
 -- Journals are merged entry by entry.
-use Rattle.std.proofs.Common.{◌≡◌, ◌≢◌, ◌<◌, ◌+◌, ◌==◌, ℕ, List, [], ◌∷◌, map, cond, Bool, true, false, Option, Some, None, length, All, refl, sym, ap, subst, ◌∙◌, inl, inr, arith}
-use Rattle.std.proofs.lemmas.Bool.{cases_Bool, cases_eq, cond-true, cond-false, eq-eqb, ne_eqb}
+use Rattle.std.proofs.Common.{◌≡◌, ◌≢◌, ◌<◌, ◌+◌, ◌==◌, ℕ, List, [], ◌∷◌, Some, length, All, refl, sym, ap, subst, ◌∙◌, inl, inr, arith}
+use Rattle.std.proofs.lemmas.Bool.{cases_eq, cond-true, cond-false, eq-eqb, ne_eqb}
 use Rattle.std.proofs.lemmas.List.Elements.{All-head, All-tail}
 use Rattle.std.proofs.lemmas.List.FromFn.{get_or-range_with_len, length-range_with_len}
-use Rattle.std.proofs.lemmas.Option.{slice_get-get_or, slice_get-map, slice_get_past}
+use Rattle.std.proofs.lemmas.Option.{slice_get-get_or, slice_get-map}
 use Rattle.std.specs.List.{range_with_len}
 use Rattle.std.specs.Prelude.{option_map, slice_get, slice_set}
 use Rattle.cluster_config.specs.Config.{ClusterConfig}
 use Rattle.node_step.specs.State.{NodeState, first_state}
-use Rattle.world_run.specs.Run.{Deed, Entry, Goes, IsRun, Leads, WorldStep, first_nodes}
+use Rattle.world_run.specs.Run.{Deed, Entry, Goes, Leads, WorldStep, first_nodes}
 use Rattle.world_run.specs.Run.Deed.{Made, Skipped}
 use Rattle.single_keyspace.proofs.Seen.{no_some, same_some, set_apart, set_here}
 use Rattle.single_keyspace.proofs.Start.{first_node}
-use Rattle.merged_run.specs.Merged.{AllWereSent, AreMerged, IsJournalFrom, LeadsTo, MayHappenIn, MergedJournalsAreARun, Steps, entries_of}
+use Rattle.merged_run.specs.Merged.{AllWereSent, IsJournalFrom, MayHappenIn, MergedJournalsAreARun, Steps, entries_of}
 
 -- an entry of the node stands first in its part, and one of another node isn't there
 own_first : (n : ℕ) (entry : Entry) (entries : List Entry) → entry.node ≡ n → entries_of n (entry ∷ entries) ≡ entry ∷ entries_of n entries

@@ -3,4 +3,6 @@
 
 mod law;
 
-pub use law::merged_journals_are_a_run;
+pub use law::{
+    merged_journals_are_a_run, settled_runs_are_of_one_keyspace, settled_runs_need_no_asking,
+};
