@@ -2,9 +2,8 @@
 ghost use Rattle.std.specs.Prelude.{◌≡◌, ◌<◌, IfOk, length};
 ghost use Rattle.tickets.specs.Tickets.{IsFresh};
 
-use bus::Message;
 use cluster_config::{Config, ConfigFault, read_config};
-use node_cell::{Admission, Asks, Deployment, GhostJournal, NodeCell, NodeGate};
+use node_cell::{Admission, Asks, Deployment, GhostJournal, NodeCell, NodeGate, Posted, Sending};
 use node_step::Event;
 use shared_node::{Gate, SharedNode};
 use slot_table::NodeNo;
@@ -39,7 +38,7 @@ pub fn three_masters(alloc: Global) -> Result<Config, ConfigFault>
 pub struct Nodes<K: Deployment> {
     admission: Admission<K>,
     nodes: Vec<Arc<SharedNode<K, GhostJournal>, Global>>,
-    mail: Vec<Message>,
+    mail: Vec<Posted<K>>,
 }
 
 impl<K: Deployment> Nodes<K> {
@@ -103,14 +102,14 @@ impl<K: Deployment> Nodes<K> {
     /// The oldest message on its way to the node arrives. Whether there is one.
     pub fn deliver<R: Wait>(&mut self, rt: &R, alloc: Global, to: u8) -> Result<bool, AllocError> {
         self.collect(rt, alloc)?;
-        let message = match self.first_for(to) {
+        let posted = match self.first_for(to) {
             Some(place) if place < self.mail.len() => self.mail.remove(place),
             _ => return Ok(false),
         };
         let Some(node) = self.get(to) else {
             return Ok(false);
         };
-        node.deliver(rt, message);
+        node.deliver(rt, posted);
         Ok(true)
     }
 
@@ -118,7 +117,7 @@ impl<K: Deployment> Nodes<K> {
     pub fn lose<R: Wait>(&mut self, rt: &R, alloc: Global, to: u8) -> Result<bool, AllocError> {
         self.collect(rt, alloc)?;
         let before = self.mail.len();
-        self.mail.retain(|message| message.to.get() != to);
+        self.mail.retain(|posted| posted.message().to.get() != to);
         Ok(self.mail.len() < before)
     }
 
@@ -132,10 +131,8 @@ impl<K: Deployment> Nodes<K> {
     // Takes what the nodes sent since.
     fn collect<R: Wait>(&mut self, rt: &R, alloc: Global) -> Result<(), AllocError> {
         for node in self.nodes.iter() {
-            for sent in node.take_sent(rt, alloc) {
-                for message in sent.into_vec(alloc) {
-                    self.mail.push(message).map_err(AllocError::from)?;
-                }
+            for sending in node.take_sent(rt, alloc) {
+                put_all(&mut self.mail, sending)?;
             }
         }
         Ok(())
@@ -143,8 +140,21 @@ impl<K: Deployment> Nodes<K> {
 
     // The place of the oldest message for the node.
     fn first_for(&self, to: u8) -> Option<usize> {
-        self.mail.iter().position(|message| message.to.get() == to)
+        self.mail
+            .iter()
+            .position(|posted| posted.message().to.get() == to)
     }
+}
+
+// Puts the messages of a step behind those that are on their way.
+fn put_all<K: Deployment>(
+    mail: &mut Vec<Posted<K>>,
+    sending: Sending<K>,
+) -> Result<(), AllocError> {
+    for posted in sending {
+        mail.push(posted).map_err(AllocError::from)?;
+    }
+    Ok(())
 }
 
 // A node as it begins.

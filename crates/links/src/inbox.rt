@@ -1,42 +1,29 @@
 //! All links to one node.
-ghost use Rattle.std.specs.Prelude.{◌≡◌, IfErr};
 
-use crate::link::{Link, Received};
-use bus::Message;
+use crate::queue::{LinkEnd, Queue};
 use slot_table::NodeNo;
 use std::alloc::{AllocError, Global};
 use std::sync::Wait;
 
-/// The links to one node, from each node of its cluster.
+/// The links to one node, from each node of its cluster. They carry messages of the type `T`.
 #[derive(Drop)]
-pub struct Inbox {
+pub struct Inbox<T> {
     // By the number of the sender.
-    links: Vec<Link>,
+    queues: Vec<Queue<T>>,
 }
 
-impl Inbox {
+impl<T: Drop> Inbox<T> {
     /// Links from so many nodes, without a message.
-    pub fn new(alloc: Global, nodes: usize) -> Result<Inbox, AllocError> {
-        let mut links = Vec::with_capacity(alloc, nodes)?;
+    pub fn new(alloc: Global, nodes: usize) -> Result<Inbox<T>, AllocError> {
+        let mut queues = Vec::with_capacity(alloc, nodes)?;
         for _ in 0..nodes {
-            links.push(Link::new(alloc)).map_err(AllocError::from)?;
+            queues.push(Queue::new(alloc)).map_err(AllocError::from)?;
         }
-        Ok(Inbox { links })
+        Ok(Inbox { queues })
     }
 
-    /// Sends the message on the link from its sender, or gives it back where that link is full, where there is no such link, or
-    /// where memory is refused.
-    pub fn send<R: Wait>(&self, rt: &R, message: Message) -> Result<(), Message>
-        ensures { IfErr result (λ back. back ≡ message) }
-    {
-        match self.links.get(usize::from(message.from.get())) {
-            Some(link) => link.send(rt, message),
-            None => Err(message),
-        }
-    }
-
-    /// Takes the first message on the link from this node.
-    pub fn receive<R: Wait>(&self, rt: &R, from: NodeNo) -> Option<Received> {
-        self.links.get(usize::from(from.get()))?.receive(rt)
+    /// An end of the link from this node, if it is one of the cluster.
+    pub fn link_from<'i, R: Wait>(&'i self, rt: &'i R, from: NodeNo) -> Option<LinkEnd<'i, T, R>> {
+        Some(self.queues.get(from.index())?.end(rt))
     }
 }

@@ -2,7 +2,7 @@
 #![tactic(auto)]
 
 mod inbox;
-mod link;
+mod queue;
 
 pub use inbox::Inbox;
-pub use link::{MOST_MESSAGES, Received};
+pub use queue::{LinkEnd, MOST_MESSAGES};

@@ -1,4 +1,5 @@
 pub mod DeliveryLemmas
 pub mod GivenLemmas
 pub mod JournalLemmas
+pub mod SentLemmas
 pub mod UndeliveredLemmas

@@ -75,6 +75,19 @@ pub record IsReachable (config : ClusterConfig) (journal : List Entry) (state : 
   pub is_node : number < length config.nodes
   pub history : IsHistory (first_state config number) journal state
 
+-- a step of a node of the cluster, from a state that it comes to, sent the message
+pub record IsSent (config : ClusterConfig) (message : Message) : Type 0 where
+  pub journal : List Entry
+  pub ticket : ℕ
+  pub old : NodeState
+  pub new : NodeState
+  pub event : Event
+  pub outputs : Outputs
+  pub reachable : IsReachable config journal old
+  pub in_time : comes_in_time ticket event ≡ true
+  pub step : NodeStep ticket old event outputs new
+  pub sent : Contains outputs.sent message
+
 -- each number is greater than all before it
 abbrev pub Rises : List ℕ → Type 0
 Rises [] = Unit {0}

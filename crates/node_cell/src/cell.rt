@@ -8,15 +8,15 @@ ghost use Rattle.step_fault.specs.declared.fault.StepFault.TheVariants.{Exhauste
 ghost use Rattle.node_step.specs.Released.{reply_to, without_reply_to};
 ghost use Rattle.node_cell.specs.Undelivered.{joined, undelivered_after};
 ghost use Rattle.node_step.specs.declared.event.Event.TheVariants.{Deliver};
-ghost use Rattle.node_cell.specs.Journal.{Advances, Enters, IsGiven, IsHistory, IsNotTaken, IsRefused, Makes, Rises, Skips, comes_in_time, tickets_of};
+ghost use Rattle.node_cell.specs.Journal.{Advances, Enters, IsGiven, IsHistory, IsNotTaken, IsReachable, IsRefused, IsSent, Makes, Rises, Skips, comes_in_time, tickets_of};
 ghost use Rattle.node_gate.specs.Asks.{IsOwn};
 
 use crate::delivery::DeliveryFault;
 use crate::deployment::Deployment;
 use crate::entered::Entered;
 use crate::log::Log;
+use crate::posted::{Posted, Sending};
 use crate::undelivered::{add_released, has_some, take_reply_to};
-use bus::Message;
 use cluster_config::Config;
 use node_core::{Conn, Core, Event, Messages, Outputs, Releases, StepFault};
 use resp_values::Reply;
@@ -37,7 +37,7 @@ pub struct NodeCell<K: Deployment, L: Log> {
     log: L,
     // An item for each step that gave some, until they are taken.
     undelivered: Vec<Releases>,
-    outbox: Vec<Messages>,
+    outbox: Vec<Sending<K>>,
     seat: Seat,
     cluster: PhantomData<K>,
 }
@@ -105,15 +105,16 @@ impl<K: Deployment, L: Log> NodeCell<K, L> {
         }
     }
 
-    /// Delivers a message to the node: one ticket, one step, one entry, as for any other event.
+    /// Delivers a message to the node: one ticket, one step, one entry, as for any other event. The message is one that a step of
+    /// a node of this cluster sent, as its type says.
     ///
     /// A message is older than its delivery. One that isn't, as the tickets tell it, is `Early`, and its ticket is entered as
     /// skipped.
-    pub fn deliver(&mut self, message: Message) -> Result<Entered<K>, DeliveryFault>
-        ensures ok { IfOk result (λ entered. Enters self.old (Deliver message) entered self.new) }
-        ensures err { IfErr result (λ fault. IsNotTaken self.old (Deliver message) fault self.new) }
+    pub fn deliver(&mut self, posted: Posted<K>) -> Result<Entered<K>, DeliveryFault>
+        ensures ok { IfOk result (λ entered. Enters self.old (Deliver posted) entered self.new) }
+        ensures err { IfErr result (λ fault. IsNotTaken self.old (Deliver posted) fault self.new) }
     {
-        self.take_event(Event::Deliver(message))
+        self.take_event(Event::Deliver(posted.into_message()))
     }
 
     fn take_event(&mut self, event: Event) -> Result<Entered<K>, DeliveryFault>
@@ -179,7 +180,7 @@ impl<K: Deployment, L: Log> NodeCell<K, L> {
     }
 
     /// Takes all messages that were sent and that nobody has taken yet.
-    pub fn take_sent(&mut self, alloc: Global) -> Vec<Messages>
+    pub fn take_sent(&mut self, alloc: Global) -> Vec<Sending<K>>
         ensures sent { joined result.items ≡ self.old.outbox }
         ensures left { self.new ≡ record self.old { outbox = [] } }
     {
@@ -208,10 +209,10 @@ impl<K: Deployment, L: Log> NodeCell<K, L> {
 }
 
 // Makes room for what one step adds.
-fn make_room<L: Log>(
+fn make_room<K: Deployment, L: Log>(
     log: &mut L,
     undelivered: &mut Vec<Releases>,
-    outbox: &mut Vec<Messages>,
+    outbox: &mut Vec<Sending<K>>,
 ) -> Result<(), AllocError>
     ensures room { OnOk result (L.has_room log.new) }
     ensures undelivered_room { OnOk result (vec_len undelivered.new < vec_capacity undelivered.new) }
@@ -240,11 +241,12 @@ fn advance<K: Deployment, L: Log>(
     core: &mut Core,
     log: &mut L,
     undelivered: &mut Vec<Releases>,
-    outbox: &mut Vec<Messages>,
+    outbox: &mut Vec<Sending<K>>,
     ticket: u64,
     event: Event,
 ) -> Result<Entered<K>, StepFault>
     requires in_time { comes_in_time ticket event ≡ true }
+    requires reachable { IsReachable K.config (L.entries log.old) core.old }
     requires log { L.has_room log.old }
     requires undelivered { vec_len undelivered.old < vec_capacity undelivered.old }
     requires outbox { vec_len outbox.old < vec_capacity outbox.old }
@@ -279,27 +281,29 @@ fn advance<K: Deployment, L: Log>(
 }
 
 // Puts the messages of a step behind those that wait. There has to be room.
-fn put_out(outbox: &mut Vec<Messages>, sent: Messages)
-    requires { vec_len outbox.old < vec_capacity outbox.old }
+fn put_out<K: Deployment>(outbox: &mut Vec<Sending<K>>, sent: Messages)
+    requires room { vec_len outbox.old < vec_capacity outbox.old }
+    requires sent { All (IsSent K.config) sent }
     ensures { joined outbox.new.items ≡ joined outbox.old.items ++ sent }
 {
     if sent.as_slice().is_empty() {
         return;
     }
-    let Ok(()) = outbox.push(sent) else {
+    let sending = Sending::new(sent.into_vec(*outbox.allocator()));
+    let Ok(()) = outbox.push(sending) else {
         unreachable!();
     };
 }
 
 // Whether a message is among those of the steps.
-fn has_message(outbox: &[Messages]) -> bool
+fn has_message<K: Deployment>(outbox: &[Sending<K>]) -> bool
     ensures { result ≡ list_any (λ part. not (length part == 0)) outbox.now }
 {
-    outbox.iter().any(|part| is_some(part))
+    outbox.iter().any(|sending| is_some(sending))
 }
 
-fn is_some(part: &Messages) -> bool
-    ensures { result ≡ not (length part.now == 0) }
+fn is_some<K: Deployment>(sending: &Sending<K>) -> bool
+    ensures { result ≡ not (length sending.now == 0) }
 {
-    !part.as_slice().is_empty()
+    !sending.is_empty()
 }

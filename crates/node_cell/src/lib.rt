@@ -9,6 +9,7 @@ mod deployment;
 mod entered;
 mod entry;
 mod log;
+mod posted;
 mod undelivered;
 
 pub use admission::Admission;
@@ -20,3 +21,4 @@ pub use entered::Entered;
 pub use entry::Entry;
 pub use log::{GhostJournal, Journal, Log};
 pub use node_gate::{Answered, NodeGate};
+pub use posted::{Posted, Sending};

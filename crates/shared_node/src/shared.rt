@@ -1,8 +1,6 @@
 //! A node that several threads share.
 
-use bus::Message;
-use node_cell::{Deployment, Log, NodeCell};
-use node_step::Messages;
+use node_cell::{Deployment, Log, NodeCell, Posted, Sending};
 use std::alloc::Global;
 use std::sync::atomic::{AtomicBool, Ordering};
 use std::sync::{Condvar, Mutex, MutexGuard, Wait};
@@ -75,14 +73,14 @@ impl<K: Deployment, L: Log> SharedNode<K, L> {
     }
 
     /// Has the node take a message. One for which there is no memory is lost, as it may be on any network.
-    pub fn deliver<R: Wait>(&self, rt: &R, message: Message) {
+    pub fn deliver<R: Wait>(&self, rt: &R, posted: Posted<K>) {
         let mut cell = self.lock(rt);
-        let _lost = cell.deliver(message);
+        let _lost = cell.deliver(posted);
         self.ring(&cell);
     }
 
     /// Takes the messages that the node's steps left to be sent, those of each step together.
-    pub fn take_sent<R: Wait>(&self, rt: &R, alloc: Global) -> Vec<Messages> {
+    pub fn take_sent<R: Wait>(&self, rt: &R, alloc: Global) -> Vec<Sending<K>> {
         let mut cell = self.lock(rt);
         cell.take_sent(alloc)
     }

@@ -1,6 +1,11 @@
 use Rattle.node_cell.specs.Undelivered.{joined}
 use Rattle.node_cell.proofs.GivenLemmas.{given_after, given_after_skip}
+use Rattle.node_cell.proofs.SentLemmas.{sent_by_step}
 use Rattle.node_cell.proofs.cell.advance.Goals as goal
+
+pub put_out-requires-clause-sent : goal.put_out-requires-clause-sent
+put_out-requires-clause-sent g c =
+    sent_by_step g.K.Deployment.config _ _ _ _ _ c.in-Ok.outputs c.requires.reachable c.requires.in_time c.in-Ok.ensures.step
 
 pub returns-in-Ok-clause-given : goal.returns-in-Ok-clause-given
 returns-in-Ok-clause-given g c given =

@@ -4,6 +4,7 @@ use Rattle.node_cell.specs.declared.entry.Entry.TheVariants.{Skipped}
 use Rattle.node_cell.proofs.DeliveryLemmas.{is_refused_so}
 use Rattle.node_cell.proofs.GivenLemmas.{given_after_skip}
 use Rattle.node_cell.proofs.JournalLemmas.{journal_adds}
+use Rattle.node_cell.proofs.SentLemmas.{comes_to}
 use Rattle.node_cell.proofs.cell.NodeCell.take_event.Goals as goal
 use Rattle.node_cell.proofs.cell.NodeCell.take_event.Goals.{in-Ok, in-Err}
 
@@ -38,6 +39,10 @@ invariant_of-self-2 g c =
       search rules,
       search rules,
     )
+
+pub advance-requires-clause-reachable : goal.advance-requires-clause-reachable
+advance-requires-clause-reachable g c =
+    rw c.make_room.ensures.log (comes_to _ _ _ _ _ (search rules) (search rules) c.self.invariant.0.history)
 
 pub returns-clause-err : goal.returns-clause-err
 returns-clause-err g c = elim c.match-advance.branch [
