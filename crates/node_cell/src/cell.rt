@@ -146,6 +146,14 @@ impl<K: Deployment, L: Log> NodeCell<K, L> {
         }
     }
 
+    /// The configuration of its cluster.
+    pub fn config(&self) -> &Config
+        ensures same { result.now ≡ self.now.config }
+        ensures cluster { self.now.config ≡ K.config }
+    {
+        &self.config
+    }
+
     /// The number of the node in the configuration of its cluster.
     pub fn number(&self) -> NodeNo
         ensures { result ≡ self.now.node }
@@ -190,6 +198,8 @@ impl<K: Deployment, L: Log> NodeCell<K, L> {
     /// The configuration, the node's number, its log and its seat.
     pub fn finish(self) -> (Config, NodeNo, L, Seat)
         ensures parts { (result.0 ≡ self.config) × (result.1 ≡ self.node) × (L.entries result.2 ≡ self.journal) }
+        ensures cluster { self.config ≡ K.config }
+        ensures number { self.node < length self.config.nodes }
         ensures history { IsHistory (first_state self.config self.node) self.journal self.state }
         ensures rises { Rises (tickets_of self.journal) }
         ensures seat { (drawn result.3 ≡ tickets_of self.journal) × (table_of result.3 ≡ K.table) × (seats_of result.3 ≡ K.seats) }

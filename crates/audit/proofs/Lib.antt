@@ -1,0 +1,9 @@
+pub mod Rising
+pub mod Under
+pub mod Merging
+pub mod Parts
+pub mod Prefixes
+pub mod Counts
+pub mod Searching
+pub mod Sounds
+pub mod TakenApart

@@ -1,0 +1,40 @@
+-- What gathered journals are, and why others aren't gathered.
+use Rattle.std.specs.Prelude.{◌≡◌, ◌⊎◌, ℕ, List, [], length, map, Contains}
+use Rattle.atomic_table.specs.Seated.{TableId}
+use Rattle.cluster_config.specs.Config.{ClusterConfig}
+use Rattle.merged_run.specs.Merged.{entries_of}
+use Rattle.node_cell.specs.Journal.{CellView}
+use Rattle.node_cell.specs.declared.entry.Entry.{Entry as JournalEntry}
+use Rattle.std.specs.List.{range_with_len}
+use Rattle.world_run.specs.Run.{Entry, IsRun}
+use Rattle.audit.specs.Law.{RunView}
+use Rattle.audit.specs.Merge.{AllAreSound, AreEachOnce, AreTaken, PartView, journal_of, nodes_of, placed}
+use Rattle.audit.specs.declared.order.Taken.{Taken}
+
+abbrev pub part_of : CellView → PartView
+part_of cell = record { node = cell.node; entries = cell.journal }
+
+abbrev pub parts_of : List CellView → List PartView
+parts_of cells = map part_of cells
+
+-- the journals, merged by their tickets: a run of the cluster, in which each number below that of its entries stands once, in order, and the
+-- part of each node is its journal
+pub record IsGathered (config : ClusterConfig) (parts : List PartView) (run : RunView) : Type 0 where
+  pub config_is : run.config ≡ config
+  pub run_is : IsRun config run.entries
+  pub numbered : map (λ (entry : Entry). entry.ticket) run.entries ≡ range_with_len 0 (length run.entries)
+  pub journals_are : (part : PartView) → Contains parts part → entries_of part.node run.entries ≡ map (placed part.node) part.entries
+
+-- by these journals of theirs, a node took a message that nobody sent
+pub record IsUnsound (parts : List PartView) : Type 0 where
+  pub journals : List (List JournalEntry)
+  pub are : (part : PartView) → Contains parts part → journal_of journals part.node ≡ part.entries
+  pub unsound : AllAreSound journals → ⊥
+
+-- there is no part; or they aren't those of each node once; or a node took what nobody sent
+abbrev pub HasStranger : ClusterConfig → List PartView → Type 0
+HasStranger config parts = (parts ≡ []) ⊎ (AreEachOnce (length config.nodes) (nodes_of parts) → ⊥) ⊎ IsUnsound parts
+
+-- all these parts are taken apart
+abbrev pub IsAllOf : ClusterConfig → TableId → ℕ → Taken → List PartView → Type 0
+IsAllOf config table seats taken parts = AreTaken config table seats parts (length config.nodes) taken.journals.items taken.seats.items []

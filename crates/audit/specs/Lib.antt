@@ -1,0 +1,3 @@
+pub mod Merge
+pub mod Law
+pub mod Gathered

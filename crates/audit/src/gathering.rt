@@ -1,0 +1,97 @@
+//! The journals of all nodes, gathered.
+ghost use Rattle.std.specs.Prelude.{◌≡◌, List, length, IfErr, IfOk};
+ghost use Rattle.audit.specs.Gathered.{HasStranger, IsAllOf, IsGathered, parts_of};
+ghost use Rattle.audit.specs.Merge.{PartView};
+ghost use Rattle.audit.specs.declared.gathering.AuditFault.TheVariants.{Stranger};
+ghost use Rattle.tickets.specs.Tickets.{id_of};
+
+use crate::order::{Taken, take_apart};
+use crate::part::Part;
+use crate::sound::are_sound;
+use crate::world_run::WorldRun;
+use cluster_config::Config;
+use node_cell::{Deployment, Journal, NodeCell};
+use std::alloc::{AllocError, Global};
+use tickets::{Table, close};
+
+/// Why the journals of nodes aren't told to be a run.
+#[derive(Clone, Copy, PartialEq, Eq, Debug)]
+pub enum AuditFault {
+    /// The cells aren't those of each node once, or a node took a message that nobody sent.
+    Stranger,
+    /// Memory was refused.
+    Memory,
+}
+
+impl From<AllocError> for AuditFault {
+    ghost use Rattle.audit.specs.declared.gathering.AuditFault.TheVariants.{Memory};
+
+    ghost from_gives = { λ _ fault. fault ≡ Memory };
+
+    fn from(_refused: AllocError) -> AuditFault {
+        AuditFault::Memory
+    }
+}
+
+/// The run that the nodes of the cluster `K` made, by the journals of their cells, which may come in any order. Nobody serves the
+/// nodes any more, and there were as many seats as there are nodes.
+///
+/// It takes no more memory than a list of the nodes. Each message that a node took is looked for in the journal of its sender.
+pub fn gather<K: Deployment>(
+    alloc: Global,
+    table: &Table,
+    cells: Vec<NodeCell<K, Journal>>,
+) -> Result<WorldRun, AuditFault>
+    requires table { id_of table.now ≡ K.table }
+    requires seats { K.seats ≡ length K.config.nodes }
+    ensures run { IfOk result (λ run. IsGathered K.config (parts_of cells.items) run) }
+    ensures stranger { IfErr result (λ fault. fault ≡ Stranger → HasStranger K.config (parts_of cells.items)) }
+{
+    if cells.is_empty() {
+        return Err(AuditFault::Stranger);
+    }
+    let config = cells[0].config().clone()?;
+    let count = config.nodes().len();
+    let parts = finish_all(alloc, cells)?;
+    match take_apart(alloc, count, parts)? {
+        Some(taken) => merge::<K>(table, config, taken),
+        None => Err(AuditFault::Stranger),
+    }
+}
+
+// The run of journals by the numbers of their nodes, unless a node took a message that nobody sent.
+fn merge<K: Deployment>(table: &Table, config: Config, taken: Taken) -> Result<WorldRun, AuditFault>
+    requires table { id_of table.now ≡ K.table }
+    requires seats { K.seats ≡ length K.config.nodes }
+    requires config { config ≡ K.config }
+    requires taken { (parts : List PartView) × IsAllOf K.config K.table K.seats taken parts }
+    ensures run { IfOk result (λ run. (parts : List PartView) → IsAllOf K.config K.table K.seats taken parts → IsGathered K.config parts run) }
+    ensures stranger { IfErr result (λ fault. fault ≡ Stranger → (parts : List PartView) → IsAllOf K.config K.table K.seats taken parts → HasStranger K.config parts) }
+{
+    let _at_least_one = config.nodes();
+    let Taken { journals, seats } = taken;
+    match close(table, seats) {
+        Some(tickets) => {
+            if are_sound(journals.as_slice()) {
+                Ok(WorldRun::new(config, journals, tickets))
+            } else {
+                Err(AuditFault::Stranger)
+            }
+        }
+        None => Err(AuditFault::Stranger),
+    }
+}
+
+// What is left of each cell.
+fn finish_all<K: Deployment>(
+    alloc: Global,
+    cells: Vec<NodeCell<K, Journal>>,
+) -> Result<Vec<Part<K>>, AllocError>
+    ensures { IfOk result (λ parts. parts.items ≡ parts_of cells.items) }
+{
+    let mut parts = Vec::with_capacity(alloc, cells.len())?;
+    for cell in cells {
+        parts.push(Part::of(cell)).map_err(AllocError::from)?;
+    }
+    Ok(parts)
+}

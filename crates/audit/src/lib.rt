@@ -1,0 +1,15 @@
+//! The journals of all nodes of a cluster, checked and merged into the run that they are.
+#![tactic(auto)]
+
+mod gathering;
+mod journal;
+mod law;
+mod order;
+mod part;
+mod same;
+mod sound;
+mod world_run;
+
+pub use gathering::{AuditFault, gather};
+pub use law::journals_are_a_run;
+pub use world_run::WorldRun;

@@ -1,0 +1,126 @@
+//! Whether two messages are the same.
+ghost use Rattle.std.specs.Prelude.{◌≡◌, ◌≢◌, true, false};
+
+use bus::{Body, Message};
+use hash::Hash;
+use keyspace::Value;
+use slot_table::{Epoch, Run};
+
+/// Whether both messages say the same, from the same step to the same node.
+pub(crate) fn is_same_message(one: &Message, other: &Message) -> bool
+    ensures same { result ≡ true → one.now ≡ other.now }
+    ensures differ { result ≡ false → one.now ≢ other.now }
+{
+    one.from == other.from
+        && one.to == other.to
+        && one.ticket == other.ticket
+        && one.epoch == other.epoch
+        && is_same_body(&one.body, &other.body)
+}
+
+fn is_same_body(one: &Body, other: &Body) -> bool
+    ensures same { result ≡ true → one.now ≡ other.now }
+    ensures differ { result ≡ false → one.now ≢ other.now }
+{
+    match (one, other) {
+        (
+            Body::Copy {
+                slot,
+                number,
+                copy,
+                key,
+                value,
+            },
+            Body::Copy {
+                slot: other_slot,
+                number: other_number,
+                copy: other_copy,
+                key: other_key,
+                value: other_value,
+            },
+        ) => {
+            slot == other_slot
+                && number == other_number
+                && copy == other_copy
+                && key == other_key
+                && is_same_value(value, other_value)
+        }
+        (
+            Body::Ack { slot, number, copy },
+            Body::Ack {
+                slot: other_slot,
+                number: other_number,
+                copy: other_copy,
+            },
+        ) => slot == other_slot && number == other_number && copy == other_copy,
+        (
+            Body::Drained {
+                slot,
+                number,
+                epoch,
+            },
+            Body::Drained {
+                slot: other_slot,
+                number: other_number,
+                epoch: other_epoch,
+            },
+        ) => slot == other_slot && number == other_number && epoch == other_epoch,
+        (Body::Claim(claim), Body::Claim(other_claim)) => {
+            are_same_runs(claim.runs(), other_claim.runs())
+        }
+        _ => false,
+    }
+}
+
+fn are_same_runs(one: &[Run<Epoch>], other: &[Run<Epoch>]) -> bool
+    ensures same { result ≡ true → one.now ≡ other.now }
+    ensures differ { result ≡ false → one.now ≢ other.now }
+{
+    if one.len() != other.len() {
+        return false;
+    }
+    for place in 0..one.len() {
+        if !is_same_run(&one[place], &other[place]) {
+            return false;
+        }
+    }
+    true
+}
+
+fn is_same_run(one: &Run<Epoch>, other: &Run<Epoch>) -> bool
+    ensures same { result ≡ true → one.now ≡ other.now }
+    ensures differ { result ≡ false → one.now ≢ other.now }
+{
+    one.slots.first == other.slots.first
+        && one.slots.last == other.slots.last
+        && one.value == other.value
+}
+
+fn is_same_value(one: &Value, other: &Value) -> bool
+    ensures same { result ≡ true → one.now ≡ other.now }
+    ensures differ { result ≡ false → one.now ≢ other.now }
+{
+    match (one, other) {
+        (Value::Str(bytes), Value::Str(other_bytes)) => bytes == other_bytes,
+        (Value::Hash(hash), Value::Hash(other_hash)) => {
+            is_same_hash(hash.get(), other_hash.get())
+        }
+        _ => false,
+    }
+}
+
+fn is_same_hash(one: &Hash, other: &Hash) -> bool
+    ensures same { result ≡ true → one.now ≡ other.now }
+    ensures differ { result ≡ false → one.now ≢ other.now }
+{
+    let mut theirs = other.iter();
+    for (field, value) in one.iter() {
+        let Some((name, held)) = theirs.next() else {
+            return false;
+        };
+        if !(field == name && value == held) {
+            return false;
+        }
+    }
+    theirs.next().is_none()
+}
