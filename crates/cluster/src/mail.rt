@@ -1,8 +1,9 @@
 //! The messages between the nodes.
+ghost use Rattle.std.specs.Prelude.{◌≡◌, IfErr};
 
 use crate::node::Node;
-use bus::Message;
-use node_cell::{Deployment, Log};
+use bus::Link;
+use node_cell::{Deployment, Log, Posted, Sending};
 use slot_table::NodeNo;
 use std::alloc::{AllocError, Global};
 use std::collections::VecDeque;
@@ -22,7 +23,7 @@ pub(crate) struct Carrier<K: Deployment, L: Log> {
     // All nodes of the cluster, by number.
     nodes: Vec<Arc<Node<K, L>, Global>>,
     // For each node the messages that found no room on its link yet.
-    unsent: Vec<VecDeque<Message>>,
+    unsent: Vec<VecDeque<Posted<K>>>,
 }
 
 impl<K: Deployment, L: Log + Drop> Carrier<K, L> {
@@ -72,20 +73,23 @@ impl<K: Deployment, L: Log + Drop> Carrier<K, L> {
         let Some(number) = NodeNo::new(number) else {
             return false;
         };
-        let Some(received) = self.node.inbox.receive(rt, number) else {
+        let Some(mut link) = self.node.inbox.link_from(rt, number) else {
             return false;
         };
-        if received.was_full {
+        let Some(posted) = link.try_receive() else {
+            return false;
+        };
+        if link.was_full() {
             sender.shared.ring_for_mail();
         }
-        self.node.shared.deliver(rt, received.message);
+        self.node.shared.deliver(rt, posted);
         true
     }
 
     // Takes the messages out of the node's outbox.
     fn collect<R: Wait>(&mut self, rt: &R, alloc: Global) {
-        for messages in self.node.shared.take_sent(rt, alloc) {
-            put_all(&mut self.unsent, messages.into_vec(alloc));
+        for sending in self.node.shared.take_sent(rt, alloc) {
+            put_all(&mut self.unsent, sending);
         }
     }
 
@@ -116,7 +120,10 @@ fn all_of<K: Deployment, L: Log + Drop>(
 }
 
 // No message for any of so many nodes.
-fn none_unsent(alloc: Global, count: usize) -> Result<Vec<VecDeque<Message>>, AllocError> {
+fn none_unsent<K: Deployment>(
+    alloc: Global,
+    count: usize,
+) -> Result<Vec<VecDeque<Posted<K>>>, AllocError> {
     let mut unsent = Vec::with_capacity(alloc, count)?;
     for _ in 0..count {
         unsent.push(VecDeque::new(alloc)).map_err(AllocError::from)?;
@@ -124,17 +131,17 @@ fn none_unsent(alloc: Global, count: usize) -> Result<Vec<VecDeque<Message>>, Al
     Ok(unsent)
 }
 
-// Puts each of the messages behind those for the same node.
-fn put_all(unsent: &mut Vec<VecDeque<Message>>, messages: Vec<Message>) {
-    for message in messages {
-        put(unsent, message);
+// Puts each of the messages of a step behind those for the same node.
+fn put_all<K: Deployment>(unsent: &mut Vec<VecDeque<Posted<K>>>, sending: Sending<K>) {
+    for posted in sending {
+        put(unsent, posted);
     }
 }
 
 // A message for which there is no memory is lost.
-fn put(unsent: &mut Vec<VecDeque<Message>>, message: Message) {
-    if let Some(unsent) = unsent.get_mut(usize::from(message.to.get())) {
-        let _lost = unsent.push_back(message).map_err(AllocError::from);
+fn put<K: Deployment>(unsent: &mut Vec<VecDeque<Posted<K>>>, posted: Posted<K>) {
+    if let Some(unsent) = unsent.get_mut(posted.message().to.index()) {
+        let _lost = unsent.push_back(posted).map_err(AllocError::from);
     }
 }
 
@@ -142,15 +149,29 @@ fn put(unsent: &mut Vec<VecDeque<Message>>, message: Message) {
 fn send_to<K: Deployment, L: Log, R: Wait>(
     rt: &R,
     node: &Node<K, L>,
-    unsent: &mut VecDeque<Message>,
+    unsent: &mut VecDeque<Posted<K>>,
 ) {
     for _ in 0..unsent.len() {
-        let Some(message) = unsent.pop_front() else {
+        let Some(posted) = unsent.pop_front() else {
             return;
         };
-        if let Err(message) = node.inbox.send(rt, message) {
-            let _room = unsent.push_front(message).map_err(AllocError::from);
+        if let Err(posted) = send_one(rt, node, posted) {
+            let _room = unsent.push_front(posted).map_err(AllocError::from);
             return;
         }
+    }
+}
+
+// Sends the message on the link from its sender, or gives it back where that has no room.
+fn send_one<K: Deployment, L: Log, R: Wait>(
+    rt: &R,
+    node: &Node<K, L>,
+    posted: Posted<K>,
+) -> Result<(), Posted<K>>
+    ensures { IfErr result (λ back. back ≡ posted) }
+{
+    match node.inbox.link_from(rt, posted.message().from) {
+        Some(mut link) => link.send(posted),
+        None => Err(posted),
     }
 }

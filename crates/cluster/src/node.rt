@@ -8,7 +8,7 @@ use crate::stop::Stop;
 use cluster_config::Config;
 use links::Inbox;
 use listener::serve_conn;
-use node_cell::{Admission, Deployment, Log, NodeCell, NodeGate};
+use node_cell::{Admission, Deployment, Log, NodeCell, NodeGate, Posted};
 use node_step::Event;
 use resp2::Counting;
 use shared_node::{Gate, SharedNode};
@@ -32,7 +32,7 @@ const WAKING: u64 = 100;
 pub(crate) struct Node<K: Deployment, L: Log> {
     pub(crate) shared: SharedNode<K, L>,
     admission: Admission<K>,
-    pub(crate) inbox: Inbox,
+    pub(crate) inbox: Inbox<Posted<K>>,
     listener: TcpListener,
 }
 

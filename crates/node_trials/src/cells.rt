@@ -1,5 +1,5 @@
 //! A node with its journal: what it is asked, in order, and what is left of it.
-ghost use Rattle.std.specs.Prelude.{◌≡◌, length};
+ghost use Rattle.std.specs.Prelude.{◌≡◌, ◌<◌, length};
 ghost use Rattle.node_gate.specs.Asks.{IsOwn};
 ghost use Rattle.tickets.specs.Tickets.{IsFresh};
 
@@ -9,29 +9,79 @@ use crate::cells::Call::{Apply, Deliver, TakeReply, TakeSent};
 use crate::clusters::three_masters;
 use crate::telling::tell;
 use anyhow::{Context, Result};
-use bus::{Body, Message};
 use cluster_config::Config;
-use key_slot::Slot;
-use node_cell::{Admission, Asks, DeliveryFault, Deployment, Entered, Entry, Journal, NodeCell};
+use node_cell::{Admission, Asks, Deployment, Entered, Entry, Journal, NodeCell, Posted, Sending};
 use node_core::Event;
 use resp2::append_reply;
-use slot_state::MoveNo;
-use slot_table::{Epoch, NodeNo};
+use slot_table::NodeNo;
 use std::alloc::{AllocError, Global};
+use std::collections::VecDeque;
 use std::marker::Brand;
 use tickets::{Seat, open};
 
 // The node that has the slots of `foo` and `x`.
 const NODE: u8 = 2;
 
-// What is asked of a cell: a step, with a message that node 0 sent in the step of a ticket, a reply that is kept for a connection,
-// or the messages in the outbox.
+// The node to which they are moved.
+const OTHER: u8 = 1;
+
+// What is asked of a cell: a step, a reply that is kept for a connection, or the messages in the outbox. Or the first message that
+// was taken there is delivered to another cell.
 #[derive(Clone, Copy)]
 enum Call {
     Apply(Act<'static>),
-    Deliver(u64),
+    Deliver,
     TakeReply(usize),
     TakeSent,
+}
+
+// The cell that is asked, and another one of its cluster, with the messages on their way from one to the other.
+struct Cells<K: Deployment> {
+    cell: NodeCell<K, Journal>,
+    other: NodeCell<K, Journal>,
+    asks: Asks<K>,
+    posted: VecDeque<Posted<K>>,
+}
+
+impl<K: Deployment> Cells<K> {
+    // Both as they begin.
+    fn new(alloc: Global, config: &Config, seat: Seat, other_seat: Seat) -> Result<Cells<K>>
+        requires three { length config.now.nodes ≡ 3 }
+        requires cluster { config.now ≡ K.config }
+        requires seat { IsFresh K.table K.seats seat }
+        requires other { IsFresh K.table K.seats other_seat }
+    {
+        Ok(Cells {
+            cell: cell_of(alloc, config, NODE, seat)?,
+            other: cell_of(alloc, config, OTHER, other_seat)?,
+            asks: Admission::new(config).begin(),
+            posted: VecDeque::new(alloc),
+        })
+    }
+
+    // What the cell did that was asked.
+    fn into_entries(self) -> Vec<Entry> {
+        let Cells {
+            cell,
+            other: _,
+            asks: _,
+            posted: _,
+        } = self;
+        let (_config, _node, log, _seat) = cell.finish();
+        log.into_entries()
+    }
+}
+
+// It does what the derive would. Written out it is one call wherever cells are let go.
+impl<K: Deployment> Drop for Cells<K> {
+    fn drop(self) {
+        let Cells {
+            cell: _,
+            other: _,
+            asks: _,
+            posted: _,
+        } = self;
+    }
 }
 
 // The calls, and what they give, with the journal behind it.
@@ -40,7 +90,7 @@ struct Case {
     given: &'static str,
 }
 
-const CASES: [Case; 3] = [
+const CASES: [Case; 2] = [
     // Each step draws a ticket and is entered, also one without an answer. A connection that is closed is never answered again, also
     // when another one is opened.
     Case {
@@ -58,13 +108,9 @@ const CASES: [Case; 3] = [
         ],
         given: "0 1 2 3 +OK\r\n4 $1\r\n1\r\n5 -MOVED 3300 127.0.0.1:7000\r\n6 7 8 9 journal 0 1 2 3 +OK\r\n4 $1\r\n1\r\n5 -MOVED 3300 127.0.0.1:7000\r\n6 7 8 9 ",
     },
-    // A message is older than its delivery. A ticket that isn't greater than the message's is skipped.
-    Case {
-        calls: &[Deliver(1), Deliver(1), Deliver(1)],
-        given: "early early 2 journal 0 skipped 1 skipped 2 ",
-    },
-    // A request that waits for a copy is parked. Its reply is kept until it is taken, and messages wait in the outbox. A
-    // connection that is closed gets nothing any more, and another one that waits still does.
+    // A request that waits for a copy is parked. Its reply is kept until it is taken, and messages wait in the outbox. The step
+    // that takes a message draws the next ticket. A connection that is closed gets nothing any more, and another one that waits
+    // still does.
     Case {
         calls: &[
             Apply(Open),
@@ -77,6 +123,7 @@ const CASES: [Case; 3] = [
             Apply(Ask(1, "MIGRATE 127.0.0.1 7001 x 0 1")),
             TakeReply(1),
             TakeSent,
+            Deliver,
             TakeSent,
             Apply(Tick),
             Apply(Close(0)),
@@ -85,9 +132,9 @@ const CASES: [Case; 3] = [
             TakeReply(1),
             TakeSent,
         ],
-        given: "0 1 2 +OK\r\n3 +OK\r\n4 +OK\r\n5 +OK\r\n6 parked 7 parked none 2 sent 0 sent 8 9 none \
+        given: "0 1 2 +OK\r\n3 +OK\r\n4 +OK\r\n5 +OK\r\n6 parked 7 parked none 2 sent 8 0 sent 9 10 none \
 -IOERR copy not acknowledged\r\nnone 2 sent journal 0 1 2 +OK\r\n3 +OK\r\n4 +OK\r\n5 +OK\r\n6 parked copy 7 parked copy \
-8 -IOERR copy not acknowledged\r\n-IOERR copy not acknowledged\r\ncopy copy 9 ",
+9 -IOERR copy not acknowledged\r\n-IOERR copy not acknowledged\r\ncopy copy 10 ",
     },
 ];
 
@@ -114,59 +161,64 @@ fn other_answer<R: AllocGlobal>(rt: &R, config: &Config) -> Result<Option<String
 fn given_by<R: AllocGlobal>(rt: &R, config: &Config, calls: &[Call]) -> Result<Vec<u8>>
     requires three { length config.now.nodes ≡ 3 }
 {
-    let (_table, mut seats) = open(rt.alloc(), 1)?;
-    let seat = seats.pop().context("there is no seat")?;
-    given_at::<Brand>(rt.alloc(), config, seat, calls)
+    let (_table, mut seats) = open(rt.alloc(), 2)?;
+    let seat = seats.pop().unwrap();
+    let other_seat = seats.pop().unwrap();
+    given_at::<Brand>(rt.alloc(), config, seat, other_seat, calls)
 }
 
 fn given_at<K: Deployment>(
     alloc: Global,
     config: &Config,
     seat: Seat,
+    other_seat: Seat,
     calls: &[Call],
 ) -> Result<Vec<u8>>
     requires three { length config.now.nodes ≡ 3 }
     requires cluster { config.now ≡ K.config }
     requires seat { IsFresh K.table K.seats seat }
+    requires other { IsFresh K.table K.seats other_seat }
 {
-    let node = NodeNo::new(NODE).context("there is no such node")?;
-    let mut cell = NodeCell::<K, Journal>::new(alloc, config, node, seat)?;
-    let mut asks = Admission::<K>::new(config).begin();
-    let mut given = make_all(alloc, &mut asks, &mut cell, calls)?;
-    push_journal(&mut given, entries_of(cell).as_slice())?;
+    let mut cells = Cells::<K>::new(alloc, config, seat, other_seat)?;
+    let mut given = make_all(alloc, &mut cells, calls)?;
+    push_journal(&mut given, cells.into_entries().as_slice())?;
     Ok(given)
 }
 
-fn entries_of<K: Deployment>(cell: NodeCell<K, Journal>) -> Vec<Entry> {
-    let (_config, _node, log, _seat) = cell.finish();
-    log.into_entries()
+fn cell_of<K: Deployment>(
+    alloc: Global,
+    config: &Config,
+    number: u8,
+    seat: Seat,
+) -> Result<NodeCell<K, Journal>>
+    requires number { number < 3 }
+    requires three { length config.now.nodes ≡ 3 }
+    requires cluster { config.now ≡ K.config }
+    requires seat { IsFresh K.table K.seats seat }
+{
+    let node = NodeNo::new(number).unwrap();
+    Ok(NodeCell::new(alloc, config, node, seat)?)
 }
 
-fn make_all<K: Deployment>(
-    alloc: Global,
-    asks: &mut Asks<K>,
-    cell: &mut NodeCell<K, Journal>,
-    calls: &[Call],
-) -> Result<Vec<u8>> {
+fn make_all<K: Deployment>(alloc: Global, cells: &mut Cells<K>, calls: &[Call]) -> Result<Vec<u8>> {
     let mut given = Vec::new(alloc);
     for call in calls {
-        make(alloc, asks, cell, &mut given, *call)?;
+        make(alloc, cells, &mut given, *call)?;
     }
     Ok(given)
 }
 
 fn make<K: Deployment>(
     alloc: Global,
-    asks: &mut Asks<K>,
-    cell: &mut NodeCell<K, Journal>,
+    cells: &mut Cells<K>,
     given: &mut Vec<u8>,
     call: Call,
 ) -> Result<()> {
     match call {
-        Apply(act) => apply(alloc, asks, cell, given, act),
-        Deliver(ticket) => deliver(cell, given, message(ticket)?),
-        TakeReply(key) => Ok(take_reply(cell, given, key)?),
-        TakeSent => Ok(take_sent(alloc, cell, given)?),
+        Apply(act) => apply(alloc, &mut cells.asks, &mut cells.cell, given, act),
+        Deliver => deliver(cells, given),
+        TakeReply(key) => Ok(take_reply(&mut cells.cell, given, key)?),
+        TakeSent => Ok(take_sent(alloc, cells, given)?),
     }
 }
 
@@ -203,23 +255,11 @@ fn step<K: Deployment>(
     Ok(push_entered(given, &entered)?)
 }
 
-// Delivers the message, and tells the ticket of its step, or that the message isn't older.
-fn deliver<K: Deployment>(
-    cell: &mut NodeCell<K, Journal>,
-    given: &mut Vec<u8>,
-    message: Message,
-) -> Result<()> {
-    match cell.deliver(message) {
-        Ok(entered) => Ok(push_entered(given, &entered)?),
-        Err(fault) => push_refusal(given, fault),
-    }
-}
-
-fn push_refusal(given: &mut Vec<u8>, fault: DeliveryFault) -> Result<()> {
-    match fault {
-        DeliveryFault::Early => Ok(given.extend_from_slice(b"early ")?),
-        fault => Err(fault.into()),
-    }
+// Delivers the first message that was taken to the other cell, and tells the ticket of its step.
+fn deliver<K: Deployment>(cells: &mut Cells<K>, given: &mut Vec<u8>) -> Result<()> {
+    let posted = cells.posted.pop_front().context("no message was taken")?;
+    let entered = cells.other.deliver(posted)?;
+    Ok(push_entered(given, &entered)?)
 }
 
 fn push_entered<K: Deployment>(
@@ -228,21 +268,6 @@ fn push_entered<K: Deployment>(
 ) -> Result<(), AllocError> {
     push_number(given, entered.ticket() as usize)?;
     push_response(given, entered.response())
-}
-
-// An acknowledgement that nobody waits for.
-fn message(ticket: u64) -> Result<Message> {
-    Ok(Message {
-        from: NodeNo::new(0).context("no node 0")?,
-        to: NodeNo::new(NODE).context("there is no such node")?,
-        ticket,
-        epoch: Epoch::FIRST,
-        body: Body::Ack {
-            slot: Slot::new(0).context("no slot 0")?,
-            number: MoveNo::new(1).context("no move 1")?,
-            copy: 1,
-        },
-    })
 }
 
 fn take_reply<K: Deployment>(
@@ -256,18 +281,29 @@ fn take_reply<K: Deployment>(
     }
 }
 
-// How many messages were in the outbox.
+// How many messages were in the outbox. They are kept, to be delivered.
 fn take_sent<K: Deployment>(
     alloc: Global,
-    cell: &mut NodeCell<K, Journal>,
+    cells: &mut Cells<K>,
     given: &mut Vec<u8>,
 ) -> Result<(), AllocError> {
     let mut count = 0usize;
-    for messages in cell.take_sent(alloc) {
-        count = count.saturating_add(messages.as_slice().len());
+    for sending in cells.cell.take_sent(alloc) {
+        count = count.saturating_add(sending.len());
+        keep(&mut cells.posted, sending)?;
     }
     push_number(given, count)?;
     given.extend_from_slice(b"sent ")
+}
+
+fn keep<K: Deployment>(
+    posted: &mut VecDeque<Posted<K>>,
+    sending: Sending<K>,
+) -> Result<(), AllocError> {
+    for message in sending {
+        posted.push_back(message).map_err(AllocError::from)?;
+    }
+    Ok(())
 }
 
 // The entries: their tickets, and all that came out of each step.
