@@ -8,7 +8,7 @@ ghost use Rattle.tickets.specs.Tickets.{id_of};
 use crate::order::{Taken, take_apart};
 use crate::part::Part;
 use crate::sound::are_sound;
-use crate::world_run::WorldRun;
+use crate::whole_run::WorldRun;
 use cluster_config::Config;
 use node_cell::{Deployment, Journal, NodeCell};
 use std::alloc::{AllocError, Global};

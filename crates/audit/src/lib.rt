@@ -8,8 +8,8 @@ mod order;
 mod part;
 mod same;
 mod sound;
-mod world_run;
+mod whole_run;
 
 pub use gathering::{AuditFault, gather};
 pub use law::journals_are_a_run;
-pub use world_run::WorldRun;
+pub use whole_run::WorldRun;

@@ -1,11 +1,13 @@
 -- The codes of the faults that the program prints.
 use Rattle.std.specs.Prelude.{ℕ, List, Option, Some, None, codes}
+use Rattle.audit.specs.declared.gathering.AuditFault.{AuditFault}
+use Rattle.audit.specs.declared.gathering.AuditFault.TheVariants as audit
 use Rattle.cluster_config.specs.declared.fault.ConfigFault.{ConfigFault}
 use Rattle.cluster_config.specs.declared.fault.ConfigFault.TheVariants as config
 use Rattle.resharder.specs.Faults.{code_of as reshard_code}
 use Rattle.smart_client.specs.Faults.{code_of as client_code}
 use Rattle.rcluster.specs.declared.fault.ProgramFault.{ProgramFault}
-use Rattle.rcluster.specs.declared.fault.ProgramFault.TheVariants.{UnreadableFile, AddressInUse, Memory, Thread, Output, Config, Script, Client, Reshard}
+use Rattle.rcluster.specs.declared.fault.ProgramFault.TheVariants.{UnreadableFile, AddressInUse, Memory, Thread, Output, Config, Script, Client, Reshard, Audit}
 
 -- of a configuration
 abbrev pub config_code : ConfigFault → List ℕ
@@ -19,6 +21,11 @@ config_code config.Address = codes "K7"
 config_code config.Range = codes "K8"
 config_code config.Memory = codes "F3"
 
+-- of journals that are gathered
+abbrev pub audit_code : AuditFault → List ℕ
+audit_code audit.Stranger = codes "20"
+audit_code audit.Memory = codes "21"
+
 abbrev pub code_of : ProgramFault → List ℕ
 code_of UnreadableFile = codes "F1"
 code_of AddressInUse = codes "F2"
@@ -29,6 +36,7 @@ code_of (Config fault) = config_code fault
 code_of (Script line) = codes "S"
 code_of (Client fault) = client_code fault
 code_of (Reshard fault) = reshard_code fault
+code_of (Audit fault) = audit_code fault
 
 -- what stands behind the code: the number of the line
 abbrev pub number_of : ProgramFault → Option ℕ
@@ -41,3 +49,4 @@ number_of (Config fault) = None
 number_of (Script line) = Some line
 number_of (Client fault) = None
 number_of (Reshard fault) = None
+number_of (Audit fault) = None

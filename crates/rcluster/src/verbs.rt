@@ -144,7 +144,7 @@ const CHECK: Argument = Argument {
 const TICKS: Argument = Argument {
     name: "ticks",
     value_name: "N",
-    help: "Ends after N ticks of node 0, 1 to 1000000; each node's journal is kept in memory until then",
+    help: "Ends after N ticks of node 0, 1 to 1000000; each node's journal is kept in memory until then, and checked",
     kind: Kind::Number {
         least: 1,
         most: MOST_TICKS,
@@ -245,7 +245,9 @@ K7  an address stands twice\n  \
 K8  a time or a port is out of its range\n  \
 F2  an address can't be listened on\n  \
 F3  memory was refused, or a thread can't be started\n  \
-F4  the output can't be written, and so this code isn't either";
+F4  the output can't be written, and so this code isn't either\n  \
+20  after --ticks: what the nodes did isn't a run of the cluster\n  \
+21  after --ticks: memory was refused while it was checked";
 
 /// What the help of `simulate` says at the end, behind the steps of a script.
 pub const AFTER_SIMULATE: &str = "\

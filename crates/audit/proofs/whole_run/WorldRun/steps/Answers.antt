@@ -3,7 +3,7 @@ use Rattle.world_run.specs.Run.{IsRun}
 use Rattle.audit.specs.Law.{RunView}
 use Rattle.audit.proofs.Counts.{as_many}
 use Rattle.audit.proofs.Merging.{journals_are_a_run}
-use Rattle.audit.proofs.world_run.WorldRun.steps.Goals as goal
+use Rattle.audit.proofs.whole_run.WorldRun.steps.Goals as goal
 
 pub returns-clause-count : goal.returns-clause-count
 returns-clause-count c = as_many _ _ _ c.self.invariant ∙ ap (λ (run : RunView). length run.entries) c.self.view_is

@@ -1,0 +1,7 @@
+use Rattle.std.specs.Prelude.{length}
+use Rattle.tickets.specs.Tickets.{id_of}
+use Rattle.rcluster.proofs.serving.serve_for.Given as goal
+
+-- the cluster that runs is the one of the configuration and of the seats
+abbrev pub ghosts-run_for : goal.ghosts-run
+ghosts-run_for g a = record { config = a.config.now; table = id_of a.table.now; seats = length a.config.now.nodes }
