@@ -1,4 +1,6 @@
-use Rattle.std.proofs.Common.{◌∙◌, ap, subst, length}
+use Rattle.std.proofs.Common.{◌∙◌, [], ap, subst, length}
+use Rattle.merged_run.specs.Settled.{AreSettled}
+use Rattle.world_run.specs.Executed.{AreOfOneKeyspace, KeepsAsking, executed}
 use Rattle.world_run.specs.Run.{IsRun}
 use Rattle.audit.specs.Law.{RunView}
 use Rattle.audit.proofs.Counts.{as_many}
@@ -10,3 +12,13 @@ returns-clause-count c = as_many _ _ _ c.self.invariant ∙ ap (λ (run : RunVie
 
 pub returns-clause-run : goal.returns-clause-run
 returns-clause-run c = subst (λ (run : RunView). IsRun run.config run.entries) c.self.view_is (journals_are_a_run _ _ _ c.self.invariant).run
+
+pub returns-clause-one_keyspace : goal.returns-clause-one_keyspace
+returns-clause-one_keyspace c =
+    subst (λ (run : RunView). KeepsAsking [] run.entries → AreOfOneKeyspace (executed run.entries)) c.self.view_is
+    (c.replies_are_those_of_one_keyspace.ensures _ _ c.nodes-of_a_cluster.ensures.cluster (journals_are_a_run _ _ _ c.self.invariant).run)
+
+pub returns-clause-settled : goal.returns-clause-settled
+returns-clause-settled c =
+    subst (λ (run : RunView). AreSettled run.entries → AreOfOneKeyspace (executed run.entries)) c.self.view_is
+    (c.settled_runs_are_of_one_keyspace.ensures _ _ c.nodes-of_a_cluster.ensures.cluster (journals_are_a_run _ _ _ c.self.invariant).run)
