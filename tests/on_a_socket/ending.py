@@ -1,12 +1,15 @@
 """How a server ends: after its ticks, or by a signal.
 
-Each row plays what clients do until the end, and compares the status, what was printed behind the nodes' lines, on standard
-output and on standard error, that it didn't end before its ticks, and that each connection has ended.
+Each row plays what clients do until the end, and compares the status, what was printed on standard error, that it didn't end before
+its ticks, that each connection has ended, and that what the nodes did was audited: a run with a step for each tick of node 0 and for
+each request that was answered.
 """
 
 import contextlib
+import functools
 import itertools
 import os
+import re
 import signal
 import subprocess
 import sys
@@ -17,8 +20,10 @@ from concurrent.futures import ThreadPoolExecutor
 import clusters
 from clusters import lines_of, node_id, ports_of
 from deaf import NEVER_FULL, DeafClient
+from moving import SOURCE, TARGET, count_at
 from program import BEGINNING, Server
-from wire import OK, PING, PONG, ask, connect, playing, rest_of, spelled
+from resharding import reshard_patiently
+from wire import OK, PING, PONG, ask, connect, number, playing, rest_of, spelled
 
 TICKS = 20
 TICK_MS = 75
@@ -28,6 +33,10 @@ MOST_COMING = 300
 BEFORE_THE_STORM = 1200
 # How many seconds more than its ticks a server may take to end, and how many rows are played side by side.
 MORE, ROWS_AT_ONCE = 30, 4
+# How many clients count at keys of a slot that moves.
+COUNTERS = 3
+
+# Each play yields how many requests its clients had answered, which it fills in by its end, or None where it doesn't count them.
 
 
 def no_clients(_judge, _what, _ports):
@@ -76,13 +85,42 @@ def writing_clients(judge, what, ports):
         count = 0
         with contextlib.suppress(OSError), connect(ports[0]) as client:
             while ask(client, request, reply) == reply:
-                count += 1
+                count += 16
         counts.append(count)
 
     with playing([write] * 4):
-        yield
+        yield counts
     judge.equal(f"{what}: each of the clients is ended", len(counts), 4)
-    judge.least(f"{what}: pipelines that each had answered", min(counts, default=0), 1)
+    judge.least(f"{what}: requests that each had answered", min(counts, default=0), 16)
+
+
+def counting_clients(judge, what, ports):
+    """Clients count at keys of a slot that `reshard` moves to and fro, wherever it is."""
+    ended = threading.Event()
+    replies = [[] for _ in range(COUNTERS)]
+    counts, moves = [], []
+
+    def count(key):
+        with contextlib.suppress(OSError):
+            count_at(ports, key, replies[key], ended)
+
+    def move():
+        for source, target in itertools.cycle(((SOURCE, TARGET), (TARGET, SOURCE))):
+            status, output = reshard_patiently(ports[0], source=source, target=target)
+            if status:
+                return
+            moves.append(output)
+
+    with playing([move, *(functools.partial(count, key) for key in range(COUNTERS))]):
+        yield counts
+        ended.set()
+    for key, told in enumerate(replies):
+        # Behind the end there is no reply.
+        told = [it for it in told if it]
+        judge.equal(f"{what}: what client {key} was told", told, [number(it + 1) for it in range(len(told))])
+        counts.append(len(told))
+    judge.least(f"{what}: how often each client counted", min(counts), 1)
+    judge.least(f"{what}: how often the slot was moved", len(moves), 1)
 
 
 def deaf_client(judge, what, ports):
@@ -150,11 +188,14 @@ def storm(begin, ports):
             process.kill()
 
 
-PLAYS = (no_clients, silent_clients, half_requests, waiting_clients, writing_clients, deaf_client, coming_clients, storming_clients)
+PLAYS = (
+    no_clients, silent_clients, half_requests, waiting_clients, writing_clients, counting_clients, deaf_client, coming_clients, storming_clients,
+)
 
 
 def play(judge):
-    rows = [(it, options) for it in PLAYS for options in ([], ["--journal"])]
+    # With `--ticks` a journal is kept in any case, so `--journal` changes nothing.
+    rows = [(it, []) for it in PLAYS] + [(writing_clients, ["--journal"])]
     with ThreadPoolExecutor(ROWS_AT_ONCE) as pool:
         for done in [pool.submit(play_ticks, judge, *row) for row in rows]:
             done.result()
@@ -167,12 +208,15 @@ def play_ticks(judge, clients, options):
     cluster = clusters.six_nodes(tick_ms=TICK_MS)
     with judge.part(what), Server(cluster, "--ticks", str(TICKS), *options) as server:
         judge.equal(f"{what}: the lines of the nodes", server.lines, lines_of(cluster))
-        with contextlib.contextmanager(clients)(judge, what, ports_of(cluster)):
-            outcome = server.outcome(TICKS * TICK_MS / 1000 + MORE)
+        with contextlib.contextmanager(clients)(judge, what, ports_of(cluster)) as answered:
+            status, output, error = server.outcome(TICKS * TICK_MS / 1000 + MORE)
             took = time.monotonic() - server.begun
-            judge.equal(f"{what}: status, and nothing more printed", outcome, (0, b"", b""))
+            judge.equal(f"{what}: status, and nothing on standard error", (status, error), (0, b""))
             judge.least(f"{what}: seconds until the end", took, (TICKS - 1) * TICK_MS / 1000)
             server.process.kill()
+        audited = re.fullmatch(rb"audit ok (\d+)\n", output)
+        judge.true(f"{what}: the run is audited", audited, repr(output))
+        judge.least(f"{what}: its steps", int(audited[1]) if audited else 0, TICKS + sum(answered or ()))
 
 
 def play_signal(judge, sign):
