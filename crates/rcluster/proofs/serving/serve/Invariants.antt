@@ -3,5 +3,5 @@ use Rattle.tickets.specs.Tickets.{id_of}
 use Rattle.rcluster.proofs.serving.serve.Given as goal
 
 -- the cluster that runs is the one of the configuration and of the seats
-abbrev pub ghosts-run : goal.ghosts-run
-ghosts-run g a = record { config = a.config.now; table = id_of a.table.now; seats = length a.config.now.nodes }
+abbrev pub ghosts-run_for_ever : goal.ghosts-run_for_ever
+ghosts-run_for_ever g a = record { config = a.config.now; table = id_of a._table.now; seats = length a.config.now.nodes }
