@@ -93,7 +93,7 @@ def play_masters(judge):
 def free_row(count):
     """The first of so many free ports that follow one another."""
     for port in range(20000, 30000, count):
-        if all(clusters.is_free(it) for it in range(port, port + count)):
+        if all(clusters.claim(it) for it in range(port, port + count)):
             return port
     raise OSError("no free ports")
 
