@@ -19,6 +19,7 @@ from wrong import try_wrong_bodies
 SCRIPTS = {
     "tests/refused_memory": "node_trials",
     "tests/refused_moves": "node_trials",
+    "tests/refused_audit": "audit_trials",
     "tests/refused_calls": "rcluster",
     "tests/simulated/run": "rcluster",
     "tests/drawings/run": "rcluster",
