@@ -48,7 +48,7 @@ module _ (config : ClusterConfig) (table : TableId) (seat_count : ℕ) (parts : 
       ]
 
   pub unsound : (AllAreSound journals → ⊥) → HasStranger config parts
-  unsound none = inr (inr (record { journals = journals; are = journal_is; unsound = none }))
+  unsound none = inr (inr (record { journals = journals; count = taken.all ∙ counted; are = journal_is; unsound = none }))
 
   pub are_journals : (tickets : ℕ) → ((n : ℕ) → total (λ (seat : Seat). times n (drawn seat)) seats ≡ once_below n tickets) → AllAreSound journals → AreJournals config tickets journals
   are_journals tickets once sound = record {
@@ -62,10 +62,14 @@ module _ (config : ClusterConfig) (table : TableId) (seat_count : ℕ) (parts : 
   pub gathered : (tickets : ℕ) → AreJournals config tickets journals → (run : RunView) → run ≡ record { config = config; entries = merged tickets journals } → IsGathered config parts run
   gathered tickets are run is = subst (IsGathered config parts) (sym is) whole_run
     where
+      none_left : (n : ℕ) → times n (nodes_of parts) ≡ once_below n count + 0 → times n (nodes_of parts) ≡ once_below n count
+      none_left n each = omega (arith, each)
+
       whole_run : IsGathered config parts (record { config = config; entries = merged tickets journals })
       whole_run =
           let merge = journals_are_a_run config tickets journals are in
           record {
+            each_once = λ n. subst (λ (m : ℕ). times n (nodes_of parts) ≡ once_below n m) counted (none_left n (taken.each n));
             config_is = refl;
             run_is = merge.run;
             numbered = merge.numbered ∙ ap (range_with_len 0) (as_many config tickets journals are);

@@ -17,23 +17,25 @@ part_of cell = record { node = cell.node; entries = cell.journal }
 abbrev pub parts_of : List CellView → List PartView
 parts_of cells = map part_of cells
 
--- the journals, merged by their tickets: a run of the cluster, in which each number below that of its entries stands once, in order, and the
--- part of each node is its journal
+-- the journals of each node once, merged by their tickets: a run of the cluster, in which each number below that of its entries stands once,
+-- in order, and the part of each node is its journal
 pub record IsGathered (config : ClusterConfig) (parts : List PartView) (run : RunView) : Type 0 where
+  pub each_once : AreEachOnce (length config.nodes) (nodes_of parts)
   pub config_is : run.config ≡ config
   pub run_is : IsRun config run.entries
   pub numbered : map (λ (entry : Entry). entry.ticket) run.entries ≡ range_with_len 0 (length run.entries)
   pub journals_are : (part : PartView) → Contains parts part → entries_of part.node run.entries ≡ map (placed part.node) part.entries
 
--- by these journals of theirs, a node took a message that nobody sent
-pub record IsUnsound (parts : List PartView) : Type 0 where
+-- by these journals, one of each node, a node took a message that nobody sent
+pub record IsUnsound (config : ClusterConfig) (parts : List PartView) : Type 0 where
   pub journals : List (List JournalEntry)
+  pub count : length journals ≡ length config.nodes
   pub are : (part : PartView) → Contains parts part → journal_of journals part.node ≡ part.entries
   pub unsound : AllAreSound journals → ⊥
 
 -- there is no part; or they aren't those of each node once; or a node took what nobody sent
 abbrev pub HasStranger : ClusterConfig → List PartView → Type 0
-HasStranger config parts = (parts ≡ []) ⊎ (AreEachOnce (length config.nodes) (nodes_of parts) → ⊥) ⊎ IsUnsound parts
+HasStranger config parts = (parts ≡ []) ⊎ (AreEachOnce (length config.nodes) (nodes_of parts) → ⊥) ⊎ IsUnsound config parts
 
 -- all these parts are taken apart
 abbrev pub IsAllOf : ClusterConfig → TableId → ℕ → Taken → List PartView → Type 0
