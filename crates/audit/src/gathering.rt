@@ -36,7 +36,8 @@ impl From<AllocError> for AuditFault {
 /// The run that the nodes of the cluster `K` made, by the journals of their cells, which may come in any order. Nobody serves the
 /// nodes any more, and there were as many seats as there are nodes.
 ///
-/// It takes no more memory than a list of the nodes. Each message that a node took is looked for in the journal of its sender.
+/// It takes memory for three lists of the nodes and a copy of the configuration. Each message that a node took is looked for in the
+/// journal of its sender.
 pub fn gather<K: Deployment>(
     alloc: Global,
     table: &Table,
