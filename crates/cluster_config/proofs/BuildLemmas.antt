@@ -1,6 +1,6 @@
 -- A cluster that is built from what a text says, where nothing is wrong with it.
 use Rattle.std.proofs.Common.{◌≡◌, sym, ◌∙◌, ap, ap₂, refl, inl, inr, subst, arith, ℕ, ◌<◌, ◌≤◌, Bool, true, false, cond, not, ◌&&◌, ◌==◌, ltb, leb, List, [], ◌∷◌, ◌++◌, length, get_or, map, drop, Option, Some, None}
-use Rattle.std.specs.Prelude.{ℤ, pos, negsuc, nat_abs, int_le, All}
+use Rattle.std.specs.Prelude.{ℤ, pos, negsuc, nat_abs, int_le, All, IsTrue}
 use Rattle.std.specs.List.{list_all, cons_option, filter_map, slice_get}
 use Rattle.std.specs.Option.{option_map, option_map_or, option_and_then}
 use Rattle.std.specs.Ordering.{int_eq}
@@ -16,6 +16,7 @@ use Rattle.cluster_config.specs.Config.{IsCluster, IsUpTo, IsMaster, FollowsMast
 use Rattle.cluster_config.specs.Config as config
 use Rattle.cluster_config.specs.Faults.{IsSound, are_ids, are_slots, are_voters, are_within, conditions, differ, fault_of, first_failed, follows_master, has_id, has_lower_id, has_master, has_port, is_elsewhere, is_known, is_master, is_up_to, number_of, pairs_in, range_from, ranges_from, slots_in}
 use Rattle.cluster_config.specs.Reading.{config_of, node_of, role_of}
+use Rattle.cluster_config.specs.Texts.{is_host}
 use Rattle.cluster_config.specs.declared.config.NodeConfig.{NodeConfig}
 use Rattle.key_slot.specs.declared.slots.SlotRange.{SlotRange}
 use Rattle.cluster_config.specs.declared.fault.ConfigFault.{ConfigFault}
@@ -190,9 +191,9 @@ two_nodes nodes text other d known too two =
       | inr differs ↦ ap not differs
     ]
 
-built_cluster : (draft : Draft) → IsFaultless draft → IsCluster (config_of draft)
+built_cluster : (draft : Draft) → IsFaultless draft → All (λ (node : NodeConfig). IsTrue (is_host node.host)) (config_of draft).nodes → IsCluster (config_of draft)
 unfolding config_of
-built_cluster draft holds =
+built_cluster draft holds hosts =
     let nodes = draft.nodes in
     let built = map (node_of nodes) nodes in
     let whole : length built ≡ length nodes = length-map nodes (node_of nodes) in
@@ -206,6 +207,7 @@ built_cluster draft holds =
       some = omega arith;
       most = omega arith;
       ids = all_pairs-map (λ (a b : NodeConfig). is_below a.id b.id) (node_of nodes) nodes ∙ holds.rise;
+      hosts = hosts;
       ports = All-map (λ (node : NodeConfig). IsUpTo 65535 node.port) (node_of nodes) nodes (λ k d lt. up_to 65535 (get_or nodes k d).port (AllPass-from_list_all has_port nodes holds.ports k d lt));
       addresses =
           all_pairs-map config.is_elsewhere (node_of nodes) nodes
@@ -226,6 +228,7 @@ built_cluster draft holds =
     }
 
 pub cluster_of : (draft : Draft) → IsFaultless draft → (tick_ms node_timeout : ℕ) (nodes : List NodeConfig) (voters : List ℕ) → tick_ms ≡ nat_abs draft.tick_ms → node_timeout ≡ nat_abs draft.node_timeout
-    → nodes ≡ map (node_of draft.nodes) draft.nodes → voters ≡ map (number_of draft.nodes) draft.voters → IsCluster (record { tick_ms = tick_ms; node_timeout = node_timeout; nodes = nodes; voters = voters })
+    → nodes ≡ map (node_of draft.nodes) draft.nodes → voters ≡ map (number_of draft.nodes) draft.voters → All (λ (node : NodeConfig). IsTrue (is_host node.host)) nodes → IsCluster (record { tick_ms = tick_ms; node_timeout = node_timeout; nodes = nodes; voters = voters })
 unfolding config_of
-cluster_of draft holds tick_ms node_timeout nodes voters tick timeout built votes = rw (tick, timeout, built, votes) (built_cluster draft holds)
+cluster_of draft holds tick_ms node_timeout nodes voters tick timeout built votes hosts =
+    rw (tick, timeout, votes, built) (built_cluster draft holds (subst (All (λ (node : NodeConfig). IsTrue (is_host node.host))) built hosts))

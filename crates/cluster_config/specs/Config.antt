@@ -4,6 +4,7 @@ use Rattle.std.specs.List.{list_all, flat_map}
 use Rattle.std.specs.Ordering.{is_lt, nat_cmp}
 use Rattle.std.specs.Cmp.Lexicographic.{slice_cmp}
 use Rattle.std.specs.Str.{bytes_eq}
+use Rattle.cluster_config.specs.Texts.{is_host}
 use Rattle.slot_table.specs.declared.runs.Run.{Run}
 use Rattle.cluster_config.specs.declared.config.NodeConfig.{NodeConfig}
 use Rattle.cluster_config.specs.declared.config.Role.{Role}
@@ -70,7 +71,7 @@ FollowsMaster nodes (Replica of) = IsMaster (slice_get nodes of)
 abbrev pub IsUpTo : ℕ → ℕ → Type 0
 IsUpTo last number = (1 ≤ number) × (number ≤ last)
 
--- what holds of each cluster: 1 to 16 nodes in the order of their ids, each with an address of its own; ranges that have slots,
+-- what holds of each cluster: 1 to 16 nodes in the order of their ids, each with a host and a port that no other has; ranges that have slots,
 -- of which none is in two; a master for each replica; at least one vote, each of a node, none twice; times and ports within their bounds
 pub record IsCluster (config : ClusterConfig) : Type 0 where
   pub tick_ms : IsUpTo 1000000 config.tick_ms
@@ -78,6 +79,7 @@ pub record IsCluster (config : ClusterConfig) : Type 0 where
   pub some : 0 < length config.nodes
   pub most : length config.nodes ≤ 16
   pub ids : IsTrue (all_pairs (λ (node next : NodeConfig). is_below node.id next.id) config.nodes)
+  pub hosts : All (λ (node : NodeConfig). IsTrue (is_host node.host)) config.nodes
   pub ports : All (λ (node : NodeConfig). IsUpTo 65535 node.port) config.nodes
   pub addresses : IsTrue (all_pairs is_elsewhere config.nodes)
   pub ranges : IsTrue (list_all has_slot (ranges_of config.nodes))

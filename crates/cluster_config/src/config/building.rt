@@ -3,6 +3,8 @@ ghost use Rattle.std.specs.Prelude.{◌≡◌, ◌<◌, ◌≤◌, All, IfOk, Is
 ghost use Rattle.std.specs.List.{filter_map};
 ghost use Rattle.cluster_config.specs.Faults.{fault_of, follows_master, number_of, range_from, IsSound};
 ghost use Rattle.cluster_config.specs.Reading.{config_of, node_of, role_of};
+ghost use Rattle.cluster_config.specs.Texts.{is_host};
+ghost use Rattle.cluster_config.specs.declared.config.NodeConfig.{NodeConfig};
 
 use crate::checks::{number_of, range_from};
 use crate::config::{Config, NodeConfig, Role, SlotRanges};
@@ -32,7 +34,8 @@ impl Config {
 fn nodes_of(alloc: Global, drafts: &[NodeDraft]) -> Result<Vec<NodeConfig>, AllocError>
     requires few { length drafts.now ≤ 16 }
     requires sound { All (IsSound drafts.now) drafts.now }
-    ensures { IfOk result (λ nodes. nodes.items ≡ map (node_of drafts.now) drafts.now) }
+    ensures nodes { IfOk result (λ nodes. nodes.items ≡ map (node_of drafts.now) drafts.now) }
+    ensures hosts { IfOk result (λ nodes. All (λ (node : NodeConfig). IsTrue (is_host node.host)) nodes.items) }
 {
     let mut nodes = Vec::new(alloc);
     for draft in drafts {

@@ -42,5 +42,6 @@ invariant_of-result c =
     let nodes = c.as_slice-nodes.ensures.value ∙ ap (λ (d : Draft). d.nodes) c.draft.view_is in
     let voters = c.as_slice.ensures.value ∙ ap (λ (d : Draft). d.voters) c.draft.view_is in
     cluster_of c.args.draft.now (faultless c.args.draft.now c.requires) _ _ _ _ (search rules) (search rules)
-    (c.in_ok-nodes_of.ensures ∙ ap (λ (nodes : List NodeDraft). map (node_of nodes) nodes) nodes)
+    (c.in_ok-nodes_of.ensures.nodes ∙ ap (λ (nodes : List NodeDraft). map (node_of nodes) nodes) nodes)
     (c.in_ok-voters_of.ensures ∙ ap₂ (λ (nodes : List NodeDraft) (voters : List (List ℕ)). map (number_of nodes) voters) nodes voters)
+    c.in_ok-nodes_of.ensures.hosts
