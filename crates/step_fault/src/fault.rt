@@ -11,7 +11,7 @@ pub enum StepFault {
     /// Memory was refused.
     #[error("out of memory")]
     Memory,
-    /// A number that only grows has no next one: the generation of a connection, the number of a copy, or an epoch.
+    /// A number that only grows has no next one: the number of a copy, an epoch, the generation of a connection, or a ticket.
     #[error("no next number")]
     Exhausted,
 }
