@@ -6,6 +6,8 @@ use Rattle.slot_state.specs.declared.running.Move.TheVariants.{Leaves, Comes}
 use Rattle.migrate.specs.Arriving.{changed_at}
 
 -- the key whose copy it is, if that copy is outstanding
+-- (its number counts, or this goes wrong: the acknowledgement of copy 1 arrives at node 0 twice, at last while copy 2, of b,
+-- is outstanding; node 0 deletes b, copy 2 is lost, and nobody has b)
 abbrev pub acknowledged_key : Option Move → ℕ → ℕ → ℕ → Option (List ℕ)
 acknowledged_key (Some (Leaves to number copies frozen)) from move copy = if to == from && number == move && copies == copy then frozen else None
 acknowledged_key (Some (Comes source number last drained)) from move copy = None

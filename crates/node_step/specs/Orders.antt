@@ -83,6 +83,8 @@ ending_reply ending.IsOwner = done
 ending_reply ending.NotYetOwner = error line.TableNotUpdated
 
 -- the epoch of the slot that came: above all that the node knows of
+-- (else: node 1 takes the slot from node 2 in node 2's epoch; of two claims with one epoch the greater owner counts,
+-- so the next claim of node 2 takes the slot from node 1, and node 1 deletes its keys)
 abbrev pub new_epoch : NodeState → ℕ → ℕ → ℕ
 new_epoch node slot drained = 1 + max (max node.current_epoch drained) (slot_epoch node slot)
 

@@ -48,6 +48,8 @@ abbrev pub at_connection : NodeState → Conn → (Connection → Connection) �
 at_connection node conn change = record node { connections = with_change node.connections conn change }
 
 -- an asking holds for one request, whatever that is
+-- (else: a client asks node 1 for a, which came, and later sends it GET b on the same connection;
+-- node 1 answers with null, while b is still at node 0)
 abbrev pub using_up : NodeState → Conn → NodeState
 using_up node conn = at_connection node conn (λ connection. record connection { asking = No })
 

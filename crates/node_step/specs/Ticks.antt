@@ -13,6 +13,7 @@ use Rattle.node_step.specs.Slots.{drained_if_empty}
 use Rattle.node_step.specs.State.{NodeState}
 
 -- of a slot that leaves: the copy that is not acknowledged, or the word that no key is left
+-- (else: the copy of b from node 0 to node 1 is lost; b stays frozen, and each command on it gets TRYAGAIN for ever)
 abbrev pub sent_again : NodeState → ℕ × Move → List (ℕ × Body)
 sent_again node (slot, Comes from number last drained) = []
 sent_again node (slot, Leaves to number copies None) = drained_if_empty node slot

@@ -20,6 +20,8 @@ abbrev pub asked : List (Bor (List ℕ)) → List Bool → Asking → Asked
 asked keys there asking = record { keys = bytes_of keys; there = there; asking = asking }
 
 -- the asking is right for an import of this number
+-- (a number is its move's alone, or this goes wrong: an ASKING of move 1 is late, and in move 3 the slot comes to node 1 again;
+-- node 1 answers GET b with null, while b is still at node 0)
 abbrev pub is_right : Asking → ℕ → Bool
 is_right No number = false
 is_right Any number = true

@@ -27,6 +27,8 @@ at_owner slot None = Down
 at_owner slot (Some owner) = Moved slot owner
 
 -- in a slot that leaves: a key is frozen, all are there, none is there, some are there
+-- (a frozen key isn't served, or this goes wrong: node 0 sends b = 1 to node 1, then serves SET b 2;
+-- the acknowledgement deletes b = 2 at node 0, and node 1 goes on with b = 1)
 abbrev pub leaving : Decision → Option (List ℕ) → Asked → Decision
 leaving elsewhere frozen asked =
     if is_one_of frozen asked.keys then TryAgain Frozen
@@ -34,6 +36,7 @@ leaving elsewhere frozen asked =
     else (if none_there asked then elsewhere else TryAgain SomeAreMissing))
 
 -- in a slot that comes, after the right ASKING: several keys have to be there, all of them
+-- (else: a came to node 1, b is still at node 0; node 1 answers MGET a b with null for b)
 abbrev pub coming : ℕ → Asked → Decision
 coming number asked = if are_several asked.keys && not (all_there asked) then TryAgain SomeAreMissing else ServeImport number
 

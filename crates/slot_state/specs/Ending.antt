@@ -9,6 +9,7 @@ use Rattle.slot_state.specs.declared.running.Move.{Move}
 use Rattle.slot_state.specs.declared.running.Move.TheVariants.{Leaves, Comes}
 
 -- an import ends once the other node said that it has no key of the slot left
+-- (else: node 1 owns the slot and answers GET b with null, while b is still at node 0)
 abbrev pub by_drained : Option ℕ → NodeVerdict
 by_drained None = NotDrained
 by_drained (Some epoch) = Ends epoch
