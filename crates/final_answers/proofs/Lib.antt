@@ -6,6 +6,11 @@ pub mod Booking
 pub mod Stepping
 pub mod Losing
 pub mod Carrying
+pub mod Placed
+pub mod OrderWords
+pub mod MoveNumbers
+pub mod NumberedConns
+pub mod Leading
 pub mod Scenes
 pub mod Playing
 pub mod Turns
