@@ -11,6 +11,12 @@ pub mod OrderWords
 pub mod MoveNumbers
 pub mod NumberedConns
 pub mod Leading
+pub mod Kept
+pub mod Peers
+pub mod Linked
+pub mod Greeting
+pub mod Following
+pub mod Hearing
 pub mod Scenes
 pub mod Playing
 pub mod Turns
