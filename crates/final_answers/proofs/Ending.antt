@@ -41,8 +41,10 @@ use Rattle.final_answers.specs.Law.{AnswersHaveReasons, FinalAnswers}
 use Rattle.final_answers.specs.Moments.{PlaysSo}
 use Rattle.final_answers.proofs.Booking.{booked_elsewhere}
 use Rattle.final_answers.proofs.Carrying.{carries_booked, lingers_booked}
+use Rattle.final_answers.proofs.FollowingAll.{AllFollowWell, first_followed, plays_followed}
 use Rattle.final_answers.proofs.Losing.{breaks_with, cuts_booked}
-use Rattle.final_answers.proofs.Playing.{Written, administers_quiet, delivers_quiet, inserted_at, asks_at, booked_at, numbered_at, nothing_written, of_client, of_nodes, of_some, ticks_quiet}
+use Rattle.final_answers.proofs.ClientPlaces.{asks_at, inserted_at, numbered_at}
+use Rattle.final_answers.proofs.Playing.{Written, administers_quiet, delivers_quiet, booked_at, nothing_written, of_client, of_nodes, of_some, ticks_quiet}
 use Rattle.final_answers.proofs.Reasons.{have_reasons}
 use Rattle.final_answers.proofs.Scenes.{AllBooked, IsNoneOf, Rise, Stands, begins_in, below_all, others_booked, owner_apart}
 use Rattle.final_answers.proofs.Stepping.{begins_booked, returns_booked}
@@ -241,14 +243,14 @@ played old book stands cluster_is (made ∷ steps) outputs new (next, shown, oth
     let one = written old book stands cluster_is shown next made first in
     let config : next.config ≡ old.config = config_stays old next made shown first in
     let then_stands : Stands next one.after =
-    record { rule = plays_well old cluster_is stands.rule made shown next first; rise = one.rise; booked = one.booked; owners = one.owners; right = one.right } in
+    record { rule = plays_well old cluster_is stands.rule made shown next first; well = plays_followed old cluster_is stands.rule stands.well shown next made first; rise = one.rise; booked = one.booked; owners = one.owners; right = one.right } in
     let rest = played next one.after then_stands (subst IsCluster (sym config) cluster_is) steps others new more in
     let moment : Moment = record { step = made; shown = shown; executed = one.executions } in
     record {
       moments = moment ∷ rest.moments;
       steps_are = ap (λ (them : List Step). made ∷ them) rest.steps_are;
       shown_are = ap (λ (them : List Output). shown ++ them) rest.shown_are ∙ sym are;
-      plays = (next, first, have_reasons old stands.rule shown next made first, one.adds, rest.plays);
+      plays = (next, first, have_reasons old cluster_is stands.rule stands.well shown next made first, one.adds, rest.plays);
       after = rest.after;
       is_book = (one.after, one.writes, rest.is_book);
       right = rest.right;
@@ -256,16 +258,28 @@ played old book stands cluster_is (made ∷ steps) outputs new (next, shown, oth
 
 pub answers_are_final : FinalAnswers
 answers_are_final config steps outputs scene cluster_is plays =
-    let none : Stands (first_scene config) [] = record { rule = first_rule config; rise = tt; booked = tt; owners = λ number missing. refl; right = tt } in
+    let none : Stands (first_scene config) [] = record { rule = first_rule config; well = first_followed config; rise = tt; booked = tt; owners = λ number missing. refl; right = tt } in
     let done = played (first_scene config) [] none cluster_is steps outputs scene plays in
     record { moments = done.moments; steps_are = done.steps_are; shown_are = done.shown_are; plays = done.plays; book = done.after; is_book = done.is_book; right = done.right }
 
--- what is played keeps the rule
-keeps_rule : (old : SceneView) → KeepsRule old → IsCluster old.config → (steps : List Step) (outputs : List Output) (new : SceneView) → PlaysAll old steps outputs new → KeepsRule new
-keeps_rule old rule cluster_is [] outputs new plays = subst KeepsRule (sym plays.1) rule
-keeps_rule old rule cluster_is (made ∷ steps) outputs new (next, shown, others, first, more, are) =
-    keeps_rule next (plays_well old cluster_is rule made shown next first) (subst IsCluster (sym (config_stays old next made shown first)) cluster_is) steps others new more
+-- what is played keeps the rule, and all clients can follow what they are answered
+record Reached (scene : SceneView) : Type 0 where
+  cluster_is : IsCluster scene.config
+  rule : KeepsRule scene
+  well : AllFollowWell scene
+
+reached : (old : SceneView) → Reached old → (steps : List Step) (outputs : List Output) (new : SceneView) → PlaysAll old steps outputs new → Reached new
+reached old was [] outputs new plays = subst Reached (sym plays.1) was
+reached old was (made ∷ steps) outputs new (next, shown, others, first, more, are) =
+    reached next
+    (record {
+      cluster_is = subst IsCluster (sym (config_stays old next made shown first)) was.cluster_is;
+      rule = plays_well old was.cluster_is was.rule made shown next first;
+      well = plays_followed old was.cluster_is was.rule was.well shown next made first;
+    })
+    steps others new more
 
 pub have_reasons_behind : AnswersHaveReasons
 have_reasons_behind config steps outputs old cluster_is plays made shown new step =
-    have_reasons old (keeps_rule (first_scene config) (first_rule config) cluster_is steps outputs old plays) shown new made step
+    let then_reached = reached (first_scene config) (record { cluster_is = cluster_is; rule = first_rule config; well = first_followed config }) steps outputs old plays in
+    have_reasons old then_reached.cluster_is then_reached.rule then_reached.well shown new made step

@@ -6,6 +6,7 @@ pub mod Booking
 pub mod Stepping
 pub mod Losing
 pub mod Carrying
+pub mod ClientPlaces
 pub mod Placed
 pub mod OrderWords
 pub mod MoveNumbers
@@ -17,6 +18,7 @@ pub mod Linked
 pub mod Greeting
 pub mod Following
 pub mod Hearing
+pub mod FollowingAll
 pub mod Scenes
 pub mod Playing
 pub mod Turns

@@ -1,9 +1,8 @@
 -- Whatever a world plays, its book can be written.
-use Rattle.std.proofs.Common.{◌||◌, insert, ◌≡◌, ◌≤◌, ◌∙◌, ◌==◌, ◌&&◌, ◌++◌, ◌∷◌, ℕ, zero, suc, Bool, true, false, true≢false, cond, List, [], length, Option, None, Some, refl, sym, ap, subst, inl, inr, arith}
+use Rattle.std.proofs.Common.{◌||◌, ◌≡◌, ◌∙◌, ◌&&◌, ◌++◌, ◌∷◌, ℕ, zero, suc, Bool, true, false, true≢false, cond, List, [], length, Option, None, Some, refl, sym, ap, subst, inl, inr}
 use Rattle.std.proofs.lemmas.Bool.{cases_Bool}
 use Rattle.std.specs.List.{AllByRecursion}
 use Rattle.std.specs.Prelude.{MatchBool, slice_get}
-use Rattle.cluster_config.specs.declared.config.NodeConfig.{NodeConfig}
 use Rattle.connections.specs.declared.conn.Conn.{Conn}
 use Rattle.smart_client.specs.Words.{is_refused}
 use Rattle.world_run.specs.Executed.{Answered as Execution}
@@ -16,12 +15,13 @@ use Rattle.world.specs.declared.step.Step.{Step}
 use Rattle.final_answers.specs.Book.{Book, IsRight, Writes, begun}
 use Rattle.final_answers.proofs.Adding.{Adds, adds_first, adds_nothing, closes_adds}
 use Rattle.final_answers.proofs.Booking.{Booked, IsBooked}
+use Rattle.final_answers.proofs.ClientPlaces.{asks_at, numbered_at}
 use Rattle.final_answers.proofs.Stepping.{silent_answers, writes_so}
 use Rattle.final_answers.proofs.Tallies.{tally}
 use Rattle.std.specs.List.{cons_option, find}
 use Rattle.std.specs.Str.{str_eq_ignore_ascii_case, str_to_ascii_lowercase}
 use Rattle.std.proofs.lemmas.Slice.Eq.{bytes_eq-Decides}
-use Rattle.std.proofs.lemmas.Bool.{and_parts, eqb-true}
+use Rattle.std.proofs.lemmas.Bool.{and_parts}
 use Rattle.smart_client.specs.Words.{is_of_cluster}
 use Rattle.std.specs.Prelude.{codes}
 use Rattle.std.specs.Str.{bytes_eq}
@@ -38,8 +38,7 @@ use Rattle.reply_meaning.specs.Law.{Answers as NodeAnswers}
 use Rattle.single_keyspace.proofs.Seen.{no_some, same_some}
 use Rattle.world_run.specs.Executed.{answered_with, if_served}
 use Rattle.world_run.specs.Run.Deed.{Made, Skipped}
-use Rattle.world.specs.Asking.{AllAskWell}
-use Rattle.world.specs.Clients.{client_at, if_numbered, place_of}
+use Rattle.world.specs.Clients.{client_at, place_of}
 use Rattle.world.specs.NodeSteps.{Makes, Administers, Delivers, IsAdministered, IsDelivered, IsHeard, IsIdle, Reaches, Ticks, Turns, is_admin, message_at, served_conns}
 use Rattle.world.specs.Outputs.{own_reply}
 use Rattle.world.specs.Plays.{ClientStep, IsNothing, IsOfClient, IsOfNodes, IsOfSome}
@@ -184,28 +183,10 @@ administers_quiet old new node words shown = by_may (is_up old node && is_admin 
 
 -- ---- one client's step
 
-pub asks_at : (nodes : List NodeConfig) (run : RunView) (clients : List ClientView) (place : ℕ) (client : ClientView) → slice_get clients place ≡ Some client → AllAskWell nodes run clients → AsksWell nodes run client
-asks_at nodes run [] place client is all = absurd (no_some refl is)
-asks_at nodes run (first ∷ clients) zero client is all = subst (AsksWell nodes run) (same_some refl is) all.0
-asks_at nodes run (first ∷ clients) (suc place) client is all = asks_at nodes run clients place client is all.2
-
 pub booked_at : (book : Book) (clients : List ClientView) (place : ℕ) (client : ClientView) → slice_get clients place ≡ Some client → AllBooked book clients → IsBooked book client
 booked_at book [] place client is all = absurd (no_some refl is)
 booked_at book (first ∷ clients) zero client is all = subst (IsBooked book) (same_some refl is) all.0
 booked_at book (first ∷ clients) (suc place) client is all = booked_at book clients place client is all.1
-
-pub inserted_at : (clients : List ClientView) (place : ℕ) (one : ClientView) → place ≤ length clients → slice_get (insert clients place one) place ≡ Some one
-inserted_at clients zero one within = refl
-inserted_at [] (suc place) one within = absurd (omega (arith, within))
-inserted_at (first ∷ clients) (suc place) one within = inserted_at clients place one (omega (arith, within))
-
--- the client at the place of a number, if it is there
-pub numbered_at : (number : ℕ) (clients : List ClientView) (found client : ClientView) → client_at number clients ≡ Some found → slice_get clients (place_of number clients) ≡ Some client → client.number ≡ number
-numbered_at number clients found client is at = by_same (client.number == number) refl (sym (ap (if_numbered number) at) ∙ is)
-  where
-    by_same : (same : Bool) → (client.number == number) ≡ same → cond same (Some client) None ≡ Some found → client.number ≡ number
-    by_same true is there = eqb-true client.number number is
-    by_same false is there = absurd (no_some refl there)
 
 module _ (old : SceneView) (book : Book) (stands : Stands old book) (made : Step) (shown : List Output) (new : SceneView) where
   pub of_nodes : (does : RunView → List Output → RunView → Type 0) → begun made shown ≡ [] → ((run : RunView) → does old.run shown run → Quietly old.run shown run) → IsOfNodes does old shown new → Written old book made shown new

@@ -4,6 +4,7 @@ use Rattle.std.proofs.lemmas.Option.{slice_get_within, get_or_from_slice_get}
 use Rattle.std.specs.List.{flat_map}
 use Rattle.std.specs.Prelude.{MatchBool, nat_le, slice_get}
 use Rattle.cluster_config.proofs.PlaceLemmas.{position-le}
+use Rattle.cluster_config.specs.Config.{IsCluster}
 use Rattle.connections.specs.declared.conn.Conn.{Conn}
 use Rattle.redirection.specs.Address.{Place}
 use Rattle.resp_values.specs.declared.reply.Reply.{Reply}
@@ -34,7 +35,12 @@ use Rattle.world.specs.declared.output.Output.TheVariants as output
 use Rattle.world.specs.declared.step.Step.{Step}
 use Rattle.world.specs.declared.step.Step.TheVariants as step
 use Rattle.final_answers.specs.Reasons.{Breaks, Happens, HasNoConnection, HasReason, HaveReasons, IsHandedOver, IsRefused, IsReturn, IsThere}
-use Rattle.final_answers.proofs.Playing.{administers_quiet, asks_at, delivers_quiet, inserted_at, numbered_at, ticks_quiet}
+use Rattle.final_answers.proofs.Following.{FollowsWell, IsLed}
+use Rattle.final_answers.proofs.FollowingAll.{AllFollowWell, well_at}
+use Rattle.final_answers.proofs.Leading.{CanFollow}
+use Rattle.final_answers.proofs.Peers.{has_room}
+use Rattle.final_answers.proofs.ClientPlaces.{asks_at, inserted_at, numbered_at}
+use Rattle.final_answers.proofs.Playing.{administers_quiet, delivers_quiet, ticks_quiet}
 use Rattle.final_answers.proofs.Stepping.{Silent, of_call_so, served_silent}
 use Rattle.final_answers.proofs.Turns.{EndsSo, allowed_ends, begun_ends, connected_ends, ended_so, introduced_ends, replied_ends}
 use Rattle.final_answers.proofs.Wanted.{answers_so, calls_so, execution_at}
@@ -164,7 +170,7 @@ begins_reasons old number words client there numbered settled shown new after = 
         (begun_ends (HasReason old (step.Call number words) client) client.core words (λ refused. (words, begins, refused))))
         (λ core address steps. let may = calls_so words None client.core core (wanted.Connect address) none refl steps in (may.0.0, may.0.1)) takes
 
-module _ (old : SceneView) (number : ℕ) (client : ClientView) (there : IsThere old client) (numbered : client.number ≡ number) where
+module _ (old : SceneView) (cluster_is : IsCluster old.config) (number : ℕ) (client : ClientView) (there : IsThere old client) (numbered : client.number ≡ number) (well : FollowsWell old.config.nodes old.run client) where
   abbrev InReturn : Answer → Type 0
   InReturn answer = HasReason old (step.Return number) client answer
 
@@ -179,23 +185,24 @@ module _ (old : SceneView) (number : ℕ) (client : ClientView) (there : IsThere
     refused text is at = record { link = link; returns = returned (Error text) is; sent = at }
 
     -- by what was sent last
-    by_stage : (at : Stage) → call.stage ≡ at → ComesFrom old.config.nodes (past_of old.run) link.node call at reply → EndsSo InReturn (answered at core call reply)
-    by_stage stage.Connecting at from = absurd from
-    by_stage stage.Introducing at welcome = introduced_ends InReturn core call reply welcome
-    by_stage stage.Asking at welcome = allowed_ends InReturn core call reply welcome
-    by_stage stage.Sent at was =
-        replied_ends InReturn core call reply (record { call = call; link = link; returns = returned reply refl; sent = at; answered = was })
-        (λ text is kind. record { call = call; text = text; refused = refused text is at; kind = kind })
+    by_stage : (at : Stage) → call.stage ≡ at → ComesFrom old.config.nodes (past_of old.run) link.node call at reply → (call.stage ≡ stage.Sent → CanFollow old.config.nodes true reply)
+        → EndsSo InReturn (answered at core call reply)
+    by_stage stage.Connecting at from can = absurd from
+    by_stage stage.Introducing at welcome can = introduced_ends InReturn core call reply welcome
+    by_stage stage.Asking at welcome can = allowed_ends InReturn core call reply welcome
+    by_stage stage.Sent at was can =
+        replied_ends InReturn old.config.nodes core call reply (record { call = call; link = link; returns = returned reply refl; sent = at; answered = was })
+        (has_room old.config cluster_is client.core.peers well.kept.known) (can at)
         (λ text is kind most. (record { call = call; text = text; refused = refused text is at; kind = kind }, most))
         (λ text is kind most. (record { call = call; text = text; refused = refused text is at; kind = kind }, most))
 
   takes_reply : (link : Link) (reply : Reply) → client.traffic ≡ Answered link reply → (under : Option Call) → client.core.call ≡ under
-      → IsOfCall old.config.nodes old.run client.core client.pool (Answered link reply) under → (shown : List Output) (new : RunView) (after : ClientView)
+      → IsOfCall old.config.nodes old.run client.core client.pool (Answered link reply) under → IsLed old.config.nodes old.run (Answered link reply) under → (shown : List Output) (new : RunView) (after : ClientView)
       → Takes old.config.nodes old.run (record client { traffic = Quiet }) (Some link) (happened.Reply reply) shown new after → HaveReasons old (step.Return number) shown
-  takes_reply link reply is None called of_call shown new after takes = absurd of_call
-  takes_reply link reply is (Some call) called of_call shown new after takes =
+  takes_reply link reply is None called of_call led shown new after takes = absurd of_call
+  takes_reply link reply is (Some call) called of_call led shown new after takes =
       takes_reasons old (step.Return number) client there (happened.Reply reply) (call, link, returned link reply is call called reply refl) (record client { traffic = Quiet }) refl refl (Some link) shown new after
-      (subst (λ (under : Option Call). EndsSo InReturn (next under client.core (happened.Reply reply))) (sym called) (by_stage link reply is call called call.stage refl of_call.2))
+      (subst (λ (under : Option Call). EndsSo InReturn (next under client.core (happened.Reply reply))) (sym called) (by_stage link reply is call called call.stage refl of_call.2 led.1))
       (λ core address steps.
       let may = answers_so call.words (execution_at call.stage reply) client.core core call reply (wanted.Connect address) called refl refl steps in (may.0.0, may.0.1)) takes
 
@@ -207,7 +214,8 @@ module _ (old : SceneView) (number : ℕ) (client : ClientView) (there : IsThere
       by_traffic Quiet is rests = rest_reasons old (step.Return number) old.run new client after shown rests
       by_traffic (Asked link words) is rests = rest_reasons old (step.Return number) old.run new client after shown rests
       by_traffic (Answered link reply) is takes =
-          takes_reply link reply is client.core.call refl (of_call_so old.config.nodes old.run client (Answered link reply) is asks client.core.call refl) shown new after takes
+          takes_reply link reply is client.core.call refl (of_call_so old.config.nodes old.run client (Answered link reply) is asks client.core.call refl)
+          (subst (λ (t : Traffic). IsLed old.config.nodes old.run t client.core.call) is well.led) shown new after takes
 
 -- ---- connections that break
 
@@ -278,15 +286,17 @@ lingers_silent old new client after shown = by_late client.late
 is_there : (old : SceneView) (place : ℕ) (client : ClientView) → slice_get old.clients place ≡ Some client → IsThere old client
 is_there old place client is = inl (place, slice_get_within old.clients place client is, get_or_from_slice_get old.clients place client client is)
 
-module _ (old : SceneView) (rule : KeepsRule old) (shown : List Output) (new : SceneView) where
+module _ (old : SceneView) (cluster_is : IsCluster old.config) (rule : KeepsRule old) (well : AllFollowWell old) (shown : List Output) (new : SceneView) where
   -- the client that has begun
   some_reasons : (does : ClientStep) (number : ℕ) (made : Step)
-      → ((client : ClientView) (run : RunView) (after : ClientView) → IsThere old client → client.number ≡ number → AsksWell old.config.nodes old.run client → does old.run client shown run after → HaveReasons old made shown)
+      → ((client : ClientView) (run : RunView) (after : ClientView) → IsThere old client → client.number ≡ number → AsksWell old.config.nodes old.run client → FollowsWell old.config.nodes old.run client → does old.run client shown run after
+      → HaveReasons old made shown)
       → (found : Option ClientView) → client_at number old.clients ≡ found → IsOfSome does number found old shown new → HaveReasons old made shown
   some_reasons does number made reasons None is idle = no_reasons old made shown idle.shows
   some_reasons does number made reasons (Some client) is of =
       reasons of.client of.run of.after (is_there old (place_of number old.clients) of.client of.was) (numbered_at number old.clients client of.client is of.was)
-      (asks_at old.config.nodes old.run old.clients (place_of number old.clients) of.client of.was rule.clients) of.steps
+      (asks_at old.config.nodes old.run old.clients (place_of number old.clients) of.client of.was rule.clients)
+      (well_at old.config.nodes old.run old.clients (place_of number old.clients) of.client of.was well.clients) of.steps
 
   -- a call: of a client that has begun, or that begins
   call_reasons : (number : ℕ) (words : List (List ℕ)) → IsOfClient (Begins old.config.nodes words) (with_client old.config number old.clients) (place_of number old.clients) old shown new
@@ -312,14 +322,14 @@ module _ (old : SceneView) (rule : KeepsRule old) (shown : List Output) (new : S
   pub have_reasons : (made : Step) → Plays old made shown new → HaveReasons old made shown
   have_reasons (step.Call number words) plays = call_reasons number words plays
   have_reasons (step.Carry number) plays =
-      some_reasons _ number (step.Carry number) (λ client run after there is asks carries. silent_reasons old (step.Carry number) shown (carries_silent old.run run client after shown carries))
+      some_reasons _ number (step.Carry number) (λ client run after there is asks follows carries. silent_reasons old (step.Carry number) shown (carries_silent old.run run client after shown carries))
       (client_at number old.clients) refl plays
   have_reasons (step.Return number) plays =
-      some_reasons _ number (step.Return number) (λ client run after there is asks returns. returns_reasons old number client there is asks shown run after returns) (client_at number old.clients) refl plays
+      some_reasons _ number (step.Return number) (λ client run after there is asks follows returns. returns_reasons old cluster_is number client there is follows asks shown run after returns) (client_at number old.clients) refl plays
   have_reasons (step.Cut number) plays =
-      some_reasons _ number (step.Cut number) (λ client run after there is asks cuts. cuts_reasons old number client there is shown run after cuts) (client_at number old.clients) refl plays
+      some_reasons _ number (step.Cut number) (λ client run after there is asks follows cuts. cuts_reasons old number client there is shown run after cuts) (client_at number old.clients) refl plays
   have_reasons (step.Late number) plays =
-      some_reasons _ number (step.Late number) (λ client run after there is asks lingers. silent_reasons old (step.Late number) shown (lingers_silent old.run run client after shown lingers))
+      some_reasons _ number (step.Late number) (λ client run after there is asks follows lingers. silent_reasons old (step.Late number) shown (lingers_silent old.run run client after shown lingers))
       (client_at number old.clients) refl plays
   have_reasons (step.Admin node words) of = silent_reasons old (step.Admin node words) shown (administers_quiet old.run of.run node words shown of.steps).1
   have_reasons (step.Tick node) of = silent_reasons old (step.Tick node) shown (ticks_quiet old.run of.run node shown of.steps).1

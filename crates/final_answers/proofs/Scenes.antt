@@ -16,6 +16,7 @@ use Rattle.single_keyspace.proofs.Seen.{no_some, same_some}
 use Rattle.world.specs.Asking.{KeepsRule}
 use Rattle.world.specs.Clients.{begun_at, client_at, if_numbered, new_client, place_of, with_client}
 use Rattle.world.specs.View.{SceneView}
+use Rattle.final_answers.proofs.FollowingAll.{AllFollowWell}
 use Rattle.final_answers.proofs.Tallies.{owned, tally-none, touched_tally}
 
 -- ---- clients by rising number
@@ -37,6 +38,7 @@ AllBooked book clients = AllByRecursion (IsBooked book) clients
 -- what is booked in a world
 pub record Stands (scene : SceneView) (book : Book) : Type 0 where
   pub rule : KeepsRule scene
+  pub well : AllFollowWell scene
   pub rise : Rise scene.clients
   pub booked : AllBooked book scene.clients
   pub owners : (number : ℕ) → IsNoneOf number scene.clients → tally (owned number) book ≡ 0

@@ -2,7 +2,9 @@
 use Rattle.std.proofs.Common.{◌≡◌, ◌==◌, ◌||◌, ℕ, Bool, true, false, true≢false, cond, List, Option, None, Some, Ok, Err, refl, sym, ap, subst, inl, inr, ◌∙◌}
 use Rattle.std.proofs.lemmas.Bool.{cases_Bool, eqb-true}
 use Rattle.std.specs.Prelude.{codes, ⊤}
+use Rattle.cluster_config.specs.declared.config.NodeConfig.{NodeConfig}
 use Rattle.node_step.specs.Orders.{done}
+use Rattle.redirection.proofs.Redirections.{one_redirection}
 use Rattle.redirection.specs.Address.{Place}
 use Rattle.redirection.specs.declared.redirection.Redirection.{Redirection}
 use Rattle.redirection.specs.declared.redirection.Redirection.TheVariants.{Moved, Ask}
@@ -20,7 +22,9 @@ use Rattle.smart_client.specs.declared.action.Action.TheVariants.{Connect, Send,
 use Rattle.smart_client.specs.declared.action.Event.{Event}
 use Rattle.smart_client.specs.declared.call.Call.{Call}
 use Rattle.smart_client.specs.declared.client_core.TheConstants.{MOST_REDIRECTIONS}
-use Rattle.smart_client.specs.declared.fault.ClientFault.TheVariants.{Memory, NotData, BadReply, TooManyRedirects, StillTryAgain}
+use Rattle.smart_client.specs.declared.fault.ClientFault.TheVariants.{Memory, NotData, TooManyRedirects, StillTryAgain}
+use Rattle.final_answers.proofs.Leading.{CanFollow, names_node}
+use Rattle.final_answers.proofs.Placed.{Leads, NamesMove}
 
 -- the client wants more to be done
 abbrev IsMore : Action → Type 0
@@ -31,10 +35,6 @@ IsMore (Done answer close) = ⊥
 abbrev answer_in : Action → Answer
 answer_in (Done answer close) = answer
 answer_in _ = Err NotData
-
--- MOVED or ASK
-abbrev names_node : List ℕ → Bool
-names_node text = is_of_kind text (codes "MOVED") || is_of_kind text (codes "ASK")
 
 module _ (P : Answer → Type 0) where
   -- each answer to which the turn may come is such
@@ -80,23 +80,26 @@ module _ (P : Answer → Type 0) where
   pub allowed_ends : (core : ClientState) (call : Call) (reply : Reply) → reply ≡ done → EndsSo (allowed core call reply)
   allowed_ends core call reply welcome = ends_if (is_ok reply) _ _ (λ ok. tt) (λ other. absurd (true≢false (sym (ap is_ok welcome) ∙ other)))
 
-  follows_ends : (core : ClientState) (call : Call) (address : Place) (number : Option ℕ) → P (Err BadReply) → EndsSo (follows core call address number)
-  follows_ends core call address number bad = ends_if (is_beyond core.peers address) _ _ (λ beyond. bad) (λ known. tt)
-
-  redirected_ends : (core : ClientState) (call : Call) (redirection : Option Redirection) → P (Err BadReply) → EndsSo (redirected core call redirection)
-  redirected_ends core call None bad = bad
-  redirected_ends core call (Some (Moved slot to)) bad = follows_ends (with_owner core slot to) call to None bad
-  redirected_ends core call (Some (Ask slot to None)) bad = bad
-  redirected_ends core call (Some (Ask slot to (Some number))) bad = follows_ends core call to (Some number) bad
+  -- there is room for the node, so the client goes there
+  follows_ends : (core : ClientState) (call : Call) (address : Place) (number : Option ℕ) → is_beyond core.peers address ≡ false → EndsSo (follows core call address number)
+  follows_ends core call address number room = ends_if (is_beyond core.peers address) _ _ (λ beyond. absurd (true≢false (sym beyond ∙ room))) (λ known. tt)
 
   -- an error answers the command
-  module _ (core : ClientState) (call : Call) (text : List ℕ) (over : P (Ok (Error text))) (bad : names_node text ≡ true → P (Err BadReply))
-      (too_many : names_node text ≡ true → call.redirections ≡ MOST_REDIRECTIONS → P (Err TooManyRedirects)) (too_often : is_of_kind text (codes "TRYAGAIN") ≡ true → call.repeats ≡ core.limit → P (Err StillTryAgain)) where
+  module _ (core : ClientState) (call : Call) (text : List ℕ) (over : P (Ok (Error text))) (room : (address : Place) → is_beyond core.peers address ≡ false)
+      (nodes : List NodeConfig) (leads : names_node text ≡ true → Leads nodes true text) (too_many : names_node text ≡ true → call.redirections ≡ MOST_REDIRECTIONS → P (Err TooManyRedirects))
+      (too_often : is_of_kind text (codes "TRYAGAIN") ≡ true → call.repeats ≡ core.limit → P (Err StillTryAgain)) where
+    -- what is read is the redirection that the node wrote
+    redirected_ends : Leads nodes true text → (redirection : Option Redirection) → Tells text redirection → EndsSo (redirected core call redirection)
+    redirected_ends led None tells = absurd (tells led.redirection led.is)
+    redirected_ends led (Some (Moved slot to)) tells = follows_ends (with_owner core slot to) call to None (room to)
+    redirected_ends led (Some (Ask slot to None)) tells = absurd (subst NamesMove (one_redirection text led.redirection (Ask slot to None) led.is tells) (led.named refl))
+    redirected_ends led (Some (Ask slot to (Some number))) tells = follows_ends core call to (Some number) (room to)
+
     sent_on : (sends : Bool) → names_node text ≡ sends → EndsSo (failed (kind_of text) core call text)
     sent_on true sends =
         rw sends
         (ends_if (call.redirections == MOST_REDIRECTIONS) _ _ (λ most. too_many sends (eqb-true call.redirections MOST_REDIRECTIONS most))
-        (λ fewer. λ (redirection : Option Redirection). λ (tells : Tells text redirection). redirected_ends core call redirection (bad sends)))
+        (λ fewer. λ (redirection : Option Redirection). λ (tells : Tells text redirection). redirected_ends (leads sends) redirection tells))
     sent_on false stays =
         elim (cases_Bool (is_of_kind text (codes "TRYAGAIN"))) [
           | inl again ↦ rw (stays, again) (ends_if (call.repeats == core.limit) _ _ (λ most. too_often again (eqb-true call.repeats core.limit most)) (λ fewer. tt))
@@ -111,12 +114,12 @@ module _ (P : Answer → Type 0) where
     failed_ends = sent_on (names_node text) refl
 
   -- a reply does
-  pub replied_ends : (core : ClientState) (call : Call) (reply : Reply) → P (Ok reply) → ((text : List ℕ) → reply ≡ Error text → names_node text ≡ true → P (Err BadReply))
+  pub replied_ends : (nodes : List NodeConfig) (core : ClientState) (call : Call) (reply : Reply) → P (Ok reply) → ((address : Place) → is_beyond core.peers address ≡ false) → CanFollow nodes true reply
       → ((text : List ℕ) → reply ≡ Error text → names_node text ≡ true → call.redirections ≡ MOST_REDIRECTIONS → P (Err TooManyRedirects))
       → ((text : List ℕ) → reply ≡ Error text → is_of_kind text (codes "TRYAGAIN") ≡ true → call.repeats ≡ core.limit → P (Err StillTryAgain)) → EndsSo (replied core call reply)
-  replied_ends core call (Error text) over bad too_many too_often = failed_ends core call text over (bad text refl) (too_many text refl) (too_often text refl)
-  replied_ends core call (Simple text) over bad too_many too_often = over
-  replied_ends core call (Integer number) over bad too_many too_often = over
-  replied_ends core call (Bulk bytes) over bad too_many too_often = over
-  replied_ends core call Null over bad too_many too_often = over
-  replied_ends core call (Array replies) over bad too_many too_often = over
+  replied_ends nodes core call (Error text) over room can too_many too_often = failed_ends core call text over room nodes (can text refl) (too_many text refl) (too_often text refl)
+  replied_ends nodes core call (Simple text) over room can too_many too_often = over
+  replied_ends nodes core call (Integer number) over room can too_many too_often = over
+  replied_ends nodes core call (Bulk bytes) over room can too_many too_often = over
+  replied_ends nodes core call Null over room can too_many too_often = over
+  replied_ends nodes core call (Array replies) over room can too_many too_often = over

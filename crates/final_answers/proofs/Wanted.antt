@@ -107,7 +107,7 @@ module _ (words : List (List ℕ)) (execution : Option Reply) where
     where
       by_last : (last : Bool) → is_last_line reply ≡ last → book.Tells execution (cond last (Ok reply) (Err BadReply))
       by_last true is = nothing ∙ sym (ap (λ (b : Bool). cond b None (Some reply)) (last_is_refusal reply is))
-      by_last false is = tt
+      by_last false is = nothing
 
   introduced_to : (core : ClientState) (call : Call) (reply : Reply) → call.words ≡ words → execution ≡ None → IsFine (introduced core call reply)
   introduced_to core call reply is nothing =
@@ -118,13 +118,13 @@ module _ (words : List (List ℕ)) (execution : Option Reply) where
 
   follows_to : (core : ClientState) (call : Call) (address : Place) (number : Option ℕ) → call.words ≡ words → execution ≡ None → IsFine (follows core call address number)
   follows_to core call address number is nothing =
-      fine_if (is_beyond core.peers address) _ _ (fine_end (Err BadReply) tt)
+      fine_if (is_beyond core.peers address) _ _ (fine_end (Err BadReply) nothing)
       (connects_to (record core { peers = with_address core.peers address }) (record call { to = place_of core.peers address; asking = number; redirections = call.redirections + 1 }) is nothing)
 
   redirected_to : (core : ClientState) (call : Call) (redirection : Option Redirection) → call.words ≡ words → execution ≡ None → TurnsTo (redirected core call redirection)
-  redirected_to core call None is nothing = tt
+  redirected_to core call None is nothing = nothing
   redirected_to core call (Some (Moved slot to)) is nothing = (follows_to (with_owner core slot to) call to None is nothing).0
-  redirected_to core call (Some (Ask slot to None)) is nothing = tt
+  redirected_to core call (Some (Ask slot to None)) is nothing = nothing
   redirected_to core call (Some (Ask slot to (Some number))) is nothing = (follows_to core call to (Some number) is nothing).0
 
   again_to : (core : ClientState) (call : Call) → call.words ≡ words → execution ≡ None → IsFine (again core call)
@@ -158,7 +158,7 @@ module _ (words : List (List ℕ)) (execution : Option Reply) where
   replied_to core call (Array replies) is told = fine_end (Ok (Array replies)) told
 
   answered_to : (core : ClientState) (call : Call) (at : Stage) (reply : Reply) → call.words ≡ words → execution ≡ execution_at at reply → IsFine (answered at core call reply)
-  answered_to core call stage.Connecting reply is told = fine_end (Err BadReply) tt
+  answered_to core call stage.Connecting reply is told = fine_end (Err BadReply) told
   answered_to core call stage.Introducing reply is told = introduced_to core call reply is told
   answered_to core call stage.Asking reply is told = allowed_to core call reply is told
   answered_to core call stage.Sent reply is told = replied_to core call reply is told

@@ -3,7 +3,7 @@ use Rattle.std.specs.Prelude.{◌≡◌, ◌⊎◌, ◌++◌, ◌∷◌, ℕ, Bo
 use Rattle.resp_values.specs.declared.reply.Reply.{Reply}
 use Rattle.reply_meaning.specs.Refusal.{is_refusal}
 use Rattle.smart_client.specs.Step.{Answer}
-use Rattle.smart_client.specs.declared.fault.ClientFault.TheVariants.{Lost, BadReply}
+use Rattle.smart_client.specs.declared.fault.ClientFault.TheVariants.{Lost}
 use Rattle.world_run.specs.Executed.{Answered}
 use Rattle.world.specs.declared.output.Output.{Output}
 use Rattle.world.specs.declared.output.Output.TheVariants as output
@@ -89,12 +89,11 @@ IsBook (moment ∷ moments) old new = (next : Book) × Writes moment old next ×
 
 -- ---- what an answer tells
 
--- a reply that is no refusal is that of the one execution, and behind a refusal there is none; whoever lost the reply, or got one that no
--- node gives, doesn't know; with any other fault nothing was executed
+-- a reply that is no refusal is that of the one execution, and behind a refusal there is none; whoever lost the reply doesn't know; with
+-- any other fault nothing was executed
 abbrev pub Tells : Option Reply → Answer → Type 0
 Tells execution (Ok reply) = execution ≡ (if is_refusal reply then None else Some reply)
 Tells execution (Err Lost) = ⊤
-Tells execution (Err BadReply) = ⊤
 Tells execution (Err _) = execution ≡ None
 
 abbrev pub IsRightSo : Option Reply → Option Answer → Type 0

@@ -99,14 +99,15 @@ pub record IsPutOff (made : Step) (client : ClientView) : Type 0 where
   pub refused : IsRefused made client call text
   pub kind : is_of_kind text (codes "TRYAGAIN") ≡ true
 
--- the client is told this in the step, from the scene before it; nothing that it sent is unanswered where memory is refused
+-- the client is told this in the step, from the scene before it; nothing that it sent is unanswered where memory is refused, and no client
+-- is told that a reply is one that no node gives
 abbrev pub HasReason : SceneView → Step → ClientView → Answer → Type 0
 HasReason old made client (Ok reply) = IsAnswered old made client reply
 HasReason old made client (Err Lost) = Breaks made client × IsHandedOver client.core.call
 HasReason old made client (Err NotConnected) = Breaks made client ⊎ IsOutOfReach old made client
 HasReason old made client (Err TooManyRedirects) = (last : IsSentOn made client) × (last.call.redirections ≡ MOST_REDIRECTIONS)
 HasReason old made client (Err StillTryAgain) = (last : IsPutOff made client) × (last.call.repeats ≡ client.core.limit)
-HasReason old made client (Err BadReply) = IsSentOn made client
+HasReason old made client (Err BadReply) = ⊥
 HasReason old made client (Err NotData) = (words : List (List ℕ)) × IsBeginning made client words × (is_refused words ≡ true)
 HasReason old made client (Err Memory) = (event : Event) × Happens made client event
 
