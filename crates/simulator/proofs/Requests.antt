@@ -1,5 +1,5 @@
 -- The limits of a request are kept exactly where the test says so.
-use Rattle.std.proofs.Common.{◌≡◌, ◌≤◌, ◌&&◌, ◌∙◌, ℕ, Bool, true, false, cond, List, [], ◌∷◌, length, All, Option, Some, None, ap, sym, arith, leb, ltb, refl}
+use Rattle.std.proofs.Common.{◌≡◌, ◌≤◌, ◌&&◌, ◌∙◌, ℕ, Bool, true, false, cond, List, [], ◌∷◌, length, All, Option, Some, None, ap, sym, arith, leb, refl}
 use Rattle.std.specs.Prelude.{suc, IfSome, IsSome}
 use Rattle.std.specs.List.{list_all}
 use Rattle.std.proofs.lemmas.List.Elements.{All-cons, All-nil}

@@ -1,4 +1,5 @@
 pub mod Escaping
+pub mod Forms
 pub mod Lines
 pub mod Printing
 pub mod Script

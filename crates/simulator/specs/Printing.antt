@@ -1,5 +1,5 @@
 -- What comes out of a world as a text, in the simulator's own format: a line an output.
-use Rattle.std.specs.Prelude.{◌++◌, ℕ, List, Result, Ok, Err, codes, decimal}
+use Rattle.std.specs.Prelude.{◌++◌, ℕ, List, Ok, Err, codes, decimal}
 use Rattle.std.specs.List.{flat_map}
 use Rattle.bus.specs.declared.message.Body.{Body}
 use Rattle.bus.specs.declared.message.Body.TheVariants.{Copy, Ack, Drained, Claim}

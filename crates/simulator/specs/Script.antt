@@ -1,13 +1,15 @@
 -- Scripts, in the simulator's own format: a step a line.
-use Rattle.std.specs.Prelude.{◌≡◌, ◌+◌, ◌++◌, ◌∷◌, ◌&&◌, ℕ, nat_lt, nat_le, Bool, List, [], length, All, IsSome, Option, Some, None, option_map, option_and_then, codes, if◌then◌else◌}
+use Rattle.std.specs.Prelude.{◌≡◌, ◌+◌, ◌++◌, ◌∷◌, ◌&&◌, ℕ, nat_lt, nat_le, Bool, List, [], length, All, IsSome, Option, Some, None, option_map, option_and_then, if◌then◌else◌}
 use Rattle.std.specs.List.{list_all}
-use Rattle.std.specs.Str.{bytes_eq}
 use Rattle.command_table.specs.Numbers.{count_of, positive_of}
 use Rattle.resp_values.specs.Request.{request_spelling}
 use Rattle.resp_values.specs.declared.words.TheConstants.{MOST_WORDS, MOST_WORD_BYTES, MOST_REQUEST_BYTES}
 use Rattle.world.specs.declared.step.Step.{Step}
 use Rattle.world.specs.declared.step.Step.TheVariants.{Call, Carry, Return, Cut, Late, Admin, Tick, Stop, Deliver}
+use Rattle.simulator.specs.Forms.{form_of}
 use Rattle.simulator.specs.Lines.{is_plain, lines, words}
+use Rattle.simulator.specs.declared.form.StepForm.{StepForm}
+use Rattle.simulator.specs.declared.form.StepForm.TheVariants as form
 
 -- ---- steps
 
@@ -48,21 +50,23 @@ node_of arguments = option_and_then count_of (only arguments)
 abbrev pub number_of : List (List ℕ) → Option ℕ
 number_of arguments = option_and_then positive_of (only arguments)
 
--- the first word names the kind of step: `call`, `carry <client>`, `return <client>`, `cut <client>`, `late <client>`, `admin`,
--- `tick <node>`, `stop <node>`, `deliver <message>`
+-- what stands behind the first word of a line: `call <client> <request>`, `carry <client>`, `return <client>`, `cut <client>`,
+-- `late <client>`, `admin <node> <request>`, `tick <node>`, `stop <node>`, `deliver <message>`
+abbrev pub step_as : StepForm → List (List ℕ) → Option Step
+step_as form.Call arguments = call_of arguments
+step_as form.Carry arguments = option_map Carry (number_of arguments)
+step_as form.Return arguments = option_map Return (number_of arguments)
+step_as form.Cut arguments = option_map Cut (number_of arguments)
+step_as form.Late arguments = option_map Late (number_of arguments)
+step_as form.Admin arguments = admin_of arguments
+step_as form.Tick arguments = option_map Tick (node_of arguments)
+step_as form.Stop arguments = option_map Stop (node_of arguments)
+step_as form.Deliver arguments = option_map Deliver (number_of arguments)
+
+-- the first word names the form of the step
 abbrev pub step_of : List (List ℕ) → Option Step
 step_of [] = None
-step_of (name ∷ arguments) =
-    if bytes_eq name (codes "call") then call_of arguments
-    else (if bytes_eq name (codes "carry") then option_map Carry (number_of arguments)
-    else (if bytes_eq name (codes "return") then option_map Return (number_of arguments)
-    else (if bytes_eq name (codes "cut") then option_map Cut (number_of arguments)
-    else (if bytes_eq name (codes "late") then option_map Late (number_of arguments)
-    else (if bytes_eq name (codes "admin") then admin_of arguments
-    else (if bytes_eq name (codes "tick") then option_map Tick (node_of arguments)
-    else (if bytes_eq name (codes "stop") then option_map Stop (node_of arguments)
-    else (if bytes_eq name (codes "deliver") then option_map Deliver (number_of arguments)
-    else None))))))))
+step_of (name ∷ arguments) = option_and_then (λ form. step_as form arguments) (form_of name)
 
 -- the step that a line is
 abbrev pub step_in : List ℕ → Option Step

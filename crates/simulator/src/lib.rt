@@ -3,12 +3,14 @@
 
 mod escaping;
 mod fault;
+mod form;
 mod lines;
 mod printing;
 mod script;
 mod simulation;
 
 pub use fault::ScriptFault;
+pub use form::{FORMS, StepForm, StepRow};
 pub use printing::{print_outputs, print_reply};
 pub use script::read_script;
 pub use simulation::simulate;

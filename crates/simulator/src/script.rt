@@ -1,15 +1,15 @@
-//! Scripts, in the simulator's own format: a step a line, `call K WORD..`, `carry K`, `return K`, `cut K`, `late K`,
-//! `admin N WORD..`, `tick N`, `stop N` or `deliver M`.
+//! Scripts, in the simulator's own format: a step a line.
 ghost use Rattle.std.specs.Prelude.{◌≡◌, ◌+◌, ◌++◌, ◌∷◌, [], ℕ, vec_len, map, option_map, Some, Err, IfOk};
 ghost use Rattle.std.specs.List.{list_all};
 ghost use Rattle.command_table.specs.Numbers.{count_of};
 ghost use Rattle.simulator.specs.Lines.{is_plain, lines, words};
-ghost use Rattle.simulator.specs.Script.{IsFirstUnreadable, admin_of, call_of, node_of, number_of, only, request_of, step_in, step_of};
+ghost use Rattle.simulator.specs.Script.{IsFirstUnreadable, admin_of, call_of, node_of, number_of, only, request_of, step_as, step_in, step_of};
 ghost use Rattle.simulator.specs.Splitting.{words_behind};
 ghost use Rattle.simulator.specs.declared.fault.ScriptFault.TheVariants.{Line};
 ghost use Rattle.world.specs.declared.step.Step.TheVariants as step;
 
 use crate::fault::ScriptFault;
+use crate::form::StepForm;
 use crate::lines::{split_line, split_word};
 use byte_string::ByteString;
 use command_table::{number_in, positive_in};
@@ -70,34 +70,27 @@ fn is_plain(line: &[u8]) -> bool
 fn step_of(alloc: Global, name: &[u8], arguments: &[u8]) -> Result<Option<Step>, AllocError>
     ensures { IfOk result (λ step. step ≡ step_of (name.now ∷ words arguments.now)) }
 {
-    if name == b"call".as_slice() {
-        return call_of(alloc, arguments);
+    match StepForm::of(name) {
+        Some(form) => step_as(alloc, form, arguments),
+        None => Ok(None),
     }
-    if name == b"carry".as_slice() {
-        return Ok(carry_of(arguments));
+}
+
+// The step of that form with these arguments.
+fn step_as(alloc: Global, form: StepForm, arguments: &[u8]) -> Result<Option<Step>, AllocError>
+    ensures { IfOk result (λ step. step ≡ step_as form (words arguments.now)) }
+{
+    match form {
+        StepForm::Call => call_of(alloc, arguments),
+        StepForm::Carry => Ok(carry_of(arguments)),
+        StepForm::Return => Ok(return_of(arguments)),
+        StepForm::Cut => Ok(cut_of(arguments)),
+        StepForm::Late => Ok(late_of(arguments)),
+        StepForm::Admin => admin_of(alloc, arguments),
+        StepForm::Tick => Ok(tick_of(arguments)),
+        StepForm::Stop => Ok(stop_of(arguments)),
+        StepForm::Deliver => Ok(delivery_of(arguments)),
     }
-    if name == b"return".as_slice() {
-        return Ok(return_of(arguments));
-    }
-    if name == b"cut".as_slice() {
-        return Ok(cut_of(arguments));
-    }
-    if name == b"late".as_slice() {
-        return Ok(late_of(arguments));
-    }
-    if name == b"admin".as_slice() {
-        return admin_of(alloc, arguments);
-    }
-    if name == b"tick".as_slice() {
-        return Ok(tick_of(arguments));
-    }
-    if name == b"stop".as_slice() {
-        return Ok(stop_of(arguments));
-    }
-    if name == b"deliver".as_slice() {
-        return Ok(delivery_of(arguments));
-    }
-    Ok(None)
 }
 
 fn call_of(alloc: Global, arguments: &[u8]) -> Result<Option<Step>, AllocError>

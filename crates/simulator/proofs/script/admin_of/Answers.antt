@@ -1,4 +1,4 @@
-use Rattle.std.proofs.Common.{rules, ◌≡◌, Some, None}
+use Rattle.std.proofs.Common.{rules, ◌≡◌, None}
 use Rattle.command_table.specs.Numbers.{count_of}
 use Rattle.world.specs.declared.step.Step.TheVariants.{Admin}
 use Rattle.simulator.specs.Lines.{words}
