@@ -1,6 +1,6 @@
 -- A call that goes on from deed to deed.
-use Rattle.std.proofs.Common.{◌≡◌, ◌≢◌, ◌<◌, ◌+◌, ◌++◌, ◌∷◌, ℕ, List, [], Option, Some, None, refl, ap, sym, subst, ◌∙◌, append_assoc, append-nil, arith}
-use Rattle.smart_client.specs.Calls.{AreWithin, ClientView, Deed, IsCallOf, IsRun, IsWaiting, IsWithin, MayAnswer, Nears, WiresMove, left_of, moments_of, pool_behind}
+use Rattle.std.proofs.Common.{◌≡◌, ◌≢◌, ◌<◌, ◌+◌, ◌++◌, ◌∷◌, ℕ, Bool, true, false, List, [], Option, Some, None, refl, ap, sym, subst, ◌∙◌, append_assoc, append-nil, arith}
+use Rattle.smart_client.specs.Calls.{AreWithin, ClientView, Deed, IsCallOf, IsRun, IsWaiting, IsWithin, MayAnswer, Nears, WiresMove, is_begun, left_of, moments_of, pool_behind}
 use Rattle.smart_client.specs.Pool.{Pool, pool_after}
 use Rattle.smart_client.specs.Wires.{Moves, Wires}
 use Rattle.smart_client.specs.State.{ClientState}
@@ -14,8 +14,9 @@ use Rattle.smart_client.specs.declared.call.Stage.{Stage}
 use Rattle.smart_client.specs.declared.call.Stage.TheVariants.{Connecting, Introducing, Asking, Sent}
 
 -- the deeds of a call so far, and what is wanted now
-pub record Goes (words : List (List ℕ)) (old : ClientView) (wanted : Action) (now : ClientView) : Type 0 where
+pub record Goes (words : List (List ℕ)) (old : ClientView) (begun : Bool) (wanted : Action) (now : ClientView) : Type 0 where
   pub deeds : List Deed
+  pub some : begun ≡ is_begun deeds
   pub done : now.deeds ≡ old.deeds ++ deeds
   pub call : IsCallOf words old.state (moments_of (happened.Call words) deeds wanted) now.state
   pub pool : now.pool ≡ pool_behind deeds old.pool
@@ -23,9 +24,10 @@ pub record Goes (words : List (List ℕ)) (old : ClientView) (wanted : Action) (
 
 -- nothing was done yet
 pub begins : (words : List (List ℕ)) (old now : ClientView) (wanted : Action) → MayCome old.state.call (happened.Call words)
-    → Steps old.state (happened.Call words) wanted now.state → now.deeds ≡ old.deeds → now.pool ≡ old.pool → now.wires ≡ old.wires → Goes words old wanted now
+    → Steps old.state (happened.Call words) wanted now.state → now.deeds ≡ old.deeds → now.pool ≡ old.pool → now.wires ≡ old.wires → Goes words old false wanted now
 begins words old now wanted may steps same same_pool same_wires = record {
   deeds = [];
+  some = refl;
   done = same ∙ sym (append-nil old.deeds);
   call = (refl, tt, (now.state, may, steps, refl));
   pool = same_pool;
@@ -101,10 +103,15 @@ wires_on [] deed pool old middle new same moves = (new, subst (λ (wires : Wires
 wires_on (first ∷ deeds) deed pool old middle new moved moves =
     (moved.0, moved.1, wires_on deeds deed (pool_after first.action first.event pool) moved.0 middle new moved.2 moves)
 
-pub passes_on : (words : List (List ℕ)) (old middle new : ClientView) (wanted later : Action) (event : Event) → Goes words old wanted middle → new.deeds ≡ middle.deeds ++ record { action = wanted; event = event } ∷ []
-    → new.pool ≡ pool_after wanted event middle.pool → Moves wanted event middle.pool middle.wires new.wires → MayAnswer wanted event → IsWaiting wanted middle.state.call → Steps middle.state event later new.state → Goes words old later new
-passes_on words old middle new wanted later event goes grown pool_then moves may waits steps = record {
+behind_some : (deeds : List Deed) (deed : Deed) → true ≡ is_begun (deeds ++ deed ∷ [])
+behind_some [] deed = refl
+behind_some (first ∷ deeds) deed = refl
+
+pub passes_on : (words : List (List ℕ)) (old middle new : ClientView) (begun : Bool) (wanted later : Action) (event : Event) → Goes words old begun wanted middle → new.deeds ≡ middle.deeds ++ record { action = wanted; event = event } ∷ []
+    → new.pool ≡ pool_after wanted event middle.pool → Moves wanted event middle.pool middle.wires new.wires → MayAnswer wanted event → IsWaiting wanted middle.state.call → Steps middle.state event later new.state → Goes words old true later new
+passes_on words old middle new begun wanted later event goes grown pool_then moves may waits steps = record {
   deeds = goes.deeds ++ record { action = wanted; event = event } ∷ [];
+  some = behind_some goes.deeds (record { action = wanted; event = event });
   done = grown ∙ ap (λ (deeds : List Deed). deeds ++ record { action = wanted; event = event } ∷ []) goes.done ∙ append_assoc old.deeds goes.deeds (record { action = wanted; event = event } ∷ []);
   call = goes_on words old.state middle.state new.state event wanted later goes.deeds goes.call (is_within wanted event may) (may_come wanted event middle.state.call waits may) steps;
   pool = pool_then ∙ ap (λ (pool : Pool). pool_after wanted event pool) goes.pool ∙ sym (pool_on goes.deeds (record { action = wanted; event = event }) old.pool);

@@ -1,10 +1,10 @@
 -- Where connections lead, from deed to deed.
-use Rattle.std.proofs.Common.{◌≡◌, ◌++◌, ◌∷◌, ◌==◌, ℕ, Bool, true, false, cond, List, [], length, map, set, remove, get_or, Option, Some, None, MatchBool, refl, ap, sym, ◌∙◌}
+use Rattle.std.proofs.Common.{◌≡◌, ◌++◌, ◌∷◌, ◌==◌, ◌&&◌, ℕ, Bool, true, false, cond, List, [], length, map, set, remove, get_or, Option, Some, None, MatchBool, refl, ap, sym, ◌∙◌}
 use Rattle.std.proofs.lemmas.List.{map-append}
 use Rattle.std.proofs.lemmas.Option.{get_or_from_slice_get}
 use Rattle.std.proofs.Math.Seq.{map-set_same}
 use Rattle.redirection.specs.Address.{Place}
-use Rattle.smart_client.specs.Calls.{Calls, ClientView, ConnectionsLead, Deed, WiresMove, closed_if, pool_behind, wires_closed_if}
+use Rattle.smart_client.specs.Calls.{Calls, ClientView, ConnectionsLead, Deed, WiresMove, closed_if, is_begun, pool_behind, wires_closed_if}
 use Rattle.smart_client.specs.Pool.{Pool, closed, is_lost, place_in, pool_after, with_new, without_place}
 use Rattle.smart_client.specs.Step.{Answer}
 use Rattle.smart_client.specs.Wires.{Brings, Channel, IsFresh, Joins, Moves, Uses, Wires}
@@ -79,7 +79,7 @@ module _ (end : Channel → Place) (made : (address : Place) (fresh : Channel) �
       → map end new.wires.channels ≡ new.pool.addresses
   call_leads words old new answer lead calls =
       ap (λ (wires : Wires). map end wires.channels) calls.wires
-      ∙ ends_lead calls.close (pool_behind calls.deeds old.pool) calls.reached (all_lead calls.deeds old.pool old.wires calls.reached lead calls.moved)
+      ∙ ends_lead (is_begun calls.deeds && calls.close) (pool_behind calls.deeds old.pool) calls.reached (all_lead calls.deeds old.pool old.wires calls.reached lead calls.moved)
       ∙ ap (λ (pool : Pool). pool.addresses) (sym calls.pool)
 
 pub connections_lead : ConnectionsLead

@@ -1,5 +1,5 @@
 -- A client's call as a whole: how it goes on, and when a command is sent again.
-use Rattle.std.specs.Prelude.{◌≡◌, ◌≢◌, ◌+◌, ◌-◌, ◌*◌, ◌<◌, ◌++◌, ◌∷◌, ◌⊎◌, ℕ, Bool, List, [], map, Option, Some, None, Ok, ⊤, if◌then◌else◌}
+use Rattle.std.specs.Prelude.{◌≡◌, ◌≢◌, ◌+◌, ◌-◌, ◌*◌, ◌<◌, ◌++◌, ◌∷◌, ◌&&◌, ◌⊎◌, ℕ, Bool, true, false, List, [], map, Option, Some, None, Ok, ⊤, if◌then◌else◌}
 use Rattle.resp_values.specs.declared.reply.Reply.{Reply}
 use Rattle.resp_values.specs.declared.reply.Reply.TheVariants.{Error}
 use Rattle.smart_client.specs.ErrorKind.{kind_of}
@@ -91,6 +91,11 @@ abbrev pub pool_behind : List Deed → Pool → Pool
 pool_behind [] pool = pool
 pool_behind (deed ∷ deeds) pool = pool_behind deeds (pool_after deed.action deed.event pool)
 
+-- something was done: before that no connection is in use
+abbrev pub is_begun : List Deed → Bool
+is_begun [] = false
+is_begun (deed ∷ deeds) = true
+
 -- the one in use is closed, or isn't
 abbrev pub closed_if : Bool → Pool → Pool
 closed_if close pool = if close then closed pool else pool
@@ -112,16 +117,16 @@ pub record ClientView : Type 0 where
   pub wires : Wires
 
 -- a call with these words: what came of each thing that it wanted led to the next one, and the last of them was this answer; the
--- connection that is in use then is closed, if the client wants that
+-- connection that is in use then is closed, if the client wants that: where nothing was done there is none
 pub record Calls (words : List (List ℕ)) (old : ClientView) (answer : Answer) (new : ClientView) : Type 0 where
   pub deeds : List Deed
   pub close : Bool
   pub done : new.deeds ≡ old.deeds ++ deeds
   pub call : IsCallOf words old.state (moments_of (happened.Call words) deeds (Done answer close)) new.state
-  pub pool : new.pool ≡ closed_if close (pool_behind deeds old.pool)
+  pub pool : new.pool ≡ closed_if (is_begun deeds && close) (pool_behind deeds old.pool)
   pub reached : Wires
   pub moved : WiresMove deeds old.pool old.wires reached
-  pub wires : new.wires ≡ wires_closed_if close (pool_behind deeds old.pool).used reached
+  pub wires : new.wires ≡ wires_closed_if (is_begun deeds && close) (pool_behind deeds old.pool).used reached
 
 -- MOVED, ASK or TRYAGAIN: the node did not execute the command
 abbrev pub is_refusing : ErrorKind → Type 0

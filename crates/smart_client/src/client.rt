@@ -55,16 +55,19 @@ impl<N: Network + Drop> Client<N> {
         ensures { Calls words self.old result self.new }
     {
         let mut action = self.core.on(Event::Call(words));
+        // The connection that the call before used is not in use by this one.
+        let mut is_begun = false;
         'deeds: loop {
             match action {
                 Action::Done { answer, close } => {
-                    if close {
+                    if is_begun && close {
                         self.network.close();
                     }
                     return answer;
                 }
                 wanted => {
                     let event = self.network.perform(wanted);
+                    is_begun = true;
                     action = self.core.on(event);
                 }
             }
