@@ -1,8 +1,18 @@
 //! The links between the nodes of a cluster, in one process.
 #![tactic(auto)]
 
-mod inbox;
-mod queue;
+mod comparing;
+mod end;
+mod halves;
+mod node_ends;
+mod port;
+mod rule;
+mod station;
+mod web;
 
-pub use inbox::Inbox;
-pub use queue::{LinkEnd, MOST_MESSAGES};
+pub use comparing::compare_all;
+pub use end::LinkEnd;
+pub use halves::{MOST_MESSAGES, Receiver, Sender, compare, link};
+pub use node_ends::{NodeEnds, link_all};
+pub use station::Station;
+pub use web::Web;

@@ -1,5 +1,6 @@
 //! A node with its journal and its seat at the tickets.
-ghost use Rattle.std.specs.Prelude.{◌≡◌, ◌<◌, ◌==◌, ◌++◌, ◌∷◌, [], All, length, not, true, Err, IfOk, IfErr, IfSome, OnErr, OnOk, vec_len, vec_capacity};
+ghost use Rattle.std.specs.Prelude.{◌≡◌, ◌<◌, ◌==◌, ◌++◌, ◌∷◌, [], All, length, not, true, Err, IfOk, IfErr, IfNone, IfSome, OnErr, OnOk, vec_len, vec_capacity};
+ghost use Rattle.std.specs.VecDeque.{deque_len, deque_capacity};
 ghost use Rattle.std.specs.List.{list_any};
 ghost use Rattle.tickets.specs.Tickets.{drawn, table_of, seats_of, IsFresh};
 ghost use Rattle.node_step.specs.State.{first_state};
@@ -23,8 +24,8 @@ use resp_values::Reply;
 use slot_store::SlotStore;
 use slot_table::NodeNo;
 use std::alloc::{AllocError, Global};
+use std::collections::VecDeque;
 use std::marker::{Model, PhantomData};
-use std::mem;
 use std::snapshot::Snapshot;
 use tickets::Seat;
 
@@ -37,7 +38,7 @@ pub struct NodeCell<K: Deployment, L: Log> {
     log: L,
     // An item for each step that gave some, until they are taken.
     undelivered: Vec<Releases>,
-    outbox: Vec<Sending<K>>,
+    outbox: VecDeque<Sending<K>>,
     seat: Seat,
     cluster: PhantomData<K>,
 }
@@ -83,7 +84,7 @@ impl<K: Deployment, L: Log> NodeCell<K, L> {
             core,
             log: L::new(alloc),
             undelivered: Vec::new(alloc),
-            outbox: Vec::new(alloc),
+            outbox: VecDeque::new(alloc),
             seat,
             cluster: PhantomData,
         })
@@ -184,15 +185,16 @@ impl<K: Deployment, L: Log> NodeCell<K, L> {
     pub fn has_sent(&self) -> bool
         ensures { result ≡ not (length self.now.outbox == 0) }
     {
-        has_message(self.outbox.as_slice())
+        has_message(&self.outbox)
     }
 
-    /// Takes all messages that were sent and that nobody has taken yet.
-    pub fn take_sent(&mut self, alloc: Global) -> Vec<Sending<K>>
-        ensures sent { joined result.items ≡ self.old.outbox }
-        ensures left { self.new ≡ record self.old { outbox = [] } }
+    /// Takes the messages of the first step whose messages nobody has taken yet.
+    pub fn take_sent(&mut self) -> Option<Sending<K>>
+        ensures sent { IfSome result (λ sending. self.old.outbox ≡ sending ++ self.new.outbox) }
+        ensures none { IfNone result ((self.old.outbox ≡ []) × (self.new.outbox ≡ [])) }
+        ensures left { self.new ≡ record self.old { outbox = self.new.outbox } }
     {
-        mem::replace(&mut self.outbox, Vec::new(alloc))
+        self.outbox.pop_front()
     }
 
     /// The configuration, the node's number, its log and its seat.
@@ -222,11 +224,11 @@ impl<K: Deployment, L: Log> NodeCell<K, L> {
 fn make_room<K: Deployment, L: Log>(
     log: &mut L,
     undelivered: &mut Vec<Releases>,
-    outbox: &mut Vec<Sending<K>>,
+    outbox: &mut VecDeque<Sending<K>>,
 ) -> Result<(), AllocError>
     ensures room { OnOk result (L.has_room log.new) }
     ensures undelivered_room { OnOk result (vec_len undelivered.new < vec_capacity undelivered.new) }
-    ensures outbox_room { OnOk result (vec_len outbox.new < vec_capacity outbox.new) }
+    ensures outbox_room { OnOk result (deque_len outbox.new < deque_capacity outbox.new) }
     ensures log { L.entries log.new ≡ L.entries log.old }
     ensures undelivered { undelivered.new.items ≡ undelivered.old.items }
     ensures outbox { outbox.new.items ≡ outbox.old.items }
@@ -251,7 +253,7 @@ fn advance<K: Deployment, L: Log>(
     core: &mut Core,
     log: &mut L,
     undelivered: &mut Vec<Releases>,
-    outbox: &mut Vec<Sending<K>>,
+    outbox: &mut VecDeque<Sending<K>>,
     ticket: u64,
     event: Event,
 ) -> Result<Entered<K>, StepFault>
@@ -259,7 +261,7 @@ fn advance<K: Deployment, L: Log>(
     requires reachable { IsReachable K.config (L.entries log.old) core.old }
     requires log { L.has_room log.old }
     requires undelivered { vec_len undelivered.old < vec_capacity undelivered.old }
-    requires outbox { vec_len outbox.old < vec_capacity outbox.old }
+    requires outbox { deque_len outbox.old < deque_capacity outbox.old }
     ensures entered { Advances core.old (L.entries log.old) ticket core.new (L.entries log.new) }
     ensures ok { IfOk result (λ entered. Makes core.old (L.entries log.old) ticket event entered core.new (L.entries log.new)) }
     ensures undelivered { IfOk result (λ entered. joined undelivered.new.items ≡ undelivered_after event (joined undelivered.old.items) entered.outputs.released) }
@@ -291,8 +293,8 @@ fn advance<K: Deployment, L: Log>(
 }
 
 // Puts the messages of a step behind those that wait. There has to be room.
-fn put_out<K: Deployment>(outbox: &mut Vec<Sending<K>>, sent: Messages)
-    requires room { vec_len outbox.old < vec_capacity outbox.old }
+fn put_out<K: Deployment>(outbox: &mut VecDeque<Sending<K>>, sent: Messages)
+    requires room { deque_len outbox.old < deque_capacity outbox.old }
     requires sent { All (IsSent K.config) sent }
     ensures { joined outbox.new.items ≡ joined outbox.old.items ++ sent }
 {
@@ -300,14 +302,14 @@ fn put_out<K: Deployment>(outbox: &mut Vec<Sending<K>>, sent: Messages)
         return;
     }
     let sending = Sending::new(sent.into_vec(*outbox.allocator()));
-    let Ok(()) = outbox.push(sending) else {
+    let Ok(()) = outbox.push_back(sending) else {
         unreachable!();
     };
 }
 
 // Whether a message is among those of the steps.
-fn has_message<K: Deployment>(outbox: &[Sending<K>]) -> bool
-    ensures { result ≡ list_any (λ part. not (length part == 0)) outbox.now }
+fn has_message<K: Deployment>(outbox: &VecDeque<Sending<K>>) -> bool
+    ensures { result ≡ list_any (λ part. not (length part == 0)) outbox.now.items }
 {
     outbox.iter().any(|sending| is_some(sending))
 }

@@ -1,20 +1,30 @@
 //! Messages that a step sent, until they are delivered.
-ghost use Rattle.std.specs.Prelude.{◌≡◌, ◌==◌, All, length};
+ghost use Rattle.std.specs.Prelude.{◌≡◌, ◌==◌, ◌∷◌, [], All, IfNone, IfSome, List, drop, length};
+ghost use Rattle.bus.specs.declared.message.Message.{Message as Sent};
 ghost use Rattle.std.specs.Iterator.{YieldsFirst, item_count};
 ghost use Rattle.node_cell.specs.Journal.{IsSent};
 
 use crate::deployment::Deployment;
 use bus::Message;
-use std::alloc::AllocError;
+use slot_table::NodeNo;
+use std::alloc::{AllocError, Global};
 use std::collections::VecDeque;
 use std::marker::{Model, PhantomData};
 
 /// A message that a step of a node of the cluster `K` sent. Only a [`Sending`] gives one, and it stays as it is: whoever carries
 /// messages may lose, repeat and reorder them, but makes none and changes none.
-#[derive(Drop)]
 pub struct Posted<K: Deployment> {
     message: Message,
     cluster: PhantomData<K>,
+}
+
+impl<K: Deployment> Drop for Posted<K> {
+    fn drop(self) {
+        let Posted {
+            message: _,
+            cluster: _,
+        } = self;
+    }
 }
 
 impl<K: Deployment> Model for Posted<K> {
@@ -41,7 +51,11 @@ impl<K: Deployment> Posted<K> {
     pub(crate) fn into_message(self) -> Message
         ensures { result ≡ self }
     {
-        self.message
+        let Posted {
+            message,
+            cluster: _,
+        } = self;
+        message
     }
 }
 
@@ -57,10 +71,18 @@ impl<K: Deployment> Clone for Posted<K> {
 }
 
 /// The messages of one step of a node of the cluster `K`, in the order in which it sent them, until they are taken.
-#[derive(Drop)]
 pub struct Sending<K: Deployment> {
     messages: VecDeque<Message>,
     cluster: PhantomData<K>,
+}
+
+impl<K: Deployment> Drop for Sending<K> {
+    fn drop(self) {
+        let Sending {
+            messages: _,
+            cluster: _,
+        } = self;
+    }
 }
 
 impl<K: Deployment> Model for Sending<K> {
@@ -85,6 +107,31 @@ impl<K: Deployment> Sending<K> {
             messages: VecDeque::from(messages),
             cluster: PhantomData,
         }
+    }
+
+    /// No messages.
+    pub fn none(alloc: Global) -> Sending<K>
+        ensures { result ≡ [] }
+    {
+        Sending {
+            messages: VecDeque::new(alloc),
+            cluster: PhantomData,
+        }
+    }
+
+    /// The node that the first message that is left is for.
+    pub fn first_to(&self) -> Option<NodeNo>
+        ensures some { IfSome result (λ to. (first : Sent) × (rest : List Sent) × (self.now ≡ first ∷ rest) × (first.to ≡ to)) }
+        ensures none { IfNone result (self.now ≡ []) }
+    {
+        Some(self.messages.front()?.to)
+    }
+
+    /// Lets the first message that is left go, if there is one.
+    pub fn let_go(&mut self)
+        ensures { self.new ≡ drop 1 self.old }
+    {
+        forget(self.messages.pop_front());
     }
 
     /// How many are left.
@@ -118,3 +165,5 @@ impl<K: Deployment> Iterator for Sending<K> {
         })
     }
 }
+
+fn forget(_message: Option<Message>) {}

@@ -4,25 +4,25 @@ ghost use Rattle.shared_node.specs.Answers.{MayGive};
 
 use crate::shared::SharedNode;
 use connections::Conn;
-use node_cell::{Asks, Deployment, Entered, Log, NodeCell, NodeGate};
+use node_cell::{Asks, Entered, HoldsCell, NodeGate};
 use node_step::{Event, StepFault};
 use resp_values::Reply;
 use std::sync::{MutexGuard, Wait};
 
-/// One conversation's way to a node of the cluster `K`, whose journal is an `L`. The handle `rt` is the leave to wait for the node's lock.
+/// One conversation's way to a node whose cell is in a `C`. The handle `rt` is the leave to wait for the node's lock.
 #[derive(Drop)]
-pub struct Gate<'n, K: Deployment, L: Log, R: Wait> {
+pub struct Gate<'n, C: HoldsCell, R: Wait> {
     rt: R,
-    node: &'n SharedNode<K, L>,
+    node: &'n SharedNode<C>,
     // The node with its lock, from a step on until others are let in.
-    held: Option<MutexGuard<'n, NodeCell<K, L>>>,
-    asks: Asks<K>,
+    held: Option<MutexGuard<'n, C>>,
+    asks: Asks<C::Cluster>,
 }
 
-impl<'n, K: Deployment, L: Log, R: Wait> Gate<'n, K, L, R> {
+impl<'n, C: HoldsCell + Drop, R: Wait> Gate<'n, C, R> {
     /// The way to the node of what is asked so.
-    pub fn new(rt: R, node: &'n SharedNode<K, L>, asks: Asks<K>) -> Gate<'n, K, L, R>
-        ensures { ⟦<Gate<'n, K, L, R> as NodeGate>⟧.asked result ≡ asks }
+    pub fn new(rt: R, node: &'n SharedNode<C>, asks: Asks<C::Cluster>) -> Gate<'n, C, R>
+        ensures { ⟦<Gate<'n, C, R> as NodeGate>⟧.asked result ≡ asks }
     {
         Gate {
             rt,
@@ -33,7 +33,7 @@ impl<'n, K: Deployment, L: Log, R: Wait> Gate<'n, K, L, R> {
     }
 
     // The node with its lock, which is taken where this conversation doesn't hold it yet.
-    fn take_or_lock(&mut self) -> MutexGuard<'n, NodeCell<K, L>>
+    fn take_or_lock(&mut self) -> MutexGuard<'n, C>
         ensures { self.new.asks ≡ self.old.asks }
     {
         match self.held.take() {
@@ -43,22 +43,22 @@ impl<'n, K: Deployment, L: Log, R: Wait> Gate<'n, K, L, R> {
     }
 }
 
-impl<'n, K: Deployment, L: Log, R: Wait> NodeGate for Gate<'n, K, L, R> {
-    type Answer = Entered<K>;
+impl<'n, C: HoldsCell + Drop, R: Wait> NodeGate for Gate<'n, C, R> {
+    type Answer = Entered<C::Cluster>;
 
     ghost use Rattle.shared_node.specs.Answers.{MayAnswer, MayGive, MayRefuse};
 
     ghost asked = { λ gate. gate.asks };
 
-    ghost may = { MayAnswer K.config };
+    ghost may = { MayAnswer C.Cluster.config };
 
-    ghost may_refuse = { MayRefuse K.config };
+    ghost may_refuse = { MayRefuse C.Cluster.config };
 
-    ghost may_give = { MayGive K.config };
+    ghost may_give = { MayGive C.Cluster.config };
 
-    fn step(&mut self, event: Event) -> Result<Entered<K>, StepFault> {
+    fn step(&mut self, event: Event) -> Result<Entered<C::Cluster>, StepFault> {
         let mut cell = self.take_or_lock();
-        let answer = self.asks.ask_node(&mut cell, event);
+        let answer = cell.ask(&mut self.asks, event);
         self.node.ring(&cell);
         self.held = Some(cell);
         answer
@@ -77,13 +77,13 @@ impl<'n, K: Deployment, L: Log, R: Wait> NodeGate for Gate<'n, K, L, R> {
 }
 
 // Waits at the node until it keeps a reply for the connection, or none will come any more.
-fn wait_at<'n, K: Deployment, L: Log, R: Wait>(
+fn wait_at<'n, C: HoldsCell + Drop, R: Wait>(
     rt: &R,
-    node: &SharedNode<K, L>,
-    mut cell: MutexGuard<'n, NodeCell<K, L>>,
+    node: &SharedNode<C>,
+    mut cell: MutexGuard<'n, C>,
     conn: Conn,
 ) -> Option<Reply>
-    ensures { IfSome result (λ reply. MayGive K.config conn reply) }
+    ensures { IfSome result (λ reply. MayGive C.Cluster.config conn reply) }
 {
     for _ in rt.forever() {
         let reply = cell.take_reply(conn);

@@ -1,7 +1,6 @@
 //! A node that several threads share.
 
-use node_cell::{Deployment, Log, NodeCell, Posted, Sending};
-use std::alloc::Global;
+use node_cell::HoldsCell;
 use std::sync::atomic::{AtomicBool, Ordering};
 use std::sync::{Condvar, Mutex, MutexGuard, Wait};
 use std::thread;
@@ -11,10 +10,10 @@ use std::time::Duration;
 // to sleep and to be woken takes longer than that.
 const MOST_YIELDS: u32 = 500;
 
-/// A node of the cluster `K` behind its lock, whose journal is an `L`, with the bells that ring for those who wait there.
+/// A node behind its lock, whose cell is in a `C`, with the bells that ring for those who wait there.
 #[derive(Drop)]
-pub struct SharedNode<K: Deployment, L: Log> {
-    cell: Mutex<NodeCell<K, L>>,
+pub struct SharedNode<C: HoldsCell> {
+    cell: Mutex<C>,
     // It rings where replies are kept for connections that wait.
     replies: Condvar,
     // It rings where messages are to be sent, or may have come.
@@ -23,12 +22,9 @@ pub struct SharedNode<K: Deployment, L: Log> {
     is_closed: AtomicBool,
 }
 
-impl<K: Deployment, L: Log> SharedNode<K, L> {
+impl<C: HoldsCell + Drop> SharedNode<C> {
     /// The node with this cell.
-    pub fn new(cell: NodeCell<K, L>) -> SharedNode<K, L>
-    where
-        L: Drop,
-    {
+    pub fn new(cell: C) -> SharedNode<C> {
         SharedNode {
             cell: Mutex::new(cell),
             replies: Condvar::new(),
@@ -38,12 +34,12 @@ impl<K: Deployment, L: Log> SharedNode<K, L> {
     }
 
     /// The cell, once nobody shares the node any more.
-    pub fn into_cell(self) -> NodeCell<K, L> {
+    pub fn into_cell(self) -> C {
         self.cell.into_inner()
     }
 
     /// Locks the node.
-    pub(crate) fn lock<R: Wait>(&self, rt: &R) -> MutexGuard<'_, NodeCell<K, L>> {
+    pub fn lock<R: Wait>(&self, rt: &R) -> MutexGuard<'_, C> {
         for _ in 0..MOST_YIELDS {
             if let Some(cell) = self.cell.try_lock() {
                 return cell;
@@ -54,7 +50,7 @@ impl<K: Deployment, L: Log> SharedNode<K, L> {
     }
 
     /// Tells those who wait what the last step left for them in the cell.
-    pub(crate) fn ring(&self, cell: &NodeCell<K, L>) {
+    pub fn ring(&self, cell: &C) {
         if cell.has_undelivered() {
             self.replies.notify_all();
         }
@@ -67,22 +63,9 @@ impl<K: Deployment, L: Log> SharedNode<K, L> {
     pub(crate) fn wait_for_replies<'n, R: Wait>(
         &self,
         rt: &R,
-        cell: MutexGuard<'n, NodeCell<K, L>>,
-    ) -> MutexGuard<'n, NodeCell<K, L>> {
+        cell: MutexGuard<'n, C>,
+    ) -> MutexGuard<'n, C> {
         self.replies.wait(rt, cell)
-    }
-
-    /// Has the node take a message. One for which there is no memory is lost, as it may be on any network.
-    pub fn deliver<R: Wait>(&self, rt: &R, posted: Posted<K>) {
-        let mut cell = self.lock(rt);
-        let _lost = cell.deliver(posted);
-        self.ring(&cell);
-    }
-
-    /// Takes the messages that the node's steps left to be sent, those of each step together.
-    pub fn take_sent<R: Wait>(&self, rt: &R, alloc: Global) -> Vec<Sending<K>> {
-        let mut cell = self.lock(rt);
-        cell.take_sent(alloc)
     }
 
     /// Tells the thread that carries the node's messages to look for them.

@@ -1,0 +1,56 @@
+-- What a station did, as its clauses say it.
+use Rattle.std.proofs.Common.{◌≡◌, ◌<◌, ℕ, List, [], ◌∷◌, length, set, refl, sym, ap, subst, ◌∙◌}
+use Rattle.std.specs.Prelude.{IfErr, IfOk, OnErr, OnOk, Result, Ok, Err}
+use Rattle.std.proofs.Math.Seq.{map-set_same}
+use Rattle.std.proofs.lemmas.List.{get_or_default, set-get_or}
+use Rattle.atomic_table.specs.Seated.{TableId}
+use Rattle.bus.specs.declared.message.Message.{Message}
+use Rattle.links.specs.Ports.{HasMore, PortView, with_received}
+use Rattle.links.specs.Stations.{IsStation, OnlySends, Receives, StationView, port_at}
+use Rattle.links.proofs.StationLemmas.{with_one_sorted}
+use Rattle.node_cell.specs.Journal.{CellView, EnteredView, Enters, IsNotTaken}
+use Rattle.node_cell.specs.declared.delivery.DeliveryFault.{DeliveryFault}
+use Rattle.node_step.specs.declared.event.Event.TheVariants.{Deliver}
+
+-- one port is another now, which received the same
+pub only_sends_at : (old : StationView) (to : ℕ) (none port : PortView) (unsorted : List Message) → port.received ≡ (port_at old.ports to none).received
+    → OnlySends old (record old { ports = set old.ports to port; unsorted = unsorted })
+only_sends_at old to none port unsorted same = record { cell = refl; received = map-set_same (λ (port : PortView). port.received) old.ports to port none same }
+
+pub then_only_sends : (first second third : StationView) → OnlySends first second → OnlySends second third → OnlySends first third
+then_only_sends first second third once again = record {
+  cell = again.cell ∙ ap (λ (cell : CellView). record cell { outbox = third.cell.outbox }) once.cell;
+  received = again.received ∙ once.received;
+}
+
+-- ---- the first message of a step comes to its port, or there is no memory for it
+
+more_received : (old : PortView) (messages : List Message) (new : PortView) (left : List Message) → HasMore old messages new left → new.received ≡ old.received
+more_received old [] new left more = ap (λ (port : PortView). port.received) more.0
+more_received old (message ∷ messages) new left more = ap (λ (port : PortView). port.received) more.0
+
+module _ {A B : Type 0} (station : StationView) (to : ℕ) (none port : PortView) (left : List Message) where
+  pub received_the_same : (result : Result A B) → OnOk result (HasMore (port_at station.ports to none) station.unsorted port left)
+      → OnErr result ((port ≡ port_at station.ports to none) × (left ≡ station.unsorted)) → port.received ≡ (port_at station.ports to none).received
+  received_the_same (Ok done) more same = more_received (port_at station.ports to none) station.unsorted port left more
+  received_the_same (Err refused) more same = ap (λ (port : PortView). port.received) same.0
+
+  pub sorted_or_not : (links : ℕ → ℕ → TableId) (first : Message) (rest : List Message) (result : Result A B) → IsStation links station → to < length station.ports
+      → station.unsorted ≡ first ∷ rest → first.to ≡ to → OnOk result (HasMore (port_at station.ports to none) station.unsorted port left)
+      → OnErr result ((port ≡ port_at station.ports to none) × (left ≡ station.unsorted)) → IsStation links (record station { ports = set station.ports to port; unsorted = left })
+  sorted_or_not links first rest (Ok done) is within unsorted for_this more same = with_one_sorted links station to none port first rest left is within unsorted for_this more
+  sorted_or_not links first rest (Err refused) is within unsorted for_this more same =
+      rw (same.1) (subst (λ (ports : List PortView). IsStation links (record station { ports = ports })) (sym (ap (λ (port : PortView). set station.ports to port) same.0 ∙ set-get_or station.ports to none)) is)
+
+-- ---- a message was received
+
+pub receives_so : (old : StationView) (from : ℕ) (there port : PortView) (message : Message) (delivered : Result EnteredView DeliveryFault) (cell : CellView) → from < length old.ports
+    → there ≡ port_at old.ports from there → port ≡ with_received there message → IfOk delivered (λ entered. Enters old.cell (Deliver message) entered cell)
+    → IfErr delivered (λ fault. IsNotTaken old.cell (Deliver message) fault cell)
+    → Receives old from message delivered (record old { cell = cell; ports = set old.ports from port })
+receives_so old from there port message delivered cell within is received ok err = record {
+  ports = λ none. ap (λ (port : PortView). set old.ports from port) (received ∙ ap (λ (port : PortView). with_received port message) (is ∙ get_or_default old.ports from there none within));
+  unsorted = refl;
+  ok = ok;
+  err = err;
+}

@@ -1,0 +1,6 @@
+use Rattle.links.specs.Stations.{OnlySends}
+use Rattle.links.proofs.station.Station.sort.Given as goal
+
+-- messages have come to their ports
+abbrev pub invariant-loop : goal.invariant-loop
+invariant-loop g l = OnlySends l.fn.self l.self

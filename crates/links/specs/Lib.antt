@@ -1,0 +1,7 @@
+pub mod Rule
+pub mod Halves
+pub mod Ends
+pub mod Joining
+pub mod Ports
+pub mod Stations
+pub mod Comparing

@@ -1,0 +1,34 @@
+-- A node's end of its link with another node, with the messages that found no room there yet (ours).
+use Rattle.std.specs.Prelude.{◌≡◌, ◌++◌, ◌∷◌, ◌⊎◌, List, []}
+use Rattle.atomic_table.specs.Seated.{TableId}
+use Rattle.bus.specs.declared.message.Message.{Message}
+use Rattle.links.specs.Halves.{WasFull}
+
+pub record PortView : Type 0 where
+  pub to : TableId
+  pub from : TableId
+  pub sent : List Message
+  pub received : List Message
+  pub waiting : List Message
+
+-- one more message was received
+abbrev pub with_received : PortView → Message → PortView
+with_received port message = record port { received = port.received ++ message ∷ [] }
+
+-- the first of the messages waits behind the others, if there is one
+abbrev pub HasMore : PortView → List Message → PortView → List Message → Type 0
+HasMore old [] new left = (new ≡ old) × (left ≡ [])
+HasMore old (message ∷ messages) new left = (new ≡ record old { waiting = old.waiting ++ message ∷ [] }) × (left ≡ messages)
+
+-- the first message that waited was sent
+pub record HasSentOne (old new : PortView) : Type 0 where
+  pub message : Message
+  pub rest : List Message
+  pub first : old.waiting ≡ message ∷ rest
+  pub sent : new ≡ record old { sent = old.sent ++ message ∷ []; waiting = rest }
+
+-- messages that waited were sent, in order, and others wait only where the link was full
+pub record HasSent (old new : PortView) : Type 0 where
+  pub in_order : new.sent ++ new.waiting ≡ old.sent ++ old.waiting
+  pub left : (new.waiting ≡ []) ⊎ WasFull new.sent
+  pub rest : new ≡ record old { sent = new.sent; waiting = new.waiting }

@@ -1,0 +1,86 @@
+-- A node with its ends of the links to all nodes (ours).
+use Rattle.std.specs.Prelude.{◌≡◌, ◌==◌, ◌++◌, ◌∷◌, ◌<◌, ℕ, List, [], Contains, IfErr, IfOk, Result, length, map, slice_index_or, slice_set}
+use Rattle.std.specs.List.{filter, flat_map}
+use Rattle.atomic_table.specs.Seated.{TableId}
+use Rattle.bus.specs.declared.message.Message.{Message}
+use Rattle.links.specs.Ends.{EndView}
+use Rattle.links.specs.Ports.{PortView, with_received}
+use Rattle.node_cell.specs.Journal.{CellView, EnteredView, Enters, IsNotTaken}
+use Rattle.node_cell.specs.declared.delivery.DeliveryFault.{DeliveryFault}
+use Rattle.node_cell.specs.declared.entry.Entry.{Entry}
+use Rattle.node_cell.specs.declared.entry.Entry.TheVariants.{Step, Skipped}
+use Rattle.node_step.specs.declared.event.Event.{Event}
+use Rattle.node_step.specs.declared.event.Event.TheVariants.{Open, Close, Request, Deliver, Tick}
+
+-- ---- what a journal says of messages
+
+abbrev pub for_node : ℕ → List Message → List Message
+for_node number messages = filter (λ (message : Message). message.to == number) messages
+
+abbrev pub sent_by : Entry → List Message
+sent_by (Step event outputs) = outputs.sent
+sent_by (Skipped ticket) = []
+
+abbrev pub taken_in : Event → List Message
+taken_in (Deliver message) = message ∷ []
+taken_in Open = []
+taken_in (Close conn) = []
+taken_in (Request conn words) = []
+taken_in Tick = []
+
+abbrev pub taken_by : Entry → List Message
+taken_by (Step event outputs) = taken_in event
+taken_by (Skipped ticket) = []
+
+-- all messages that the node sent, and all that it took
+abbrev pub all_sent : List Entry → List Message
+all_sent journal = flat_map sent_by journal
+
+abbrev pub all_taken : List Entry → List Message
+all_taken journal = flat_map taken_by journal
+
+-- ---- stations
+
+-- a node's cell, its ports by the number of the node at the other end, and the messages of a step that are not at their ports yet
+pub record StationView : Type 0 where
+  pub cell : CellView
+  pub ports : List PortView
+  pub unsorted : List Message
+
+abbrev pub port_at : List PortView → ℕ → PortView → PortView
+port_at ports other none = slice_index_or ports other none
+
+-- a port is at the links of its two nodes, and what was sent there, what waits and what is still to come there are the messages of the
+-- journal for that node, in order
+pub record IsPort (links : ℕ → ℕ → TableId) (node other : ℕ) (coming : List Message) (journal : List Entry) (port : PortView) : Type 0 where
+  pub to : port.to ≡ links node other
+  pub from : port.from ≡ links other node
+  pub in_order : port.sent ++ (port.waiting ++ for_node other coming) ≡ for_node other (all_sent journal)
+
+-- a port for each node, and each message that the node took was received at one of them
+pub record IsStation (links : ℕ → ℕ → TableId) (station : StationView) : Type 0 where
+  pub count : length station.ports ≡ length station.cell.config.nodes
+  pub are_ports : (other : ℕ) (none : PortView) → other < length station.ports
+      → IsPort links station.cell.node other (station.unsorted ++ station.cell.outbox) station.cell.journal (port_at station.ports other none)
+  pub received : (message : Message) → Contains (all_taken station.cell.journal) message → Contains (flat_map (λ (port : PortView). port.received) station.ports) message
+
+-- the end of a port, and the port at an unused end
+abbrev pub end_of : PortView → EndView Message
+end_of port = record { to = port.to; from = port.from; sent = port.sent; received = port.received }
+
+abbrev pub port_of : EndView Message → PortView
+port_of end = record { to = end.to; from = end.from; sent = end.sent; received = end.received; waiting = [] }
+
+-- ---- what it does
+
+-- messages were sent, or put where they wait for that: the rest of the cell is as before, and nothing was received
+pub record OnlySends (old new : StationView) : Type 0 where
+  pub cell : new.cell ≡ record old.cell { outbox = new.cell.outbox }
+  pub received : map (λ (port : PortView). port.received) new.ports ≡ map (λ (port : PortView). port.received) old.ports
+
+-- a message was received from the node, and delivered to the cell
+pub record Receives (old : StationView) (from : ℕ) (message : Message) (delivered : Result EnteredView DeliveryFault) (new : StationView) : Type 0 where
+  pub ports : (none : PortView) → new.ports ≡ slice_set old.ports from (with_received (port_at old.ports from none) message)
+  pub unsorted : new.unsorted ≡ old.unsorted
+  pub ok : IfOk delivered (λ entered. Enters old.cell (Deliver message) entered new.cell)
+  pub err : IfErr delivered (λ fault. IsNotTaken old.cell (Deliver message) fault new.cell)

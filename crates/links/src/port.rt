@@ -1,0 +1,107 @@
+//! A node's end of its link with another node, with the messages that found no room there yet.
+ghost use Rattle.std.specs.Prelude.{◌≡◌, ◌++◌, ◌∷◌, ◌⊎◌, [], true, false, IfNone, IfSome, OnErr, OnOk};
+ghost use Rattle.links.specs.Halves.{WasFull};
+ghost use Rattle.links.specs.Ports.{HasMore, HasSent, HasSentOne, with_received};
+
+use crate::end::LinkEnd;
+use node_cell::{Deployment, Posted, Sending};
+use std::alloc::{AllocError, Global};
+use std::collections::VecDeque;
+use std::marker::Model;
+use std::sync::Wait;
+
+/// A node's end of its link with another node, and its messages for that node that found no room on the link yet.
+#[derive(Drop)]
+pub(crate) struct Port<K: Deployment, R: Wait> {
+    end: LinkEnd<Posted<K>, R>,
+    waiting: VecDeque<Posted<K>>,
+}
+
+impl<K: Deployment, R: Wait> Model for Port<K, R> {
+    ghost use Rattle.links.specs.Ports.{PortView};
+
+    ghost Value = { PortView };
+
+    ghost view = { λ port. record { to = port.end.to; from = port.end.from; sent = port.end.sent; received = port.end.received; waiting = port.waiting.items } };
+}
+
+impl<K: Deployment, R: Wait + Drop> Port<K, R> {
+    /// The port at this end. Nothing waits there.
+    pub(crate) fn new(alloc: Global, end: LinkEnd<Posted<K>, R>) -> Port<K, R>
+        ensures { result ≡ record { to = end.to; from = end.from; sent = end.sent; received = end.received; waiting = [] } }
+    {
+        Port {
+            end,
+            waiting: VecDeque::new(alloc),
+        }
+    }
+
+    /// Takes the first of these messages, and puts it behind those that wait.
+    pub(crate) fn take_from(&mut self, sending: &mut Sending<K>) -> Result<(), AllocError>
+        ensures ok { OnOk result (HasMore self.old sending.old self.new sending.new) }
+        ensures err { OnErr result ((self.new ≡ self.old) × (sending.new ≡ sending.old)) }
+    {
+        self.waiting.reserve(1)?;
+        if let Some(posted) = sending.next() {
+            let Ok(()) = self.waiting.push_back(posted) else {
+                unreachable!();
+            };
+        }
+        Ok(())
+    }
+
+    /// Sends as many of the messages that wait as the link has room for, and says whether there was one.
+    pub(crate) fn send_all(&mut self) -> bool
+        ensures { HasSent self.old self.new }
+    {
+        let mut has_sent = false;
+        for _ in 0..self.waiting.len() {
+            if !self.send_first() {
+                return has_sent;
+            }
+            has_sent = true;
+        }
+        has_sent
+    }
+
+    // Sends the first message that waits, if there is one and the link has room.
+    fn send_first(&mut self) -> bool
+        ensures sent { result ≡ true → HasSentOne self.old self.new }
+        ensures unsent { result ≡ false → (self.new ≡ self.old) × ((self.old.waiting ≡ []) ⊎ WasFull self.old.sent) }
+    {
+        let Some(posted) = self.waiting.pop_front() else {
+            return false;
+        };
+        match self.end.send(posted) {
+            Ok(()) => true,
+            Err(posted) => {
+                let Ok(()) = self.waiting.push_front(posted) else {
+                    unreachable!();
+                };
+                false
+            }
+        }
+    }
+
+    /// The next message from the other node, if one has come.
+    pub(crate) fn try_receive(&mut self) -> Option<Posted<K>>
+        ensures received { IfSome result (λ posted. self.new ≡ with_received self.old posted) }
+        ensures none { IfNone result (self.new ≡ self.old) }
+    {
+        self.end.try_receive()
+    }
+
+    /// Whether the link from the other node is half full.
+    pub(crate) fn is_half_full(&mut self) -> bool
+        ensures { self.new ≡ self.old }
+    {
+        self.end.is_half_full()
+    }
+
+    /// The end.
+    pub(crate) fn into_end(self) -> LinkEnd<Posted<K>, R>
+        ensures { result ≡ record { to = self.to; from = self.from; sent = self.sent; received = self.received } }
+    {
+        self.end
+    }
+}

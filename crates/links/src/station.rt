@@ -1,0 +1,251 @@
+//! A node with its ends of the links to all nodes.
+ghost use Rattle.std.specs.Prelude.{◌≡◌, ◌<◌, ◌⊎◌, [], drop, false, length, map, IfNone, IfOk, IfSome, OnOk};
+ghost use Rattle.bus.specs.declared.message.Message.{Message};
+ghost use Rattle.links.specs.Ends.{AreEndsOf};
+ghost use Rattle.links.specs.Halves.{WasFull};
+ghost use Rattle.links.specs.Ports.{PortView};
+ghost use Rattle.links.specs.Stations.{IsStation, OnlySends, Receives, end_of, port_at, port_of};
+
+use crate::end::LinkEnd;
+use crate::port::Port;
+use crate::web::Web;
+use cluster_config::Config;
+use node_cell::{
+    Asks, DeliveryFault, Deployment, Entered, HoldsCell, Log, NodeCell, Posted, Sending,
+};
+use node_core::{Conn, Event, StepFault};
+use resp_values::Reply;
+use slot_table::NodeNo;
+use std::alloc::{AllocError, Global};
+use std::marker::{Model, PhantomData};
+use std::sync::Wait;
+
+/// A node of the cluster `K`, whose journal is an `L`, with its ends of the links `W` to all nodes.
+///
+/// What its steps send goes over these links alone, in order, and it takes no message but those that it receives there. Its type keeps
+/// that, so that it is known of each station behind a lock. One thread receives and sends; others may ask the node meanwhile.
+#[derive(Drop)]
+pub struct Station<K: Deployment, W: Web, L: Log, R: Wait> {
+    cell: NodeCell<K, L>,
+    // By the number of the node at the other end.
+    ports: Vec<Port<K, R>>,
+    // The messages of a step that are not at their ports yet, since memory was refused.
+    unsorted: Sending<K>,
+    web: PhantomData<W>,
+}
+
+impl<K: Deployment, W: Web, L: Log, R: Wait> Model for Station<K, W, L, R> {
+    ghost use Rattle.node_step.specs.CodedState.{coded_state};
+    ghost use Rattle.std.specs.Coded.{codes};
+    ghost use Rattle.links.specs.Stations.{IsStation, StationView};
+
+    ghost Value = { StationView };
+
+    ghost coded = { Prim.hlevel (codes, coded_state) };
+
+    ghost view = { λ station. record { cell = station.cell; ports = station.ports.items; unsorted = station.unsorted } };
+
+    ghost invariant = { λ station. IsStation W.links (record { cell = station.cell; ports = station.ports.items; unsorted = station.unsorted }) };
+}
+
+impl<K: Deployment, W: Web, L: Log + Drop, R: Wait + Drop> Station<K, W, L, R> {
+    /// The node of this cell, which has done nothing yet, with an unused end of its link with each node.
+    pub fn new(
+        alloc: Global,
+        cell: NodeCell<K, L>,
+        ends: Vec<LinkEnd<Posted<K>, R>>,
+    ) -> Result<Station<K, W, L, R>, AllocError>
+        requires journal { cell.journal ≡ [] }
+        requires outbox { cell.outbox ≡ [] }
+        requires ends { AreEndsOf W.links cell.node (length cell.config.nodes) ends.items }
+        ensures { IfOk result (λ station. station.cell ≡ cell) }
+    {
+        let ports = ports_at(alloc, ends)?;
+        Ok(Station {
+            cell,
+            ports,
+            unsorted: Sending::none(alloc),
+            web: PhantomData,
+        })
+    }
+
+    /// The configuration of its cluster.
+    pub fn config(&self) -> &Config
+        ensures same { result.now ≡ self.now.cell.config }
+        ensures cluster { self.now.cell.config ≡ K.config }
+    {
+        self.cell.config()
+    }
+
+    /// The number of the node in the configuration of its cluster.
+    pub fn number(&self) -> NodeNo
+        ensures { result ≡ self.now.cell.node }
+    {
+        self.cell.number()
+    }
+
+    /// Receives the next message from the node with that number, if one has come, and delivers it to the cell.
+    pub fn receive(&mut self, from: usize) -> Option<Result<Entered<K>, DeliveryFault>>
+        ensures some { IfSome result (λ delivered. (message : Message) × Receives self.old from message delivered self.new) }
+        ensures none { IfNone result (self.new ≡ self.old) }
+    {
+        let posted = self.ports.get_mut(from)?.try_receive()?;
+        Some(self.cell.deliver(posted))
+    }
+
+    /// Whether the link from the node with that number is half full. A node that has messages which found no room there waits until it
+    /// is told that this is so.
+    pub fn is_half_full(&mut self, from: usize) -> bool
+        ensures { self.new ≡ self.old }
+    {
+        from < self.ports.len() && self.ports[from].is_half_full()
+    }
+
+    /// Sends as many of the messages for the node with that number as the link to it has room for, and says whether there was one. The
+    /// others wait. It fails where there is no memory to put them where they wait.
+    pub fn send_out(&mut self, rt: &R, to: usize) -> Result<bool, AllocError>
+        ensures sends { OnlySends self.old self.new }
+        ensures sorted { IfOk result (λ _. (self.new.unsorted ≡ []) × (self.new.cell.outbox ≡ [])) }
+        ensures left { IfOk result (λ _. (none : PortView) → to < length self.new.ports → ((port_at self.new.ports to none).waiting ≡ []) ⊎ WasFull (port_at self.new.ports to none).sent) }
+    {
+        let sorted = self.sort(rt);
+        let has_sent = self.send_to(to);
+        sorted?;
+        Ok(has_sent)
+    }
+
+    // Sends the messages that wait for the node, as far as there is room.
+    fn send_to(&mut self, to: usize) -> bool
+        ensures sends { OnlySends self.old self.new }
+        ensures cell { (self.new.cell ≡ self.old.cell) × (self.new.unsorted ≡ self.old.unsorted) }
+        ensures left { (none : PortView) → to < length self.new.ports → ((port_at self.new.ports to none).waiting ≡ []) ⊎ WasFull (port_at self.new.ports to none).sent }
+    {
+        to < self.ports.len() && self.ports[to].send_all()
+    }
+
+    // Puts the messages that were sent where they wait for their links.
+    fn sort(&mut self, rt: &R) -> Result<(), AllocError>
+        ensures sends { OnlySends self.old self.new }
+        ensures sorted { OnOk result ((self.new.unsorted ≡ []) × (self.new.cell.outbox ≡ [])) }
+    {
+        for _ in rt.forever() {
+            self.sort_step()?;
+            if !self.take_step() {
+                return Ok(());
+            }
+        }
+        unreachable!()
+    }
+
+    // Takes the messages of the next step out of the cell, if there are any. None may be left of the step before.
+    fn take_step(&mut self) -> bool
+        requires { self.old.unsorted ≡ [] }
+        ensures sends { OnlySends self.old self.new }
+        ensures none { result ≡ false → (self.new.unsorted ≡ []) × (self.new.cell.outbox ≡ []) }
+    {
+        match self.cell.take_sent() {
+            Some(sending) => {
+                self.unsorted = sending;
+                true
+            }
+            None => false,
+        }
+    }
+
+    // Puts all messages of a step to their ports.
+    fn sort_step(&mut self) -> Result<(), AllocError>
+        ensures sends { OnlySends self.old self.new }
+        ensures sorted { OnOk result (self.new.unsorted ≡ []) }
+    {
+        for _ in 0..self.unsorted.len() {
+            self.sort_first()?;
+        }
+        Ok(())
+    }
+
+    // Puts the first of them to its port. A message for no node of the cluster is let go.
+    fn sort_first(&mut self) -> Result<(), AllocError>
+        ensures sends { OnlySends self.old self.new }
+        ensures sorted { OnOk result (self.new.unsorted ≡ drop 1 self.old.unsorted) }
+    {
+        let Some(to) = self.unsorted.first_to() else {
+            return Ok(());
+        };
+        let to = to.index();
+        if to < self.ports.len() {
+            return self.ports[to].take_from(&mut self.unsorted);
+        }
+        self.unsorted.let_go();
+        Ok(())
+    }
+
+    /// The cell, and the ends of its links by the number of the other node.
+    pub fn finish(
+        self,
+        alloc: Global,
+    ) -> Result<(NodeCell<K, L>, Vec<LinkEnd<Posted<K>, R>>), AllocError>
+        ensures cell { IfOk result (λ parts. parts.0 ≡ self.cell) }
+        ensures cluster { self.cell.config ≡ K.config }
+        ensures ends { IfOk result (λ parts. parts.1.items ≡ map end_of self.ports) }
+        ensures station { IsStation W.links self }
+    {
+        let Station {
+            cell,
+            ports,
+            unsorted: _,
+            web: _,
+        } = self;
+        let ends = ends_of(alloc, ports)?;
+        Ok((cell, ends))
+    }
+}
+
+// Ports at these ends.
+fn ports_at<K: Deployment, R: Wait + Drop>(
+    alloc: Global,
+    ends: Vec<LinkEnd<Posted<K>, R>>,
+) -> Result<Vec<Port<K, R>>, AllocError>
+    ensures { IfOk result (λ ports. ports.items ≡ map port_of ends.items) }
+{
+    let mut ports = Vec::with_capacity(alloc, ends.len())?;
+    for end in ends {
+        ports.push(Port::new(alloc, end)).map_err(AllocError::from)?;
+    }
+    Ok(ports)
+}
+
+// The ends of these ports.
+fn ends_of<K: Deployment, R: Wait + Drop>(
+    alloc: Global,
+    ports: Vec<Port<K, R>>,
+) -> Result<Vec<LinkEnd<Posted<K>, R>>, AllocError>
+    ensures { IfOk result (λ ends. ends.items ≡ map end_of ports.items) }
+{
+    let mut ends = Vec::with_capacity(alloc, ports.len())?;
+    for port in ports {
+        ends.push(port.into_end()).map_err(AllocError::from)?;
+    }
+    Ok(ends)
+}
+
+impl<K: Deployment, W: Web, L: Log + Drop, R: Wait + Drop> HoldsCell for Station<K, W, L, R> {
+    type Cluster = K;
+
+    ghost cell = { λ station. station.cell };
+
+    fn ask(&mut self, asks: &mut Asks<K>, event: Event) -> Result<Entered<K>, StepFault> {
+        asks.ask_node(&mut self.cell, event)
+    }
+
+    fn take_reply(&mut self, conn: Conn) -> Option<Reply> {
+        self.cell.take_reply(conn)
+    }
+
+    fn has_undelivered(&self) -> bool {
+        self.cell.has_undelivered()
+    }
+
+    fn has_sent(&self) -> bool {
+        self.cell.has_sent()
+    }
+}

@@ -1,0 +1,75 @@
+//! What conversations ask, behind the lock of their node.
+ghost use Rattle.std.specs.Prelude.{◌≡◌, ◌<◌, ◌==◌, ◌++◌, ◌∷◌, [], length, not, IfOk, IfErr, IfSome};
+ghost use Rattle.node_cell.specs.Journal.{Enters, IsGiven, IsHistory, IsRefused};
+ghost use Rattle.node_gate.specs.Asks.{outcome_of, IsOwn};
+ghost use Rattle.node_gate.specs.Asks.Asked.{asking};
+ghost use Rattle.node_step.specs.State.{first_state};
+
+use crate::asks::Asks;
+use crate::cell::NodeCell;
+use crate::deployment::Deployment;
+use crate::entered::Entered;
+use crate::log::Log;
+use node_core::{Conn, Event, StepFault};
+use resp_values::Reply;
+
+/// A node's cell, or what holds one. Clauses see the cell.
+pub trait HoldsCell {
+    ghost use Rattle.node_cell.specs.Journal.{CellView};
+
+    /// The cluster of the node.
+    type Cluster: Deployment;
+
+    ghost cell: { Self → CellView };
+
+    /// Has the node make its step for an event that is no message, as [`Asks::ask_node`] has it made.
+    fn ask(
+        &mut self,
+        asks: &mut Asks<Self::Cluster>,
+        event: Event,
+    ) -> Result<Entered<Self::Cluster>, StepFault>
+        requires own { IsOwn event }
+        ensures asked { asks.new ≡ asks.old ++ asking event (outcome_of (λ entered. entered.outputs) result) ∷ [] }
+        ensures cluster { (cell self.old).config ≡ Self.Cluster.config }
+        ensures number { (cell self.old).node < length (cell self.old).config.nodes }
+        ensures history { IsHistory (first_state (cell self.old).config (cell self.old).node) (cell self.old).journal (cell self.old).state }
+        ensures ok { IfOk result (λ entered. Enters (cell self.old) event entered (cell self.new)) }
+        ensures err { IfErr result (λ fault. IsRefused (cell self.old) event fault (cell self.new)) };
+
+    /// Takes the first reply that waits for the connection.
+    fn take_reply(&mut self, conn: Conn) -> Option<Reply>
+        ensures cluster { (cell self.old).config ≡ Self.Cluster.config }
+        ensures number { (cell self.old).node < length (cell self.old).config.nodes }
+        ensures history { IsHistory (first_state (cell self.old).config (cell self.old).node) (cell self.old).journal (cell self.old).state }
+        ensures given { IfSome result (λ reply. IsGiven (cell self.old).journal (record { conn = conn; reply = reply })) };
+
+    /// Whether there are replies that nobody has taken yet.
+    fn has_undelivered(&self) -> bool
+        ensures { result ≡ not (length (cell self.now).undelivered == 0) };
+
+    /// Whether messages were sent that nobody has taken yet.
+    fn has_sent(&self) -> bool
+        ensures { result ≡ not (length (cell self.now).outbox == 0) };
+}
+
+impl<K: Deployment, L: Log> HoldsCell for NodeCell<K, L> {
+    type Cluster = K;
+
+    ghost cell = { λ cell. cell };
+
+    fn ask(&mut self, asks: &mut Asks<K>, event: Event) -> Result<Entered<K>, StepFault> {
+        asks.ask_node(self, event)
+    }
+
+    fn take_reply(&mut self, conn: Conn) -> Option<Reply> {
+        NodeCell::take_reply(self, conn)
+    }
+
+    fn has_undelivered(&self) -> bool {
+        NodeCell::has_undelivered(self)
+    }
+
+    fn has_sent(&self) -> bool {
+        NodeCell::has_sent(self)
+    }
+}
