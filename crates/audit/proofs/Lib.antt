@@ -7,3 +7,7 @@ pub mod Counts
 pub mod Searching
 pub mod Sounds
 pub mod TakenApart
+pub mod Stamps
+pub mod Delivered
+pub mod Moving
+pub mod Ordering

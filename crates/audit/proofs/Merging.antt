@@ -33,7 +33,7 @@ each_entry P (first ∷ xs) x all among =
       | inr more ↦ each_entry P xs x (All-tail P first xs all) more
     ]
 
-among_flat : {A B : Type 0} (f : A → List B) (xs : List A) (x : A) (y : B) → Contains xs x → Contains (f x) y → Contains (flat_map f xs) y
+pub among_flat : {A B : Type 0} (f : A → List B) (xs : List A) (x : A) (y : B) → Contains xs x → Contains (f x) y → Contains (flat_map f xs) y
 among_flat f [] x y among here = absurd (contains_nothing x among)
 among_flat f (first ∷ xs) x y among here =
     elim (first_or_more first x xs among) [

@@ -112,7 +112,7 @@ length_pushed : {A : Type 0} (xs : List A) (x : A) → length (xs ++ x ∷ []) �
 length_pushed [] x = refl
 length_pushed (y ∷ xs) x = let rest = length_pushed xs x in omega (arith, rest)
 
-none_below_zero : (n : ℕ) → once_below n 0 ≡ 0
+pub none_below_zero : (n : ℕ) → once_below n 0 ≡ 0
 none_below_zero n = by_test (nat_lt n 0) refl
   where
     by_test : (test : Bool) → nat_lt n 0 ≡ test → one_if test ≡ 0

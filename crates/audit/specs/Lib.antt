@@ -1,3 +1,4 @@
 pub mod Merge
 pub mod Law
 pub mod Gathered
+pub mod Stations

@@ -8,8 +8,10 @@ mod order;
 mod part;
 mod same;
 mod sound;
+mod stations;
 mod whole_run;
 
 pub use gathering::{AuditFault, gather};
 pub use law::journals_are_a_run;
+pub use stations::gather_stations;
 pub use whole_run::WorldRun;

@@ -1,6 +1,7 @@
 //! What the nodes of a cluster did, as one run.
-ghost use Rattle.std.specs.Prelude.{◌≡◌, [], length};
-ghost use Rattle.audit.specs.Merge.{AreJournals, merged};
+ghost use Rattle.std.specs.Prelude.{◌≡◌, ◌≤◌, [], IfNone, IfSome, length, map};
+ghost use Rattle.audit.specs.Merge.{AreJournals, merged, placed};
+ghost use Rattle.merged_run.specs.Merged.{entries_of};
 ghost use Rattle.merged_run.specs.Settled.{AreSettled};
 ghost use Rattle.world_run.specs.Executed.{AreOfOneKeyspace, KeepsAsking, executed};
 ghost use Rattle.world_run.specs.Run.{IsRun};
@@ -8,7 +9,9 @@ ghost use Rattle.world_run.specs.Run.{IsRun};
 use crate::journal::NodeJournal;
 use cluster_config::Config;
 use merged_run::settled_runs_are_of_one_keyspace;
+use node_cell::Entry;
 use single_keyspace::replies_are_those_of_one_keyspace;
+use slot_table::NodeNo;
 use std::marker::Model;
 
 /// What all nodes of a cluster did, from its start until they were finished: a run of the cluster, in which each ticket that was drawn
@@ -44,6 +47,14 @@ impl WorldRun {
             journals,
             tickets,
         }
+    }
+
+    /// What the node with that number did, by rising ticket: its part of the run.
+    pub fn journal(&self, node: NodeNo) -> Option<&[Entry]>
+        ensures some { IfSome result (λ entries. entries_of node self.now.entries ≡ map (placed node) entries.now) }
+        ensures none { IfNone result (length self.now.config.nodes ≤ node) }
+    {
+        Some(self.journals.get(node.index())?.entries())
     }
 
     /// How many entries it has: as many as tickets were drawn.

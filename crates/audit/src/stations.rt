@@ -1,0 +1,109 @@
+//! The journals of all stations, gathered.
+ghost use Rattle.std.specs.Prelude.{◌≡◌, ◌<◌, All, IfErr, IfOk, List, length, map, true, false};
+ghost use Rattle.audit.specs.Gathered.{IsAllOf, IsGathered, parts_of};
+ghost use Rattle.audit.specs.Merge.{AllAreSound, PartView};
+ghost use Rattle.audit.specs.Stations.{AreInOrder, cells_of, ends_of};
+ghost use Rattle.audit.specs.declared.gathering.AuditFault.TheVariants.{Stranger};
+ghost use Rattle.links.specs.Stations.{IsStation};
+ghost use Rattle.tickets.specs.Tickets.{id_of};
+
+use crate::gathering::AuditFault;
+use crate::order::{Taken, take_apart};
+use crate::part::Part;
+use crate::whole_run::WorldRun;
+use cluster_config::Config;
+use links::{NodeEnds, Station, Web, compare_all};
+use node_cell::{Deployment, Journal, Posted};
+use std::alloc::{AllocError, Global};
+use std::sync::Wait;
+use tickets::{Table, close};
+
+/// The run that the nodes of the cluster `K` made, by their stations at the links `W`, in the order of the nodes. Nobody serves the nodes
+/// any more, and there were as many seats as there are nodes.
+///
+/// What a node took it received over a link, so its sender had sent it: nothing is looked for in the journals, and they are never told to
+/// hold a message that nobody sent. `Stranger` comes only where the stations aren't those of all nodes, in order.
+pub fn gather_stations<K: Deployment, W: Web, R: Wait + Drop>(
+    alloc: Global,
+    table: &Table,
+    stations: Vec<Station<K, W, Journal, R>>,
+) -> Result<WorldRun, AuditFault>
+    requires table { id_of table.now ≡ K.table }
+    requires seats { K.seats ≡ length K.config.nodes }
+    ensures run { IfOk result (λ run. IsGathered K.config (parts_of (cells_of stations.items)) run) }
+    ensures stranger { IfErr result (λ fault. fault ≡ Stranger → AreInOrder (length K.config.nodes) stations.items → ⊥) }
+{
+    if stations.is_empty() {
+        return Err(AuditFault::Stranger);
+    }
+    let config = stations[0].config().clone()?;
+    let count = config.nodes().len();
+    if !are_in_order(stations.as_slice(), count) {
+        return Err(AuditFault::Stranger);
+    }
+    let (parts, ends) = finish_all(alloc, stations)?;
+    compare_all(ends);
+    match take_apart(alloc, count, parts)? {
+        Some(taken) => Ok(merge::<K>(table, config, taken)),
+        None => Err(AuditFault::Stranger),
+    }
+}
+
+// Whether these are the stations of so many nodes, in order.
+fn are_in_order<K: Deployment, W: Web, R: Wait + Drop>(
+    stations: &[Station<K, W, Journal, R>],
+    count: usize,
+) -> bool
+    requires { 0 < count }
+    ensures yes { result ≡ true → AreInOrder count stations.now }
+    ensures no { result ≡ false → AreInOrder count stations.now → ⊥ }
+{
+    if stations.len() != count {
+        return false;
+    }
+    for number in 0..count {
+        if stations[number].number().index() != number {
+            return false;
+        }
+    }
+    true
+}
+
+// What is left of each station: the part of its node, and its ends of the links.
+fn finish_all<K: Deployment, W: Web, R: Wait + Drop>(
+    alloc: Global,
+    stations: Vec<Station<K, W, Journal, R>>,
+) -> Result<(Vec<Part<K>>, Vec<NodeEnds<Posted<K>, R>>), AllocError>
+    ensures parts { IfOk result (λ left. left.0.items ≡ parts_of (cells_of stations.items)) }
+    ensures ends { IfOk result (λ left. left.1.items ≡ map ends_of stations.items) }
+    ensures stations { IfOk result (λ _. All (IsStation W.links) stations.items) }
+    ensures cluster { IfOk result (λ _. All (λ station. station.cell.config ≡ K.config) stations.items) }
+{
+    let mut parts = Vec::with_capacity(alloc, stations.len())?;
+    let mut all_ends = Vec::with_capacity(alloc, stations.len())?;
+    for station in stations {
+        let (cell, ends) = station.finish(alloc)?;
+        parts.push(Part::of(cell)).map_err(AllocError::from)?;
+        all_ends
+            .push(NodeEnds::new(ends))
+            .map_err(AllocError::from)?;
+    }
+    Ok((parts, all_ends))
+}
+
+// The run of journals by the numbers of their nodes, in which all that was taken was sent.
+fn merge<K: Deployment>(table: &Table, config: Config, taken: Taken) -> WorldRun
+    requires table { id_of table.now ≡ K.table }
+    requires seats { K.seats ≡ length K.config.nodes }
+    requires config { config ≡ K.config }
+    requires taken { (parts : List PartView) × IsAllOf K.config K.table K.seats taken parts }
+    requires sound { AllAreSound taken.journals.items }
+    ensures { (parts : List PartView) → IsAllOf K.config K.table K.seats taken parts → IsGathered K.config parts result }
+{
+    let _at_least_one = config.nodes();
+    let Taken { journals, seats } = taken;
+    match close(table, seats) {
+        Some(tickets) => WorldRun::new(config, journals, tickets),
+        None => unreachable!(),
+    }
+}
