@@ -1,2 +1,1 @@
-pub mod JournalLemmas
 pub mod PlaceLemmas

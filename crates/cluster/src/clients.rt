@@ -1,5 +1,7 @@
 //! The clients that are connected to the cluster.
 
+use crate::spare::Spares;
+use crate::witness::{Shortage, Witness};
 use slab::Slab;
 use std::alloc::{AllocError, Global};
 use std::net::{Shutdown, TcpStream};
@@ -8,6 +10,10 @@ use std::sync::{Arc, Condvar, Mutex, Wait};
 /// The connections that are open, at all nodes, so that they can be shut down at the end.
 #[derive(Drop)]
 pub(crate) struct Clients {
+    /// The descriptors that are kept back.
+    pub(crate) spares: Spares,
+    /// It sees who can't be served.
+    pub(crate) witness: Arc<Witness, Global>,
     streams: Mutex<Streams>,
     // It rings when a connection is removed.
     bell: Condvar,
@@ -20,27 +26,38 @@ struct Streams {
     are_shut: bool,
 }
 
-/// A client can't be served: there is no memory or no thread for it, or the cluster ends.
+/// Why a client can't be served.
 #[derive(Clone, Copy, PartialEq, Eq, Debug)]
-pub(crate) struct Refused;
+pub(crate) enum Refused {
+    /// There is none of this for it.
+    Short(Shortage),
+    /// The cluster ends.
+    Ended,
+}
 
 impl From<AllocError> for Refused {
     fn from(_refused: AllocError) -> Refused {
-        Refused
+        Refused::Short(Shortage::Memory)
     }
 }
 
 impl Clients {
-    /// No clients.
-    pub(crate) fn new(alloc: Global) -> Clients {
+    /// No clients of so many nodes.
+    pub(crate) fn new(
+        alloc: Global,
+        nodes: usize,
+        witness: &Arc<Witness, Global>,
+    ) -> Result<Clients, AllocError> {
         let streams = Streams {
             open: Slab::new(alloc),
             are_shut: false,
         };
-        Clients {
+        Ok(Clients {
+            spares: Spares::new(alloc, nodes)?,
+            witness: Arc::try_clone(witness)?,
             streams: Mutex::new(streams),
             bell: Condvar::new(),
-        }
+        })
     }
 
     /// Adds the connection, and gives the key by which it is removed.
@@ -49,16 +66,14 @@ impl Clients {
         rt: &R,
         stream: &Arc<TcpStream, Global>,
     ) -> Result<usize, Refused> {
-        let Ok(stream) = Arc::try_clone(stream) else {
-            return Err(Refused);
-        };
+        let stream = Arc::try_clone(stream)?;
         let mut streams = self.streams.lock(rt);
         if streams.are_shut {
-            return Err(Refused);
+            return Err(Refused::Ended);
         }
         match streams.open.insert(stream) {
             Ok(key) => Ok(key),
-            Err(_) => Err(Refused),
+            Err(_) => Err(Refused::Short(Shortage::Memory)),
         }
     }
 
@@ -69,8 +84,10 @@ impl Clients {
         self.bell.notify_all();
     }
 
-    /// Shuts all connections down for good, so that nobody reads or writes there any more, and waits until each is removed.
+    /// Shuts all connections down for good, so that nobody reads or writes there any more, and waits until each is removed. The
+    /// descriptors that were kept back are given up.
     pub(crate) fn shut_down<R: Wait>(&self, rt: &R) {
+        self.spares.give_all(rt);
         let mut streams = self.streams.lock(rt);
         streams.are_shut = true;
         for (_, stream) in streams.open.iter() {

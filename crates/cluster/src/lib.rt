@@ -2,14 +2,15 @@
 #![tactic(auto)]
 
 mod clients;
-mod finish;
 mod mail;
 mod node;
 mod runtime;
 mod server;
+mod spare;
 mod stop;
+mod witness;
 
-pub use finish::{Journals, finish_nodes};
 pub use runtime::Runtime;
 pub use server::{Place, ServeFault, serve_nodes};
 pub use shared_node::{Gate, SharedNode};
+pub use witness::{Heard, Incident, Shortage, Witness};

@@ -1,177 +1,122 @@
 //! The messages between the nodes.
-ghost use Rattle.std.specs.Prelude.{◌≡◌, IfErr};
 
 use crate::node::Node;
-use bus::Link;
-use node_cell::{Deployment, Log, Posted, Sending};
-use slot_table::NodeNo;
+use links::{Station, Web};
+use node_cell::{Deployment, HoldsCell, Log};
 use std::alloc::{AllocError, Global};
-use std::collections::VecDeque;
 use std::sync::{Arc, Wait};
 use std::time::Duration;
 
 // How many seconds the thread sleeps at most before it looks for messages again. It is told of each, so they may be many.
 const LONG: u64 = 3600;
 
-// How many milliseconds it sleeps where memory was refused for a message on its link.
+// How many milliseconds it sleeps where memory was refused for messages that wait for their links.
 const PAUSE: u64 = 10;
 
-/// Carries the messages of a node: delivers those that come to it, and sends its own.
-#[derive(Drop)]
-pub(crate) struct Carrier<K: Deployment, L: Log> {
-    node: Arc<Node<K, L>, Global>,
-    // All nodes of the cluster, by number.
-    nodes: Vec<Arc<Node<K, L>, Global>>,
-    // For each node the messages that found no room on its link yet.
-    unsent: Vec<VecDeque<Posted<K>>>,
+/// What has a node's cell and its links with all nodes.
+pub(crate) trait HasLinks<R: Wait>: HoldsCell {
+    /// Takes the next message from the node with that number, and says whether there was one. One for which there is no memory is lost,
+    /// as it may be on any network.
+    fn take_from(&mut self, from: usize) -> bool;
+
+    /// Whether the link from that node is half full.
+    fn is_half_full(&mut self, from: usize) -> bool;
+
+    /// Sends messages to that node as far as there is room, and says whether there was one.
+    fn send_out(&mut self, rt: &R, to: usize) -> Result<bool, AllocError>;
 }
 
-impl<K: Deployment, L: Log + Drop> Carrier<K, L> {
-    /// A carrier for the node, one of these.
-    pub(crate) fn new(
-        alloc: Global,
-        node: &Arc<Node<K, L>, Global>,
-        nodes: &[Arc<Node<K, L>, Global>],
-    ) -> Result<Carrier<K, L>, AllocError> {
-        Ok(Carrier {
-            node: Arc::try_clone(node)?,
-            nodes: all_of(alloc, nodes)?,
-            unsent: none_unsent(alloc, nodes.len())?,
-        })
+impl<K: Deployment, W: Web, L: Log + Drop, R: Wait + Drop> HasLinks<R> for Station<K, W, L, R> {
+    fn take_from(&mut self, from: usize) -> bool {
+        self.receive(from).is_some()
     }
 
-    /// Carries messages until the node is closed.
-    pub(crate) fn carry<R: Wait>(&mut self, rt: &R, alloc: Global) {
-        for _ in rt.forever() {
-            let seen = self.node.shared.mail_rings();
-            if self.node.shared.is_closed() {
-                return;
-            }
-            let came = self.deliver(rt);
-            self.collect(rt, alloc);
-            let time = match self.send(rt) {
-                true => Duration::from_secs(LONG),
-                false => Duration::from_millis(PAUSE),
-            };
-            if !came {
-                self.node.shared.wait_for_mail(rt, seen, time);
-            }
-        }
+    fn is_half_full(&mut self, from: usize) -> bool {
+        Station::is_half_full(self, from)
     }
 
-    // Delivers the next message from each node, and says whether there was one.
-    fn deliver<R: Wait>(&self, rt: &R) -> bool {
-        let mut came = false;
-        for (number, sender) in (0..u8::MAX).zip(self.nodes.iter()) {
-            came |= self.deliver_from(rt, number, &**sender);
-        }
-        came
-    }
-
-    // Delivers the next message from the node with the number, and says whether there was one.
-    fn deliver_from<R: Wait>(&self, rt: &R, number: u8, sender: &Node<K, L>) -> bool {
-        let Some(number) = NodeNo::new(number) else {
-            return false;
-        };
-        let Some(mut link) = self.node.inbox.link_from(rt, number) else {
-            return false;
-        };
-        let Some(posted) = link.try_receive() else {
-            return false;
-        };
-        if link.was_full() {
-            sender.shared.ring_for_mail();
-        }
-        self.node.shared.deliver(rt, posted);
-        true
-    }
-
-    // Takes the messages out of the node's outbox.
-    fn collect<R: Wait>(&mut self, rt: &R, alloc: Global) {
-        for sending in self.node.shared.take_sent(rt, alloc) {
-            put_all(&mut self.unsent, sending);
-        }
-    }
-
-    // Sends messages as far as their links have room, and says whether none is left.
-    fn send<R: Wait>(&mut self, rt: &R) -> bool {
-        let mut are_sent = true;
-        for (node, unsent) in self.nodes.iter().zip(self.unsent.iter_mut()) {
-            let count = unsent.len();
-            send_to(rt, &**node, unsent);
-            if unsent.len() < count {
-                node.shared.ring_for_mail();
-            }
-            are_sent = are_sent && unsent.is_empty();
-        }
-        are_sent
+    fn send_out(&mut self, rt: &R, to: usize) -> Result<bool, AllocError> {
+        Station::send_out(self, rt, to)
     }
 }
 
-fn all_of<K: Deployment, L: Log + Drop>(
-    alloc: Global,
-    nodes: &[Arc<Node<K, L>, Global>],
-) -> Result<Vec<Arc<Node<K, L>, Global>>, AllocError> {
-    let mut all = Vec::with_capacity(alloc, nodes.len())?;
-    for node in nodes {
-        all.push(Arc::try_clone(node)?).map_err(AllocError::from)?;
-    }
-    Ok(all)
-}
-
-// No message for any of so many nodes.
-fn none_unsent<K: Deployment>(
-    alloc: Global,
-    count: usize,
-) -> Result<Vec<VecDeque<Posted<K>>>, AllocError> {
-    let mut unsent = Vec::with_capacity(alloc, count)?;
-    for _ in 0..count {
-        unsent.push(VecDeque::new(alloc)).map_err(AllocError::from)?;
-    }
-    Ok(unsent)
-}
-
-// Puts each of the messages of a step behind those for the same node.
-fn put_all<K: Deployment>(unsent: &mut Vec<VecDeque<Posted<K>>>, sending: Sending<K>) {
-    for posted in sending {
-        put(unsent, posted);
-    }
-}
-
-// A message for which there is no memory is lost.
-fn put<K: Deployment>(unsent: &mut Vec<VecDeque<Posted<K>>>, posted: Posted<K>) {
-    if let Some(unsent) = unsent.get_mut(posted.message().to.index()) {
-        let _lost = unsent.push_back(posted).map_err(AllocError::from);
-    }
-}
-
-// Sends the messages to the node in order, until one finds no room.
-fn send_to<K: Deployment, L: Log, R: Wait>(
+/// Carries the messages of the node, one of these, until it is closed: delivers those that come to it, and sends its own.
+pub(crate) fn carry<C: HasLinks<R> + Drop, R: Wait>(
     rt: &R,
-    node: &Node<K, L>,
-    unsent: &mut VecDeque<Posted<K>>,
+    node: &Node<C>,
+    nodes: &[Arc<Node<C>, Global>],
 ) {
-    for _ in 0..unsent.len() {
-        let Some(posted) = unsent.pop_front() else {
+    for _ in rt.forever() {
+        let seen = node.shared.mail_rings();
+        if node.shared.is_closed() {
             return;
-        };
-        if let Err(posted) = send_one(rt, node, posted) {
-            let _room = unsent.push_front(posted).map_err(AllocError::from);
-            return;
+        }
+        let round = exchange(rt, node, nodes);
+        if !round.has_received {
+            node.shared.wait_for_mail(rt, seen, round.rest);
         }
     }
 }
 
-// Sends the message on the link from its sender, or gives it back where that has no room.
-fn send_one<K: Deployment, L: Log, R: Wait>(
+// What came of one look at all links.
+#[derive(Clone, Copy, Drop)]
+struct Round {
+    has_received: bool,
+    // For how long there is nothing to do if nothing comes.
+    rest: Duration,
+}
+
+// Takes the next message from each node, and sends as many to each as there is room for, under one hold of the node's lock.
+fn exchange<C: HasLinks<R> + Drop, R: Wait>(
     rt: &R,
-    node: &Node<K, L>,
-    posted: Posted<K>,
-) -> Result<(), Posted<K>>
-    ensures { IfErr result (λ back. back ≡ posted) }
-{
-    match node.inbox.link_from(rt, posted.message().from) {
-        Some(mut link) => link.send(posted),
-        None => Err(posted),
+    node: &Node<C>,
+    nodes: &[Arc<Node<C>, Global>],
+) -> Round {
+    let mut cell = node.shared.lock(rt);
+    let mut has_received = false;
+    for (number, other) in nodes.iter().enumerate() {
+        has_received |= receive_from(&mut *cell, number, &**other);
+    }
+    let mut are_sorted = true;
+    for (number, other) in nodes.iter().enumerate() {
+        are_sorted &= send_to(rt, &mut *cell, number, &**other);
+    }
+    node.shared.ring(&cell);
+    let rest = match are_sorted {
+        true => Duration::from_secs(LONG),
+        false => Duration::from_millis(PAUSE),
+    };
+    Round { has_received, rest }
+}
+
+// Takes the next message from the other node, and says whether there was one. The other is told once its link has room again.
+fn receive_from<C: HasLinks<R> + Drop, R: Wait>(
+    cell: &mut C,
+    number: usize,
+    other: &Node<C>,
+) -> bool {
+    if !cell.take_from(number) {
+        return false;
+    }
+    if cell.is_half_full(number) {
+        other.shared.ring_for_mail();
+    }
+    true
+}
+
+// Sends messages to the other node, which is told of them, and says whether there was memory for all.
+fn send_to<C: HasLinks<R> + Drop, R: Wait>(
+    rt: &R,
+    cell: &mut C,
+    number: usize,
+    other: &Node<C>,
+) -> bool {
+    match cell.send_out(rt, number) {
+        Ok(true) => {
+            other.shared.ring_for_mail();
+            true
+        }
+        Ok(false) => true,
+        Err(_) => false,
     }
 }

@@ -1,68 +1,46 @@
 //! A node that is served: the threads that accept its clients, serve them and let time pass.
-ghost use Rattle.std.specs.Prelude.{◌≡◌, ◌<◌, length};
-ghost use Rattle.tickets.specs.Tickets.{IsFresh};
-
 use crate::clients::{Clients, Refused};
 use crate::runtime::Runtime;
 use crate::stop::Stop;
-use cluster_config::Config;
-use links::Inbox;
+use crate::witness::{Incident, Shortage};
 use listener::serve_conn;
-use node_cell::{Admission, Deployment, Log, NodeCell, NodeGate, Posted};
+use node_cell::{Admission, HoldsCell, NodeGate};
 use node_step::Event;
 use resp2::Counting;
 use shared_node::{Gate, SharedNode};
-use slot_table::NodeNo;
 use std::alloc::{AllocError, Global};
 use std::net::{Net, TcpListener, TcpStream};
 use std::sync::{Arc, Wait};
 use std::thread;
 use std::time::Duration;
-use tickets::Seat;
 
-// How many milliseconds no client is accepted after one could not be, for example because no more files can be opened.
+// How many milliseconds no client is accepted after one could not be, and no descriptor was kept back for that.
 const PAUSE: u64 = 10;
 
 // How many milliseconds a connection may take that wakes a thread which accepts. Where too many others wait to be accepted it is
 // not made at all, and that thread needs no waking.
 const WAKING: u64 = 100;
 
-/// A node of the cluster `K`, whose journal is an `L`, where its clients connect, and where messages reach it.
+/// A node whose cell is in a `C`, and where its clients connect.
 #[derive(Drop)]
-pub(crate) struct Node<K: Deployment, L: Log> {
-    pub(crate) shared: SharedNode<K, L>,
-    admission: Admission<K>,
-    pub(crate) inbox: Inbox<Posted<K>>,
+pub(crate) struct Node<C: HoldsCell> {
+    pub(crate) shared: SharedNode<C>,
+    admission: Admission<C::Cluster>,
     listener: TcpListener,
 }
 
-impl<K: Deployment, L: Log> Node<K, L> {
-    /// The node with this number, one of the configuration, as it begins, with a seat that has drawn nothing.
-    pub(crate) fn new(
-        alloc: Global,
-        config: &Config,
-        number: NodeNo,
-        seat: Seat,
-        listener: TcpListener,
-    ) -> Result<Node<K, L>, AllocError>
-    where
-        L: Drop,
-        requires cluster { config.now ≡ K.config }
-        requires number { number < length config.now.nodes }
-        requires seat { IsFresh K.table K.seats seat }
-    {
-        let inbox = Inbox::new(alloc, config.nodes().len())?;
-        let cell = NodeCell::<K, L>::new(alloc, config, number, seat)?;
-        Ok(Node {
+impl<C: HoldsCell + Drop> Node<C> {
+    /// The node with this cell, whose clients begin with this admission.
+    pub(crate) fn new(cell: C, admission: Admission<C::Cluster>, listener: TcpListener) -> Node<C> {
+        Node {
             shared: SharedNode::new(cell),
-            admission: Admission::new(config),
-            inbox,
+            admission,
             listener,
-        })
+        }
     }
 
     /// The cell, once nobody serves the node.
-    pub(crate) fn into_cell(self) -> NodeCell<K, L> {
+    pub(crate) fn into_cell(self) -> C {
         self.shared.into_cell()
     }
 
@@ -74,40 +52,54 @@ impl<K: Deployment, L: Log> Node<K, L> {
     }
 }
 
-/// Accepts the clients of the node until the end. Each is served by a thread of its own.
-pub(crate) fn accept_clients<
-    K: Deployment + Send + Sync + 'static,
-    L: Log + Drop + Send + 'static,
-    R: Runtime,
->(rt: R, alloc: Global, node: &Arc<Node<K, L>, Global>, clients: &Arc<Clients, Global>, stop: &Stop)
+/// Accepts the clients of the node of that number until the end. Each is served by a thread of its own.
+pub(crate) fn accept_clients<C: HoldsCell + Drop + Send + 'static, R: Runtime>(
+    rt: R,
+    alloc: Global,
+    number: usize,
+    node: &Arc<Node<C>, Global>,
+    clients: &Arc<Clients, Global>,
+    stop: &Stop,
+)
 where
-    L::Record: Send + 'static,
+    C::Cluster: Send + Sync + 'static,
 {
+    // They are kept before the first client comes, as far as the system has them.
+    let _all = clients.spares.are_kept(&rt, &node.listener);
     for stream in node.listener.incoming() {
         if stop.has_ended() {
             return;
         }
         match stream {
-            // A client for which there is no memory, or no thread, is let go.
+            // A client for which there is no memory, no thread or no descriptor is let go.
             Ok(stream) => {
-                let _refused = accept(rt, alloc, node, clients, stream);
+                if let Err(Refused::Short(shortage)) = accept(rt, alloc, node, clients, stream) {
+                    let node = number;
+                    clients
+                        .witness
+                        .see(&rt, Incident::ClientRefused { node, shortage });
+                }
             }
+            Err(_) if clients.spares.give_one(&rt) => {}
             Err(_) => stop.sleep(&rt, Duration::from_millis(PAUSE)),
         }
     }
 }
 
 // Starts the thread of a client. Where that fails its connection is closed.
-fn accept<K: Deployment + Send + Sync + 'static, L: Log + Drop + Send + 'static, R: Runtime>(
+fn accept<C: HoldsCell + Drop + Send + 'static, R: Runtime>(
     rt: R,
     alloc: Global,
-    node: &Arc<Node<K, L>, Global>,
+    node: &Arc<Node<C>, Global>,
     clients: &Arc<Clients, Global>,
     stream: TcpStream,
 ) -> Result<(), Refused>
 where
-    L::Record: Send + 'static,
+    C::Cluster: Send + Sync + 'static,
 {
+    if !clients.spares.are_kept(&rt, &node.listener) {
+        return Err(Refused::Short(Shortage::Descriptor));
+    }
     let stream = Arc::new(alloc, stream).map_err(AllocError::from)?;
     let client = clients.add(&rt, &stream)?;
     if let Err(refused) = start_client(rt, alloc, node, clients, stream, client) {
@@ -117,38 +109,34 @@ where
     Ok(())
 }
 
-fn start_client<K: Deployment + Send + Sync + 'static, L: Log + Drop + Send + 'static, R: Runtime>(
+fn start_client<C: HoldsCell + Drop + Send + 'static, R: Runtime>(
     rt: R,
     alloc: Global,
-    node: &Arc<Node<K, L>, Global>,
+    node: &Arc<Node<C>, Global>,
     clients: &Arc<Clients, Global>,
     stream: Arc<TcpStream, Global>,
     client: usize,
 ) -> Result<(), Refused>
 where
-    L::Record: Send + 'static,
+    C::Cluster: Send + Sync + 'static,
 {
-    let Ok(node) = Arc::try_clone(node) else {
-        return Err(Refused);
-    };
-    let Ok(clients) = Arc::try_clone(clients) else {
-        return Err(Refused);
-    };
+    let node = Arc::try_clone(node)?;
+    let clients = Arc::try_clone(clients)?;
     let started = thread::spawn(&rt, move || {
         serve_client(rt, alloc, node, &*stream);
         clients.remove(&rt, client);
     });
     match started {
         Ok(_thread) => Ok(()),
-        Err(_) => Err(Refused),
+        Err(_) => Err(Refused::Short(Shortage::Thread)),
     }
 }
 
 // Serves one client, and is then done with the node. What ends the conversation concerns this client alone.
-fn serve_client<K: Deployment, L: Log + Drop, R: Wait + Drop>(
+fn serve_client<C: HoldsCell + Drop, R: Wait + Drop>(
     rt: R,
     alloc: Global,
-    node: Arc<Node<K, L>, Global>,
+    node: Arc<Node<C>, Global>,
     stream: &TcpStream,
 ) {
     // A reply is one write, so nothing is gained by waiting for more.
@@ -160,9 +148,9 @@ fn serve_client<K: Deployment, L: Log + Drop, R: Wait + Drop>(
 }
 
 /// Lets the time of the node pass: a tick after each `interval`, until the end or until there were `most`.
-pub(crate) fn pass_time<K: Deployment, L: Log + Drop, R: Wait + Copy + Drop>(
+pub(crate) fn pass_time<C: HoldsCell + Drop, R: Wait + Copy + Drop>(
     rt: R,
-    node: &Node<K, L>,
+    node: &Node<C>,
     stop: &Stop,
     interval: Duration,
     most: u64,

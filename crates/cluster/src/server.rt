@@ -1,19 +1,22 @@
 //! All nodes of a cluster, served at once.
 ghost use Rattle.std.specs.Prelude.{◌≡◌, ◌<◌, All, IfOk, length, map, vec_len};
 ghost use Rattle.std.specs.List.{range_with_len};
+ghost use Rattle.links.specs.Ends.{AreEndsOf, AreLinkedFrom};
 ghost use Rattle.tickets.specs.Tickets.{IsFresh};
 
 use crate::clients::Clients;
-use crate::mail::Carrier;
+use crate::mail::{HasLinks, carry};
 use crate::node::{Node, accept_clients, pass_time};
 use crate::runtime::Runtime;
 use crate::stop::Stop;
+use crate::witness::{Incident, Shortage, Witness};
 use cluster_config::Config;
-use node_cell::{Deployment, Log, NodeCell};
+use links::{NodeEnds, Station, Web};
+use node_cell::{Admission, Deployment, Log, NodeCell, Posted};
 use slot_table::NodeNo;
 use std::alloc::{AllocError, Global};
 use std::net::TcpListener;
-use std::sync::Arc;
+use std::sync::{Arc, Wait};
 use std::thread;
 use std::thread::JoinHandle;
 use std::time::Duration;
@@ -30,78 +33,96 @@ pub enum ServeFault {
     Mixed,
 }
 
+impl ServeFault {
+    // Of what there was none as a thread was started.
+    fn shortage(self) -> Shortage {
+        match self {
+            ServeFault::Memory => Shortage::Memory,
+            ServeFault::Thread | ServeFault::Mixed => Shortage::Thread,
+        }
+    }
+}
+
 impl From<AllocError> for ServeFault {
     fn from(_refused: AllocError) -> ServeFault {
         ServeFault::Memory
     }
 }
 
-/// Where a node of the cluster is served. The first place is that of the first node, and so on.
+/// Where a node of the cluster `K` is served. The first place is that of the first node, and so on.
 #[derive(Drop)]
-pub struct Place {
+pub struct Place<K: Deployment, R: Wait> {
     /// Its seat at the tickets.
     pub seat: Seat,
+    /// Its ends of the links to all nodes.
+    pub ends: NodeEnds<Posted<K>, R>,
     /// Where its clients connect.
     pub listener: TcpListener,
 }
 
-/// Serves the nodes of the cluster, each at its place, with an `L` as its journal, until the first of them has made `ticks`
-/// ticks, or for ever. It returns the cells, in the order of the nodes' numbers, once all threads are done with them.
+/// Serves the nodes of the cluster, each at its place, with an `L` as its journal and the links `W` between them, until the first of them
+/// has made `ticks` ticks, or for ever. It returns the stations, in the order of the nodes' numbers, once all threads are done with them.
+/// The witness sees which clients can't be served, and which thread can't be started.
 ///
 /// Each node has a thread that accepts clients, one that lets its time pass and one that carries its messages, and each
 /// client has one.
 pub fn serve_nodes<
     K: Deployment + Send + Sync + 'static,
+    W: Web + Send + 'static,
     L: Log + Drop + Send + 'static,
     R: Runtime,
 >(
     rt: R,
     alloc: Global,
     config: &Config,
-    places: Vec<Place>,
+    places: Vec<Place<K, R>>,
     ticks: Option<u64>,
-) -> Result<Vec<NodeCell<K, L>>, ServeFault>
+    witness: &Arc<Witness, Global>,
+) -> Result<Vec<Station<K, W, L, R>>, ServeFault>
 where
     L::Record: Send + 'static,
     requires cluster { config.now ≡ K.config }
     requires places { length places.items ≡ length config.now.nodes }
     requires seats { All (λ place. IsFresh K.table K.seats place.seat) places.items }
-    ensures count { IfOk result (λ cells. vec_len cells ≡ length places.items) }
-    ensures nodes { IfOk result (λ cells. map (λ cell. cell.node) cells.items ≡ range_with_len 0 (length config.now.nodes)) }
+    requires links { AreLinkedFrom W.links (length config.now.nodes) 0 (map (λ place. place.ends) places.items) }
+    ensures count { IfOk result (λ stations. vec_len stations ≡ length places.items) }
+    ensures nodes { IfOk result (λ stations. map (λ station. station.cell.node) stations.items ≡ range_with_len 0 (length config.now.nodes)) }
 {
-    let nodes = nodes_at::<K, L>(alloc, config, places)?;
+    let nodes = nodes_at::<K, W, L, R>(alloc, config, places)?;
     let interval = Duration::from_millis(u64::from(config.tick_ms()));
-    run_all(rt, alloc, nodes.as_slice(), interval, ticks)?;
-    cells_of(alloc, nodes)
+    run_all(rt, alloc, nodes.as_slice(), interval, ticks, witness)?;
+    stations_of(alloc, nodes)
 }
 
 // Runs the nodes until the first of them has made `ticks` ticks, or for ever.
-fn run_all<K: Deployment + Send + Sync + 'static, L: Log + Drop + Send + 'static, R: Runtime>(
+fn run_all<C: HasLinks<R> + Drop + Send + 'static, R: Runtime>(
     rt: R,
     alloc: Global,
-    nodes: &[Arc<Node<K, L>, Global>],
+    nodes: &[Arc<Node<C>, Global>],
     interval: Duration,
     ticks: Option<u64>,
+    witness: &Arc<Witness, Global>,
 ) -> Result<(), ServeFault>
 where
-    L::Record: Send + 'static,
+    C::Cluster: Send + Sync + 'static,
 {
-    let clients = Arc::new(alloc, Clients::new(alloc)).map_err(AllocError::from)?;
+    let clients = Clients::new(alloc, nodes.len(), witness)?;
+    let clients = Arc::new(alloc, clients).map_err(AllocError::from)?;
     let stop = Arc::new(alloc, Stop::new()).map_err(AllocError::from)?;
     run_with(rt, alloc, nodes, &clients, &stop, interval, ticks)
 }
 
-fn run_with<K: Deployment + Send + Sync + 'static, L: Log + Drop + Send + 'static, R: Runtime>(
+fn run_with<C: HasLinks<R> + Drop + Send + 'static, R: Runtime>(
     rt: R,
     alloc: Global,
-    nodes: &[Arc<Node<K, L>, Global>],
+    nodes: &[Arc<Node<C>, Global>],
     clients: &Arc<Clients, Global>,
     stop: &Arc<Stop, Global>,
     interval: Duration,
     ticks: Option<u64>,
 ) -> Result<(), ServeFault>
 where
-    L::Record: Send + 'static,
+    C::Cluster: Send + Sync + 'static,
 {
     let mut threads = Vec::with_capacity(alloc, 3 * nodes.len())?;
     let started = start_all(
@@ -123,9 +144,9 @@ where
 }
 
 // Ends all connections and all threads.
-fn end_all<K: Deployment, L: Log + Drop, R: Runtime>(
+fn end_all<C: HasLinks<R> + Drop, R: Runtime>(
     rt: &R,
-    nodes: &[Arc<Node<K, L>, Global>],
+    nodes: &[Arc<Node<C>, Global>],
     clients: &Clients,
     threads: Vec<JoinHandle<()>>,
 ) {
@@ -143,15 +164,15 @@ fn end_all<K: Deployment, L: Log + Drop, R: Runtime>(
 }
 
 // The nodes as they begin.
-#[tactic(auto, using(crate::proofs::PlaceLemmas::others_too))]
-fn nodes_at<K: Deployment, L: Log + Drop>(
+fn nodes_at<K: Deployment, W: Web, L: Log + Drop, R: Runtime>(
     alloc: Global,
     config: &Config,
-    places: Vec<Place>,
-) -> Result<Vec<Arc<Node<K, L>, Global>>, AllocError>
+    places: Vec<Place<K, R>>,
+) -> Result<Vec<Arc<Node<Station<K, W, L, R>>, Global>>, AllocError>
     requires cluster { config.now ≡ K.config }
     requires places { length places.items ≡ length config.now.nodes }
     requires seats { All (λ place. IsFresh K.table K.seats place.seat) places.items }
+    requires links { AreLinkedFrom W.links (length config.now.nodes) 0 (map (λ place. place.ends) places.items) }
     ensures { IfOk result (λ nodes. vec_len nodes ≡ length places.items) }
 {
     let mut nodes = Vec::with_capacity(alloc, places.len())?;
@@ -162,28 +183,35 @@ fn nodes_at<K: Deployment, L: Log + Drop>(
     Ok(nodes)
 }
 
-fn node_at<K: Deployment, L: Log + Drop>(
+fn node_at<K: Deployment, W: Web, L: Log + Drop, R: Runtime>(
     alloc: Global,
     config: &Config,
     number: usize,
-    place: Place,
-) -> Result<Arc<Node<K, L>, Global>, AllocError>
+    place: Place<K, R>,
+) -> Result<Arc<Node<Station<K, W, L, R>>, Global>, AllocError>
     requires cluster { config.now ≡ K.config }
     requires number { number < length config.now.nodes }
     requires seat { IsFresh K.table K.seats place.seat }
+    requires links { AreEndsOf W.links number (length config.now.nodes) place.ends }
 {
     let _at_most_16 = config.nodes();
     let number = NodeNo::new(number as u8).unwrap();
-    let Place { seat, listener } = place;
-    let node = Node::<K, L>::new(alloc, config, number, seat, listener)?;
+    let Place {
+        seat,
+        ends,
+        listener,
+    } = place;
+    let cell = NodeCell::<K, L>::new(alloc, config, number, seat)?;
+    let station = Station::<K, W, L, R>::new(alloc, cell, ends.into_vec())?;
+    let node = Node::new(station, Admission::new(config), listener);
     Arc::new(alloc, node).map_err(AllocError::from)
 }
 
 // Starts the threads of all nodes. The ticks of the first node alone are counted.
-fn start_all<K: Deployment + Send + Sync + 'static, L: Log + Drop + Send + 'static, R: Runtime>(
+fn start_all<C: HasLinks<R> + Drop + Send + 'static, R: Runtime>(
     rt: R,
     alloc: Global,
-    nodes: &[Arc<Node<K, L>, Global>],
+    nodes: &[Arc<Node<C>, Global>],
     clients: &Arc<Clients, Global>,
     stop: &Arc<Stop, Global>,
     interval: Duration,
@@ -191,38 +219,52 @@ fn start_all<K: Deployment + Send + Sync + 'static, L: Log + Drop + Send + 'stat
     threads: &mut Vec<JoinHandle<()>>,
 ) -> Result<(), ServeFault>
 where
-    L::Record: Send + 'static,
+    C::Cluster: Send + Sync + 'static,
 {
     let mut most = ticks.unwrap_or(u64::MAX);
-    for node in nodes {
-        add_thread(threads, start_clock(rt, node, stop, interval, most))?;
-        add_thread(threads, start_accepting(rt, alloc, node, clients, stop))?;
-        add_thread(threads, start_carrying(rt, alloc, node, nodes))?;
+    for (number, node) in nodes.iter().enumerate() {
+        let clock = start_clock(rt, node, stop, interval, most);
+        add_thread(rt, threads, clients, number, clock)?;
+        let accepting = start_accepting(rt, alloc, number, node, clients, stop);
+        add_thread(rt, threads, clients, number, accepting)?;
+        let carrying = start_carrying(rt, alloc, node, nodes);
+        add_thread(rt, threads, clients, number, carrying)?;
         most = u64::MAX;
     }
     Ok(())
 }
 
-// Adds a thread that was started, to be joined.
-fn add_thread(
+// Adds a thread of the node that was started, to be joined.
+fn add_thread<R: Runtime>(
+    rt: R,
     threads: &mut Vec<JoinHandle<()>>,
+    clients: &Clients,
+    node: usize,
     started: Result<JoinHandle<()>, ServeFault>,
 ) -> Result<(), ServeFault> {
-    let thread = started?;
-    threads.push(thread).map_err(AllocError::from)?;
+    match started {
+        Ok(thread) => threads.push(thread).map_err(AllocError::from)?,
+        Err(fault) => {
+            let shortage = fault.shortage();
+            clients
+                .witness
+                .see(&rt, Incident::ThreadNotStarted { node, shortage });
+            return Err(fault);
+        }
+    }
     Ok(())
 }
 
 // Starts the thread that lets the time of the node pass. Once there were so many ticks, the cluster ends.
-fn start_clock<K: Deployment + Send + Sync + 'static, L: Log + Drop + Send + 'static, R: Runtime>(
+fn start_clock<C: HasLinks<R> + Drop + Send + 'static, R: Runtime>(
     rt: R,
-    node: &Arc<Node<K, L>, Global>,
+    node: &Arc<Node<C>, Global>,
     stop: &Arc<Stop, Global>,
     interval: Duration,
     most: u64,
 ) -> Result<JoinHandle<()>, ServeFault>
 where
-    L::Record: Send + 'static,
+    C::Cluster: Send + Sync + 'static,
 {
     let Ok(node) = Arc::try_clone(node) else {
         return Err(ServeFault::Memory);
@@ -237,20 +279,17 @@ where
     started.map_err(|_| ServeFault::Thread)
 }
 
-// Starts the thread that accepts the clients of the node.
-fn start_accepting<
-    K: Deployment + Send + Sync + 'static,
-    L: Log + Drop + Send + 'static,
-    R: Runtime,
->(
+// Starts the thread that accepts the clients of the node of that number.
+fn start_accepting<C: HasLinks<R> + Drop + Send + 'static, R: Runtime>(
     rt: R,
     alloc: Global,
-    node: &Arc<Node<K, L>, Global>,
+    number: usize,
+    node: &Arc<Node<C>, Global>,
     clients: &Arc<Clients, Global>,
     stop: &Arc<Stop, Global>,
 ) -> Result<JoinHandle<()>, ServeFault>
 where
-    L::Record: Send + 'static,
+    C::Cluster: Send + Sync + 'static,
 {
     let Ok(node) = Arc::try_clone(node) else {
         return Err(ServeFault::Memory);
@@ -262,51 +301,61 @@ where
         return Err(ServeFault::Memory);
     };
     let started = thread::spawn(&rt, move || {
-        accept_clients(rt, alloc, &node, &clients, &*stop);
+        accept_clients(rt, alloc, number, &node, &clients, &*stop);
     });
     started.map_err(|_| ServeFault::Thread)
 }
 
 // Starts the thread that carries the messages of the node.
-fn start_carrying<
-    K: Deployment + Send + Sync + 'static,
-    L: Log + Drop + Send + 'static,
-    R: Runtime,
->(
+fn start_carrying<C: HasLinks<R> + Drop + Send + 'static, R: Runtime>(
     rt: R,
     alloc: Global,
-    node: &Arc<Node<K, L>, Global>,
-    nodes: &[Arc<Node<K, L>, Global>],
+    node: &Arc<Node<C>, Global>,
+    nodes: &[Arc<Node<C>, Global>],
 ) -> Result<JoinHandle<()>, ServeFault>
 where
-    L::Record: Send + 'static,
+    C::Cluster: Send + Sync + 'static,
 {
-    let mut carrier = Carrier::new(alloc, node, nodes)?;
+    let Ok(node) = Arc::try_clone(node) else {
+        return Err(ServeFault::Memory);
+    };
+    let nodes = all_of(alloc, nodes)?;
     let started = thread::spawn(&rt, move || {
-        carrier.carry(&rt, alloc);
+        carry(&rt, &*node, nodes.as_slice());
     });
     started.map_err(|_| ServeFault::Thread)
 }
 
-// The cells of nodes that nobody serves any more, in the order of the nodes' numbers.
-fn cells_of<K: Deployment, L: Log + Drop>(
+fn all_of<T: Drop>(
     alloc: Global,
-    nodes: Vec<Arc<Node<K, L>, Global>>,
-) -> Result<Vec<NodeCell<K, L>>, ServeFault>
-    ensures count { IfOk result (λ cells. vec_len cells ≡ vec_len nodes) }
-    ensures nodes { IfOk result (λ cells. map (λ cell. cell.node) cells.items ≡ range_with_len 0 (vec_len nodes)) }
+    nodes: &[Arc<T, Global>],
+) -> Result<Vec<Arc<T, Global>>, AllocError> {
+    let mut all = Vec::with_capacity(alloc, nodes.len())?;
+    for node in nodes {
+        all.push(Arc::try_clone(node)?).map_err(AllocError::from)?;
+    }
+    Ok(all)
+}
+
+// The stations of nodes that nobody serves any more, in the order of the nodes' numbers.
+fn stations_of<K: Deployment, W: Web, L: Log + Drop, R: Runtime>(
+    alloc: Global,
+    nodes: Vec<Arc<Node<Station<K, W, L, R>>, Global>>,
+) -> Result<Vec<Station<K, W, L, R>>, ServeFault>
+    ensures count { IfOk result (λ stations. vec_len stations ≡ vec_len nodes) }
+    ensures nodes { IfOk result (λ stations. map (λ station. station.cell.node) stations.items ≡ range_with_len 0 (vec_len nodes)) }
 {
-    let mut cells = Vec::with_capacity(alloc, nodes.len())?;
+    let mut stations = Vec::with_capacity(alloc, nodes.len())?;
     for node in nodes {
         let Some(node) = Arc::into_inner(node) else {
             return Err(ServeFault::Thread);
         };
         // No type says which node a lock has.
-        let cell = node.into_cell();
-        if cell.number().index() != cells.len() {
+        let station = node.into_cell();
+        if station.number().index() != stations.len() {
             return Err(ServeFault::Mixed);
         }
-        cells.push(cell).map_err(AllocError::from)?;
+        stations.push(station).map_err(AllocError::from)?;
     }
-    Ok(cells)
+    Ok(stations)
 }

@@ -1,0 +1,138 @@
+//! What happens to a cluster and no client is told, for somebody who listens.
+
+use std::alloc::{AllocError, Global};
+use std::collections::VecDeque;
+use std::rt::Clock;
+use std::sync::{Condvar, Mutex, Wait};
+use std::time::{Duration, Instant};
+
+// So many incidents wait to be heard at most. Where more come they are counted alone.
+const MOST_WAITING: usize = 1024;
+
+/// What there is none of.
+#[derive(Clone, Copy, PartialEq, Eq, Debug)]
+pub enum Shortage {
+    /// Memory was refused.
+    Memory,
+    /// The system starts no thread.
+    Thread,
+    /// The system opens no socket.
+    Descriptor,
+}
+
+/// What happens. A node is named by its number.
+#[derive(Clone, Copy, PartialEq, Eq, Debug)]
+pub enum Incident {
+    /// A client of the node isn't served for want of this.
+    ClientRefused { node: usize, shortage: Shortage },
+    /// A thread of the node isn't started for want of this, and so the cluster isn't served.
+    ThreadNotStarted { node: usize, shortage: Shortage },
+    /// So many incidents found too many others waiting.
+    Missed(u64),
+}
+
+/// An incident, and how long after the beginning it happened.
+#[derive(Clone, Copy, PartialEq, Eq, Debug)]
+pub struct Heard {
+    pub time: Duration,
+    pub incident: Incident,
+}
+
+/// Sees what happens to a cluster, and tells it to whoever listens. Who sees something waits for nobody but others that see
+/// something, however slow the listener is.
+#[derive(Drop)]
+pub struct Witness {
+    // The beginning, where somebody listens.
+    begun: Option<Instant>,
+    seen: Mutex<Seen>,
+    // It rings where something waits to be heard, and at the end.
+    bell: Condvar,
+}
+
+#[derive(Drop)]
+struct Seen {
+    waiting: VecDeque<Heard>,
+    // How many found no room, and when the last of them happened.
+    missed: u64,
+    missed_at: Duration,
+    has_ended: bool,
+}
+
+impl Witness {
+    /// One to which nobody listens, so that it sees nothing.
+    pub fn unheard(alloc: Global) -> Witness {
+        Witness::over(None, VecDeque::new(alloc))
+    }
+
+    /// One to which somebody listens. Now is the beginning, where there is a clock.
+    pub fn heard<R: Clock>(rt: &R, alloc: Global) -> Result<Witness, AllocError> {
+        let waiting = VecDeque::with_capacity(alloc, MOST_WAITING)?;
+        Ok(Witness::over(Instant::now(rt).ok(), waiting))
+    }
+
+    fn over(begun: Option<Instant>, waiting: VecDeque<Heard>) -> Witness {
+        let seen = Seen {
+            waiting,
+            missed: 0,
+            missed_at: Duration::ZERO,
+            has_ended: false,
+        };
+        Witness {
+            begun,
+            seen: Mutex::new(seen),
+            bell: Condvar::new(),
+        }
+    }
+
+    /// Sees the incident.
+    pub(crate) fn see<R: Clock + Wait>(&self, rt: &R, incident: Incident) {
+        let Some(begun) = self.begun else {
+            return;
+        };
+        // The times of incidents rise as they are told, so the clock is read behind the lock.
+        let mut seen = self.seen.lock(rt);
+        let time = begun.elapsed(rt).unwrap_or(Duration::ZERO);
+        seen.add(Heard { time, incident });
+        self.bell.notify_all();
+    }
+
+    /// Waits for what is to be heard next. There is None once nothing more will come.
+    pub fn listen<R: Wait>(&self, rt: &R) -> Option<Heard> {
+        let seen = self.seen.lock(rt);
+        let mut seen = self.bell.wait_while(rt, seen, |seen| {
+            seen.waiting.is_empty() && !seen.has_ended
+        });
+        seen.take()
+    }
+
+    /// Nothing more will come.
+    pub fn end<R: Wait>(&self, rt: &R) {
+        let mut seen = self.seen.lock(rt);
+        seen.has_ended = true;
+        self.bell.notify_all();
+    }
+}
+
+impl Seen {
+    fn add(&mut self, heard: Heard) {
+        let has_room = self.waiting.len() < MOST_WAITING;
+        if !has_room || self.waiting.push_back(heard).is_err() {
+            self.missed = self.missed.saturating_add(1);
+            self.missed_at = heard.time;
+        }
+    }
+
+    // Behind what waits comes how many found no room there.
+    fn take(&mut self) -> Option<Heard> {
+        let heard = self.waiting.pop_front();
+        if self.missed > 0 {
+            let missed = Heard {
+                time: self.missed_at,
+                incident: Incident::Missed(self.missed),
+            };
+            self.missed = 0;
+            self.add(missed);
+        }
+        heard
+    }
+}
