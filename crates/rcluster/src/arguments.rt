@@ -24,6 +24,8 @@ pub enum Call<'a> {
         ticks: Option<u64>,
         /// Whether each node keeps its journal in memory.
         records_journal: bool,
+        /// Whether standard error is told what no client is.
+        is_logged: bool,
     },
     /// To have a cluster execute one command.
     Cli {
@@ -175,6 +177,7 @@ fn serve_call<'a>(serve: Option<&ArgMatches<'a>>) -> Call<'a> {
             only_checks: serve.get_flag("check"),
             ticks: serve.get_one::<u64>("ticks"),
             records_journal: serve.get_flag("journal"),
+            is_logged: serve.get_flag("log"),
         },
         // The command line has a verb, and it is none of the others.
         None => Call::Serve {
@@ -182,6 +185,7 @@ fn serve_call<'a>(serve: Option<&ArgMatches<'a>>) -> Call<'a> {
             only_checks: false,
             ticks: None,
             records_journal: false,
+            is_logged: false,
         },
     }
 }
@@ -191,6 +195,7 @@ fn source_of<'a>(serve: &ArgMatches<'a>) -> Source<'a> {
     match serve.get_one::<u64>("masters") {
         Some(count) => Source::Masters {
             count,
+            replicas: serve.get_one::<u64>("replicas").unwrap_or(0),
             first_port: serve.get_one::<u64>("port").unwrap_or(FIRST_PORT),
         },
         None => Source::File(text(serve, "config")),

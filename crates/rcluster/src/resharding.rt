@@ -4,6 +4,7 @@ use crate::failure::Failure;
 use crate::fault::ProgramFault;
 use crate::output::write;
 use crate::patient::Patient;
+use crate::progress::{Progress, Terminals};
 use crate::shown::Shown;
 use crate::sockets::{ADDRESS_TEXT, Sockets};
 use crate::telling::{run_failure, unlisted_failure};
@@ -55,8 +56,8 @@ impl<'a> Move<'a> {
 }
 
 /// Moves the slots, and prints a line once a slot is at its new master. A node is asked the same so often again at most.
-/// Once all slots are moved it says on standard error what was done.
-pub fn reshard<R>(rt: R, wanted: Move, limit: u64) -> Result<(), Failure>
+/// Where standard error is a terminal it tells meanwhile how far it has come, and once all slots are moved what was done.
+pub fn reshard<R>(rt: R, wanted: Move, limit: u64, terminals: Terminals) -> Result<(), Failure>
 where
     R: AllocGlobal
         + Print
@@ -67,11 +68,17 @@ where
         + Drop,
 {
     let seen = Seen::new(rt.alloc());
-    reshard_seen(rt, wanted, limit, &seen)
+    reshard_seen(rt, wanted, limit, terminals, &seen)
 }
 
 // The same, where it is seen what is asked and answered.
-fn reshard_seen<R>(rt: R, wanted: Move, limit: u64, seen: &RefCell<Seen>) -> Result<(), Failure>
+fn reshard_seen<R>(
+    rt: R,
+    wanted: Move,
+    limit: u64,
+    terminals: Terminals,
+    seen: &RefCell<Seen>,
+) -> Result<(), Failure>
 where
     R: AllocGlobal
         + Print
@@ -83,7 +90,7 @@ where
 {
     let connections = Connections::new(rt.alloc(), Sockets::new(rt));
     let network = Watched::new(Patient::new(rt, connections), seen);
-    reshard_over(&rt, network, wanted, limit, seen)
+    reshard_over(&rt, network, wanted, limit, terminals, seen)
 }
 
 // The same, over this way to the nodes.
@@ -92,6 +99,7 @@ fn reshard_over<R, N>(
     network: N,
     wanted: Move,
     limit: u64,
+    terminals: Terminals,
     seen: &RefCell<Seen>,
 ) -> Result<(), Failure>
 where
@@ -107,9 +115,12 @@ where
         slots,
     } = wanted;
     let mut done = Done::new(slots.first);
+    let mut progress = Progress::new(terminals, count_of(&slots), begun);
     let plan = plan(alloc, start, from, to, slots, limit)?;
-    let ended = move_all(rt, Resharder::new(alloc, network, plan), &mut done)?;
-    match ended {
+    let resharder = Resharder::new(alloc, network, plan);
+    let ended = move_all(rt, resharder, &mut done, &mut progress);
+    progress.end(rt);
+    match ended? {
         Ok(()) => {
             tell(rt, &done, imports_of(seen), begun);
             Ok(())
@@ -157,14 +168,15 @@ impl Done {
     }
 }
 
-// Moves one slot after another, and prints a line for each. It gives how the run ended.
+// Moves one slot after another, prints a line for each, and tells how far it has come. It gives how the run ended.
 fn move_all<R, N>(
     rt: &R,
     resharder: Resharder<N>,
     done: &mut Done,
+    progress: &mut Progress,
 ) -> Result<Result<(), ReshardFault>, Failure>
 where
-    R: AllocGlobal + Print,
+    R: AllocGlobal + Print + Eprint + Clock,
     N: Network + Drop,
 {
     let mut resharder = resharder;
@@ -172,8 +184,10 @@ where
     'slots: for _ in 0..=Slot::COUNT {
         match resharder.move_next() {
             Ok(Some(moved)) => {
+                progress.make_room(rt);
                 print(rt, &moved)?;
                 done.add(&moved);
+                progress.tell(rt, done.slots, done.keys);
             }
             Ok(None) => return Ok(Ok(())),
             Err(fault) => return Ok(Err(fault)),
@@ -227,6 +241,11 @@ fn range_in(text: &str) -> Option<SlotRange> {
         return None;
     }
     Some(SlotRange { first, last })
+}
+
+fn count_of(slots: &SlotRange) -> u64 {
+    let behind = u64::from(slots.last.get()) + 1;
+    behind.saturating_sub(u64::from(slots.first.get()))
 }
 
 fn slot_in(text: &str) -> Option<Slot> {

@@ -11,8 +11,12 @@ use std::rt::Files;
 pub enum Source<'a> {
     /// In the file at this path.
     File(&'a str),
-    /// On the command line: so many masters, whose ports rise from this one.
-    Masters { count: u64, first_port: u64 },
+    /// On the command line: so many masters with so many replicas each, whose ports rise from this one.
+    Masters {
+        count: u64,
+        replicas: u64,
+        first_port: u64,
+    },
 }
 
 /// The cluster, or a sentence that says what is wrong with the numbers on the command line.
@@ -22,6 +26,10 @@ pub fn cluster_of<R: Files + AllocGlobal>(
 ) -> Result<Result<Config, &'static str>, Failure> {
     match source {
         Source::File(path) => Ok(Ok(read_cluster(rt, path)?)),
-        Source::Masters { count, first_port } => masters(rt.alloc(), count, first_port),
+        Source::Masters {
+            count,
+            replicas,
+            first_port,
+        } => masters(rt.alloc(), count, replicas, first_port),
     }
 }

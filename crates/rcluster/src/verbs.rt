@@ -1,6 +1,6 @@
 //! The verbs of the command line, and what stands behind each.
 
-use crate::masters::{LAST_PORT, MOST_MASTERS};
+use crate::masters::{LAST_PORT, MOST_MASTERS, MOST_REPLICAS};
 
 /// How often a call begins again for TRYAGAIN where nothing is said.
 pub const FEW_TRIES: u64 = 100;
@@ -75,7 +75,16 @@ pub static VERBS: [Verb; 4] = [
     Verb {
         name: "serve",
         about: "Serves all nodes of a cluster, each at its own address",
-        arguments: &[CONFIG_OR_MASTERS, MASTERS, PORT, CHECK, TICKS, JOURNAL],
+        arguments: &[
+            CONFIG_OR_MASTERS,
+            MASTERS,
+            REPLICAS,
+            PORT,
+            CHECK,
+            TICKS,
+            JOURNAL,
+            LOG,
+        ],
         after: After::Text(AFTER_SERVE),
     },
     Verb {
@@ -122,10 +131,22 @@ const MASTERS: Argument = Argument {
     },
 };
 
+const REPLICAS: Argument = Argument {
+    name: "replicas",
+    value_name: "R",
+    help: "How many replicas each of these masters has, 0 if missing, 16 nodes in all; they hold no keys yet, and answer MOVED",
+    kind: Kind::NumberBeside {
+        one: "masters",
+        other: "config",
+        least: 0,
+        most: MOST_REPLICAS,
+    },
+};
+
 const PORT: Argument = Argument {
     name: "port",
     value_name: "P",
-    help: "The port of the first of these masters, from which the others rise; 7000 if missing",
+    help: "The port of the first of these masters, from which those of the other masters and of the replicas rise; 7000 if missing",
     kind: Kind::NumberBeside {
         one: "masters",
         other: "config",
@@ -155,6 +176,13 @@ const JOURNAL: Argument = Argument {
     name: "journal",
     value_name: "",
     help: "Keeps each node's journal in memory, which grows with every request",
+    kind: Kind::Flag,
+};
+
+const LOG: Argument = Argument {
+    name: "log",
+    value_name: "",
+    help: "Tells on standard error of each client that can't be served, and why, behind the seconds since the beginning",
     kind: Kind::Flag,
 };
 
@@ -279,6 +307,7 @@ F3  memory was refused before anything was sent\n  \
 F4  the output can't be written, and so this code isn't either";
 
 const AFTER_RESHARD: &str = "\
+Where standard error is a terminal, it tells meanwhile how many slots are done.\n\n\
 Exit status:\n  \
 0  all slots are at their new master\n  \
 1  a fault, whose code is printed as `fault V1`; the same words may be given again\n  \

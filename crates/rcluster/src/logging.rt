@@ -1,0 +1,102 @@
+//! `rcluster serve --log`: a line on standard error for each thing that happens to a cluster and that no client is told.
+
+use crate::failure::Failure;
+use crate::fault::ProgramFault;
+use cluster::{Heard, Incident, Shortage, Witness};
+use std::alloc::{AllocError, Global};
+use std::rt::Clock;
+use std::sync::{Arc, Wait};
+use std::thread::{JoinHandle, Threads};
+use std::{fmt, thread};
+
+/// The log of a cluster that is served, or none where none is wanted. A thread of its own writes it, so that nobody else waits for
+/// whoever reads it.
+#[derive(Drop)]
+pub struct Logging {
+    /// What happens is seen by it.
+    pub witness: Arc<Witness, Global>,
+    thread: Option<JoinHandle<()>>,
+}
+
+impl Logging {
+    /// Begins the log where it is wanted.
+    pub fn begin<R>(rt: R, is_wanted: bool) -> Result<Logging, Failure>
+    where
+        R: AllocGlobal + Eprint + Clock + Threads + Wait + Copy + Drop + Send + Sync + 'static,
+    {
+        let alloc = rt.alloc();
+        if !is_wanted {
+            let witness = Arc::new(alloc, Witness::unheard(alloc)).map_err(AllocError::from)?;
+            return Ok(Logging {
+                witness,
+                thread: None,
+            });
+        }
+        let witness = Witness::heard(&rt, alloc)?;
+        let witness = Arc::new(alloc, witness).map_err(AllocError::from)?;
+        let thread = Some(start_writing(rt, &witness)?);
+        Ok(Logging { witness, thread })
+    }
+
+    /// Ends the log, once all of it is written.
+    pub fn end<R: Threads + Wait>(self, rt: &R) {
+        let Logging { witness, thread } = self;
+        witness.end(rt);
+        if let Some(thread) = thread {
+            thread.join(rt);
+        }
+    }
+}
+
+fn start_writing<R>(rt: R, witness: &Arc<Witness, Global>) -> Result<JoinHandle<()>, Failure>
+where
+    R: Eprint + Threads + Wait + Copy + Drop + Send + Sync + 'static,
+{
+    let witness = Arc::try_clone(witness)?;
+    let started = thread::spawn(&rt, move || {
+        write_all(&rt, &*witness);
+    });
+    started.map_err(|_| Failure::from(ProgramFault::Thread))
+}
+
+// Writes what is heard until the end. Where it can't be written, the cluster is served all the same.
+fn write_all<R: Eprint + Wait>(rt: &R, witness: &Witness) {
+    for _ in rt.forever() {
+        let Some(heard) = witness.listen(rt) else {
+            return;
+        };
+        let _told = eprintln!(rt; "rcluster: {}", Line(heard));
+    }
+}
+
+// A line of the log, behind the name of the program.
+#[derive(Clone, Copy)]
+struct Line(Heard);
+
+impl fmt::Display for Line {
+    fn fmt<W: fmt::Write>(&self, f: &mut fmt::Formatter<W>) -> fmt::Result {
+        let Heard { time, incident } = self.0;
+        write!(f, "{}.{:03} ", time.as_secs(), time.subsec_millis())?;
+        match incident {
+            Incident::ClientRefused { node, shortage } => write!(
+                f,
+                "node {node}: a client isn't served, since {}",
+                text_of(shortage)
+            ),
+            Incident::ThreadNotStarted { node, shortage } => write!(
+                f,
+                "node {node}: a thread isn't started, since {}",
+                text_of(shortage)
+            ),
+            Incident::Missed(count) => write!(f, "lines that are missing before this one: {count}"),
+        }
+    }
+}
+
+fn text_of(shortage: Shortage) -> &'static str {
+    match shortage {
+        Shortage::Memory => "memory is refused",
+        Shortage::Thread => "the system starts no thread",
+        Shortage::Descriptor => "no descriptor is left",
+    }
+}
