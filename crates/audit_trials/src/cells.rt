@@ -6,7 +6,7 @@ ghost use Rattle.tickets.specs.Tickets.{IsFresh};
 use anyhow::{Context, Result};
 use byte_string::ByteString;
 use cluster_config::{Config, ConfigFault, read_config};
-use node_cell::{Asks, Deployment, Journal, NodeCell};
+use node_cell::{Asks, Deployment, HoldsCell, Journal, NodeCell};
 use node_core::{Conn, Event};
 use resp2::Words;
 use slot_table::NodeNo;
@@ -74,7 +74,9 @@ impl<K: Deployment> Cells<K> {
     /// A key moves from the first node to the second, which makes eight steps of both: two connections, four requests, and the
     /// arrivals of the copy and of its acknowledgement.
     pub fn move_a_key(&mut self, alloc: Global, asks: &mut Asks<K>) -> Result<()> {
-        move_a_key(alloc, asks, &mut self.first, &mut self.second)
+        begin_move(alloc, asks, &mut self.first, &mut self.second)?;
+        carry(&mut self.first, &mut self.second)?;
+        carry(&mut self.second, &mut self.first)
     }
 
     /// Both, the first one in front.
@@ -109,53 +111,46 @@ fn node_at<K: Deployment>(
     NodeCell::new(alloc, config, NodeNo::new(number).unwrap(), seat)
 }
 
-fn move_a_key<K: Deployment>(
+/// Asks of both nodes what makes the first one send a copy of its key to the second, in six steps.
+pub fn begin_move<C: HoldsCell>(
     alloc: Global,
-    asks: &mut Asks<K>,
-    first: &mut NodeCell<K, Journal>,
-    second: &mut NodeCell<K, Journal>,
+    asks: &mut Asks<C::Cluster>,
+    first: &mut C,
+    second: &mut C,
 ) -> Result<()> {
     step(asks, first, Event::Open)?;
     step(asks, second, Event::Open)?;
     ask(alloc, asks, first, SET)?;
     ask(alloc, asks, second, IMPORT)?;
     ask(alloc, asks, first, MIGRATE_SLOT)?;
-    ask(alloc, asks, first, MIGRATE_KEY)?;
-    carry(alloc, first, second)?;
-    carry(alloc, second, first)
+    ask(alloc, asks, first, MIGRATE_KEY)
 }
 
 // Asks the words on the first connection of the node.
-fn ask<K: Deployment>(
+fn ask<C: HoldsCell>(
     alloc: Global,
-    asks: &mut Asks<K>,
-    cell: &mut NodeCell<K, Journal>,
+    asks: &mut Asks<C::Cluster>,
+    cell: &mut C,
     words: &str,
 ) -> Result<()> {
     step(asks, cell, Event::Request(CONN, words_of(alloc, words)?))
 }
 
-fn step<K: Deployment>(
-    asks: &mut Asks<K>,
-    cell: &mut NodeCell<K, Journal>,
-    event: Event,
-) -> Result<()>
+fn step<C: HoldsCell>(asks: &mut Asks<C::Cluster>, cell: &mut C, event: Event) -> Result<()>
     requires own { IsOwn event }
 {
-    asks.ask_node(cell, event)?;
+    cell.ask(asks, event)?;
     Ok(())
 }
 
-// Delivers what one node sent to the other.
+// Delivers the messages of a step of one node to the other.
 fn carry<K: Deployment>(
-    alloc: Global,
     from: &mut NodeCell<K, Journal>,
     to: &mut NodeCell<K, Journal>,
 ) -> Result<()> {
-    for sending in from.take_sent(alloc) {
-        for posted in sending {
-            to.deliver(posted)?;
-        }
+    let sending = from.take_sent().context("no message was sent")?;
+    for posted in sending {
+        to.deliver(posted)?;
     }
     Ok(())
 }

@@ -6,7 +6,7 @@ use crate::cells::Cells;
 use anyhow::Result;
 use audit::{AuditFault, gather};
 use cluster_config::Config;
-use node_cell::{Admission, Deployment, Journal, NodeCell};
+use node_cell::{Admission, Deployment};
 use std::alloc::Global;
 use std::marker::Brand;
 use tickets::{Seat, Table, open};
@@ -15,22 +15,22 @@ use tickets::{Seat, Table, open};
 pub struct Row {
     /// What is tried.
     pub name: &'static str,
-    /// Which cells are given.
+    /// Of which nodes something is given.
     pub given: Given,
 }
 
-/// Which cells of a cluster of two nodes are given to the audit.
+/// Which nodes of a cluster of two are given to the audit: their cells, or their stations.
 #[derive(Clone, Copy)]
 pub enum Given {
     /// None.
     Nobody,
-    /// That of node 0.
+    /// Node 0.
     First,
-    /// That of node 1.
+    /// Node 1.
     Second,
-    /// Both, that of node 0 first.
+    /// Both, node 0 first.
     Both,
-    /// Both, that of node 1 first.
+    /// Both, node 1 first.
     Turned,
 }
 
@@ -89,8 +89,8 @@ fn said_at<K: Deployment>(
     Ok(gather(alloc, table, list).map(|run| run.steps()))
 }
 
-// Leaves the cells that are given.
-fn choose<K: Deployment>(cells: &mut Vec<NodeCell<K, Journal>>, given: Given) {
+/// Leaves what is given of the cells or the stations of both nodes.
+pub fn choose<T: Drop>(cells: &mut Vec<T>, given: Given) {
     match given {
         Given::Nobody => cells.clear(),
         Given::First => cells.truncate(1),

@@ -1,7 +1,7 @@
 //! Clients of nodes, on sockets.
 
 use listener::serve_conn;
-use node_cell::{Asks, Deployment, GhostJournal};
+use node_cell::{Asks, Deployment, GhostJournal, NodeCell};
 use resp2::Counting;
 use shared_node::{Gate, SharedNode};
 use std::alloc::Global;
@@ -28,7 +28,7 @@ impl Client {
     /// A client of the node.
     pub fn connect<K: Deployment + Send + Sync + 'static, R>(
         rt: R,
-        node: &Arc<SharedNode<K, GhostJournal>, Global>,
+        node: &Arc<SharedNode<NodeCell<K, GhostJournal>>, Global>,
         asks: Asks<K>,
     ) -> io::Result<Client>
     where
@@ -87,7 +87,7 @@ impl Client {
 fn serve<K: Deployment, R: Wait + Drop>(
     rt: R,
     alloc: Global,
-    node: &SharedNode<K, GhostJournal>,
+    node: &SharedNode<NodeCell<K, GhostJournal>>,
     asks: Asks<K>,
     stream: &TcpStream,
 ) {

@@ -37,7 +37,7 @@ pub fn three_masters(alloc: Global) -> Result<Config, ConfigFault>
 #[derive(Drop)]
 pub struct Nodes<K: Deployment> {
     admission: Admission<K>,
-    nodes: Vec<Arc<SharedNode<K, GhostJournal>, Global>>,
+    nodes: Vec<Arc<SharedNode<NodeCell<K, GhostJournal>>, Global>>,
     mail: Vec<Posted<K>>,
 }
 
@@ -72,7 +72,7 @@ impl<K: Deployment> Nodes<K> {
     }
 
     /// The node of that number, if there is one.
-    pub fn get(&self, number: u8) -> Option<&Arc<SharedNode<K, GhostJournal>, Global>> {
+    pub fn get(&self, number: u8) -> Option<&Arc<SharedNode<NodeCell<K, GhostJournal>>, Global>> {
         self.nodes.get(usize::from(number))
     }
 
@@ -109,7 +109,9 @@ impl<K: Deployment> Nodes<K> {
         let Some(node) = self.get(to) else {
             return Ok(false);
         };
-        node.deliver(rt, posted);
+        let mut cell = node.lock(rt);
+        let _refused = cell.deliver(posted);
+        node.ring(&cell);
         Ok(true)
     }
 
@@ -131,7 +133,11 @@ impl<K: Deployment> Nodes<K> {
     // Takes what the nodes sent since.
     fn collect<R: Wait>(&mut self, rt: &R, alloc: Global) -> Result<(), AllocError> {
         for node in self.nodes.iter() {
-            for sending in node.take_sent(rt, alloc) {
+            let mut cell = node.lock(rt);
+            for _ in rt.forever() {
+                let Some(sending) = cell.take_sent() else {
+                    break;
+                };
                 put_all(&mut self.mail, sending)?;
             }
         }
@@ -163,7 +169,7 @@ fn node_at<K: Deployment>(
     config: &Config,
     number: u8,
     seat: Seat,
-) -> Result<Arc<SharedNode<K, GhostJournal>, Global>, AllocError>
+) -> Result<Arc<SharedNode<NodeCell<K, GhostJournal>>, Global>, AllocError>
     requires number { number < 3 }
     requires cluster { config.now ≡ K.config }
     requires three { length config.now.nodes ≡ 3 }

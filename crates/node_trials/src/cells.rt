@@ -218,7 +218,7 @@ fn make<K: Deployment>(
         Apply(act) => apply(alloc, &mut cells.asks, &mut cells.cell, given, act),
         Deliver => deliver(cells, given),
         TakeReply(key) => Ok(take_reply(&mut cells.cell, given, key)?),
-        TakeSent => Ok(take_sent(alloc, cells, given)?),
+        TakeSent => Ok(take_sent(cells, given)?),
     }
 }
 
@@ -282,13 +282,9 @@ fn take_reply<K: Deployment>(
 }
 
 // How many messages were in the outbox. They are kept, to be delivered.
-fn take_sent<K: Deployment>(
-    alloc: Global,
-    cells: &mut Cells<K>,
-    given: &mut Vec<u8>,
-) -> Result<(), AllocError> {
+fn take_sent<K: Deployment>(cells: &mut Cells<K>, given: &mut Vec<u8>) -> Result<(), AllocError> {
     let mut count = 0usize;
-    for sending in cells.cell.take_sent(alloc) {
+    while let Some(sending) = cells.cell.take_sent() {
         count = count.saturating_add(sending.len());
         keep(&mut cells.posted, sending)?;
     }

@@ -2,7 +2,10 @@
 ghost use Rattle.std.specs.Prelude.{◌≡◌, IfOk, length};
 
 use cluster_config::{Config, ConfigFault, read_config};
-use std::alloc::Global;
+use node_core::Core;
+use slot_store::SlotStore;
+use slot_table::NodeNo;
+use std::alloc::{AllocError, Global};
 
 // Three masters with a third of the slots each. A node ticks every 10 ms.
 const THREE_MASTERS: &[u8] = b"{\"tick_ms\":10,\"node_timeout\":20,\"nodes\":[\
@@ -20,4 +23,9 @@ pub fn three_masters(alloc: Global) -> Result<Config, ConfigFault>
         3 => Ok(config),
         _ => Err(ConfigFault::Syntax),
     }
+}
+
+/// The node of that number as it begins.
+pub fn node_of(alloc: Global, config: &Config, number: NodeNo) -> Result<Core, AllocError> {
+    Core::new(alloc, config.clone()?, number, SlotStore::new(alloc)?)
 }

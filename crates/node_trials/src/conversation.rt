@@ -99,7 +99,7 @@ fn hold_at<K: Deployment, R: Wait + Drop>(
 fn converse<K: Deployment, R: Wait + Drop>(
     rt: R,
     alloc: Global,
-    node: &SharedNode<K, Journal>,
+    node: &SharedNode<NodeCell<K, Journal>>,
     asks: Asks<K>,
     reader: &mut Counting<Pieces<'_>>,
     writer: &mut Counting<Written>,

@@ -1,19 +1,26 @@
 //! Three nodes under load, and what their journals hold at the end.
-ghost use Rattle.std.specs.Prelude.{◌≡◌, All, IfOk, length, vec_len};
+ghost use Rattle.std.specs.Prelude.{◌≡◌, All, IfOk, length, map, vec_len};
+ghost use Rattle.links.specs.Ends.{AreLinkedFrom};
 ghost use Rattle.tickets.specs.Tickets.{IsFresh, id_of};
 
 use crate::clusters::three_masters;
+use crate::moving::move_a_slot;
+use crate::replay::is_repeated;
 use crate::telling::say;
-use anyhow::Result;
-use cluster::{Journals, Place, finish_nodes, serve_nodes};
+use anyhow::{Context, Result, bail};
+use audit::{WorldRun, gather_stations};
+use cluster::{Place, Runtime, Witness, serve_nodes};
 use cluster_config::Config;
-use node_cell::{Deployment, Entry, Journal};
+use links::{NodeEnds, Web, link_all};
+use node_cell::{Deployment, Entry, Journal, Posted};
 use node_core::Event;
+use slot_table::NodeNo;
 use std::alloc::{AllocError, Global};
+use std::collections::VecDeque;
 use std::io::{Read, Write};
 use std::marker::Brand;
 use std::net::{Net, SocketAddr, TcpListener, TcpStream};
-use std::sync::Wait;
+use std::sync::{Arc, Wait};
 use std::thread::{JoinHandle, Threads};
 use std::{io, thread};
 use tickets::{Seat, Table, open};
@@ -36,31 +43,29 @@ const REQUESTS: [&[u8]; 3] = [
 // So many replies show that the nodes were under load.
 const FEW: u64 = 1000;
 
+// What clients saw.
+#[derive(Clone, Copy)]
+struct Heard {
+    // How many replies the clients read that write.
+    replies: u64,
+    // A slot went from one node to another.
+    has_moved: bool,
+}
+
 // What was seen once the nodes had ended.
 #[derive(Clone, Copy)]
 struct Seen {
+    heard: Heard,
     // Each number below the number of tickets is the ticket of one entry.
     each_once: bool,
-    // How many replies the clients read.
-    replies: u64,
     // How many requests are in the journals.
     requests: u64,
+    // Each node gives the outputs in its journal when it is led through it again.
+    are_repeated: bool,
 }
 
 /// Says what the journals hold of nodes that were under load.
-pub fn try_out<R>(rt: R) -> Result<()>
-where
-    R: AllocGlobal
-        + Net<Listener = TcpListener, Stream = TcpStream>
-        + Print
-        + Threads
-        + Wait
-        + Copy
-        + Drop
-        + Send
-        + Sync
-        + 'static,
-{
+pub fn try_out<R: Runtime + AllocGlobal + Print>(rt: R) -> Result<()> {
     let config = three_masters(rt.alloc())?;
     let (table, seats) = open(rt.alloc(), 3)?;
     let seen = serve_under_load::<Brand, R>(rt, &config, &table, seats)?;
@@ -68,110 +73,169 @@ where
 }
 
 fn tell<R: Print>(rt: &R, seen: Seen) -> io::Result<()> {
-    say(rt, "the nodes were under load", seen.replies > FEW)?;
+    let heard = seen.heard;
+    say(rt, "the nodes were under load", heard.replies > FEW)?;
+    say(rt, "a slot moved meanwhile", heard.has_moved)?;
+    tell_journals(rt, seen)
+}
+
+fn tell_journals<R: Print>(rt: &R, seen: Seen) -> io::Result<()> {
     say(rt, "each ticket is in one journal, once", seen.each_once)?;
     say(
         rt,
         "each reply is to a request in a journal",
-        seen.replies <= seen.requests,
+        seen.heard.replies <= seen.requests,
+    )?;
+    say(
+        rt,
+        "the journals, played again, give the same outputs",
+        seen.are_repeated,
     )
 }
 
-// Serves the nodes, each with one of the seats, while clients write at all of them, and finishes them.
-fn serve_under_load<K: Deployment + Send + Sync + 'static, R>(
+// Links the nodes, and serves them, each with one of the seats.
+fn serve_under_load<K: Deployment + Send + Sync + 'static, R: Runtime + AllocGlobal>(
     rt: R,
     config: &Config,
     table: &Table,
     seats: Vec<Seat>,
-) -> io::Result<Seen>
+) -> Result<Seen>
 where
-    R: AllocGlobal
-        + Net<Listener = TcpListener, Stream = TcpStream>
-        + Threads
-        + Wait
-        + Copy
-        + Drop
-        + Send
-        + Sync
-        + 'static,
     requires cluster { config.now ≡ K.config }
     requires table { id_of table.now ≡ K.table }
     requires whole { vec_len seats ≡ K.seats }
     requires nodes { vec_len seats ≡ length config.now.nodes }
     requires fresh { All (λ seat. IsFresh K.table K.seats seat) seats.items }
 {
-    let alloc = rt.alloc();
-    let places = places::<K, R>(&rt, seats)?;
-    let clients = start_all(rt, places.as_slice())?;
-    let Ok(cells) = serve_nodes::<K, Journal, R>(rt, alloc, config, places, Some(TICKS)) else {
-        return Err(io::Error::other("the nodes can't be served"));
-    };
-    let replies = join_all(&rt, clients);
-    let ended = finish_nodes(alloc, table, cells)?;
-    look_at(alloc, replies, ended)
+    let ends = link_all::<Posted<K>, R>(rt.alloc(), rt, config.nodes().len())?;
+    serve_linked::<K, Brand, R>(rt, config, table, seats, ends)
 }
 
-// So many replies were read by all clients.
-fn join_all<R: Threads + Wait>(rt: &R, clients: Vec<JoinHandle<u64>>) -> u64 {
-    let mut replies = 0u64;
-    for client in clients {
-        replies = replies.saturating_add(client.join(rt));
-    }
-    replies
-}
-
-// A listener for each of the seats.
-fn places<K: Deployment, R>(rt: &R, seats: Vec<Seat>) -> io::Result<Vec<Place>>
+// Serves the nodes, each with one of the seats and its ends of the links, while clients write at all of them, and gathers what they did.
+fn serve_linked<
+    K: Deployment + Send + Sync + 'static,
+    W: Web + Send + 'static,
+    R: Runtime + AllocGlobal,
+>(
+    rt: R,
+    config: &Config,
+    table: &Table,
+    seats: Vec<Seat>,
+    ends: Vec<NodeEnds<Posted<K>, R>>,
+) -> Result<Seen>
 where
-    R: AllocGlobal + Net<Listener = TcpListener, Stream = TcpStream>,
-    requires { All (λ seat. IsFresh K.table K.seats seat) seats.items }
+    requires cluster { config.now ≡ K.config }
+    requires table { id_of table.now ≡ K.table }
+    requires whole { vec_len seats ≡ K.seats }
+    requires nodes { vec_len seats ≡ length config.now.nodes }
+    requires fresh { All (λ seat. IsFresh K.table K.seats seat) seats.items }
+    requires ends { vec_len ends ≡ length config.now.nodes }
+    requires linked { AreLinkedFrom W.links (length config.now.nodes) 0 ends.items }
+{
+    let alloc = rt.alloc();
+    let places = places::<K, R>(&rt, seats, ends)?;
+    let clients = start_all(rt, places.as_slice())?;
+    let nobody = Arc::new(alloc, Witness::unheard(alloc)).map_err(AllocError::from)?;
+    let served = serve_nodes::<K, W, Journal, R>(rt, alloc, config, places, Some(TICKS), &nobody);
+    let Ok(stations) = served else {
+        bail!("the nodes can't be served");
+    };
+    let heard = clients.join(&rt);
+    let Ok(run) = gather_stations(alloc, table, stations) else {
+        bail!("there is no memory to gather what the nodes did");
+    };
+    look_at(alloc, config, heard, &run)
+}
+
+// Clients of all nodes.
+#[derive(Drop)]
+struct Clients {
+    writing: Vec<JoinHandle<u64>>,
+    moving: JoinHandle<bool>,
+}
+
+impl Clients {
+    // What they saw, once all have ended.
+    fn join<R: Threads + Wait>(self, rt: &R) -> Heard {
+        let Clients { writing, moving } = self;
+        let mut replies = 0u64;
+        for client in writing {
+            replies = replies.saturating_add(client.join(rt));
+        }
+        Heard {
+            replies,
+            has_moved: moving.join(rt),
+        }
+    }
+}
+
+// A listener for each of the seats, with the ends of its node.
+fn places<K: Deployment, R: Runtime + AllocGlobal>(
+    rt: &R,
+    seats: Vec<Seat>,
+    ends: Vec<NodeEnds<Posted<K>, R>>,
+) -> io::Result<Vec<Place<K, R>>>
+    requires fresh { All (λ seat. IsFresh K.table K.seats seat) seats.items }
+    requires count { vec_len ends ≡ vec_len seats }
     ensures count { IfOk result (λ places. vec_len places ≡ vec_len seats) }
     ensures fresh { IfOk result (λ places. All (λ place. IsFresh K.table K.seats place.seat) places.items) }
+    ensures ends { IfOk result (λ places. map (λ place. place.ends) places.items ≡ ends.items) }
 {
     let mut places = Vec::with_capacity(rt.alloc(), seats.len())?;
+    let mut all_ends = VecDeque::from(ends);
     for seat in seats {
         let listener = TcpListener::bind(rt, "127.0.0.1:0")?;
-        let place = Place { seat, listener };
+        let ends = all_ends.pop_front().unwrap();
+        let place = Place {
+            seat,
+            ends,
+            listener,
+        };
         places.push(place).map_err(AllocError::from)?;
     }
     Ok(places)
 }
 
 // The clients of all places.
-fn start_all<R>(rt: R, places: &[Place]) -> io::Result<Vec<JoinHandle<u64>>>
-where
-    R: AllocGlobal
-        + Net<Listener = TcpListener, Stream = TcpStream>
-        + Threads
-        + Copy
-        + Drop
-        + Send
-        + Sync
-        + 'static,
-{
-    let mut clients = Vec::new(rt.alloc());
+fn start_all<K: Deployment, R: Runtime + AllocGlobal>(
+    rt: R,
+    places: &[Place<K, R>],
+) -> Result<Clients> {
+    let [_, target, source] = places else {
+        bail!("there aren't three nodes");
+    };
+    let moving = start_moving(
+        rt,
+        source.listener.local_addr()?,
+        target.listener.local_addr()?,
+    )?;
+    let mut writing = Vec::new(rt.alloc());
     for (place, request) in places.iter().zip(REQUESTS) {
-        start_clients(rt, place.listener.local_addr()?, request, &mut clients)?;
+        start_clients(rt, place.listener.local_addr()?, request, &mut writing)?;
     }
-    Ok(clients)
+    Ok(Clients { writing, moving })
 }
 
-fn start_clients<R>(
+fn start_moving<R: Runtime>(
+    rt: R,
+    source: SocketAddr,
+    target: SocketAddr,
+) -> io::Result<JoinHandle<bool>> {
+    let Ok(client) = thread::spawn(
+        &rt,
+        move || move_a_slot(&rt, source, target).unwrap_or(false),
+    ) else {
+        return Err(io::Error::other("a client can't be started"));
+    };
+    Ok(client)
+}
+
+fn start_clients<R: Runtime + AllocGlobal>(
     rt: R,
     address: SocketAddr,
     request: &'static [u8],
     clients: &mut Vec<JoinHandle<u64>>,
-) -> io::Result<()>
-where
-    R: AllocGlobal
-        + Net<Listener = TcpListener, Stream = TcpStream>
-        + Threads
-        + Copy
-        + Drop
-        + Send
-        + Sync
-        + 'static,
-{
+) -> io::Result<()> {
     for _ in 0..CLIENTS {
         let Ok(client) = thread::spawn(
             &rt,
@@ -205,20 +269,26 @@ where
 }
 
 // What the journals hold.
-fn look_at(alloc: Global, replies: u64, ended: Journals<Journal>) -> io::Result<Seen> {
+fn look_at(alloc: Global, config: &Config, heard: Heard, run: &WorldRun) -> Result<Seen> {
+    let tickets = run.steps();
     let mut tally = Tally {
-        is_used: vec![in alloc; false; ended.tickets as usize]?,
+        is_used: vec![in alloc; false; tickets as usize]?,
         each_once: true,
         entries: 0,
         requests: 0,
     };
-    for journal in ended.journals {
-        tally.add_all(journal.into_entries().as_slice());
+    let mut are_repeated = true;
+    for number in 0..config.nodes().len() {
+        let number = NodeNo::new(number as u8).context("there are too many nodes")?;
+        let journal = run.journal(number).context("a node has no journal")?;
+        tally.add_all(journal);
+        are_repeated &= is_repeated(alloc, config, number, journal)?;
     }
     Ok(Seen {
-        each_once: tally.each_once && tally.entries == ended.tickets,
-        replies,
+        heard,
+        each_once: tally.each_once && tally.entries == tickets,
         requests: tally.requests,
+        are_repeated,
     })
 }
 

@@ -7,11 +7,14 @@ mod callers;
 mod cells;
 mod clusters;
 mod conversation;
+mod full_link;
 mod gates;
 mod growth;
 mod load;
 mod moves;
+mod moving;
 mod refused;
+mod replay;
 mod seats;
 mod second_tries;
 mod streams;
@@ -22,6 +25,7 @@ mod writes;
 use anyhow::{Result, bail};
 use std::env;
 use std::net::{Net, TcpListener, TcpStream};
+use std::rt::Clock;
 use std::sync::Wait;
 use std::thread::Threads;
 
@@ -35,6 +39,7 @@ enum Trial {
     Seats,
     Callers,
     Locks,
+    Links,
     Load,
 }
 
@@ -58,6 +63,7 @@ fn trial_of(word: &str) -> Option<Trial> {
         "seats" => Some(Trial::Seats),
         "callers" => Some(Trial::Callers),
         "locks" => Some(Trial::Locks),
+        "links" => Some(Trial::Links),
         "load" => Some(Trial::Load),
         _ => None,
     }
@@ -68,6 +74,7 @@ where
     R: AllocGlobal
         + Net<Listener = TcpListener, Stream = TcpStream>
         + Print
+        + Clock
         + Threads
         + Wait
         + Copy
@@ -84,6 +91,7 @@ where
         Trial::Seats => seats::try_out(&rt),
         Trial::Callers => callers::try_out(&rt),
         Trial::Locks => two_nodes::try_out(rt),
+        Trial::Links => full_link::try_out(rt),
         Trial::Load => load::try_out(rt),
     }
 }

@@ -1,14 +1,13 @@
 //! Nodes that move slots. A node that is refused memory is as it was, so each step is made at a second try.
 
 use crate::acts::{Act, push_outputs};
-use crate::clusters::three_masters;
+use crate::clusters::{node_of, three_masters};
 use crate::telling::tell;
 use anyhow::{Context, Result};
 use bus::Message;
 use cluster_config::Config;
 use node_cell::Journal;
 use node_core::{Core, Event, Outputs, StepFault};
-use slot_store::SlotStore;
 use slot_table::NodeNo;
 use std::alloc::{AllocError, Global};
 
@@ -160,7 +159,7 @@ impl World {
     fn begin(alloc: Global, config: &Config) -> Result<World> {
         let mut nodes = Vec::new(alloc);
         for number in 0..NODES {
-            nodes.push(node_of(alloc, config, number)?)?;
+            nodes.push(open_node(alloc, config, number)?)?;
         }
         Ok(World {
             nodes,
@@ -220,9 +219,10 @@ fn act_of(text: &str) -> Act<'_> {
     }
 }
 
-fn node_of(alloc: Global, config: &Config, number: u8) -> Result<Core> {
+// A node with its connections.
+fn open_node(alloc: Global, config: &Config, number: u8) -> Result<Core> {
     let number = NodeNo::new(number).context("there are too many nodes")?;
-    let mut node = Core::new(alloc, config.clone()?, number, SlotStore::new(alloc)?)?;
+    let mut node = node_of(alloc, config, number)?;
     open_all(&mut node)?;
     Ok(node)
 }

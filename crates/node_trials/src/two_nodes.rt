@@ -91,7 +91,7 @@ fn node<K: Deployment>(
     config: &Config,
     number: u8,
     seat: Seat,
-) -> Result<SharedNode<K, GhostJournal>, AllocError>
+) -> Result<SharedNode<NodeCell<K, GhostJournal>>, AllocError>
     requires number { number < 3 }
     requires three { length config.now.nodes ≡ 3 }
     requires cluster { config.now ≡ K.config }
@@ -109,8 +109,8 @@ fn ask_both<
     rt: R,
     alloc: Global,
     admission: &Admission<K>,
-    second: &SharedNode<K, GhostJournal>,
-    third: Arc<SharedNode<K, GhostJournal>>,
+    second: &SharedNode<NodeCell<K, GhostJournal>>,
+    third: Arc<SharedNode<NodeCell<K, GhostJournal>>>,
     locks: Locks,
 ) -> Result<bool, AllocError> {
     let signals = Arc::new(alloc, Signals::new())?;
@@ -128,7 +128,7 @@ fn ask_both<
 fn hold_up<K: Deployment, R: Wait + Copy + Drop>(
     rt: R,
     alloc: Global,
-    node: &SharedNode<K, GhostJournal>,
+    node: &SharedNode<NodeCell<K, GhostJournal>>,
     asks: Asks<K>,
     signals: &Signals,
     locks: Locks,
@@ -152,7 +152,7 @@ fn hold_up<K: Deployment, R: Wait + Copy + Drop>(
 fn ask_meanwhile<K: Deployment, R: Wait + Copy + Drop>(
     rt: R,
     alloc: Global,
-    node: &SharedNode<K, GhostJournal>,
+    node: &SharedNode<NodeCell<K, GhostJournal>>,
     asks: Asks<K>,
     signals: &Signals,
     locks: Locks,
