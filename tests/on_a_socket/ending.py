@@ -203,8 +203,8 @@ def play(judge):
         play_signal(judge, sign)
 
 
-def play_ticks(judge, clients, options):
-    what = " ".join([clients.__name__.replace("_", " "), *options])
+def play_ticks(judge, clients, options, turn=""):
+    what = " ".join([clients.__name__.replace("_", " "), *options]) + turn
     cluster = clusters.six_nodes(tick_ms=TICK_MS)
     with judge.part(what), Server(cluster, "--ticks", str(TICKS), *options) as server:
         judge.equal(f"{what}: the lines of the nodes", server.lines, lines_of(cluster))

@@ -10,9 +10,11 @@ import socket
 import clusters
 import program
 from clusters import node_id, ports_of
-from wire import PING, PONG, array, bulk, number, spelled, talk
+from wire import NIL, PING, PONG, array, bulk, moved, number, slot_of, spelled, talk
 
 SERVE = ("serve", "--config", program.FILE)
+KEY = b"foo"
+SLOT = slot_of(KEY)
 
 
 def faulty_clusters():
@@ -72,12 +74,15 @@ def play_scripts(judge):
 
 
 def play_masters(judge):
-    """Clusters without a file."""
-    for count in (1, 3, 16):
-        port = free_row(count)
-        with program.Server({"nodes": range(count)}, source=("--masters", str(count), "--port", str(port))) as server:
-            ports = range(port, port + count)
-            judge.equal(f"{count} masters: the lines of the nodes", server.lines, b"".join(b"node %d 127.0.0.1:%d\n" % it for it in enumerate(ports)))
+    """Clusters without a file: so many masters, and so many replicas of each."""
+    for count, replicas in ((1, None), (3, None), (16, 0), (1, 15), (3, 1), (5, 2)):
+        what = f"{count} masters" if replicas is None else f"{count} masters with {replicas} replicas each"
+        nodes = count * (1 + (replicas or 0))
+        options = () if replicas is None else ("--replicas", str(replicas))
+        port = free_row(nodes)
+        with program.Server({"nodes": range(nodes)}, source=("--masters", str(count), *options, "--port", str(port))) as server:
+            ports = range(port, port + nodes)
+            judge.equal(f"{what}: the lines of the nodes", server.lines, b"".join(b"node %d 127.0.0.1:%d\n" % it for it in enumerate(ports)))
             bounds = [(2 * 16384 * it + count) // (2 * count) for it in range(count + 1)]
             slots = array(
                 *(
@@ -85,9 +90,19 @@ def play_masters(judge):
                     for it in range(count)
                 )
             )
-            judge.equal(f"{count} masters: the slots", talk(ports[-1], spelled(b"CLUSTER", b"SLOTS")), slots)
-    judge.equal("masters, checked alone", program.run("serve", "--masters", "16", "--check"), (0, b"", b""))
-    judge.equal("masters up to the last port", program.run("serve", "--masters", "3", "--port", "65533", "--check"), (0, b"", b""))
+            judge.equal(f"{what}: the slots", talk(ports[-1], spelled(b"CLUSTER", b"SLOTS")), slots)
+            ids = [talk(it, spelled(b"CLUSTER", b"MYID")) for it in ports]
+            judge.equal(f"{what}: the ids", ids, [bulk(node_id(it).encode()) for it in range(nodes)])
+            owner = next(it for it in range(count) if SLOT < bounds[it + 1])
+            got = [talk(it, spelled(b"GET", KEY)) for it in ports]
+            judge.equal(f"{what}: who has a key", got, [NIL if it == owner else moved(SLOT, port + owner) for it in range(nodes)])
+    for what, words in [
+        ("masters", ("--masters", "16")),
+        ("masters up to the last port", ("--masters", "3", "--port", "65533")),
+        ("masters and replicas", ("--masters", "4", "--replicas", "3")),
+        ("masters and replicas up to the last port", ("--masters", "2", "--replicas", "1", "--port", "65532")),
+    ]:
+        judge.equal(f"{what}, checked alone", program.run("serve", *words, "--check"), (0, b"", b""))
 
 
 def free_row(count):
@@ -155,7 +170,15 @@ def faulty_words():
         yield ("serve", "--masters", count), f"invalid value '{count}' for '--masters <M>'"
     for port in ("0", "65536"):
         yield ("serve", "--masters", "1", "--port", port), f"invalid value '{port}' for '--port <P>'"
-    yield ("serve", "--masters", "3", "--port", "65534"), "the last one is above 65535"
+    for count, replicas, port in (("3", "0", "65534"), ("3", "1", "65531"), ("1", "15", "65521")):
+        yield ("serve", "--masters", count, "--replicas", replicas, "--port", port), "the last one is above 65535"
+    yield ("serve", "--replicas", "1"), "--masters <M>"
+    yield (*SERVE, "--replicas", "1"), "cannot be used with '--replicas <R>'"
+    for replicas in ("16", "x"):
+        yield ("serve", "--masters", "1", "--replicas", replicas), f"invalid value '{replicas}' for '--replicas <R>'"
+    yield ("serve", "--masters", "1", "--replicas", "-1"), "unexpected argument '-1'"
+    for count, replicas in (("2", "8"), ("9", "1"), ("16", "1"), ("4", "4"), ("2", "15")):
+        yield ("serve", "--masters", count, "--replicas", replicas), "make more than 16 nodes"
 
 
 def play_words(judge):
@@ -168,7 +191,7 @@ def play_words(judge):
     judge.equal("--version", program.run("--version"), (0, b"rcluster 0.1.0\n", b""))
     status, output, error = program.run("serve", "--help")
     judge.equal("serve --help: status, and nothing on standard error", (status, error), (0, b""))
-    for option in (b"--config <FILE>", b"--masters <M>", b"--port <P>", b"--check", b"--ticks <N>", b"--journal"):
+    for option in (b"--config <FILE>", b"--masters <M>", b"--replicas <R>", b"--port <P>", b"--check", b"--ticks <N>", b"--journal", b"--log"):
         judge.within(f"serve --help tells {option.decode()}", option, output)
     for verb, codes in [
         ("serve", ["F1", "F2", "F3", *(f"K{it}" for it in range(1, 9))]),

@@ -1,0 +1,120 @@
+"""`serve --log`: standard error has a line for each client that isn't served, with the node, the reason, and how many seconds after the
+beginning it was. Nobody waits for who reads it, and where too many lines wait it says how many are missing. Without the option nothing is told.
+"""
+
+import contextlib
+import os
+import re
+import resource
+import subprocess
+import threading
+import time
+
+import clusters
+import program
+from clusters import ports_of
+from descriptors import COMING, limit, outcome, served_in_time, told_at
+from memory import limited
+from program import PATIENCE, Server
+from refusals import free_row
+from wire import PING, PONG, ask, connect
+
+LINE = re.compile(rb"rcluster: (\d+\.\d{3}) node (\d+): a client isn't served, since (.*)\n")
+MISSING = re.compile(rb"rcluster: \d+\.\d{3} lines that are missing before this one: (\d+)\n")
+NOT_STARTED = re.compile(
+    rb"rcluster: \d+\.\d{3} node \d+: a thread isn't started, since the system starts no thread\n"
+    rb"rcluster: a node's thread can't be started \(F3\)\n"
+)
+NO_DESCRIPTOR, NO_THREAD = b"no descriptor is left", b"the system starts no thread"
+# How many clients aren't served while nobody reads: more than wait in a pipe, which has 65,536 bytes, and of 1024 lines in the program.
+UNREAD = 3000
+# How many descriptors it has then.
+FEW = 12
+# How many KiB of addresses are too few for the stacks of the threads of 16 nodes, of which each has 8 MiB.
+SMALL = 250000
+
+
+def play(judge):
+    play_descriptors(judge)
+    play_threads(judge)
+    play_no_reader(judge)
+
+
+def play_descriptors(judge):
+    for options in (["--log"], []):
+        cluster = clusters.six_nodes()
+        ports = ports_of(cluster)
+        with Server(cluster, *options) as server, contextlib.ExitStack() as stack:
+            limit(server)
+            nodes = [it % len(ports) for it in range(COMING)]
+            refused = [it for it in nodes if outcome(stack.enter_context(connect(ports[it]))) == "closed"]
+            judge.least("no descriptors are left: clients that aren't served", len(refused), 1)
+            judge_lines(judge, f"no descriptors are left, options {options}", server, refused if options else [], NO_DESCRIPTOR)
+
+
+def play_threads(judge):
+    """Where memory is short no thread gets a stack, be it of a client or of a node."""
+    cluster = clusters.masters(2)
+    ports = ports_of(cluster)
+    with Server(cluster, "--log") as server, contextlib.ExitStack() as stack:
+        for port in ports:
+            judge.true("memory isn't short yet: a client is served", served_in_time(stack, port), str(port))
+        with limited(server):
+            nodes = [it % len(ports) for it in range(COMING)]
+            refused = [it for it in nodes if outcome(stack.enter_context(connect(ports[it]))) == "closed"]
+        judge.least("memory is short: clients that aren't served", len(refused), 1)
+        judge_lines(judge, "memory is short", server, refused, NO_THREAD)
+    words = [program.PATH, "serve", "--masters", "16", "--port", str(free_row(16)), "--log"]
+    done = subprocess.run(["sh", "-c", f'ulimit -v {SMALL}; exec "$@"', "sh", *words], capture_output=True, timeout=PATIENCE, check=False)
+    judge.equal("too little memory for all nodes: status and code", (done.returncode, done.stdout.splitlines()[16:]), (1, [b"fault F3"]))
+    judge.true("too little memory for all nodes: what is told", NOT_STARTED.fullmatch(done.stderr), repr(done.stderr))
+
+
+def judge_lines(judge, what, server, refused, reason):
+    """A line for each client that was refused at one of these nodes, and no other."""
+    lines = lines_in_time(server, len(refused))
+    took = time.monotonic() - server.begun
+    found = [it for it in map(LINE.fullmatch, lines) if it]
+    judge.equal(f"{what}: other lines", [it for it in lines if not LINE.fullmatch(it)], [])
+    judge.equal(f"{what}: nodes and reasons", sorted((int(it[2]), it[3]) for it in found), [(node, reason) for node in sorted(refused)])
+    times = [float(it[1]) for it in found]
+    judge.true(f"{what}: the times don't fall, and are of the run", times == sorted(times) and all(it <= took for it in times), repr((times, took)))
+
+
+def lines_in_time(server, count):
+    """What is on standard error, once there are so many lines, or else what it is when the patience has ended."""
+    last = time.monotonic() + PATIENCE
+    while True:
+        lines = os.pread(server.errors.fileno(), 1 << 20, 0).splitlines(True)
+        if len(lines) >= count or time.monotonic() > last:
+            return lines
+        time.sleep(0.01)
+
+
+def play_no_reader(judge):
+    [port] = clusters.free_ports(1)
+    words = [program.PATH, "serve", "--masters", "1", "--port", str(port), "--log"]
+    with subprocess.Popen(words, stdin=subprocess.DEVNULL, stdout=subprocess.PIPE, stderr=subprocess.PIPE) as process, contextlib.ExitStack() as stack:
+        patience = threading.Timer(PATIENCE, process.kill)
+        patience.start()
+        judge.equal("nobody reads: the line of the node", process.stdout.readline(), b"node 0 127.0.0.1:%d\n" % port)
+        client = stack.enter_context(connect(port))
+        judge.equal("nobody reads: a client is served", ask(client, PING, PONG), PONG)
+        _, most = resource.prlimit(process.pid, resource.RLIMIT_NOFILE)
+        resource.prlimit(process.pid, resource.RLIMIT_NOFILE, (FEW, most))
+        came = [outcome(stack.enter_context(connect(port))) for _ in range(FEW)]
+        judge.equal("nobody reads: clients that come until one isn't served", set(came), {"served", "closed"})
+        judge.equal("nobody reads: clients that aren't told at once", [it for it in range(UNREAD) if told_at(port) != "closed"], [])
+        judge.equal("nobody reads: the client is served on", ask(client, PING, PONG), PONG)
+        told, missing = 0, 0
+        refused = UNREAD + came.count("closed")
+        while told + missing < refused and (line := process.stderr.readline()):
+            count = MISSING.fullmatch(line)
+            missing += int(count[1]) if count else 0
+            told += bool(LINE.fullmatch(line))
+        judge.equal("nobody reads: clients that are told of or missing", told + missing, refused)
+        judge.least("nobody reads: how many are missing", missing, 1)
+        resource.prlimit(process.pid, resource.RLIMIT_NOFILE, (most, most))
+        judge.true("somebody reads: another client is served", served_in_time(stack, port), "it wasn't")
+        patience.cancel()
+        process.kill()
