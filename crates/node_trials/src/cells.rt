@@ -284,7 +284,10 @@ fn take_reply<K: Deployment>(
 // How many messages were in the outbox. They are kept, to be delivered.
 fn take_sent<K: Deployment>(cells: &mut Cells<K>, given: &mut Vec<u8>) -> Result<(), AllocError> {
     let mut count = 0usize;
-    while let Some(sending) = cells.cell.take_sent() {
+    for _ in 0..u64::MAX {
+        let Some(sending) = cells.cell.take_sent() else {
+            break;
+        };
         count = count.saturating_add(sending.len());
         keep(&mut cells.posted, sending)?;
     }
