@@ -12,6 +12,8 @@ from wire import OK, PATIENCE, spelled, talk
 
 NUMBERED = [b"CLUSTER", b"NUMBERED"]
 GET = [b"GET", b"foo"]
+# No port, port 0, a leading zero, a port that is too great, no host, and an address of IPv6.
+NO_ADDRESSES = ("127.0.0.1", "127.0.0.1:0", "127.0.0.1:07000", "127.0.0.1:65536", ":7000", "::1:7000")
 
 
 def cli(port, *words, tries=None):
@@ -31,17 +33,22 @@ def play_words(judge):
     for what, words in [
         ("no address", ["cli", "GET", "foo"]),
         ("no words", ["cli", "--addr", "127.0.0.1:7000"]),
-        ("no port", ["cli", "--addr", "127.0.0.1", "GET", "foo"]),
-        ("port 0", ["cli", "--addr", "127.0.0.1:0", "GET", "foo"]),
-        ("a port with a leading zero", ["cli", "--addr", "127.0.0.1:07000", "GET", "foo"]),
         ("too many tries", ["cli", "--addr", "127.0.0.1:7000", "--try", "1000001", "GET", "foo"]),
     ]:
         status, output, error = program.run(*words)
         judge.equal(f"{what}: status and output", (status, output), (2, b""))
         judge.true(f"{what}: a sentence on standard error", error.startswith(b"error: "), repr(error))
+    for address in NO_ADDRESSES:
+        judge.equal(f"the address {address!r}", program.run("cli", "--addr", address, "GET", "foo"), (2, b"", no_address(address)))
     port = clusters.free_ports(1)[0]
-    told = b"rcluster: 127.0.0.1:%d can't be reached, and the command was not executed (C5)\n" % port
+    told = b"rcluster: 127.0.0.1:%d can't be reached: Connection refused (os error 111), and the command was not executed (C5)\n" % port
     judge.equal("no node is there", program.run("cli", "--addr", f"127.0.0.1:{port}", "GET", "foo"), (1, b"fault C5\n", told))
+
+
+def no_address(text):
+    """What standard error says of an address that is none."""
+    wanted = "--addr takes HOST:PORT, with a host without a colon and a port from 1 to 65535"
+    return f"error: \"{text}\" is no address: {wanted}\n\nFor more information, try '--help'.\n".encode()
 
 
 def play_calls(judge):
@@ -138,16 +145,18 @@ def play_nodes(judge):
     for what, node, code, said in [
         ("a connection that ends behind CLUSTER NUMBERED", Node(numbered=None), b"C5",
          b"the connection to 127.0.0.1:%d failed, and the command was not executed"),
-        ("a reply that is none", Node(b"?\r\n"), b"C6", b"127.0.0.1:%d answered bytes that are no reply to GET foo, which no node does"),
+        ("a reply that is none", Node(b"?\r\n"), b"C6",
+         b"127.0.0.1:%d answered bytes that are no reply to GET foo, which no node does; whether the command was executed is unknown"),
         ("another reply to CLUSTER NUMBERED", Node(numbered=b":7\r\n"), b"C6",
-         b"127.0.0.1:%d answered the number 7 to CLUSTER NUMBERED, which no node does"),
+         b"127.0.0.1:%d answered the number 7 to CLUSTER NUMBERED, which no node does; the command was not executed"),
         ("an ASK without the number of the move", Node(b"-ASK 12182 127.0.0.1:7000\r\n"), b"C6",
-         b'127.0.0.1:%d answered "ASK 12182 127.0.0.1:7000" to GET foo, which no node does'),
+         b'127.0.0.1:%d answered "ASK 12182 127.0.0.1:7000" to GET foo, which no node does; whether the command was executed is unknown'),
     ]:
         came = program.run("cli", "--addr", f"127.0.0.1:{node.port}", "GET", "foo")
         judge.equal(f"what is said of {what}", came, (1, b"fault %s\n" % code, b"rcluster: %s (%s)\n" % (said % node.port, code)))
         node.close()
 
+    play_refusals(judge)
     ends("the connection ends behind the command", (1, b"fault C1\n"), [[NUMBERED, GET]], Node())
     ends("it ends within the reply", (1, b"fault C1\n"), [[NUMBERED, GET]], Node(b"$5\r\nab", ends=True))
     ends("it ends behind CLUSTER NUMBERED", (1, b"fault C5\n"), [[NUMBERED]], Node(numbered=None))
@@ -180,3 +189,21 @@ def play_nodes(judge):
         node = Node()
         node.answers = [moved(node)] * count + [b":1\r\n"]
         ends(f"MOVED {count} times", wanted, [[NUMBERED] + [GET] * 17], node)
+
+
+def play_refusals(judge):
+    """What is said of calls that only refusals answered, and of an ASKING that is answered otherwise."""
+    def says(what, node, code, said, *options):
+        came = program.run("cli", "--addr", f"127.0.0.1:{node.port}", *options, "GET", "foo")
+        judge.equal(f"what is said of {what}", came, (1, b"fault %s\n" % code, b"rcluster: %s (%s)\n" % (said, code)))
+        node.close()
+
+    node = Node()
+    node.answers = [moved(node)] * 17
+    says("a command that is redirected too often", node, b"C2", b"the nodes redirected the command too often, and the command was not executed")
+    says("a command that is tried again too often", Node(b"-TRYAGAIN Key is being moved\r\n"), b"C3",
+         b"the nodes answered TRYAGAIN too often, and the command was not executed", "--try", "0")
+    other = Node(b":7\r\n")
+    says("another reply to ASKING", Node(b"-ASK %d 127.0.0.1:%d 9\r\n" % (SLOT, other.port)), b"C6",
+         b"127.0.0.1:%d answered the number 7 to ASKING 9, which no node does; the command was not executed" % other.port)
+    other.close()

@@ -53,6 +53,11 @@ def six_nodes(**changes):
     return {**cluster, **changes}
 
 
+def replica_of(master):
+    """The replica of a master of the six nodes."""
+    return master + 3
+
+
 def masters(count, **changes):
     """So many masters, which have all slots among them."""
     bounds = [16384 * number // count for number in range(count + 1)]

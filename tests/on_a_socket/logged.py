@@ -1,5 +1,6 @@
-"""`serve --log`: standard error has a line for each client that isn't served, with the node, the reason, and how many seconds after the
-beginning it was. Nobody waits for who reads it, and where too many lines wait it says how many are missing. Without the option nothing is told.
+"""`serve --log`: standard error has a line for each client that isn't served, with the node and the reason, and for each slot that arrives
+at a node or leaves it, with the other node and the keys, and how many seconds after the beginning it was. Nobody waits for who reads it,
+and where too many lines wait it says how many are missing. Without the option nothing is told.
 """
 
 import contextlib
@@ -15,11 +16,14 @@ import program
 from clusters import ports_of
 from descriptors import COMING, limit, outcome, served_in_time, told_at
 from memory import limited
+from moving import SLOT, SOURCE, TARGET
 from program import PATIENCE, Server
 from refusals import free_row
-from wire import PING, PONG, ask, connect
+from resharding import reshard_patiently
+from wire import OK, PING, PONG, ask, connect, spelled, talk
 
 LINE = re.compile(rb"rcluster: (\d+\.\d{3}) node (\d+): a client isn't served, since (.*)\n")
+OF_A_SLOT = re.compile(rb"rcluster: (\d+\.\d{3}) (node \d+: slot \d+ (?:arrived from node \d+, keys|left for node \d+, keys deleted): \d+)\n")
 MISSING = re.compile(rb"rcluster: \d+\.\d{3} lines that are missing before this one: (\d+)\n")
 NOT_STARTED = re.compile(
     rb"rcluster: \d+\.\d{3} node \d+: a thread isn't started, since the system starts no thread\n"
@@ -30,6 +34,8 @@ NO_DESCRIPTOR, NO_THREAD = b"no descriptor is left", b"the system starts no thre
 UNREAD = 3000
 # How many descriptors it has then.
 FEW = 12
+# How many keys a slot has that moves.
+KEYS = 17
 # How many KiB of addresses are too few for the stacks of the threads of 16 nodes, of which each has 8 MiB.
 SMALL = 250000
 
@@ -38,6 +44,7 @@ def play(judge):
     play_descriptors(judge)
     play_threads(judge)
     play_no_reader(judge)
+    play_slots(judge)
 
 
 def play_descriptors(judge):
@@ -118,3 +125,37 @@ def play_no_reader(judge):
         judge.true("somebody reads: another client is served", served_in_time(stack, port), "it wasn't")
         patience.cancel()
         process.kill()
+
+
+def play_slots(judge):
+    """A slot with keys and the next one, which has none, go to another master, and the first of them comes back."""
+    wanted = [
+        *told_of(SLOT, SOURCE, TARGET, KEYS),
+        *told_of(SLOT + 1, SOURCE, TARGET, 0),
+        *told_of(SLOT, TARGET, SOURCE, KEYS),
+    ]
+    for options in (["--log"], []):
+        cluster = clusters.six_nodes(tick_ms=20, node_timeout=1000000)
+        ports = ports_of(cluster)
+        with Server(cluster, *options) as server:
+            for count in range(KEYS):
+                judge.equal("a key of a slot that moves is set", talk(ports[SOURCE], spelled(b"SET", b"{foo}%d" % count, b"v")), OK)
+            moves = [reshard_patiently(ports[0], f"{SLOT}-{SLOT + 1}"), reshard_patiently(ports[0], source=TARGET, target=SOURCE)]
+            judge.equal("slots are moved", [status for status, _ in moves], [0, 0])
+            judge_slots(judge, f"slots move, options {options}", server, wanted if options else [])
+
+
+def told_of(slot, source, target, keys):
+    """What is told of the move of a slot: it arrives, and then it leaves."""
+    return [b"node %d: slot %d arrived from node %d, keys: %d" % (target, slot, source, keys), b"node %d: slot %d left for node %d, keys deleted: 0" % (source, slot, target)]
+
+
+def judge_slots(judge, what, server, wanted):
+    """These lines, in this order, and no other."""
+    lines = lines_in_time(server, len(wanted))
+    took = time.monotonic() - server.begun
+    found = [it for it in map(OF_A_SLOT.fullmatch, lines) if it]
+    judge.equal(f"{what}: other lines", [it for it in lines if not OF_A_SLOT.fullmatch(it)], [])
+    judge.equal(f"{what}: nodes, slots and keys", [it[2] for it in found], wanted)
+    times = [float(it[1]) for it in found]
+    judge.true(f"{what}: the times don't fall, and are of the run", times == sorted(times) and all(it <= took for it in times), repr((times, took)))

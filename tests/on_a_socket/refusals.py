@@ -23,10 +23,10 @@ def faulty_clusters():
         cluster = clusters.six_nodes()
         change(cluster)
         return cluster
-    yield "a time that is a text", "K1", changed(lambda it: it.update(tick_ms="100")), "tick_ms: a whole number is wanted"
+    yield "a time that is a text", "K1", changed(lambda it: it.update(tick_ms="100")), "tick_ms: an integer of 64 bits without a fraction or an exponent is wanted"
     yield "a strange member", "K1", changed(lambda it: it.update(colour="red")), None
     yield "ids that fall", "K2", changed(lambda it: it["nodes"].reverse()), None
-    yield "a slot of two masters", "K3", changed(lambda it: it["nodes"][0].update(slots=[[0, 5461]])), "nodes[1].slots: slot 5461 is listed twice"
+    yield "a slot of two masters", "K3", changed(lambda it: it["nodes"][0].update(slots=[[0, 5461]])), "nodes[1].slots: slot 5461 is in nodes[0].slots too"
     yield "a replica of a replica", "K4", changed(lambda it: it["nodes"][5].update(replica_of=node_id(3))), None
     yield "no voters", "K5", changed(lambda it: it.update(voters=[])), None
     yield "17 nodes", "K6", clusters.masters(17), None
@@ -159,12 +159,13 @@ def faulty_words():
     yield (*SERVE, "--ticks", "-1"), "unexpected argument '-1'"
     yield (*SERVE, "--ticks"), "a value is required for '--ticks <N>'"
     yield (), "Usage: "
-    yield ("serve",), "--config <FILE>"
+    yield ("serve",), "error: one of --config FILE and --masters M is required\n"
+    yield ("serve", "--check"), "error: one of --config FILE and --masters M is required\n"
     yield ("serve", "--config"), "a value is required for '--config <FILE>'"
     yield ("serve", "--colour", "red"), "unexpected argument '--colour'"
     yield ("stop",), "unrecognized subcommand 'stop'"
     yield (*SERVE, "--masters", "3"), "cannot be used with"
-    yield ("serve", "--port", "7000"), "--masters <M>"
+    yield ("serve", "--port", "7000"), "were not provided:\n  --masters <M>\n\n"
     yield (*SERVE, "--port", "7000"), "cannot be used with '--port <P>'"
     for count in ("0", "17", "x"):
         yield ("serve", "--masters", count), f"invalid value '{count}' for '--masters <M>'"
@@ -172,7 +173,7 @@ def faulty_words():
         yield ("serve", "--masters", "1", "--port", port), f"invalid value '{port}' for '--port <P>'"
     for count, replicas, port in (("3", "0", "65534"), ("3", "1", "65531"), ("1", "15", "65521")):
         yield ("serve", "--masters", count, "--replicas", replicas, "--port", port), "the last one is above 65535"
-    yield ("serve", "--replicas", "1"), "--masters <M>"
+    yield ("serve", "--replicas", "1"), "were not provided:\n  --masters <M>\n\n"
     yield (*SERVE, "--replicas", "1"), "cannot be used with '--replicas <R>'"
     for replicas in ("16", "x"):
         yield ("serve", "--masters", "1", "--replicas", replicas), f"invalid value '{replicas}' for '--replicas <R>'"
@@ -204,3 +205,4 @@ def play_words(judge):
         judge.equal(f"{verb} --help: status", status, 0)
         judge.equal(f"{verb} --help: codes that it doesn't tell", [it for it in (*codes, "F4") if f"  {it}  " not in listed], [])
         judge.within(f"{verb} --help tells the statuses", "Exit status:\n  0  ", output.decode())
+        judge.within(f"{verb} --help tells of wrong words", "\n  2  an argument is wrong or missing\n", output.decode())

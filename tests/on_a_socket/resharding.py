@@ -10,7 +10,7 @@ import time
 
 import clusters
 import program
-from calling import Node, cli
+from calling import NO_ADDRESSES, Node, cli, no_address
 from clusters import node_id, ports_of
 from moving import SLOT, SOURCE, TARGET, in_time
 from program import Server
@@ -74,18 +74,22 @@ def play_words(judge):
         ("no target", whole[:5] + whole[7:]),
         ("no slots", whole[:7]),
         ("a word too many", whole + ["more"]),
-        ("no port", ["reshard", "--addr", "127.0.0.1", *whole[3:]]),
-        ("port 0", ["reshard", "--addr", "127.0.0.1:0", *whole[3:]]),
         ("too many repetitions", words_of(7000, limit=1000001)),
         ("no number of repetitions", words_of(7000, limit="many")),
-    ] + [(f"slots {it!r}", words_of(7000, it)) for it in ("", "7", "7-", "-7", "8-7", "0-16384", "07-8", "7-x", "7-8-9", "7 - 8", "+7-8")]:
+        ("a first slot that begins with -", words_of(7000, "-7")),
+    ]:
         status, output, error = program.run(*words)
         judge.equal(f"{what}: status and output", (status, output), (2, b""))
         judge.true(f"{what}: a sentence on standard error", error.startswith(b"error: "), repr(error))
+    for address in NO_ADDRESSES:
+        judge.equal(f"the address {address!r}", program.run("reshard", "--addr", address, *whole[3:]), (2, b"", no_address(address)))
+    for slots in ("", "7", "7-", "8-7", "0-16384", "07-8", "7-x", "7-8-9", "7 - 8", "+7-8"):
+        said = f"error: \"{slots}\" is no range: --slots takes A-B, two slots from 0 to 16383, A not above B\n\nFor more information, try '--help'.\n"
+        judge.equal(f"slots {slots!r}", program.run(*words_of(7000, slots)), (2, b"", said.encode()))
     port = clusters.free_ports(1)[0]
-    told = b"rcluster: 127.0.0.1:%d can't be reached (V2)\n" % port
+    told = b"rcluster: 127.0.0.1:%d can't be reached: Connection refused (os error 111) (V2)\n" % port
     judge.equal("no node is there", program.run(*words_of(port)), (1, b"fault V2\n", told))
-    told = b'rcluster: "you" is no id of a node, which has 40 lowercase hexadecimal digits (V2)\n'
+    told = b'rcluster: "you" is no id of a node: an id is 40 lowercase hexadecimal digits, as CLUSTER SLOTS lists them (V2)\n'
     judge.equal("an id that no node can have", program.run(*words_of(port, source="you")), (1, b"fault V2\n", told))
 
 
@@ -253,8 +257,10 @@ def play_replies(judge):
         judge.equal(f"CLUSTER SLOTS: {what}", reshard(node.port), (1, b"fault %s\n" % fault))
         node.close()
     masters = Masters([], [], [])
-    masters.nodes[0].answers = [slots_of([masters.ports[0], masters.ports[1], clusters.free_ports(1)[0]])]
-    judge.equal("a listed node isn't there", reshard(masters.ports[0]), (1, b"fault V2\n"))
+    port = clusters.free_ports(1)[0]
+    masters.nodes[0].answers = [slots_of([masters.ports[0], masters.ports[1], port])]
+    told = b"rcluster: slot 12182: 127.0.0.1:%d can't be reached: Connection refused (os error 111) (V2)\n" % port
+    judge.equal("a listed node isn't there", program.run(*words_of(masters.ports[0])), (1, b"fault V2\n", told))
     masters.close()
 
 
@@ -327,6 +333,11 @@ def play_a_cluster(judge):
         judge.equal("what was done then", done(error), (1, 0, 1))
         judge.equal("so it is from every other master on", reshard_patiently(ports[0], source=0), (0, line(0)))
         judge.equal("a slot that was there all the time", reshard_patiently(ports[0], "6000-6000"), (0, line(0, 6000, 0)))
+        status, output, error = program.run(*words_of(ports[0], source=TARGET, target=TARGET, limit=MOST_REPETITIONS))
+        judge.equal("it comes from its own master", (status, output), (0, line(0)))
+        said, end, rest = error.partition(b"\n")
+        judge.equal("that both are one is said", said + end, b"rcluster: --from and --to are the same master, so no slot was to be moved\n")
+        judge.equal("and what was done", done(rest), (0, 0, 1))
         judge.equal("it is moved back", reshard_patiently(ports[0], source=TARGET, target=SOURCE), (0, line(len(values) + 3, move=2)))
         compare(judge, "where they came from", ports[SOURCE], values)
         judge.equal("a replica can't be the target", reshard_patiently(ports[0], target=4), (1, b"fault V2\n"))

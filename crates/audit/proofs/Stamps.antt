@@ -3,7 +3,7 @@ use Rattle.std.proofs.Common.{◌≡◌, ◌==◌, ◌∙◌, ℕ, Bool, true, f
 use Rattle.std.specs.Prelude.{Contains, MatchBool, Result, Ok, Err}
 use Rattle.std.proofs.lemmas.List.Elements.{Contains-append_cases}
 use Rattle.bus.specs.declared.message.Body.{Body}
-use Rattle.bus.specs.declared.message.Body.TheVariants.{Copy, Ack, Drained, Claim}
+use Rattle.bus.specs.declared.message.Body.TheVariants.{Copy, Ack, Drained, Claim, Report, Request as Requested, Grant, Sync, Piece, Snapshot}
 use Rattle.bus.specs.declared.message.Message.{Message}
 use Rattle.command_table.specs.Table.{command_of}
 use Rattle.command_table.specs.declared.command.ClusterCommand.{ClusterCommand}
@@ -23,12 +23,13 @@ use Rattle.migrate.specs.declared.sending.CopyVerdict.TheVariants as copies
 use Rattle.node_step.specs.Claiming.{claimed_by}
 use Rattle.node_step.specs.Commands.{command_outcome, decision_on}
 use Rattle.node_step.specs.Copies.{acknowledged, copy_outcome, copy_verdict_on, node_at}
-use Rattle.node_step.specs.Messages.{delivered, knowing, taken}
+use Rattle.node_step.proofs.Kept.{pieced_keeps, recorded_keeps, restored_keeps, synced_is}
+use Rattle.node_step.specs.Messages.{Choice, delivered, knowing, taken, taken_so, written_by_message}
 use Rattle.node_step.specs.Orders.{ending_outcome, ending_verdict}
 use Rattle.node_step.specs.Outcome.{Outcome, silent, stamped}
 use Rattle.node_step.specs.Requests.{asking_of, by_command, cluster_outcome, is_numbered, node_with_id, order_outcome, request_outcome, using_up}
 use Rattle.node_step.specs.State.{NodeState}
-use Rattle.node_step.specs.Step.{IsAnswering, IsClosing, MayCome, NodeStep}
+use Rattle.node_step.specs.Step.{IsAnswering, IsClosing, MayCome, NodeStep, written}
 use Rattle.node_step.specs.declared.event.Event.{Event}
 use Rattle.node_step.specs.declared.event.Event.TheVariants.{Open, Close, Request, Deliver, Tick}
 use Rattle.node_step.specs.declared.outputs.Outputs.{Outputs}
@@ -47,8 +48,11 @@ use Rattle.audit.specs.Merge.{sent_in}
 
 -- ---- a node keeps its number
 
+abbrev IsOfNumber : NodeState → NodeState → Type 0
+IsOfNumber old new = new.number ≡ old.number
+
 abbrev Stays : NodeState → Outcome → Type 0
-Stays old outcome = outcome.state.number ≡ old.number
+Stays old outcome = IsOfNumber old outcome.state
 
 command_stays : (node : NodeState) (numbered : Bool) (command : DataCommand) (why : Decision) → Stays node (command_outcome node numbered command why)
 command_stays node numbered command Serve = refl
@@ -104,21 +108,31 @@ acknowledged_stays : (node : NodeState) (slot number copy : ℕ) (key : Option (
 acknowledged_stays node slot number copy None = refl
 acknowledged_stays node slot number copy (Some key) = refl
 
-taken_stays : (node : NodeState) (from : ℕ) (body : Body) → Stays node (taken node from body)
-taken_stays node from (Copy slot number copy key value) = refl
-taken_stays node from (Ack slot number copy) = acknowledged_stays node slot number copy (acknowledged_key (move_of node.moves slot) from number copy)
-taken_stays node from (Drained slot number epoch) = refl
-taken_stays node from (Claim slots) = by_own (from == node.number) (merged node.table slots from)
+taken_so_stays : (node : NodeState) (from : ℕ) (choice : Choice) (body : Body) → Stays node (taken_so node from choice body)
+taken_so_stays node from choice (Copy slot number copy key value) = refl
+taken_so_stays node from choice (Ack slot number copy) = acknowledged_stays node slot number copy (acknowledged_key (move_of node.moves slot) from number copy)
+taken_so_stays node from choice (Drained slot number epoch) = refl
+taken_so_stays node from choice (Claim slots replaced) = by_own (from == node.number) (merged node.table slots from)
   where
     by_own : (own : Bool) (table : List (Option SlotEntry)) → (cond own (silent node) (claimed_by node table)).state.number ≡ node.number
     by_own true table = refl
     by_own false table = refl
+taken_so_stays node from choice (Report suspects) = refl
+taken_so_stays node from choice (Requested request) = refl
+taken_so_stays node from choice (Grant epoch) = refl
+taken_so_stays node from choice (Sync sync) = synced_is (Stays node) node from sync refl refl
+taken_so_stays node from choice (Piece piece) = pieced_keeps (IsOfNumber node) node (λ stream keyspace. refl) from piece choice.follower
+taken_so_stays node from choice (Snapshot snapshot) = restored_keeps (IsOfNumber node) node (λ stream keyspace. refl) from snapshot
 
-delivered_stays : (node : NodeState) (message : Message) → Stays node (delivered node message)
-delivered_stays node message = by_node (message.to == node.number)
+taken_stays : (node : NodeState) (from : ℕ) (choice : Choice) (body : Body) → Stays node (taken node from choice body)
+taken_stays node from choice body =
+    recorded_keeps (IsOfNumber node) (taken_so node from choice body) (written_by_message node from body) choice.dropped (λ stream. taken_so_stays node from choice body)
+
+delivered_stays : (node : NodeState) (message : Message) (choice : Choice) → Stays node (delivered node message choice)
+delivered_stays node message choice = by_node (message.to == node.number)
   where
-    by_node : (here : Bool) → (cond here (taken (knowing node message.epoch) message.from message.body) (silent node)).state.number ≡ node.number
-    by_node true = taken_stays (knowing node message.epoch) message.from message.body
+    by_node : (here : Bool) → (cond here (taken (knowing node message.epoch) message.from choice message.body) (silent node)).state.number ≡ node.number
+    by_node true = taken_stays (knowing node message.epoch) message.from choice message.body
     by_node false = refl
 
 close_stays : (old : NodeState) (conn : Conn) (is_open : Bool) (outcome : Outcome) → MatchBool is_open (IsClosing old conn outcome) (outcome ≡ silent old) → Stays old outcome
@@ -126,14 +140,16 @@ close_stays old conn true outcome may = ap (λ (o : Outcome). o.state.number) ma
 close_stays old conn false outcome may = ap (λ (o : Outcome). o.state.number) may
 
 answer_stays : (old : NodeState) (conn : Conn) (words : List (List ℕ)) (asks : Bool) (outcome : Outcome) → MatchBool asks (IsAnswering old conn words outcome) (outcome ≡ silent old) → Stays old outcome
-answer_stays old conn words true outcome may = ap (λ (o : Outcome). o.state.number) may.comes_to ∙ request_stays old conn words
+answer_stays old conn words true outcome may =
+    ap (λ (o : Outcome). o.state.number) may.comes_to
+    ∙ recorded_keeps (IsOfNumber old) (request_outcome old conn (command_of words)) (written old conn words) may.dropped (λ stream. request_stays old conn words)
 answer_stays old conn words false outcome may = ap (λ (o : Outcome). o.state.number) may
 
 event_stays : (old : NodeState) (event : Event) (outcome : Outcome) → MayCome old event outcome → Stays old outcome
 event_stays old Open outcome may = ap (λ (o : Outcome). o.state.number) may.comes_to
 event_stays old (Close conn) outcome may = close_stays old conn (is_some (connection_at old.connections conn)) outcome may
 event_stays old (Request conn words) outcome may = answer_stays old conn words (may_ask (connection_at old.connections conn)) outcome may
-event_stays old (Deliver message) outcome may = ap (λ (o : Outcome). o.state.number) may ∙ delivered_stays old message
+event_stays old (Deliver message) outcome may = ap (λ (o : Outcome). o.state.number) may.comes_to ∙ delivered_stays old message may.choice
 event_stays old Tick outcome may = ap (λ (o : Outcome). o.state.number) may
 
 -- ---- what it sends

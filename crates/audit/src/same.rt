@@ -5,6 +5,7 @@ use bus::{Body, Message};
 use hash::Hash;
 use keyspace::Value;
 use slot_table::{Epoch, Run};
+use stream_values::{Pair, Piece, Snapshot};
 
 /// Whether both messages say the same, from the same step to the same node.
 pub(crate) fn is_same_message(one: &Message, other: &Message) -> bool
@@ -65,11 +66,67 @@ fn is_same_body(one: &Body, other: &Body) -> bool
                 epoch: other_epoch,
             },
         ) => slot == other_slot && number == other_number && epoch == other_epoch,
-        (Body::Claim(claim), Body::Claim(other_claim)) => {
-            are_same_runs(claim.runs(), other_claim.runs())
+        (Body::Claim(claim, replaced), Body::Claim(other_claim, other_replaced)) => {
+            are_same_runs(claim.runs(), other_claim.runs()) && replaced == other_replaced
         }
+        (Body::Report(suspects), Body::Report(other)) => {
+            are_same_marks(suspects.as_slice(), other.as_slice())
+        }
+        (Body::Request(request), Body::Request(other)) => request == other,
+        (Body::Grant(epoch), Body::Grant(other)) => epoch == other,
+        (Body::Sync(sync), Body::Sync(other)) => sync == other,
+        (Body::Piece(piece), Body::Piece(other)) => is_same_piece(piece, other),
+        (Body::Snapshot(snapshot), Body::Snapshot(other)) => is_same_snapshot(snapshot, other),
         _ => false,
     }
+}
+
+fn are_same_marks(one: &[bool], other: &[bool]) -> bool
+    ensures same { result ≡ true → one.now ≡ other.now }
+    ensures differ { result ≡ false → one.now ≢ other.now }
+{
+    one == other
+}
+
+fn is_same_piece(one: &Piece, other: &Piece) -> bool
+    ensures same { result ≡ true → one.now ≡ other.now }
+    ensures differ { result ≡ false → one.now ≢ other.now }
+{
+    one.stream() == other.stream()
+        && one.from() == other.from()
+        && one.base() == other.base()
+        && one.bytes() == other.bytes()
+}
+
+fn is_same_snapshot(one: &Snapshot, other: &Snapshot) -> bool
+    ensures same { result ≡ true → one.now ≡ other.now }
+    ensures differ { result ≡ false → one.now ≢ other.now }
+{
+    one.stream == other.stream
+        && one.offset == other.offset
+        && are_same_pairs(one.pairs.as_slice(), other.pairs.as_slice())
+}
+
+fn are_same_pairs(one: &[Pair], other: &[Pair]) -> bool
+    ensures same { result ≡ true → one.now ≡ other.now }
+    ensures differ { result ≡ false → one.now ≢ other.now }
+{
+    if one.len() != other.len() {
+        return false;
+    }
+    for place in 0..one.len() {
+        if !is_same_pair(&one[place], &other[place]) {
+            return false;
+        }
+    }
+    true
+}
+
+fn is_same_pair(one: &Pair, other: &Pair) -> bool
+    ensures same { result ≡ true → one.now ≡ other.now }
+    ensures differ { result ≡ false → one.now ≢ other.now }
+{
+    one.key() == other.key() && is_same_value(one.value(), other.value())
 }
 
 fn are_same_runs(one: &[Run<Epoch>], other: &[Run<Epoch>]) -> bool

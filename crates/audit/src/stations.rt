@@ -1,5 +1,5 @@
 //! The journals of all stations, gathered.
-ghost use Rattle.std.specs.Prelude.{◌≡◌, ◌<◌, All, IfErr, IfOk, List, length, map, true, false};
+ghost use Rattle.std.specs.Prelude.{◌≡◌, ◌<◌, [], All, IfErr, IfOk, OnOk, List, length, map, true, false};
 ghost use Rattle.audit.specs.Gathered.{IsAllOf, IsGathered, parts_of};
 ghost use Rattle.audit.specs.Merge.{AllAreSound, PartView};
 ghost use Rattle.audit.specs.Stations.{AreInOrder, cells_of, ends_of};
@@ -81,6 +81,24 @@ fn finish_all<K: Deployment, W: Web, R: Wait + Drop>(
 {
     let mut parts = Vec::with_capacity(alloc, stations.len())?;
     let mut all_ends = Vec::with_capacity(alloc, stations.len())?;
+    finish_each(alloc, stations, &mut parts, &mut all_ends)?;
+    Ok((parts, all_ends))
+}
+
+// Puts what is left of each station behind each other, into lists that have nothing yet.
+fn finish_each<K: Deployment, W: Web, R: Wait + Drop>(
+    alloc: Global,
+    stations: Vec<Station<K, W, Journal, R>>,
+    parts: &mut Vec<Part<K>>,
+    all_ends: &mut Vec<NodeEnds<Posted<K>, R>>,
+) -> Result<(), AllocError>
+    requires no_part { parts.old.items ≡ [] }
+    requires no_end { all_ends.old.items ≡ [] }
+    ensures parts { OnOk result (parts.new.items ≡ parts_of (cells_of stations.items)) }
+    ensures ends { OnOk result (all_ends.new.items ≡ map ends_of stations.items) }
+    ensures stations { OnOk result (All (IsStation W.links) stations.items) }
+    ensures cluster { OnOk result (All (λ station. station.cell.config ≡ K.config) stations.items) }
+{
     for station in stations {
         let (cell, ends) = station.finish(alloc)?;
         parts.push(Part::of(cell)).map_err(AllocError::from)?;
@@ -88,7 +106,7 @@ fn finish_all<K: Deployment, W: Web, R: Wait + Drop>(
             .push(NodeEnds::new(ends))
             .map_err(AllocError::from)?;
     }
-    Ok((parts, all_ends))
+    Ok(())
 }
 
 // The run of journals by the numbers of their nodes, in which all that was taken was sent.

@@ -3,6 +3,8 @@
 
 mod link;
 mod message;
+mod suspects;
 
 pub use link::Link;
-pub use message::{Body, Message};
+pub use message::{Body, Message, Replaced, Request};
+pub use suspects::Suspects;

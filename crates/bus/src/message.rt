@@ -1,12 +1,34 @@
 //! A message of a node to another, and what it says.
 ghost use Rattle.std.specs.Prelude.{◌≡◌};
 
+use crate::suspects::Suspects;
 use byte_string::ByteString;
 use key_slot::Slot;
 use keyspace::Value;
 use slot_state::MoveNo;
 use slot_table::{Claim, Epoch, NodeNo};
 use std::alloc::AllocError;
+use stream_values::{Piece, Snapshot, StreamId, Sync};
+
+/// Whose place a node took as it was promoted, and where its own stream begins.
+#[derive(Clone, Copy, PartialEq, Eq, Debug)]
+pub struct Replaced {
+    /// The former master.
+    pub master: NodeNo,
+    /// The stream that the node began.
+    pub stream: StreamId,
+    /// The offset at which it begins.
+    pub offset: u64,
+}
+
+/// That the sender wants to be elected in the place of its master.
+#[derive(Clone, Copy, PartialEq, Eq, Debug)]
+pub struct Request {
+    /// The epoch of the election.
+    pub epoch: Epoch,
+    /// The master.
+    pub master: NodeNo,
+}
 
 /// What a message says.
 #[derive(Debug, Drop)]
@@ -42,8 +64,20 @@ pub enum Body {
         /// The epoch in which the sender's table has the slot.
         epoch: Epoch,
     },
-    /// The slots of the sender, each in its epoch.
-    Claim(Claim),
+    /// The slots of the sender, each in its epoch, and whose place it took, if it was promoted.
+    Claim(Claim, Option<Replaced>),
+    /// For each node whether the sender suspects it.
+    Report(Suspects),
+    /// The sender wants to be elected.
+    Request(Request),
+    /// The sender votes in this epoch for the node that the message is for.
+    Grant(Epoch),
+    /// How much the sender received of its master's stream.
+    Sync(Sync),
+    /// Bytes of the sender's stream.
+    Piece(Piece),
+    /// All that the sender has at an offset of its stream.
+    Snapshot(Snapshot),
 }
 
 impl Clone for Body {
@@ -78,7 +112,13 @@ impl Clone for Body {
                 number: *number,
                 epoch: *epoch,
             }),
-            Body::Claim(claim) => Ok(Body::Claim(claim.clone()?)),
+            Body::Claim(claim, replaced) => Ok(Body::Claim(claim.clone()?, *replaced)),
+            Body::Report(suspects) => Ok(Body::Report(*suspects)),
+            Body::Request(request) => Ok(Body::Request(*request)),
+            Body::Grant(epoch) => Ok(Body::Grant(*epoch)),
+            Body::Sync(sync) => Ok(Body::Sync(*sync)),
+            Body::Piece(piece) => Ok(Body::Piece(piece.clone()?)),
+            Body::Snapshot(snapshot) => Ok(Body::Snapshot(snapshot.clone()?)),
         }
     }
 }

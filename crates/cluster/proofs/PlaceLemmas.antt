@@ -17,13 +17,15 @@ one_more a zero j e =
     ap (λ k. k ∷ []) same
 one_more a (suc n) j e = ap (λ l. a ∷ l) (one_more (a + 1) n j (omega (arith, e)))
 
--- one more goes behind those that have the numbers up to its own
-pub counted_more : {A : Type 0} (number : A → ℕ) (xs after : List A) (x : A) (n m : ℕ) → after ≡ xs ++ x ∷ [] → number x ≡ n → m ≡ n + 1
-    → map number xs ≡ range_with_len 0 n → map number after ≡ range_with_len 0 m
-counted_more number xs after x n m grown own more counted =
+-- the next number goes behind those up to it
+pub counted_one_more : (numbers after : List ℕ) (n m : ℕ) → m ≡ n + 1 → after ≡ numbers ++ n ∷ [] → numbers ≡ range_with_len 0 n → after ≡ range_with_len 0 m
+counted_one_more numbers after n m more grown counted =
     let next : m ≡ suc n = omega (arith, more) in
-    ap (map number) grown ∙ map_push number xs x ∙ ap (λ ns. ns ++ number x ∷ []) counted ∙ ap (λ k. range_with_len 0 n ++ k ∷ []) own
-    ∙ sym (one_more 0 n n (omega arith)) ∙ ap (range_with_len 0) (sym next)
+    grown ∙ ap (λ ns. ns ++ n ∷ []) counted ∙ sym (one_more 0 n n (omega arith)) ∙ ap (range_with_len 0) (sym next)
+
+-- one more has its number behind those of the others
+pub numbered_more : {A : Type 0} (number : A → ℕ) (xs after : List A) (x : A) (n : ℕ) → after ≡ xs ++ x ∷ [] → number x ≡ n → map number after ≡ map number xs ++ n ∷ []
+numbered_more number xs after x n grown own = ap (map number) grown ∙ map_push number xs x ∙ ap (λ m. map number xs ++ m ∷ []) own
 
 -- the ends of the first of these nodes, and those of the others
 pub first_linked : {A : Type 0} (ends : A → List (EndView Message)) (links : ℕ → ℕ → TableId) (count number own : ℕ) (all rest : List A) (first : A) → all ≡ first ∷ rest → own ≡ number

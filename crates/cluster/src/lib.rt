@@ -1,7 +1,9 @@
 //! The nodes of a cluster behind locks, and their clients on sockets.
 #![tactic(auto)]
 
+mod arrivals;
 mod clients;
+mod departures;
 mod mail;
 mod node;
 mod runtime;

@@ -1,9 +1,11 @@
 //! The messages between the nodes.
 
+use crate::departures::Departures;
 use crate::node::Node;
 use links::{Station, Web};
 use node_cell::{Deployment, HoldsCell, Log};
 use std::alloc::{AllocError, Global};
+use std::rt::Clock;
 use std::sync::{Arc, Wait};
 use std::time::Duration;
 
@@ -40,18 +42,20 @@ impl<K: Deployment, W: Web, L: Log + Drop, R: Wait + Drop> HasLinks<R> for Stati
     }
 }
 
-/// Carries the messages of the node, one of these, until it is closed: delivers those that come to it, and sends its own.
-pub(crate) fn carry<C: HasLinks<R> + Drop, R: Wait>(
+/// Carries the messages of the node, one of these, until it is closed: delivers those that come to it, and sends its own. Which slots
+/// leave the node meanwhile is told.
+pub(crate) fn carry<C: HasLinks<R> + Drop, R: Clock + Wait>(
     rt: &R,
     node: &Node<C>,
     nodes: &[Arc<Node<C>, Global>],
+    departures: &mut Departures,
 ) {
     for _ in rt.forever() {
         let seen = node.shared.mail_rings();
         if node.shared.is_closed() {
             return;
         }
-        let round = exchange(rt, node, nodes);
+        let round = exchange(rt, node, nodes, departures);
         if !round.has_received {
             node.shared.wait_for_mail(rt, seen, round.rest);
         }
@@ -67,15 +71,16 @@ struct Round {
 }
 
 // Takes the next message from each node, and sends as many to each as there is room for, under one hold of the node's lock.
-fn exchange<C: HasLinks<R> + Drop, R: Wait>(
+fn exchange<C: HasLinks<R> + Drop, R: Clock + Wait>(
     rt: &R,
     node: &Node<C>,
     nodes: &[Arc<Node<C>, Global>],
+    departures: &mut Departures,
 ) -> Round {
     let mut cell = node.shared.lock(rt);
     let mut has_received = false;
     for (number, other) in nodes.iter().enumerate() {
-        has_received |= receive_from(&mut *cell, number, &**other);
+        has_received |= receive_from(rt, &mut *cell, number, &**other, departures);
     }
     let mut are_sorted = true;
     for (number, other) in nodes.iter().enumerate() {
@@ -90,21 +95,26 @@ fn exchange<C: HasLinks<R> + Drop, R: Wait>(
 }
 
 // Takes the next message from the other node, and says whether there was one. The other is told once its link has room again.
-fn receive_from<C: HasLinks<R> + Drop, R: Wait>(
+fn receive_from<C: HasLinks<R> + Drop, R: Clock + Wait>(
+    rt: &R,
     cell: &mut C,
     number: usize,
     other: &Node<C>,
+    departures: &mut Departures,
 ) -> bool {
+    departures.look(&*cell);
     if !cell.take_from(number) {
         return false;
     }
+    departures.tell(rt, &*cell);
     if cell.is_half_full(number) {
         other.shared.ring_for_mail();
     }
     true
 }
 
-// Sends messages to the other node, which is told of them, and says whether there was memory for all.
+// Sends messages to the other node, which is told of them, and says whether there was memory for all. Where there wasn't, some may
+// have been sent all the same.
 fn send_to<C: HasLinks<R> + Drop, R: Wait>(
     rt: &R,
     cell: &mut C,
@@ -117,6 +127,9 @@ fn send_to<C: HasLinks<R> + Drop, R: Wait>(
             true
         }
         Ok(false) => true,
-        Err(_) => false,
+        Err(_) => {
+            other.shared.ring_for_mail();
+            false
+        }
     }
 }

@@ -1,8 +1,9 @@
 //! A node that is served: the threads that accept its clients, serve them and let time pass.
+use crate::arrivals::SeeingGate;
 use crate::clients::{Clients, Refused};
 use crate::runtime::Runtime;
 use crate::stop::Stop;
-use crate::witness::{Incident, Shortage};
+use crate::witness::{Incident, Shortage, Witness};
 use listener::serve_conn;
 use node_cell::{Admission, HoldsCell, NodeGate};
 use node_step::Event;
@@ -10,6 +11,7 @@ use resp2::Counting;
 use shared_node::{Gate, SharedNode};
 use std::alloc::{AllocError, Global};
 use std::net::{Net, TcpListener, TcpStream};
+use std::rt::Clock;
 use std::sync::{Arc, Wait};
 use std::thread;
 use std::time::Duration;
@@ -73,7 +75,8 @@ where
         match stream {
             // A client for which there is no memory, no thread or no descriptor is let go.
             Ok(stream) => {
-                if let Err(Refused::Short(shortage)) = accept(rt, alloc, node, clients, stream) {
+                let accepted = accept(rt, alloc, number, node, clients, stream);
+                if let Err(Refused::Short(shortage)) = accepted {
                     let node = number;
                     clients
                         .witness
@@ -90,6 +93,7 @@ where
 fn accept<C: HoldsCell + Drop + Send + 'static, R: Runtime>(
     rt: R,
     alloc: Global,
+    number: usize,
     node: &Arc<Node<C>, Global>,
     clients: &Arc<Clients, Global>,
     stream: TcpStream,
@@ -102,7 +106,7 @@ where
     }
     let stream = Arc::new(alloc, stream).map_err(AllocError::from)?;
     let client = clients.add(&rt, &stream)?;
-    if let Err(refused) = start_client(rt, alloc, node, clients, stream, client) {
+    if let Err(refused) = start_client(rt, alloc, number, node, clients, stream, client) {
         clients.remove(&rt, client);
         return Err(refused);
     }
@@ -112,6 +116,7 @@ where
 fn start_client<C: HoldsCell + Drop + Send + 'static, R: Runtime>(
     rt: R,
     alloc: Global,
+    number: usize,
     node: &Arc<Node<C>, Global>,
     clients: &Arc<Clients, Global>,
     stream: Arc<TcpStream, Global>,
@@ -123,7 +128,7 @@ where
     let node = Arc::try_clone(node)?;
     let clients = Arc::try_clone(clients)?;
     let started = thread::spawn(&rt, move || {
-        serve_client(rt, alloc, node, &*stream);
+        serve_client(rt, alloc, number, node, &*clients.witness, &*stream);
         clients.remove(&rt, client);
     });
     match started {
@@ -133,15 +138,18 @@ where
 }
 
 // Serves one client, and is then done with the node. What ends the conversation concerns this client alone.
-fn serve_client<C: HoldsCell + Drop, R: Wait + Drop>(
+fn serve_client<C: HoldsCell + Drop, R: Clock + Wait + Copy + Drop>(
     rt: R,
     alloc: Global,
+    number: usize,
     node: Arc<Node<C>, Global>,
+    witness: &Witness,
     stream: &TcpStream,
 ) {
     // A reply is one write, so nothing is gained by waiting for more.
     let _nodelay = stream.set_nodelay(true);
-    let mut gate = Gate::new(rt, &node.shared, node.admission.begin());
+    let gate = Gate::new(rt, &node.shared, node.admission.begin());
+    let mut gate = SeeingGate::new(rt, gate, witness, number);
     let mut reader = Counting::new(stream);
     let mut writer = Counting::new(stream);
     let _ended = serve_conn(alloc, &mut gate, &mut reader, &mut writer);

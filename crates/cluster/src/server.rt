@@ -1,10 +1,11 @@
 //! All nodes of a cluster, served at once.
-ghost use Rattle.std.specs.Prelude.{◌≡◌, ◌<◌, All, IfOk, length, map, vec_len};
+ghost use Rattle.std.specs.Prelude.{◌≡◌, ◌<◌, ◌+◌, ◌++◌, ◌∷◌, [], All, IfOk, OnOk, length, map, vec_len};
 ghost use Rattle.std.specs.List.{range_with_len};
 ghost use Rattle.links.specs.Ends.{AreEndsOf, AreLinkedFrom};
 ghost use Rattle.tickets.specs.Tickets.{IsFresh};
 
 use crate::clients::Clients;
+use crate::departures::Departures;
 use crate::mail::{HasLinks, carry};
 use crate::node::{Node, accept_clients, pass_time};
 use crate::runtime::Runtime;
@@ -12,7 +13,7 @@ use crate::stop::Stop;
 use crate::witness::{Incident, Shortage, Witness};
 use cluster_config::Config;
 use links::{NodeEnds, Station, Web};
-use node_cell::{Admission, Deployment, Log, NodeCell, Posted};
+use node_cell::{Admission, Deployment, HoldsCell, Log, NodeCell, Posted};
 use slot_table::NodeNo;
 use std::alloc::{AllocError, Global};
 use std::net::TcpListener;
@@ -176,11 +177,45 @@ fn nodes_at<K: Deployment, W: Web, L: Log + Drop, R: Runtime>(
     ensures { IfOk result (λ nodes. vec_len nodes ≡ length places.items) }
 {
     let mut nodes = Vec::with_capacity(alloc, places.len())?;
-    for place in places {
-        let node = node_at(alloc, config, nodes.len(), place)?;
-        nodes.push(node).map_err(AllocError::from)?;
-    }
+    add_nodes(alloc, config, places, &mut nodes)?;
     Ok(nodes)
+}
+
+// Adds a node for each place, in order, to none.
+fn add_nodes<K: Deployment, W: Web, L: Log + Drop, R: Runtime>(
+    alloc: Global,
+    config: &Config,
+    places: Vec<Place<K, R>>,
+    nodes: &mut Vec<Arc<Node<Station<K, W, L, R>>, Global>>,
+) -> Result<(), AllocError>
+    requires cluster { config.now ≡ K.config }
+    requires places { length places.items ≡ length config.now.nodes }
+    requires seats { All (λ place. IsFresh K.table K.seats place.seat) places.items }
+    requires links { AreLinkedFrom W.links (length config.now.nodes) 0 (map (λ place. place.ends) places.items) }
+    requires none { vec_len nodes.old ≡ 0 }
+    ensures { OnOk result (vec_len nodes.new ≡ length places.items) }
+{
+    for place in places {
+        add_node(alloc, config, place, nodes)?;
+    }
+    Ok(())
+}
+
+// Adds the node of the next number.
+fn add_node<K: Deployment, W: Web, L: Log + Drop, R: Runtime>(
+    alloc: Global,
+    config: &Config,
+    place: Place<K, R>,
+    nodes: &mut Vec<Arc<Node<Station<K, W, L, R>>, Global>>,
+) -> Result<(), AllocError>
+    requires cluster { config.now ≡ K.config }
+    requires number { vec_len nodes.old < length config.now.nodes }
+    requires seat { IsFresh K.table K.seats place.seat }
+    requires links { AreEndsOf W.links (vec_len nodes.old) (length config.now.nodes) place.ends }
+    ensures { OnOk result (vec_len nodes.new ≡ vec_len nodes.old + 1) }
+{
+    let node = node_at(alloc, config, nodes.len(), place)?;
+    nodes.push(node).map_err(AllocError::from)
 }
 
 fn node_at<K: Deployment, W: Web, L: Log + Drop, R: Runtime>(
@@ -201,9 +236,35 @@ fn node_at<K: Deployment, W: Web, L: Log + Drop, R: Runtime>(
         ends,
         listener,
     } = place;
+    let station = station_at::<K, W, L, R>(alloc, config, number, seat, ends)?;
+    share(alloc, station, Admission::new(config), listener)
+}
+
+// A station of the node of that number, as it begins.
+fn station_at<K: Deployment, W: Web, L: Log + Drop, R: Runtime>(
+    alloc: Global,
+    config: &Config,
+    number: NodeNo,
+    seat: Seat,
+    ends: NodeEnds<Posted<K>, R>,
+) -> Result<Station<K, W, L, R>, AllocError>
+    requires cluster { config.now ≡ K.config }
+    requires number { number < length config.now.nodes }
+    requires seat { IsFresh K.table K.seats seat }
+    requires links { AreEndsOf W.links number (length config.now.nodes) ends }
+{
     let cell = NodeCell::<K, L>::new(alloc, config, number, seat)?;
-    let station = Station::<K, W, L, R>::new(alloc, cell, ends.into_vec())?;
-    let node = Node::new(station, Admission::new(config), listener);
+    Station::<K, W, L, R>::new(alloc, cell, ends.into_vec())
+}
+
+// A node with this station, for the threads that serve it.
+fn share<C: HoldsCell + Drop>(
+    alloc: Global,
+    cell: C,
+    admission: Admission<C::Cluster>,
+    listener: TcpListener,
+) -> Result<Arc<Node<C>, Global>, AllocError> {
+    let node = Node::new(cell, admission, listener);
     Arc::new(alloc, node).map_err(AllocError::from)
 }
 
@@ -227,7 +288,7 @@ where
         add_thread(rt, threads, clients, number, clock)?;
         let accepting = start_accepting(rt, alloc, number, node, clients, stop);
         add_thread(rt, threads, clients, number, accepting)?;
-        let carrying = start_carrying(rt, alloc, node, nodes);
+        let carrying = start_carrying(rt, alloc, number, node, nodes, clients);
         add_thread(rt, threads, clients, number, carrying)?;
         most = u64::MAX;
     }
@@ -306,12 +367,14 @@ where
     started.map_err(|_| ServeFault::Thread)
 }
 
-// Starts the thread that carries the messages of the node.
+// Starts the thread that carries the messages of the node of that number.
 fn start_carrying<C: HasLinks<R> + Drop + Send + 'static, R: Runtime>(
     rt: R,
     alloc: Global,
+    number: usize,
     node: &Arc<Node<C>, Global>,
     nodes: &[Arc<Node<C>, Global>],
+    clients: &Clients,
 ) -> Result<JoinHandle<()>, ServeFault>
 where
     C::Cluster: Send + Sync + 'static,
@@ -319,9 +382,11 @@ where
     let Ok(node) = Arc::try_clone(node) else {
         return Err(ServeFault::Memory);
     };
+    let witness = Arc::try_clone(&clients.witness)?;
+    let mut departures = Departures::new(alloc, witness, number);
     let nodes = all_of(alloc, nodes)?;
     let started = thread::spawn(&rt, move || {
-        carry(&rt, &*node, nodes.as_slice());
+        carry(&rt, &*node, nodes.as_slice(), &mut departures);
     });
     started.map_err(|_| ServeFault::Thread)
 }
@@ -346,16 +411,52 @@ fn stations_of<K: Deployment, W: Web, L: Log + Drop, R: Runtime>(
     ensures nodes { IfOk result (λ stations. map (λ station. station.cell.node) stations.items ≡ range_with_len 0 (vec_len nodes)) }
 {
     let mut stations = Vec::with_capacity(alloc, nodes.len())?;
-    for node in nodes {
-        let Some(node) = Arc::into_inner(node) else {
-            return Err(ServeFault::Thread);
-        };
-        // No type says which node a lock has.
-        let station = node.into_cell();
-        if station.number().index() != stations.len() {
-            return Err(ServeFault::Mixed);
-        }
-        stations.push(station).map_err(AllocError::from)?;
-    }
+    add_stations(nodes, &mut stations)?;
     Ok(stations)
+}
+
+// Adds the station of each node, in order, to none.
+fn add_stations<K: Deployment, W: Web, L: Log + Drop, R: Runtime>(
+    nodes: Vec<Arc<Node<Station<K, W, L, R>>, Global>>,
+    stations: &mut Vec<Station<K, W, L, R>>,
+) -> Result<(), ServeFault>
+    requires none { stations.old.items ≡ [] }
+    ensures count { OnOk result (vec_len stations.new ≡ vec_len nodes) }
+    ensures nodes { OnOk result (map (λ station. station.cell.node) stations.new.items ≡ range_with_len 0 (vec_len nodes)) }
+{
+    for node in nodes {
+        add_station(node, stations)?;
+    }
+    Ok(())
+}
+
+// Adds the station of the node, which is to have the next number.
+fn add_station<K: Deployment, W: Web, L: Log + Drop, R: Runtime>(
+    node: Arc<Node<Station<K, W, L, R>>, Global>,
+    stations: &mut Vec<Station<K, W, L, R>>,
+) -> Result<(), ServeFault>
+    ensures count { OnOk result (vec_len stations.new ≡ vec_len stations.old + 1) }
+    ensures nodes { OnOk result (map (λ station. station.cell.node) stations.new.items ≡ map (λ station. station.cell.node) stations.old.items ++ vec_len stations.old ∷ []) }
+{
+    let station = station_of(node, stations.len())?;
+    stations.push(station).map_err(AllocError::from)?;
+    Ok(())
+}
+
+// The station of a node, which is to have that number.
+fn station_of<K: Deployment, W: Web, L: Log + Drop, R: Runtime>(
+    node: Arc<Node<Station<K, W, L, R>>, Global>,
+    number: usize,
+) -> Result<Station<K, W, L, R>, ServeFault>
+    ensures { IfOk result (λ station. station.cell.node ≡ number) }
+{
+    let Some(node) = Arc::into_inner(node) else {
+        return Err(ServeFault::Thread);
+    };
+    // No type says which node a lock has.
+    let station = node.into_cell();
+    if station.number().index() != number {
+        return Err(ServeFault::Mixed);
+    }
+    Ok(station)
 }

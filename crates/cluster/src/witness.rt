@@ -1,4 +1,4 @@
-//! What happens to a cluster and no client is told, for somebody who listens.
+//! What happens to a cluster, for somebody who listens: what no client is told, and which slots come and go.
 
 use std::alloc::{AllocError, Global};
 use std::collections::VecDeque;
@@ -20,13 +20,33 @@ pub enum Shortage {
     Descriptor,
 }
 
-/// What happens. A node is named by its number.
+/// What happens. A node and a slot are named by their numbers.
 #[derive(Clone, Copy, PartialEq, Eq, Debug)]
 pub enum Incident {
     /// A client of the node isn't served for want of this.
-    ClientRefused { node: usize, shortage: Shortage },
+    ClientRefused {
+        node: usize,
+        shortage: Shortage,
+    },
     /// A thread of the node isn't started for want of this, and so the cluster isn't served.
-    ThreadNotStarted { node: usize, shortage: Shortage },
+    ThreadNotStarted {
+        node: usize,
+        shortage: Shortage,
+    },
+    /// A slot that was `from` another node is the node's own now: its move is over. The node holds so many keys of it.
+    SlotArrived {
+        node: usize,
+        slot: u16,
+        from: usize,
+        keys: usize,
+    },
+    /// A slot that was the node's own is another node's now: its move is over. So many keys of it that the node held are deleted.
+    SlotLeft {
+        node: usize,
+        slot: u16,
+        to: usize,
+        deleted: usize,
+    },
     /// So many incidents found too many others waiting.
     Missed(u64),
 }
@@ -84,7 +104,12 @@ impl Witness {
         }
     }
 
-    /// Sees the incident.
+    /// Whether somebody listens.
+    pub(crate) fn is_heard(&self) -> bool {
+        self.begun.is_some()
+    }
+
+    /// Sees the incident. It waits for no listener, so it may be called behind the lock of a node.
     pub(crate) fn see<R: Clock + Wait>(&self, rt: &R, incident: Incident) {
         let Some(begun) = self.begun else {
             return;

@@ -41,6 +41,7 @@ pub record IsFaultless (draft : Draft) : Type 0 where
   pub ports : list_all has_port draft.nodes ≡ true
   pub tick_ms : is_up_to (pos 1000000) draft.tick_ms ≡ true
   pub node_timeout : is_up_to (pos 1000000) draft.node_timeout ≡ true
+  pub backlog : is_up_to (pos 16777216) draft.backlog ≡ true
 
 row : (holds : Bool) (fault : ConfigFault) (rest : Option ConfigFault) → cond holds rest (Some fault) ≡ None → (holds ≡ true) × (rest ≡ None)
 row true fault rest is = (refl, is)
@@ -60,7 +61,8 @@ faultless draft none =
     let ids = and_parts (list_all has_id nodes) (all_pairs has_lower_id nodes) id.0 in
     let votes = and_parts (list_all (is_known nodes) draft.voters && ltb 0 (length draft.voters)) (all_pairs differ draft.voters) voters.0 in
     let known = and_parts (list_all (is_known nodes) draft.voters) (ltb 0 (length draft.voters)) votes.0 in
-    let times = and_parts (list_all has_port nodes && is_up_to (pos 1000000) draft.tick_ms) (is_up_to (pos 1000000) draft.node_timeout) within.0 in
+    let numbers = and_parts (list_all has_port nodes && is_up_to (pos 1000000) draft.tick_ms && is_up_to (pos 1000000) draft.node_timeout) (is_up_to (pos 16777216) draft.backlog) within.0 in
+    let times = and_parts (list_all has_port nodes && is_up_to (pos 1000000) draft.tick_ms) (is_up_to (pos 1000000) draft.node_timeout) numbers.0 in
     let ports = and_parts (list_all has_port nodes) (is_up_to (pos 1000000) draft.tick_ms) times.0 in
     record {
       ids = ids.0;
@@ -75,6 +77,7 @@ faultless draft none =
       ports = ports.0;
       tick_ms = ports.1;
       node_timeout = times.1;
+      backlog = numbers.1;
     }
 
 -- a number that is up to the last
@@ -204,6 +207,7 @@ built_cluster draft holds hosts =
     record {
       tick_ms = up_to 1000000 draft.tick_ms holds.tick_ms;
       node_timeout = up_to 1000000 draft.node_timeout holds.node_timeout;
+      backlog = up_to 16777216 draft.backlog holds.backlog;
       some = omega arith;
       most = omega arith;
       ids = all_pairs-map (λ (a b : NodeConfig). is_below a.id b.id) (node_of nodes) nodes ∙ holds.rise;
@@ -227,8 +231,8 @@ built_cluster draft holds hosts =
           draft.voters holds.known holds.once;
     }
 
-pub cluster_of : (draft : Draft) → IsFaultless draft → (tick_ms node_timeout : ℕ) (nodes : List NodeConfig) (voters : List ℕ) → tick_ms ≡ nat_abs draft.tick_ms → node_timeout ≡ nat_abs draft.node_timeout
-    → nodes ≡ map (node_of draft.nodes) draft.nodes → voters ≡ map (number_of draft.nodes) draft.voters → All (λ (node : NodeConfig). IsTrue (is_host node.host)) nodes → IsCluster (record { tick_ms = tick_ms; node_timeout = node_timeout; nodes = nodes; voters = voters })
+pub cluster_of : (draft : Draft) → IsFaultless draft → (tick_ms node_timeout backlog : ℕ) (nodes : List NodeConfig) (voters : List ℕ) → tick_ms ≡ nat_abs draft.tick_ms → node_timeout ≡ nat_abs draft.node_timeout
+    → backlog ≡ nat_abs draft.backlog → nodes ≡ map (node_of draft.nodes) draft.nodes → voters ≡ map (number_of draft.nodes) draft.voters → All (λ (node : NodeConfig). IsTrue (is_host node.host)) nodes → IsCluster (record { tick_ms = tick_ms; node_timeout = node_timeout; backlog = backlog; nodes = nodes; voters = voters })
 unfolding config_of
-cluster_of draft holds tick_ms node_timeout nodes voters tick timeout built votes hosts =
-    rw (tick, timeout, votes, built) (built_cluster draft holds (subst (All (λ (node : NodeConfig). IsTrue (is_host node.host))) built hosts))
+cluster_of draft holds tick_ms node_timeout backlog nodes voters tick timeout kept built votes hosts =
+    rw (tick, timeout, kept, votes, built) (built_cluster draft holds (subst (All (λ (node : NodeConfig). IsTrue (is_host node.host))) built hosts))

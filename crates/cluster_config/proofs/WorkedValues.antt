@@ -47,6 +47,7 @@ pair last port =
 a_pair_is_read : read_draft (draft_in (pair 16383 7001)) ≡ Ok (record {
   tick_ms = 100;
   node_timeout = 20;
+  backlog = 1048576;
   nodes = record { id = replicate 39 48 ++ codes "1"; host = codes "a"; port = 7000; role = Master (record { first = 0; last = 16383 } ∷ []) }
       ∷ record { id = replicate 39 48 ++ codes "2"; host = codes "a"; port = 7001; role = Replica 0 }
       ∷ [];

@@ -11,10 +11,12 @@ use Rattle.cluster_config.specs.declared.config.Role.{Role}
 use Rattle.cluster_config.specs.declared.config.Role.TheVariants.{Master, Replica}
 use Rattle.key_slot.specs.declared.slots.SlotRange.{SlotRange}
 
--- its nodes by their numbers, the numbers of those that vote, the length of a tick and how many of them a node may be silent
+-- its nodes by their numbers, the numbers of those that vote, the length of a tick, how many of them a node may be silent, and how
+-- many bytes of its stream of writes a node keeps
 pub record ClusterConfig : Type 0 where
   pub tick_ms : ℕ
   pub node_timeout : ℕ
+  pub backlog : ℕ
   pub nodes : List NodeConfig
   pub voters : List ℕ
 
@@ -72,10 +74,12 @@ abbrev pub IsUpTo : ℕ → ℕ → Type 0
 IsUpTo last number = (1 ≤ number) × (number ≤ last)
 
 -- what holds of each cluster: 1 to 16 nodes in the order of their ids, each with a host and a port that no other has; ranges that have slots,
--- of which none is in two; a master for each replica; at least one vote, each of a node, none twice; times and ports within their bounds
+-- of which none is in two; a master for each replica; at least one vote, each of a node, none twice; times, ports and backlog within
+-- their bounds
 pub record IsCluster (config : ClusterConfig) : Type 0 where
   pub tick_ms : IsUpTo 1000000 config.tick_ms
   pub node_timeout : IsUpTo 1000000 config.node_timeout
+  pub backlog : IsUpTo 16777216 config.backlog
   pub some : 0 < length config.nodes
   pub most : length config.nodes ≤ 16
   pub ids : IsTrue (all_pairs (λ (node next : NodeConfig). is_below node.id next.id) config.nodes)

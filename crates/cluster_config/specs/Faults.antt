@@ -92,9 +92,10 @@ is_up_to last number = int_le (pos 1) number && int_le number last
 abbrev pub has_port : NodeDraft → Bool
 has_port node = is_up_to (pos 65535) node.port
 
--- the ports and the times are what they may be
+-- the ports, the times and the backlog are what they may be
 abbrev pub are_within : Draft → Bool
-are_within draft = list_all has_port draft.nodes && is_up_to (pos 1000000) draft.tick_ms && is_up_to (pos 1000000) draft.node_timeout
+are_within draft =
+    list_all has_port draft.nodes && is_up_to (pos 1000000) draft.tick_ms && is_up_to (pos 1000000) draft.node_timeout && is_up_to (pos 16777216) draft.backlog
 
 -- what has to hold of what the text says, and the fault where it doesn't
 abbrev pub conditions : Draft → List (Bool × ConfigFault)

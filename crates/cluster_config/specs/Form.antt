@@ -1,5 +1,5 @@
 -- The form of the JSON text: which members its objects have, of which kind their values are, and what it says of the cluster.
-use Rattle.std.specs.Prelude.{◌≡◌, ℕ, ◌+◌, ◌==◌, ◌⊎◌, Bool, false, List, [], ◌∷◌, Option, Some, None, Result, Ok, Err, option_map, option_and_then, is_some, is_none, if◌then◌else◌, ℤ, codes}
+use Rattle.std.specs.Prelude.{◌≡◌, ℕ, ◌+◌, ◌==◌, ◌⊎◌, Bool, false, List, [], ◌∷◌, Option, Some, None, Result, Ok, Err, option_map, option_and_then, is_some, is_none, if◌then◌else◌, ℤ, pos, codes}
 use Rattle.std.specs.Option.{option_map_or}
 use Rattle.serde_json.specs.Data.{Data, Items, no_items, item, Members, no_members, member}
 use Rattle.serde_json.specs.Find.{get, at, as_str, as_number, as_array, as_object, as_integer}
@@ -21,14 +21,19 @@ abbrev pub count_of : Members → ℕ
 count_of no_members = 0
 count_of (member name value members) = count_of members + 1
 
--- an object of four members. If four names are found in it, it has no other
-abbrev pub has_four_members : Data → Bool
-has_four_members value = option_map_or (λ members. count_of members == 4) (as_object value) false
+-- an object of so many members. If as many names are found in it, it has no other
+abbrev pub has_members : ℕ → Data → Bool
+has_members count value = option_map_or (λ members. count_of members == count) (as_object value) false
 
 -- what the four give, if all are there
 abbrev pub all_four : {A B C D R : Type 0} → (A → B → C → D → R) → Option A → Option B → Option C → Option D → Option R
 all_four make (Some a) (Some b) (Some c) (Some d) = Some (make a b c d)
 all_four make _ _ _ _ = None
+
+-- the same of five
+abbrev pub all_five : {A B C D E R : Type 0} → (A → B → C → D → E → R) → Option A → Option B → Option C → Option D → Option E → Option R
+all_five make (Some a) (Some b) (Some c) (Some d) (Some e) = Some (make a b c d e)
+all_five make _ _ _ _ _ = None
 
 -- the two, if both are there
 abbrev pub both : {A B : Type 0} → Option A → Option B → Option (A × B)
@@ -69,16 +74,26 @@ role_in node =
 -- an object of an id, a host, a port and a role
 unfoldable pub node_in : Data → Option NodeDraft
 node_in node =
-    if has_four_members node then
+    if has_members 4 node then
     all_four (λ id host port role. record { id = id; host = host; port = port; role = role })
     (form_at as_str (get (codes "id") node)) (form_at host_in (get (codes "host") node)) (form_at integer_in (get (codes "port") node)) (role_in node)
     else None
 
--- an object of two times, the nodes, and the ids of the voters
+-- the backlog, which the text may leave out
+abbrev pub has_backlog : Data → Bool
+has_backlog value = is_some (get (codes "backlog") value)
+
+abbrev pub has_all_members : Data → Bool
+has_all_members value = if has_backlog value then has_members 5 value else has_members 4 value
+
+abbrev pub backlog_in : Data → Option ℤ
+backlog_in value = if has_backlog value then form_at integer_in (get (codes "backlog") value) else Some (pos 1048576)
+
+-- an object of two times, the nodes, the ids of the voters, and perhaps a backlog
 unfoldable pub draft_in : Data → Option Draft
 draft_in value =
-    if has_four_members value then
-    all_four (λ tick_ms node_timeout nodes voters. record { tick_ms = tick_ms; node_timeout = node_timeout; nodes = nodes; voters = voters })
+    if has_all_members value then
+    all_five (λ tick_ms node_timeout nodes voters backlog. record { tick_ms = tick_ms; node_timeout = node_timeout; nodes = nodes; voters = voters; backlog = backlog })
     (form_at integer_in (get (codes "tick_ms") value)) (form_at integer_in (get (codes "node_timeout") value))
-    (form_at (items_in node_in) (get (codes "nodes") value)) (form_at (items_in as_str) (get (codes "voters") value))
+    (form_at (items_in node_in) (get (codes "nodes") value)) (form_at (items_in as_str) (get (codes "voters") value)) (backlog_in value)
     else None

@@ -31,6 +31,7 @@ unfoldable pub config_of : Draft → ClusterConfig
 config_of draft = record {
   tick_ms = nat_abs draft.tick_ms;
   node_timeout = nat_abs draft.node_timeout;
+  backlog = nat_abs draft.backlog;
   nodes = map (node_of draft.nodes) draft.nodes;
   voters = map (number_of draft.nodes) draft.voters;
 }

@@ -3,7 +3,7 @@ ghost use Rattle.std.specs.Prelude.{◌≡◌, Bool, None, Some, IfErr, IfOk, On
 ghost use Rattle.std.specs.Fn.{FnReturnsAtPair};
 ghost use Rattle.std.specs.List.{list_all};
 ghost use Rattle.cluster_config.specs.Config.{all_pairs};
-ghost use Rattle.cluster_config.specs.Faults.{are_ids, are_slots, are_voters, are_within, fault_of, follows_master, has_master, is_elsewhere, is_up_to, number_of, range_from};
+ghost use Rattle.cluster_config.specs.Faults.{are_ids, are_slots, are_voters, are_within, fault_of, follows_master, has_master, has_port, is_elsewhere, is_up_to, number_of, range_from};
 ghost use Rattle.cluster_config.specs.declared.fault.ConfigFault.TheVariants.{Memory};
 
 use crate::fault::{ConfigFault, hold};
@@ -132,14 +132,21 @@ fn have_own_addresses(nodes: &[NodeDraft]) -> bool
     })
 }
 
-// The ports and the times are what they may be.
+// The ports, the times and the backlog are what they may be.
 fn are_within(draft: &Draft) -> bool
     ensures { result ≡ are_within draft.now }
 {
     let nodes = draft.nodes.items.as_slice();
-    nodes.iter().all(|node| is_up_to(65_535, node.port))
+    are_ports(nodes)
         && is_up_to(1_000_000, draft.tick_ms)
         && is_up_to(1_000_000, draft.node_timeout)
+        && is_up_to(16_777_216, draft.backlog)
+}
+
+fn are_ports(nodes: &[NodeDraft]) -> bool
+    ensures { result ≡ list_all has_port nodes.now }
+{
+    nodes.iter().all(|node| is_up_to(65_535, node.port))
 }
 
 fn is_up_to(last: i128, number: i128) -> bool

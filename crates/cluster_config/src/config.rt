@@ -54,11 +54,12 @@ pub struct NodeConfig {
     pub role: Role,
 }
 
-/// A cluster: its nodes by their numbers, who votes, and its times.
+/// A cluster: its nodes by their numbers, who votes, its times, and how much of its stream a node keeps.
 #[derive(Debug, Drop)]
 pub struct Config {
     tick_ms: u32,
     node_timeout: u32,
+    backlog: u32,
     nodes: Vec<NodeConfig>,
     voters: Vec<NodeNo>,
 }
@@ -71,6 +72,7 @@ impl Model for Config {
     ghost view = { λ config. record {
       tick_ms = config.tick_ms;
       node_timeout = config.node_timeout;
+      backlog = config.backlog;
       nodes = config.nodes.items;
       voters = config.voters.items;
     } };
@@ -78,6 +80,7 @@ impl Model for Config {
     ghost invariant = { λ config. IsCluster (record {
       tick_ms = config.tick_ms;
       node_timeout = config.node_timeout;
+      backlog = config.backlog;
       nodes = config.nodes.items;
       voters = config.voters.items;
     }) };
@@ -96,6 +99,13 @@ impl Config {
         ensures { result ≡ self.now.node_timeout }
     {
         self.node_timeout
+    }
+
+    /// How many of the last bytes of its stream of writes a node keeps.
+    pub fn backlog(&self) -> u32
+        ensures { result ≡ self.now.backlog }
+    {
+        self.backlog
     }
 
     /// The nodes by their numbers, 1 to 16 of them.
@@ -156,6 +166,7 @@ impl Clone for Config {
         Ok(Config {
             tick_ms: self.tick_ms,
             node_timeout: self.node_timeout,
+            backlog: self.backlog,
             nodes: self.nodes.clone()?,
             voters: self.voters.clone()?,
         })

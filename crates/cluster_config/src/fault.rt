@@ -30,7 +30,7 @@ pub enum ConfigFault {
     /// Two nodes have one host and port.
     #[error("an address stands twice")]
     Address,
-    /// `tick_ms` or `node_timeout` isn't from 1 to 1,000,000, or a port isn't from 1 to 65535.
+    /// `tick_ms` or `node_timeout` isn't from 1 to 1,000,000, a port isn't from 1 to 65535, or `backlog` isn't from 1 to 16,777,216.
     #[error("a number is out of range")]
     Range,
     /// Memory was refused.

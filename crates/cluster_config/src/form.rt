@@ -3,7 +3,7 @@ ghost use Rattle.std.specs.Prelude.{◌≡◌, Option};
 ghost use Rattle.serde_json.specs.Data.{Data};
 ghost use Rattle.serde_json.specs.View.{view};
 ghost use Rattle.serde_json.specs.Find.{as_str};
-ghost use Rattle.cluster_config.specs.Form.{IsReadAs, draft_in, form_at, has_four_members, host_in, integer_in, items_in, node_in, pair_in, role_in};
+ghost use Rattle.cluster_config.specs.Form.{IsReadAs, backlog_in, draft_in, form_at, has_all_members, has_backlog, has_members, host_in, integer_in, items_in, node_in, pair_in, role_in};
 
 use crate::fault::{ConfigFault, hold};
 use crate::names::Host;
@@ -11,6 +11,9 @@ use bytes::Bytes;
 use serde_json::{Index, Number, Value};
 use std::alloc::Global;
 use std::marker::Model;
+
+// How many bytes of its stream a node keeps, where the text doesn't say it.
+const DEFAULT_BACKLOG: i128 = 1_048_576;
 
 /// Things in the order of the text.
 #[derive(Drop)]
@@ -31,6 +34,7 @@ impl<T> Model for List<T> {
 pub(crate) struct Draft {
     pub(crate) tick_ms: i128,
     pub(crate) node_timeout: i128,
+    pub(crate) backlog: i128,
     pub(crate) nodes: List<NodeDraft>,
     pub(crate) voters: List<Bytes>,
 }
@@ -124,7 +128,7 @@ impl FromJson for NodeDraft {
 
     #[tactic(auto, unfolding(crate::specs::Form::node_in))]
     fn from_json(alloc: Global, node: &Value) -> Result<NodeDraft, ConfigFault> {
-        hold(has_four_members(node), ConfigFault::Syntax)?;
+        hold(has_members(node, 4), ConfigFault::Syntax)?;
         Ok(NodeDraft {
             id: at(alloc, node, "id")?,
             host: at(alloc, node, "host")?,
@@ -139,12 +143,13 @@ impl FromJson for Draft {
 
     #[tactic(auto, unfolding(crate::specs::Form::draft_in))]
     fn from_json(alloc: Global, value: &Value) -> Result<Draft, ConfigFault> {
-        hold(has_four_members(value), ConfigFault::Syntax)?;
+        hold(has_all_members(value), ConfigFault::Syntax)?;
         Ok(Draft {
             tick_ms: at(alloc, value, "tick_ms")?,
             node_timeout: at(alloc, value, "node_timeout")?,
             nodes: at(alloc, value, "nodes")?,
             voters: at(alloc, value, "voters")?,
+            backlog: backlog_in(alloc, value)?,
         })
     }
 }
@@ -156,9 +161,38 @@ fn at<T: FromJson, I: Index + Drop>(alloc: Global, value: &Value, of: I) -> Resu
     T::from_json(alloc, value.get(of).ok_or(ConfigFault::Syntax)?)
 }
 
-#[tactic(auto, using(crate::proofs::FormLemmas::count_of_view))]
-fn has_four_members(value: &Value) -> bool
-    ensures { result ≡ has_four_members (view value.now) }
+fn has_all_members(value: &Value) -> bool
+    ensures { result ≡ has_all_members (view value.now) }
 {
-    value.as_object().is_some_and(|members| members.len() == 4)
+    if has_backlog(value) {
+        has_members(value, 5)
+    } else {
+        has_members(value, 4)
+    }
+}
+
+fn has_backlog(value: &Value) -> bool
+    ensures { result ≡ has_backlog (view value.now) }
+{
+    value.get("backlog").is_some()
+}
+
+// The backlog, which the text may leave out.
+fn backlog_in(alloc: Global, value: &Value) -> Result<i128, ConfigFault>
+    ensures { IsReadAs (backlog_in (view value.now)) result }
+{
+    if has_backlog(value) {
+        at(alloc, value, "backlog")
+    } else {
+        Ok(DEFAULT_BACKLOG)
+    }
+}
+
+#[tactic(auto, using(crate::proofs::FormLemmas::count_of_view))]
+fn has_members(value: &Value, count: usize) -> bool
+    ensures { result ≡ has_members count (view value.now) }
+{
+    value
+        .as_object()
+        .is_some_and(|members| members.len() == count)
 }

@@ -15,7 +15,7 @@ use std::alloc::Global;
 /// [`ConfigFault`], wherever it stands in the text. `Memory` is reported where an allocation failed.
 ///
 /// The text is one object with four members, in any order: the times `tick_ms` and `node_timeout`, an array `nodes` and an
-/// array `voters` of ids. A node is an object with an `id`, a `host`, a `port`, and either `slots`, an array of pairs of the
+/// array `voters` of ids. It may have a fifth, `backlog`, which is 1,048,576 if it is missing. A node is an object with an `id`, a `host`, a `port`, and either `slots`, an array of pairs of the
 /// first slot and the last one, or `replica_of`, the id of its master. Of members with one name the last counts.
 pub fn read_config(alloc: Global, text: &[u8]) -> Result<Config, ConfigFault>
     ensures config { IfOk result (λ config. read text.now ≡ Ok config) }

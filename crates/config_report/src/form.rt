@@ -8,11 +8,14 @@ use std::alloc::{AllocError, Global};
 
 /// Halts at the first member that is strange, missing or of the wrong kind.
 pub(crate) fn check_form(alloc: Global, cluster: &Value) -> Result<(), Halt> {
-    let names = ["tick_ms", "node_timeout", "nodes", "voters"];
+    let names = ["tick_ms", "node_timeout", "nodes", "voters", "backlog"];
     check_names(alloc, cluster, Place::Whole, "a cluster", &names)?;
-    check_presence(alloc, cluster, Place::Whole, &names)?;
+    check_presence(alloc, cluster, Place::Whole, &names[..4])?;
     for name in ["tick_ms", "node_timeout"] {
         check_number(alloc, cluster.get(name), Place::Member(name))?;
+    }
+    if let Some(backlog) = cluster.get("backlog") {
+        check_number(alloc, Some(backlog), Place::Member("backlog"))?;
     }
     for name in ["nodes", "voters"] {
         check_array(alloc, cluster.get(name), Place::Member(name))?;
@@ -55,7 +58,7 @@ fn check_ranges(alloc: Global, number: usize, node: &Value) -> Result<(), Halt> 
     check_array(alloc, node.get("slots"), Place::NodeMember(number, "slots"))?;
     for (at, range) in items_of(node, "slots").iter().enumerate() {
         if !is_pair(range) {
-            let what = "an array of two whole numbers is wanted";
+            let what = "an array of two integers is wanted";
             return Err(wrong(alloc, Place::Range(number, at), what));
         }
     }
@@ -106,7 +109,8 @@ fn check_presence(
 
 fn check_number(alloc: Global, value: Option<&Value>, place: Place<'_>) -> Result<(), Halt> {
     if value.and_then(number_in).is_none() {
-        return Err(wrong(alloc, place, "a whole number is wanted"));
+        let what = "an integer of 64 bits without a fraction or an exponent is wanted";
+        return Err(wrong(alloc, place, what));
     }
     Ok(())
 }
@@ -120,7 +124,7 @@ fn check_array(alloc: Global, value: Option<&Value>, place: Place<'_>) -> Result
 
 fn check_text(alloc: Global, value: Option<&Value>, place: Place<'_>) -> Result<(), Halt> {
     if !value.is_some_and(Value::is_string) {
-        return Err(wrong(alloc, place, "a text is wanted"));
+        return Err(wrong(alloc, place, "a string is wanted"));
     }
     Ok(())
 }
@@ -130,7 +134,7 @@ fn check_host(alloc: Global, value: Option<&Value>, place: Place<'_>) -> Result<
     let host = value.and_then(Value::as_str).unwrap_or("");
     if !is_host(alloc, host)? {
         let what =
-            "1 to 255 printing ASCII characters without a colon are wanted, and there is no IPv6";
+            "1 to 255 printing ASCII characters without a colon are wanted; IPv6 addresses are not supported";
         return Err(wrong(alloc, place, what));
     }
     Ok(())

@@ -10,8 +10,8 @@ use cluster_config::ConfigFault;
 use std::alloc::{AllocError, Global};
 
 /// The first thing of the fault's kind that is wrong with the text, and where it stands, as in
-/// `nodes[1].slots: slot 5461 is listed twice`. It has no newline. Where nothing of that kind is found, as for `Memory`, it
-/// is a plain line that tells the fault. The fault should be the one that `read_config` gives for the text.
+/// `nodes[1].slots: slot 5461 is in nodes[0].slots too`. It has no newline. Where nothing of that kind is found, as for
+/// `Memory`, it is a plain line that tells the fault. The fault should be the one that `read_config` gives for the text.
 ///
 /// It takes the time of sorting the members of the text. It fails where memory is refused.
 pub fn report(alloc: Global, text: &[u8], fault: ConfigFault) -> Result<String, AllocError> {

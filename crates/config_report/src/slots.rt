@@ -8,30 +8,47 @@ use std::mem;
 
 /// Halts at the first range that is none, or at the first slot that is listed for the second time.
 pub(crate) fn check_slots(alloc: Global, cluster: &Value) -> Result<(), Halt> {
-    let mut listed = Vec::from_elem(alloc, false, Slot::COUNT)?;
+    let mut holders = Vec::from_elem(alloc, None, Slot::COUNT)?;
     for (number, node) in nodes_of(cluster).iter().enumerate() {
         for (at, ends) in items_of(node, "slots").iter().enumerate() {
             let range = read_range(alloc, ends, Place::Range(number, at))?;
-            if let Some(slot) = list_range(&mut listed, range) {
-                let what = format_args!("slot {slot} is listed twice");
-                return Err(wrong(alloc, Place::NodeMember(number, "slots"), what));
+            if let Some(twice) = list_range(&mut holders, number, range) {
+                return Err(listed_twice(alloc, number, twice));
             }
         }
     }
     Ok(())
 }
 
-// Notes the slots of the range as listed, up to the first that was so before, if there is one.
-fn list_range(listed: &mut Vec<bool>, range: SlotRange) -> Option<u16> {
+// A slot that is listed for the second time, and the number of the node that lists it first.
+#[derive(Clone, Copy)]
+struct Twice {
+    slot: u16,
+    holder: usize,
+}
+
+// Notes that the node lists the slots of the range, up to the first that was listed before, if there is one.
+fn list_range(holders: &mut Vec<Option<usize>>, number: usize, range: SlotRange) -> Option<Twice> {
     for slot in range.first.get()..=range.last.get() {
-        let was_listed = listed
+        let before = holders
             .get_mut(usize::from(slot))
-            .is_some_and(|slot| mem::replace(slot, true));
-        if was_listed {
-            return Some(slot);
+            .and_then(|holder| mem::replace(holder, Some(number)));
+        if let Some(holder) = before {
+            return Some(Twice { slot, holder });
         }
     }
     None
+}
+
+// What halts where the node lists such a slot.
+fn listed_twice(alloc: Global, number: usize, twice: Twice) -> Halt {
+    let Twice { slot, holder } = twice;
+    let place = Place::NodeMember(number, "slots");
+    if holder == number {
+        return wrong(alloc, place, format_args!("slot {slot} is listed twice"));
+    }
+    let what = format_args!("slot {slot} is in nodes[{holder}].slots too");
+    wrong(alloc, place, what)
 }
 
 fn read_range(alloc: Global, ends: &Value, place: Place<'_>) -> Result<SlotRange, Halt> {

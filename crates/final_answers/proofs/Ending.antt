@@ -58,6 +58,7 @@ answers-append (output.Answer client answer ∷ first) rest old mid new (place, 
     (place, line, at, own, none, answers-append first rest (slice_set old place (record line { answer = Some answer })) mid new one more)
 answers-append (output.Admin node reply ∷ first) rest old mid new one more = answers-append first rest old mid new one more
 answers-append (output.Sent number message ∷ first) rest old mid new one more = answers-append first rest old mid new one more
+answers-append (output.Promoted node promotion ∷ first) rest old mid new one more = answers-append first rest old mid new one more
 answers-append (output.Nothing ∷ first) rest old mid new one more = answers-append first rest old mid new one more
 
 fewer_late : (test : Late → Bool) (passes : Late → Bool) (late : List Late) → tally test (filter passes late) ≤ tally test late

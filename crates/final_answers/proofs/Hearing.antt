@@ -1,7 +1,9 @@
 -- The reply to what a client sent can be followed, and CLUSTER NUMBERED introduces its connection.
-use Rattle.std.proofs.Common.{◌≡◌, ◌∙◌, ℕ, Bool, true, false, List, Option, None, Some, refl, sym, ap, subst, inl, inr}
+use Rattle.std.proofs.Common.{◌≡◌, ◌∙◌, ℕ, Bool, true, false, true≢false, List, Option, None, Some, refl, sym, ap, subst, inl, inr}
 use Rattle.std.specs.Prelude.{MatchBool}
 use Rattle.cluster_config.specs.Config.{ClusterConfig, IsCluster}
+use Rattle.command_table.specs.ErrorLine.{error_text}
+use Rattle.command_table.specs.declared.error_line.ErrorLine.TheVariants as line
 use Rattle.connections.specs.Connections.{connection_at}
 use Rattle.node_step.specs.Requests.{is_numbered}
 use Rattle.node_step.specs.State.{NodeState}
@@ -9,8 +11,10 @@ use Rattle.node_step.specs.declared.event.Event.TheVariants.{Request}
 use Rattle.node_step.specs.declared.response.Answer.{Answer}
 use Rattle.node_step.specs.declared.response.Response.{Response}
 use Rattle.node_step.specs.declared.response.Response.TheVariants.{Nothing, Opened, Replied, Parked}
-use Rattle.reply_meaning.proofs.Reasons.{need_no_number}
+use Rattle.reply_meaning.proofs.Reasons.{need_offsets_alone}
+use Rattle.reply_meaning.specs.Law.{HasNoOffset, IsOfClient}
 use Rattle.resp_values.specs.declared.reply.Reply.{Reply}
+use Rattle.single_keyspace.proofs.Seen.{same_some}
 use Rattle.smart_client.specs.Words.{is_refused, numbered_words}
 use Rattle.smart_client.specs.declared.call.Call.{Call}
 use Rattle.smart_client.specs.declared.call.Stage.{Stage}
@@ -20,7 +24,7 @@ use Rattle.world.proofs.Leaving.{after_is, enters_leaves}
 use Rattle.world.proofs.Playing.{of_call_so}
 use Rattle.world.proofs.Requests.{words_of_client}
 use Rattle.world.specs.Asking.{AsksWell, HaveConfig, IsKnown, IsOfCall, IsSent, asking_at}
-use Rattle.world.specs.Calls.{Arrives, Carries, IsCarried, IsServed, Rests, Serves, reply_in}
+use Rattle.world.specs.Calls.{Arrives, Carries, IsCarried, IsServed, IsSkipped, Rests, Serves, reply_in}
 use Rattle.world.specs.Clients.{ClientView}
 use Rattle.world.specs.NodeSteps.{released_conns}
 use Rattle.world.specs.View.{RunView, is_up}
@@ -31,7 +35,7 @@ use Rattle.world.specs.declared.output.Output.{Output}
 use Rattle.final_answers.proofs.Following.{FollowsWell, Goes, IsLed, led_so, rests_well}
 use Rattle.final_answers.proofs.Greeting.{IsGreeted}
 use Rattle.final_answers.proofs.Kept.{AllNameable, IsIntroduced, closes_keeps, introduced_in, serves_keeps}
-use Rattle.final_answers.proofs.Leading.{CanFollow, answer_leads}
+use Rattle.final_answers.proofs.Leading.{CanFollow, answer_leads, other}
 use Rattle.final_answers.proofs.Linked.{kept_still}
 use Rattle.final_answers.proofs.NumberedConns.{introduced_at, introduces, is_told_numbers}
 
@@ -77,19 +81,30 @@ module _ (config : ClusterConfig) (cluster_is : IsCluster config) (old : RunView
         (subst (λ (numbered : Bool). CanFollow step.before.config.nodes numbered reply) numbers
         (subst (CanFollow step.before.config.nodes (is_numbered (connection_at step.before.connections link.conn))) given.2 leads))
 
+  module _ (skipped : IsSkipped old link.node link.conn words (Some reply) outputs new) where
+    -- the node had no offset for what the command writes
+    needs : IsOfClient words → HasNoOffset skipped.skips.enters.enters.step.before link.conn words
+    needs client = need_offsets_alone skipped.skips.enters.enters.step.before link.conn words client skipped.skips.why
+
+    -- EXHAUSTED leads nowhere
+    exhausted_can : CanFollow config.nodes true reply
+    exhausted_can = subst (CanFollow config.nodes true) (sym (same_some refl skipped.replies)) (other config.nodes true (error_text line.Exhausted) refl)
+
   -- what is under way then, by what was sent
   led_then : (call : Call) (at : Stage) → call.stage ≡ at → is_refused call.words ≡ false → IsKnown old link → IsSent call at words (asking_at old link) → IsGreeted old (Some link) at
       → Serves old link.node link.conn words (Some reply) outputs new → IsIntroduced new link × (call.stage ≡ stage.Sent → CanFollow config.nodes true reply)
-  led_then call at is plain known sent greeted (inr skipped) =
-      absurd (need_no_number skipped.skips.enters.enters.step.before link.conn words (words_of_client call at words (asking_at old link) plain sent) skipped.skips.why)
-  led_then call stage.Connecting is plain known sent greeted (inl served) = absurd sent
+  led_then call stage.Connecting is plain known sent greeted serves = absurd sent
   led_then call stage.Introducing is plain known sent greeted (inl served) = (greets served known sent.0, λ at. absurd (cc (is, at)))
-  led_then call stage.Asking is plain known sent greeted (inl served) =
-      ((serves_keeps old new link.node link.conn words (Some reply) outputs (inl served)).introduced link greeted, λ at. absurd (cc (is, at)))
+  led_then call stage.Introducing is plain known sent greeted (inr skipped) =
+      absurd (true≢false (sym (ap is_refused sent.0) ∙ (needs skipped (words_of_client call stage.Introducing words (asking_at old link) plain sent)).plain))
+  led_then call stage.Asking is plain known sent greeted serves =
+      ((serves_keeps old new link.node link.conn words (Some reply) outputs serves).introduced link greeted, λ at. absurd (cc (is, at)))
   led_then call stage.Sent is plain known sent greeted (inl served) = (
     (serves_keeps old new link.node link.conn words (Some reply) outputs (inl served)).introduced link greeted,
     λ at. can_follow served greeted (ap is_refused sent.0 ∙ plain),
   )
+  led_then call stage.Sent is plain known sent greeted (inr skipped) =
+      ((serves_keeps old new link.node link.conn words (Some reply) outputs (inr skipped)).introduced link greeted, λ at. exhausted_can skipped)
 
 -- a request reaches its node
 pub carries_well : (config : ClusterConfig) → IsCluster config → (old new : RunView) → HaveConfig config old.nodes → AllNameable old.nodes → (client after : ClientView) (outputs : List Output)

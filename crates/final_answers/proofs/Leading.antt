@@ -110,7 +110,7 @@ text_in _ = []
 
 module _ (nodes : List NodeConfig) (numbered : Bool) where
   -- an error of another kind
-  other : (text : List ℕ) → names_node text ≡ false → CanFollow nodes numbered (Error text)
+  pub other : (text : List ℕ) → names_node text ≡ false → CanFollow nodes numbered (Error text)
   other text none same is names = absurd (true≢false (sym names ∙ ap names_node (ap text_in (sym is)) ∙ none))
 
   leads_so : (text : List ℕ) → Leads nodes numbered text → CanFollow nodes numbered (Error text)

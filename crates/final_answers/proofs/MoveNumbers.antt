@@ -6,7 +6,7 @@ use Rattle.std.specs.FinMap as map
 use Rattle.std.specs.Ordering.{nat_cmp}
 use Rattle.std.specs.Prelude.{◌-◌, MatchBool, Result, Ok, Err, nat_eq, nat_lt, ⊤}
 use Rattle.bus.specs.declared.message.Body.{Body}
-use Rattle.bus.specs.declared.message.Body.TheVariants.{Copy, Ack, Drained, Claim}
+use Rattle.bus.specs.declared.message.Body.TheVariants.{Copy, Ack, Drained, Claim, Report, Request as Requested, Grant, Sync, Piece, Snapshot}
 use Rattle.bus.specs.declared.message.Message.{Message}
 use Rattle.cluster_config.specs.Config.{ClusterConfig}
 use Rattle.command_table.specs.Table.{command_of}
@@ -33,12 +33,13 @@ use Rattle.migrate.specs.declared.sending.CopyVerdict.TheVariants as copies
 use Rattle.node_step.specs.Claiming.{claimed_by}
 use Rattle.node_step.specs.Commands.{command_outcome, decision_on}
 use Rattle.node_step.specs.Copies.{acknowledged, copy_outcome, copy_verdict_on, keeps_limits, node_at}
-use Rattle.node_step.specs.Messages.{delivered, knowing, taken}
+use Rattle.node_step.proofs.Kept.{pieced_keeps, recorded_keeps, restored_keeps, synced_is}
+use Rattle.node_step.specs.Messages.{Choice, delivered, knowing, taken, taken_so, written_by_message}
 use Rattle.node_step.specs.Orders.{ending_outcome, ending_verdict, import_outcome, migrate_outcome}
 use Rattle.node_step.specs.Outcome.{Outcome, silent}
 use Rattle.node_step.specs.Requests.{asking_of, by_command, cluster_outcome, is_numbered, node_with_id, order_outcome, request_outcome, using_up}
 use Rattle.node_step.specs.State.{NodeState, first_state, standing}
-use Rattle.node_step.specs.Step.{IsAnswering, IsClosing, MayCome, NodeStep}
+use Rattle.node_step.specs.Step.{IsAnswering, IsClosing, MayCome, NodeStep, written}
 use Rattle.node_step.specs.declared.event.Event.{Event}
 use Rattle.node_step.specs.declared.event.Event.TheVariants.{Open, Close, Request, Deliver, Tick}
 use Rattle.node_step.specs.declared.outputs.Outputs.{Outputs}
@@ -295,25 +296,37 @@ acknowledged_nameable : (node : NodeState) (slot number copy : ℕ) (key : Optio
 acknowledged_nameable node slot number copy None all = all
 acknowledged_nameable node slot number copy (Some key) all = changed_nameable node.moves slot unfrozen unfrozen_same all
 
-taken_nameable : (node : NodeState) (from : ℕ) (body : Body) → HasNameable node → HasNameable (taken node from body).state
-taken_nameable node from (Copy slot number copy key value) all =
+taken_so_nameable : (node : NodeState) (from : ℕ) (choice : Choice) (body : Body) → HasNameable node → HasNameable (taken_so node from choice body).state
+taken_so_nameable node from choice (Copy slot number copy key value) all =
     arrival_nameable node.moves slot (arrival_verdict (move_of node.moves slot) from number copy (keeps_limits key value)) all
-taken_nameable node from (Ack slot number copy) all = acknowledged_nameable node slot number copy (acknowledged_key (move_of node.moves slot) from number copy) all
-taken_nameable node from (Drained slot number epoch) all = changed_nameable node.moves slot (note_drained from number epoch) (noted_same from number epoch) all
-taken_nameable node from (Claim slots) all =
+taken_so_nameable node from choice (Ack slot number copy) all = acknowledged_nameable node slot number copy (acknowledged_key (move_of node.moves slot) from number copy) all
+taken_so_nameable node from choice (Drained slot number epoch) all = changed_nameable node.moves slot (note_drained from number epoch) (noted_same from number epoch) all
+taken_so_nameable node from choice (Claim slots replaced) all =
     either (λ (outcome : Outcome). HasNameable outcome.state) (from == node.number) (silent node) (claimed_by node (merged node.table slots from)) all
     (retained_nameable node.moves.running all _)
+taken_so_nameable node from choice (Report suspects) all = all
+taken_so_nameable node from choice (Requested request) all = all
+taken_so_nameable node from choice (Grant epoch) all = all
+taken_so_nameable node from choice (Sync sync) all = synced_is (λ (outcome : Outcome). HasNameable outcome.state) node from sync all all
+taken_so_nameable node from choice (Piece piece) all = pieced_keeps HasNameable node (λ stream keyspace. all) from piece choice.follower
+taken_so_nameable node from choice (Snapshot snapshot) all = restored_keeps HasNameable node (λ stream keyspace. all) from snapshot
 
-delivered_nameable : (node : NodeState) (message : Message) → HasNameable node → HasNameable (delivered node message).state
-delivered_nameable node message all =
-    either (λ (outcome : Outcome). HasNameable outcome.state) (message.to == node.number) (taken (knowing node message.epoch) message.from message.body) (silent node)
-    (taken_nameable (knowing node message.epoch) message.from message.body all) all
+taken_nameable : (node : NodeState) (from : ℕ) (choice : Choice) (body : Body) → HasNameable node → HasNameable (taken node from choice body).state
+taken_nameable node from choice body all =
+    recorded_keeps HasNameable (taken_so node from choice body) (written_by_message node from body) choice.dropped (λ stream. taken_so_nameable node from choice body all)
+
+delivered_nameable : (node : NodeState) (message : Message) (choice : Choice) → HasNameable node → HasNameable (delivered node message choice).state
+delivered_nameable node message choice all =
+    either (λ (outcome : Outcome). HasNameable outcome.state) (message.to == node.number) (taken (knowing node message.epoch) message.from choice message.body) (silent node)
+    (taken_nameable (knowing node message.epoch) message.from choice message.body all) all
 
 -- ---- any event
 
 answer_nameable : (old : NodeState) (conn : Conn) (words : List (List ℕ)) (asks : Bool) (outcome : Outcome) → MatchBool asks (IsAnswering old conn words outcome) (outcome ≡ silent old) → HasNameable old
     → HasNameable outcome.state
-answer_nameable old conn words true outcome may all = subst (λ (o : Outcome). HasNameable o.state) (sym may.comes_to) (request_nameable old conn words all)
+answer_nameable old conn words true outcome may all =
+    subst (λ (o : Outcome). HasNameable o.state) (sym may.comes_to)
+    (recorded_keeps HasNameable (request_outcome old conn (command_of words)) (written old conn words) may.dropped (λ stream. request_nameable old conn words all))
 answer_nameable old conn words false outcome may all = subst (λ (o : Outcome). HasNameable o.state) (sym may) all
 
 close_nameable : (old : NodeState) (conn : Conn) (is_open : Bool) (outcome : Outcome) → MatchBool is_open (IsClosing old conn outcome) (outcome ≡ silent old) → HasNameable old → HasNameable outcome.state
@@ -324,7 +337,7 @@ event_nameable : (old : NodeState) (event : Event) (outcome : Outcome) → MayCo
 event_nameable old Open outcome may all = subst (λ (o : Outcome). HasNameable o.state) (sym may.comes_to) all
 event_nameable old (Close conn) outcome may all = close_nameable old conn (is_some (connection_at old.connections conn)) outcome may all
 event_nameable old (Request conn words) outcome may all = answer_nameable old conn words (may_ask (connection_at old.connections conn)) outcome may all
-event_nameable old (Deliver message) outcome may all = subst (λ (o : Outcome). HasNameable o.state) (sym may) (delivered_nameable old message all)
+event_nameable old (Deliver message) outcome may all = subst (λ (o : Outcome). HasNameable o.state) (sym may.comes_to) (delivered_nameable old message may.choice all)
 event_nameable old Tick outcome may all = subst (λ (o : Outcome). HasNameable o.state) (sym may) all
 
 pub step_nameable : (ticket : ℕ) (old new : NodeState) (event : Event) (outputs : Outputs) → NodeStep ticket old event outputs new → HasNameable old → HasNameable new

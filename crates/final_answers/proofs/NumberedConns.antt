@@ -4,7 +4,7 @@ use Rattle.std.proofs.Math.ListN.{get_or-map}
 use Rattle.std.proofs.lemmas.Bool.{cases_eq}
 use Rattle.std.specs.Prelude.{MatchBool, Result, Ok, Err}
 use Rattle.bus.specs.declared.message.Body.{Body}
-use Rattle.bus.specs.declared.message.Body.TheVariants.{Copy, Ack, Drained, Claim}
+use Rattle.bus.specs.declared.message.Body.TheVariants.{Copy, Ack, Drained, Claim, Report, Request as Requested, Grant, Sync, Piece, Snapshot}
 use Rattle.bus.specs.declared.message.Message.{Message}
 use Rattle.command_table.specs.Table.{command_of}
 use Rattle.command_table.specs.declared.command.ClusterCommand.{ClusterCommand}
@@ -26,12 +26,14 @@ use Rattle.migrate.specs.declared.sending.CopyVerdict.TheVariants as copies
 use Rattle.node_step.specs.Claiming.{claimed_by}
 use Rattle.node_step.specs.Commands.{command_outcome, decision_on}
 use Rattle.node_step.specs.Copies.{acknowledged, copy_outcome, copy_verdict_on, node_at, waiting_for}
-use Rattle.node_step.specs.Messages.{delivered, knowing, taken}
+use Rattle.node_step.proofs.Kept.{pieced_keeps, recorded_keeps, restored_keeps, synced_is}
+use Rattle.node_step.proofs.Recorded.{recorded_state}
+use Rattle.node_step.specs.Messages.{Choice, delivered, knowing, taken, taken_so, written_by_message}
 use Rattle.node_step.specs.Orders.{ending_outcome, ending_verdict}
 use Rattle.node_step.specs.Outcome.{Outcome, silent}
 use Rattle.node_step.specs.Requests.{asking_for, asking_of, by_command, cluster_outcome, is_numbered, node_with_id, order_outcome, request_outcome, using_up}
 use Rattle.node_step.specs.State.{NodeState}
-use Rattle.node_step.specs.Step.{IsAnswering, IsClosing, MayCome, NodeStep}
+use Rattle.node_step.specs.Step.{IsAnswering, IsClosing, MayCome, NodeStep, answered, written}
 use Rattle.node_step.specs.declared.event.Event.{Event}
 use Rattle.node_step.specs.declared.event.Event.TheVariants.{Open, Close, Request, Deliver, Tick}
 use Rattle.node_step.specs.declared.outputs.Outputs.{Outputs}
@@ -198,25 +200,39 @@ request_stays node conn words other is =
     words_stay (using_up node conn) conn (connection_at node.connections conn) (command_of words) other
     (changed_introduced node.connections conn (λ connection. record connection { asking = No }) (λ connection. refl) (λ connection was. was) other is)
 
+answered_stays : (node : NodeState) (conn : Conn) (words : List (List ℕ)) (dropped : ℕ) → Stays node (answered node conn words dropped).state
+answered_stays node conn words dropped =
+    recorded_keeps (Stays node) (request_outcome node conn (command_of words)) (written node conn words) dropped (λ stream. request_stays node conn words)
+
 acknowledged_stays : (node : NodeState) (slot number copy : ℕ) (key : Option (List ℕ)) → Stays node (acknowledged node slot number copy key).state
 acknowledged_stays node slot number copy None other is = is
 acknowledged_stays node slot number copy (Some key) other is = all_freed_introduced node.connections _ other ∙ is
 
-taken_stays : (node : NodeState) (from : ℕ) (body : Body) → Stays node (taken node from body).state
-taken_stays node from (Copy slot number copy key value) other is = is
-taken_stays node from (Ack slot number copy) other is = acknowledged_stays node slot number copy (acknowledged_key (move_of node.moves slot) from number copy) other is
-taken_stays node from (Drained slot number epoch) other is = is
-taken_stays node from (Claim slots) other is = by_own (from == node.number) (merged node.table slots from)
+taken_so_stays : (node : NodeState) (from : ℕ) (choice : Choice) (body : Body) → Stays node (taken_so node from choice body).state
+taken_so_stays node from choice (Copy slot number copy key value) other is = is
+taken_so_stays node from choice (Ack slot number copy) other is = acknowledged_stays node slot number copy (acknowledged_key (move_of node.moves slot) from number copy) other is
+taken_so_stays node from choice (Drained slot number epoch) other is = is
+taken_so_stays node from choice (Claim slots replaced) other is = by_own (from == node.number) (merged node.table slots from)
   where
     by_own : (own : Bool) (table : List (Option SlotEntry)) → introduced_at (cond own (silent node) (claimed_by node table)).state.connections other ≡ true
     by_own true table = is
     by_own false table = all_freed_introduced node.connections _ other ∙ is
+taken_so_stays node from choice (Report suspects) other is = is
+taken_so_stays node from choice (Requested request) other is = is
+taken_so_stays node from choice (Grant epoch) other is = is
+taken_so_stays node from choice (Sync sync) other is = synced_is (λ (o : Outcome). Stays node o.state) node from sync (λ other is. is) (λ other is. is) other is
+taken_so_stays node from choice (Piece piece) other is = pieced_keeps (Stays node) node (λ stream keyspace other is. is) from piece choice.follower other is
+taken_so_stays node from choice (Snapshot snapshot) other is = restored_keeps (Stays node) node (λ stream keyspace other is. is) from snapshot other is
 
-delivered_stays : (node : NodeState) (message : Message) → Stays node (delivered node message).state
-delivered_stays node message other is = by_node (message.to == node.number)
+taken_stays : (node : NodeState) (from : ℕ) (choice : Choice) (body : Body) → Stays node (taken node from choice body).state
+taken_stays node from choice body =
+    recorded_keeps (Stays node) (taken_so node from choice body) (written_by_message node from body) choice.dropped (λ stream. taken_so_stays node from choice body)
+
+delivered_stays : (node : NodeState) (message : Message) (choice : Choice) → Stays node (delivered node message choice).state
+delivered_stays node message choice other is = by_node (message.to == node.number)
   where
-    by_node : (here : Bool) → introduced_at (cond here (taken (knowing node message.epoch) message.from message.body) (silent node)).state.connections other ≡ true
-    by_node true = taken_stays (knowing node message.epoch) message.from message.body other is
+    by_node : (here : Bool) → introduced_at (cond here (taken (knowing node message.epoch) message.from choice message.body) (silent node)).state.connections other ≡ true
+    by_node true = taken_stays (knowing node message.epoch) message.from choice message.body other is
     by_node false = is
 
 -- ---- any event
@@ -231,7 +247,7 @@ close_keeps old conn false outcome may other known is = subst (λ (o : Outcome).
 
 answer_keeps : (old : NodeState) (conn : Conn) (words : List (List ℕ)) (asks : Bool) (outcome : Outcome) → MatchBool asks (IsAnswering old conn words outcome) (outcome ≡ silent old) → Keeps old outcome.state
 answer_keeps old conn words true outcome may other known is =
-    subst (λ (o : Outcome). introduced_at o.state.connections other ≡ true) (sym may.comes_to) (request_stays old conn words other is)
+    subst (λ (o : Outcome). introduced_at o.state.connections other ≡ true) (sym may.comes_to) (answered_stays old conn words may.dropped other is)
 answer_keeps old conn words false outcome may other known is = subst (λ (o : Outcome). introduced_at o.state.connections other ≡ true) (sym may) is
 
 event_keeps : (old : NodeState) (event : Event) (outcome : Outcome) → MayCome old event outcome → Keeps old outcome.state
@@ -239,7 +255,7 @@ event_keeps old Open outcome may other known is = opened_introduced old.connecti
 event_keeps old (Close conn) outcome may other known is = close_keeps old conn (is_some (connection_at old.connections conn)) outcome may other known is
 event_keeps old (Request conn words) outcome may other known is = answer_keeps old conn words (may_ask (connection_at old.connections conn)) outcome may other known is
 event_keeps old (Deliver message) outcome may other known is =
-    subst (λ (o : Outcome). introduced_at o.state.connections other ≡ true) (sym may) (delivered_stays old message other is)
+    subst (λ (o : Outcome). introduced_at o.state.connections other ≡ true) (sym may.comes_to) (delivered_stays old message may.choice other is)
 event_keeps old Tick outcome may other known is =
     subst (λ (o : Outcome). introduced_at o.state.connections other ≡ true) (sym may)
     (all_aged_introduced (all_freed old.connections is_over) other ∙ all_freed_introduced old.connections is_over other ∙ is)
@@ -276,6 +292,7 @@ introduces ticket old new conn words outputs answer step answers is =
     let read : command_of words ≡ Ok (Cluster cluster.Numbered) = ap command_of is in
     ap (λ (node : NodeState). introduced_at node.connections conn) step.state
     ∙ ap (λ (o : Outcome). introduced_at o.state.connections conn) (heard ticket old new conn words outputs answer step answers).answering.comes_to
+    ∙ ap (λ (node : NodeState). introduced_at node.connections conn) (recorded_state (request_outcome old conn (command_of words)) (written old conn words) (heard ticket old new conn words outputs answer step answers).answering.dropped)
     ∙ ap (λ (command : Result Command CommandFault). introduced_at (request_outcome old conn command).state.connections conn) read
     ∙ newly_introduced (using_up old conn).connections conn (λ connection. record connection { numbered = true }) (λ connection. refl) (λ connection. refl)
 

@@ -1,11 +1,12 @@
 -- Each answer of a client has its reason.
-use Rattle.std.proofs.Common.{◌≡◌, ◌∙◌, ◌++◌, ◌∷◌, ℕ, Bool, true, false, cond, List, [], Contains, Option, None, Some, Err, refl, sym, ap, subst, inl, inr}
+use Rattle.std.proofs.Common.{◌≡◌, ◌<◌, ◌⊎◌, ◌∙◌, ◌++◌, ◌∷◌, ℕ, Bool, true, false, cond, List, [], Contains, Option, None, Some, Err, refl, sym, ap, subst, inl, inr, arith}
 use Rattle.std.proofs.lemmas.Option.{slice_get_within, get_or_from_slice_get}
 use Rattle.std.specs.List.{flat_map}
 use Rattle.std.specs.Prelude.{MatchBool, nat_le, slice_get}
 use Rattle.cluster_config.proofs.PlaceLemmas.{position-le}
-use Rattle.cluster_config.specs.Config.{IsCluster}
+use Rattle.cluster_config.specs.Config.{ClusterConfig, IsCluster}
 use Rattle.connections.specs.declared.conn.Conn.{Conn}
+use Rattle.node_step.specs.State.{NodeState}
 use Rattle.redirection.specs.Address.{Place}
 use Rattle.resp_values.specs.declared.reply.Reply.{Reply}
 use Rattle.resp_values.specs.declared.reply.Reply.TheVariants.{Error}
@@ -21,7 +22,7 @@ use Rattle.smart_client.specs.declared.call.Call.{Call}
 use Rattle.smart_client.specs.declared.call.Stage.{Stage}
 use Rattle.smart_client.specs.declared.call.Stage.TheVariants as stage
 use Rattle.smart_client.specs.declared.fault.ClientFault.TheVariants.{Memory}
-use Rattle.world.specs.Asking.{AsksWell, ComesFrom, IsOfCall, KeepsRule, past_of}
+use Rattle.world.specs.Asking.{AsksWell, ComesFrom, HadNoOffset, HaveConfig, IsKnown, IsOfCall, KeepsRule, WasAnswered, WasRefused, opens_in, past_of}
 use Rattle.world.specs.Calls.{Acts, Arrives, Begins, Carries, ComesLate, Connects, Cuts, IsBegun, IsCarried, IsConnected, IsCut, IsLate, IsReturned, IsUsed, Lingers, Rests, Returns, Takes, Tells, Uses, link_to, told_of}
 use Rattle.world.specs.Clients.{ClientView, begun_at, client_at, connection_to, fault_of, leads_to, lost_at, lost_by, new_client, node_at, place_of, used_by, with_client, with_connection}
 use Rattle.world.specs.Plays.{ClientStep, IsNothing, IsOfClient, IsOfSome, IsStopping, Plays}
@@ -34,7 +35,7 @@ use Rattle.world.specs.declared.output.Output.{Output}
 use Rattle.world.specs.declared.output.Output.TheVariants as output
 use Rattle.world.specs.declared.step.Step.{Step}
 use Rattle.world.specs.declared.step.Step.TheVariants as step
-use Rattle.final_answers.specs.Reasons.{Breaks, Happens, HasNoConnection, HasReason, HaveReasons, IsHandedOver, IsRefused, IsReturn, IsThere}
+use Rattle.final_answers.specs.Reasons.{Breaks, Happens, HasNoConnection, HasReason, HaveReasons, IsExhausted, IsHandedOver, IsRefused, IsReturn, IsThere}
 use Rattle.final_answers.proofs.Following.{FollowsWell, IsLed}
 use Rattle.final_answers.proofs.FollowingAll.{AllFollowWell, well_at}
 use Rattle.final_answers.proofs.Leading.{CanFollow}
@@ -52,6 +53,7 @@ silent_reasons old made [] silent = tt
 silent_reasons old made (output.Answer number answer ∷ shown) silent = absurd silent
 silent_reasons old made (output.Admin node reply ∷ shown) silent = silent_reasons old made shown silent
 silent_reasons old made (output.Sent number message ∷ shown) silent = silent_reasons old made shown silent
+silent_reasons old made (output.Promoted node promotion ∷ shown) silent = silent_reasons old made shown silent
 silent_reasons old made (output.Nothing ∷ shown) silent = silent_reasons old made shown silent
 
 no_reasons : (old : SceneView) (made : Step) (shown : List Output) → shown ≡ output.Nothing ∷ [] → HaveReasons old made shown
@@ -62,6 +64,7 @@ both_reasons old made [] rest one more = more
 both_reasons old made (output.Answer number answer ∷ first) rest one more = (one.0, both_reasons old made first rest one.1 more)
 both_reasons old made (output.Admin node reply ∷ first) rest one more = both_reasons old made first rest one more
 both_reasons old made (output.Sent number message ∷ first) rest one more = both_reasons old made first rest one more
+both_reasons old made (output.Promoted node promotion ∷ first) rest one more = both_reasons old made first rest one more
 both_reasons old made (output.Nothing ∷ first) rest one more = both_reasons old made first rest one more
 
 -- ---- connections
@@ -150,6 +153,28 @@ module _ (old : SceneView) (made : Step) (client : ClientView) (there : IsThere 
       (λ answer close over. ended_so Reasoned client.core takes.core event answer close ends refused_memory (subst (λ (action : Action). Steps client.core event action takes.core) over steps))
       (λ address connects. calls takes.core address (subst (λ (action : Action). Steps client.core event action takes.core) connects steps)) steps takes.acts
 
+-- ---- EXHAUSTED
+
+-- the nodes, of which one is at the other end of the connection, have one configuration
+one_config : (old : SceneView) → HaveConfig old.config old.run.nodes → (config : ClusterConfig) → HaveConfig config old.run.nodes → (link : Link) → IsKnown old.run link → config ≡ old.config
+one_config old have config also link known = by_there (slice_get old.run.nodes link.node) refl known
+  where
+    by_there : (there : Option NodeState) → slice_get old.run.nodes link.node ≡ there → link.conn.generation < opens_in there link.conn.key → config ≡ old.config
+    by_there None is below = absurd (omega (arith, below))
+    by_there (Some node) is below = sym (also link.node node is) ∙ have link.node node is
+
+refused_so : (old : SceneView) → HaveConfig old.config old.run.nodes → (link : Link) → IsKnown old.run link → (words : List (List ℕ)) (reply : Reply) → WasRefused old.run link words reply → IsExhausted old link words reply
+refused_so old have link known words reply refused = record {
+  had = subst (λ (config : ClusterConfig). HadNoOffset config (past_of old.run) link words) (one_config old have refused.config refused.have link known) refused.had;
+  same = refused.same;
+}
+
+answered_so : (old : SceneView) → HaveConfig old.config old.run.nodes → (link : Link) → IsKnown old.run link → (words : List (List ℕ)) (reply : Reply)
+    → WasAnswered old.config.nodes (past_of old.run) link.node words reply ⊎ WasRefused old.run link words reply
+    → WasAnswered old.config.nodes (past_of old.run) link.node words reply ⊎ IsExhausted old link words reply
+answered_so old have link known words reply (inl was) = inl was
+answered_so old have link known words reply (inr refused) = inr (refused_so old have link known words reply refused)
+
 -- ---- steps of a client
 
 rest_reasons : (old : SceneView) (made : Step) (run new : RunView) (client after : ClientView) (shown : List Output) → Rests run client shown new after → HaveReasons old made shown
@@ -170,7 +195,7 @@ begins_reasons old number words client there numbered settled shown new after = 
         (begun_ends (HasReason old (step.Call number words) client) client.core words (λ refused. (words, begins, refused))))
         (λ core address steps. let may = calls_so words None client.core core (wanted.Connect address) none refl steps in (may.0.0, may.0.1)) takes
 
-module _ (old : SceneView) (cluster_is : IsCluster old.config) (number : ℕ) (client : ClientView) (there : IsThere old client) (numbered : client.number ≡ number) (well : FollowsWell old.config.nodes old.run client) where
+module _ (old : SceneView) (cluster_is : IsCluster old.config) (have : HaveConfig old.config old.run.nodes) (number : ℕ) (client : ClientView) (there : IsThere old client) (numbered : client.number ≡ number) (well : FollowsWell old.config.nodes old.run client) where
   abbrev InReturn : Answer → Type 0
   InReturn answer = HasReason old (step.Return number) client answer
 
@@ -185,24 +210,24 @@ module _ (old : SceneView) (cluster_is : IsCluster old.config) (number : ℕ) (c
     refused text is at = record { link = link; returns = returned (Error text) is; sent = at }
 
     -- by what was sent last
-    by_stage : (at : Stage) → call.stage ≡ at → ComesFrom old.config.nodes (past_of old.run) link.node call at reply → (call.stage ≡ stage.Sent → CanFollow old.config.nodes true reply)
+    by_stage : IsKnown old.run link → (at : Stage) → call.stage ≡ at → ComesFrom old.config.nodes old.run link call at reply → (call.stage ≡ stage.Sent → CanFollow old.config.nodes true reply)
         → EndsSo InReturn (answered at core call reply)
-    by_stage stage.Connecting at from can = absurd from
-    by_stage stage.Introducing at welcome can = introduced_ends InReturn core call reply welcome
-    by_stage stage.Asking at welcome can = allowed_ends InReturn core call reply welcome
-    by_stage stage.Sent at was can =
-        replied_ends InReturn old.config.nodes core call reply (record { call = call; link = link; returns = returned reply refl; sent = at; answered = was })
+    by_stage known stage.Connecting at from can = absurd from
+    by_stage known stage.Introducing at welcome can = introduced_ends InReturn core call reply welcome
+    by_stage known stage.Asking at welcome can = allowed_ends InReturn core call reply welcome
+    by_stage known stage.Sent at was can =
+        replied_ends InReturn old.config.nodes core call reply (record { call = call; link = link; returns = returned reply refl; sent = at; answered = answered_so old have link known call.words reply was })
         (has_room old.config cluster_is client.core.peers well.kept.known) (can at)
         (λ text is kind most. (record { call = call; text = text; refused = refused text is at; kind = kind }, most))
         (λ text is kind most. (record { call = call; text = text; refused = refused text is at; kind = kind }, most))
 
-  takes_reply : (link : Link) (reply : Reply) → client.traffic ≡ Answered link reply → (under : Option Call) → client.core.call ≡ under
+  takes_reply : AsksWell old.config.nodes old.run client → (link : Link) (reply : Reply) → client.traffic ≡ Answered link reply → (under : Option Call) → client.core.call ≡ under
       → IsOfCall old.config.nodes old.run client.core client.pool (Answered link reply) under → IsLed old.config.nodes old.run (Answered link reply) under → (shown : List Output) (new : RunView) (after : ClientView)
       → Takes old.config.nodes old.run (record client { traffic = Quiet }) (Some link) (happened.Reply reply) shown new after → HaveReasons old (step.Return number) shown
-  takes_reply link reply is None called of_call led shown new after takes = absurd of_call
-  takes_reply link reply is (Some call) called of_call led shown new after takes =
+  takes_reply asks link reply is None called of_call led shown new after takes = absurd of_call
+  takes_reply asks link reply is (Some call) called of_call led shown new after takes =
       takes_reasons old (step.Return number) client there (happened.Reply reply) (call, link, returned link reply is call called reply refl) (record client { traffic = Quiet }) refl refl (Some link) shown new after
-      (subst (λ (under : Option Call). EndsSo InReturn (next under client.core (happened.Reply reply))) (sym called) (by_stage link reply is call called call.stage refl of_call.2 led.1))
+      (subst (λ (under : Option Call). EndsSo InReturn (next under client.core (happened.Reply reply))) (sym called) (by_stage link reply is call called (asks.connected.idle link of_call.0.in_use).known call.stage refl of_call.2 led.1))
       (λ core address steps.
       let may = answers_so call.words (execution_at call.stage reply) client.core core call reply (wanted.Connect address) called refl refl steps in (may.0.0, may.0.1)) takes
 
@@ -214,7 +239,7 @@ module _ (old : SceneView) (cluster_is : IsCluster old.config) (number : ℕ) (c
       by_traffic Quiet is rests = rest_reasons old (step.Return number) old.run new client after shown rests
       by_traffic (Asked link words) is rests = rest_reasons old (step.Return number) old.run new client after shown rests
       by_traffic (Answered link reply) is takes =
-          takes_reply link reply is client.core.call refl (of_call_so old.config.nodes old.run client (Answered link reply) is asks client.core.call refl)
+          takes_reply asks link reply is client.core.call refl (of_call_so old.config.nodes old.run client (Answered link reply) is asks client.core.call refl)
           (subst (λ (t : Traffic). IsLed old.config.nodes old.run t client.core.call) is well.led) shown new after takes
 
 -- ---- connections that break
@@ -325,7 +350,7 @@ module _ (old : SceneView) (cluster_is : IsCluster old.config) (rule : KeepsRule
       some_reasons _ number (step.Carry number) (λ client run after there is asks follows carries. silent_reasons old (step.Carry number) shown (carries_silent old.run run client after shown carries))
       (client_at number old.clients) refl plays
   have_reasons (step.Return number) plays =
-      some_reasons _ number (step.Return number) (λ client run after there is asks follows returns. returns_reasons old cluster_is number client there is follows asks shown run after returns) (client_at number old.clients) refl plays
+      some_reasons _ number (step.Return number) (λ client run after there is asks follows returns. returns_reasons old cluster_is rule.configs number client there is follows asks shown run after returns) (client_at number old.clients) refl plays
   have_reasons (step.Cut number) plays =
       some_reasons _ number (step.Cut number) (λ client run after there is asks follows cuts. cuts_reasons old number client there is shown run after cuts) (client_at number old.clients) refl plays
   have_reasons (step.Late number) plays =

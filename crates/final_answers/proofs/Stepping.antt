@@ -1,11 +1,12 @@
 -- Each step of a client is written into the book.
-use Rattle.std.proofs.Common.{◌≡◌, ◌⊎◌, ◌+◌, ◌∙◌, ◌++◌, ◌∷◌, ℕ, Bool, false, cond, List, [], length, map, Option, None, Some, refl, sym, ap, subst, inl, inr, append-nil}
+use Rattle.std.proofs.Common.{◌≡◌, ◌⊎◌, ◌+◌, ◌∙◌, ◌++◌, ◌∷◌, ℕ, Bool, false, cond, List, [], length, map, Option, None, Some, refl, sym, ap, subst, inl, inr, append-nil, append_assoc}
 use Rattle.std.specs.List.{AllByRecursion}
 use Rattle.bus.specs.declared.message.Message.{Message}
 use Rattle.cluster_config.specs.declared.config.NodeConfig.{NodeConfig}
 use Rattle.connections.specs.declared.conn.Conn.{Conn}
 use Rattle.node_step.specs.declared.outputs.Outputs.{Outputs as NodeOutputs}
 use Rattle.node_step.specs.declared.outputs.Release.{Release}
+use Rattle.node_step.specs.declared.promotion.Promotion.{Promotion}
 use Rattle.resp_values.specs.declared.reply.Reply.{Reply}
 use Rattle.smart_client.specs.declared.action.Event.TheVariants as happened
 use Rattle.smart_client.specs.declared.call.Call.{Call}
@@ -13,7 +14,7 @@ use Rattle.world_run.specs.Executed.{Answered as Execution}
 use Rattle.world.specs.Asking.{AsksWell, IsOfCall}
 use Rattle.world.specs.Calls.{Begins, IsBegun, IsReturned, Rests, Returns, Serves, Takes}
 use Rattle.world.specs.Clients.{ClientView}
-use Rattle.world.specs.Outputs.{beside_from, numbered, released_reply}
+use Rattle.world.specs.Outputs.{beside_from, numbered, promotion_of, released_reply}
 use Rattle.world.specs.View.{RunView}
 use Rattle.world.specs.declared.client.Late.{Late}
 use Rattle.world.specs.declared.client.Link.{Link}
@@ -38,6 +39,7 @@ Silent [] = Unit {0}
 Silent (output.Answer client answer ∷ shown) = ⊥
 Silent (output.Admin node reply ∷ shown) = Silent shown
 Silent (output.Sent number message ∷ shown) = Silent shown
+Silent (output.Promoted node promotion ∷ shown) = Silent shown
 Silent (output.Nothing ∷ shown) = Silent shown
 
 pub silent_answers : (shown : List Output) (book : Book) → Silent shown → Answers shown book book
@@ -45,18 +47,26 @@ silent_answers [] book silent = refl
 silent_answers (output.Answer client answer ∷ shown) book silent = absurd silent
 silent_answers (output.Admin node reply ∷ shown) book silent = silent_answers shown book silent
 silent_answers (output.Sent number message ∷ shown) book silent = silent_answers shown book silent
+silent_answers (output.Promoted node promotion ∷ shown) book silent = silent_answers shown book silent
 silent_answers (output.Nothing ∷ shown) book silent = silent_answers shown book silent
 
-numbered_silent : (before : ℕ) (messages : List Message) → Silent (numbered before messages)
-numbered_silent before [] = tt
-numbered_silent before (message ∷ messages) = numbered_silent (before + 1) messages
+promotion_silent : (node : ℕ) (promoted : Option Promotion) → Silent (promotion_of node promoted)
+promotion_silent node None = tt
+promotion_silent node (Some promotion) = tt
+
+numbered_silent : (before : ℕ) (messages : List Message) (rest : List Output) → Silent rest → Silent (numbered before messages ++ rest)
+numbered_silent before [] rest silent = silent
+numbered_silent before (message ∷ messages) rest silent = numbered_silent (before + 1) messages rest silent
 
 released_silent : (node : ℕ) (releases : List Release) (rest : List Output) → Silent rest → Silent (map (released_reply node) releases ++ rest)
 released_silent node [] rest silent = silent
 released_silent node (one ∷ releases) rest silent = released_silent node releases rest silent
 
 pub beside_silent : (node before : ℕ) (messages : List Message) (made : NodeOutputs) → Silent (beside_from node before messages made)
-beside_silent node before messages made = released_silent node made.released (numbered before messages) (numbered_silent before messages)
+beside_silent node before messages made =
+    subst Silent (sym (append_assoc (map (released_reply node) made.released) (numbered before messages) (promotion_of node made.promoted)))
+    (released_silent node made.released (numbered before messages ++ promotion_of node made.promoted)
+    (numbered_silent before messages (promotion_of node made.promoted) (promotion_silent node made.promoted)))
 
 pub served_silent : (old new : RunView) (node : ℕ) (conn : Conn) (words : List (List ℕ)) (reply : Option Reply) (shown : List Output) → Serves old node conn words reply shown new → Silent shown
 served_silent old new node conn words reply shown (inl served) = subst Silent (sym served.shows) (beside_silent node (length old.sent) served.made.sent served.made)

@@ -73,6 +73,7 @@ Answers (output.Answer client answer ∷ shown) old new =
     × Answers shown (slice_set old place (record line { answer = Some answer })) new
 Answers (output.Admin node reply ∷ shown) old new = Answers shown old new
 Answers (output.Sent number message ∷ shown) old new = Answers shown old new
+Answers (output.Promoted node promotion ∷ shown) old new = Answers shown old new
 Answers (output.Nothing ∷ shown) old new = Answers shown old new
 
 -- ---- the book

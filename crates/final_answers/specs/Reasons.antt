@@ -1,7 +1,9 @@
 -- Why clients are told what they are told (Redis Cluster specification, "MOVED Redirection", "ASK redirection", "Clients first connection
 -- and handling of redirections"; the limits are this project's own).
 use Rattle.std.specs.Prelude.{◌≡◌, ◌⊎◌, ◌||◌, ◌∷◌, ℕ, true, false, List, [], Option, Some, None, Ok, Err, Contains, codes, slice_get, ⊤}
+use Rattle.command_table.specs.declared.error_line.ErrorLine.TheVariants.{Exhausted}
 use Rattle.node_step.specs.Numbers.{NoNumberLeft}
+use Rattle.node_step.specs.Outcome.{error}
 use Rattle.node_step.specs.State.{NodeState}
 use Rattle.node_step.specs.declared.event.Event.TheVariants.{Open}
 use Rattle.redirection.specs.Address.{Place}
@@ -18,7 +20,7 @@ use Rattle.smart_client.specs.declared.call.Call.{Call}
 use Rattle.smart_client.specs.declared.call.Stage.TheVariants.{Sent}
 use Rattle.smart_client.specs.declared.client_core.TheConstants.{MOST_REDIRECTIONS}
 use Rattle.smart_client.specs.declared.fault.ClientFault.TheVariants.{Lost, TooManyRedirects, StillTryAgain, Memory, NotConnected, BadReply, NotData}
-use Rattle.world.specs.Asking.{WasAnswered, past_of}
+use Rattle.world.specs.Asking.{HadNoOffset, WasAnswered, past_of}
 use Rattle.world.specs.Clients.{ClientView, leads_to, new_client, node_at, used_by}
 use Rattle.world.specs.View.{RunView, SceneView, is_up}
 use Rattle.world.specs.declared.client.Link.{Link}
@@ -53,13 +55,19 @@ Breaks _ client = ⊥
 
 -- ---- reasons
 
--- the node's answer to the command comes
+-- EXHAUSTED, where the stream of the node had no offset left for what the command writes as it came there: the node made no step for it, so
+-- nothing of it was executed
+pub record IsExhausted (old : SceneView) (link : Link) (words : List (List ℕ)) (reply : Reply) : Type 0 where
+  pub had : HadNoOffset old.config (past_of old.run) link words
+  pub same : reply ≡ error Exhausted
+
+-- the node's answer to the command comes, which is never EXHAUSTED, or EXHAUSTED does, for this reason alone
 pub record IsAnswered (old : SceneView) (made : Step) (client : ClientView) (reply : Reply) : Type 0 where
   pub call : Call
   pub link : Link
   pub returns : IsReturn made client call link reply
   pub sent : call.stage ≡ Sent
-  pub answered : WasAnswered old.config.nodes (past_of old.run) link.node call.words reply
+  pub answered : WasAnswered old.config.nodes (past_of old.run) link.node call.words reply ⊎ IsExhausted old link call.words reply
 
 -- the command was handed to the connection
 abbrev pub IsHandedOver : Option Call → Type 0
@@ -124,4 +132,5 @@ HaveReasons old made (output.Answer number answer ∷ shown) =
     ((client : ClientView) × IsThere old client × (client.number ≡ number) × HasReason old made client answer) × HaveReasons old made shown
 HaveReasons old made (output.Admin node reply ∷ shown) = HaveReasons old made shown
 HaveReasons old made (output.Sent number message ∷ shown) = HaveReasons old made shown
+HaveReasons old made (output.Promoted node promotion ∷ shown) = HaveReasons old made shown
 HaveReasons old made (output.Nothing ∷ shown) = HaveReasons old made shown

@@ -11,7 +11,8 @@ pub fn answers_tell_what_became_of_commands()
 {}
 
 /// Each answer has its reason. A reply is the node's answer to the command, and where it is an error, it is given for what it
-/// says. A reply is lost only where the connection was cut, or the node at its other end stopped, once the command was sent. There
+/// says. EXHAUSTED comes only where the node's stream had no offset left for what the command writes as it came there, and then
+/// the node made no step for it. A reply is lost only where the connection was cut, or the node at its other end stopped, once the command was sent. There
 /// is no connection only there, or before the command was sent, or where the node isn't up or has no number left for one. A call
 /// is sent on too often only at the seventeenth time, and put off too often only above the limit. Memory is refused only while
 /// nothing that was sent is unanswered. No client gets a reply that no node gives, nor a redirection that it can't follow.

@@ -22,14 +22,15 @@ use keyspace::{Plan, leaves_keys, plan_command};
 use node_parts::{Change, Draft, NodeParts, listed};
 use node_step::Why;
 use redirect::Decision;
+use repl_stream::Stream;
 use resp_values::Reply;
 use slot_store::{SlotKeys, SlotParts};
 use slot_table::NodeNo;
 use std::alloc::AllocError;
 
 /// Drafts the answer to a command on keys.
-pub fn answer_on_keys<S: SlotParts + SlotKeys>(
-    node: &NodeParts<S>,
+pub fn answer_on_keys<S: SlotParts + SlotKeys, T: Stream>(
+    node: &NodeParts<S, T>,
     conn: Conn,
     connection: Connection,
     command: &DataCommand,
@@ -49,8 +50,8 @@ pub fn answer_on_keys<S: SlotParts + SlotKeys>(
 }
 
 // Executes the command, whose keys are in the slot if it has any.
-fn serve<S: SlotParts + SlotKeys>(
-    node: &NodeParts<S>,
+fn serve<S: SlotParts + SlotKeys, T: Stream>(
+    node: &NodeParts<S, T>,
     conn: Conn,
     slot: Option<Slot>,
     command: &DataCommand,
@@ -71,8 +72,8 @@ fn serve<S: SlotParts + SlotKeys>(
 }
 
 // The reply to the command, and the word that comes of its plan.
-fn execute<S: SlotParts + SlotKeys>(
-    node: &NodeParts<S>,
+fn execute<S: SlotParts + SlotKeys, T: Stream>(
+    node: &NodeParts<S, T>,
     slot: Option<Slot>,
     place: Slot,
     command: &DataCommand,
@@ -91,8 +92,8 @@ fn execute<S: SlotParts + SlotKeys>(
 }
 
 // Plans a command whose keys are in the slot on what the node has there.
-fn plan_in_slot<S: SlotParts + SlotKeys>(
-    node: &NodeParts<S>,
+fn plan_in_slot<S: SlotParts + SlotKeys, T: Stream>(
+    node: &NodeParts<S, T>,
     slot: Slot,
     command: &DataCommand,
     plan: &mut Plan,
@@ -106,8 +107,8 @@ fn plan_in_slot<S: SlotParts + SlotKeys>(
 }
 
 // The word that the slot of a command is drained, if its plan has that said. A slot at rest costs one look.
-fn drained_by<S: SlotParts + SlotKeys>(
-    node: &NodeParts<S>,
+fn drained_by<S: SlotParts + SlotKeys, T: Stream>(
+    node: &NodeParts<S, T>,
     slot: Option<Slot>,
     plan: &Plan,
 ) -> Result<Vec<(NodeNo, Body)>, AllocError>
@@ -124,8 +125,8 @@ fn drained_by<S: SlotParts + SlotKeys>(
 
 // The word that the slot is drained, where it leaves this node, and has a key that the plan leaves none of.
 #[inline(never)]
-fn drained_at<S: SlotParts + SlotKeys>(
-    node: &NodeParts<S>,
+fn drained_at<S: SlotParts + SlotKeys, T: Stream>(
+    node: &NodeParts<S, T>,
     slot: Slot,
     plan: &Plan,
 ) -> Option<(NodeNo, Body)>

@@ -18,6 +18,7 @@ use keyspace::Store;
 use node_parts::NodeParts;
 use redirect::{Asking, Decision, Reason, decide_at_rest, decide_in_slot};
 use redirection::{ask_reply, moved_reply};
+use repl_stream::Stream;
 use resp_values::Reply;
 use slot_state::MoveNo;
 use slot_store::{SlotKeys, SlotParts};
@@ -26,8 +27,8 @@ use std::alloc::{AllocError, Global};
 
 /// The decision on a command, and the slot of its keys if it has any. The slot of a key is computed once, unless
 /// several keys are in a slot that moves.
-pub(crate) fn decision<S: SlotParts + SlotKeys>(
-    node: &NodeParts<S>,
+pub(crate) fn decision<S: SlotParts + SlotKeys, T: Stream>(
+    node: &NodeParts<S, T>,
     command: &DataCommand,
     asking: Asking,
 ) -> Result<(Decision, Option<Slot>), AllocError>
@@ -52,8 +53,8 @@ pub(crate) fn decision<S: SlotParts + SlotKeys>(
 }
 
 // The decision on a command with one key, which is in the slot.
-fn decision_on_key<S: SlotParts + SlotKeys>(
-    node: &NodeParts<S>,
+fn decision_on_key<S: SlotParts + SlotKeys, T: Stream>(
+    node: &NodeParts<S, T>,
     slot: Slot,
     key: &ByteString,
     asking: Asking,
@@ -77,8 +78,8 @@ fn decision_on_key<S: SlotParts + SlotKeys>(
 }
 
 // The decision on a command with several keys, the first of which is in a slot that moves.
-fn decision_in_move<S: SlotParts + SlotKeys>(
-    node: &NodeParts<S>,
+fn decision_in_move<S: SlotParts + SlotKeys, T: Stream>(
+    node: &NodeParts<S, T>,
     slot: Slot,
     command: &DataCommand,
     keys: &[&[u8]],
@@ -104,8 +105,8 @@ fn decision_in_move<S: SlotParts + SlotKeys>(
 
 /// The reply to a command that isn't served. An ASK line names the move where the connection wants to know it.
 #[inline(never)]
-pub(crate) fn refusal<S: SlotParts + SlotKeys>(
-    node: &NodeParts<S>,
+pub(crate) fn refusal<S: SlotParts + SlotKeys, T: Stream>(
+    node: &NodeParts<S, T>,
     decision: &Decision,
     connection: Connection,
 ) -> Result<Reply, AllocError>
@@ -122,8 +123,8 @@ pub(crate) fn refusal<S: SlotParts + SlotKeys>(
 }
 
 // The error that names the owner of the slot.
-fn moved<S: SlotParts + SlotKeys>(
-    node: &NodeParts<S>,
+fn moved<S: SlotParts + SlotKeys, T: Stream>(
+    node: &NodeParts<S, T>,
     slot: Slot,
     to: NodeNo,
 ) -> Result<Reply, AllocError>
@@ -136,8 +137,8 @@ fn moved<S: SlotParts + SlotKeys>(
 }
 
 // The error that names the node that the slot goes to.
-fn ask<S: SlotParts + SlotKeys>(
-    node: &NodeParts<S>,
+fn ask<S: SlotParts + SlotKeys, T: Stream>(
+    node: &NodeParts<S, T>,
     slot: Slot,
     to: NodeNo,
     number: Option<MoveNo>,

@@ -1,12 +1,12 @@
 -- What a station did, as its clauses say it.
-use Rattle.std.proofs.Common.{◌≡◌, ◌<◌, ℕ, List, [], ◌∷◌, length, set, refl, sym, ap, subst, ◌∙◌}
+use Rattle.std.proofs.Common.{◌≡◌, ◌<◌, ℕ, List, [], ◌∷◌, ◌++◌, length, set, refl, sym, ap, subst, ◌∙◌}
 use Rattle.std.specs.Prelude.{IfErr, IfOk, OnErr, OnOk, Result, Ok, Err}
 use Rattle.std.proofs.Math.Seq.{map-set_same}
 use Rattle.std.proofs.lemmas.List.{get_or_default, set-get_or}
 use Rattle.atomic_table.specs.Seated.{TableId}
 use Rattle.bus.specs.declared.message.Message.{Message}
 use Rattle.links.specs.Ports.{HasMore, PortView, with_received}
-use Rattle.links.specs.Stations.{IsStation, OnlySends, Receives, StationView, port_at}
+use Rattle.links.specs.Stations.{IsStation, OnlySends, Receives, SendsNothing, StationView, port_at}
 use Rattle.links.proofs.StationLemmas.{with_one_sorted}
 use Rattle.node_cell.specs.Journal.{CellView, EnteredView, Enters, IsNotTaken}
 use Rattle.node_cell.specs.declared.delivery.DeliveryFault.{DeliveryFault}
@@ -17,6 +17,10 @@ pub only_sends_at : (old : StationView) (to : ℕ) (none port : PortView) (unsor
     → OnlySends old (record old { ports = set old.ports to port; unsorted = unsorted })
 only_sends_at old to none port unsorted same = record { cell = refl; received = map-set_same (λ (port : PortView). port.received) old.ports to port none same }
 
+pub sends_nothing_at : (old : StationView) (to : ℕ) (none port : PortView) (unsorted : List Message) → port.sent ≡ (port_at old.ports to none).sent
+    → SendsNothing old (record old { ports = set old.ports to port; unsorted = unsorted })
+sends_nothing_at old to none port unsorted same = map-set_same (λ (port : PortView). port.sent) old.ports to port none same
+
 pub then_only_sends : (first second third : StationView) → OnlySends first second → OnlySends second third → OnlySends first third
 then_only_sends first second third once again = record {
   cell = again.cell ∙ ap (λ (cell : CellView). record cell { outbox = third.cell.outbox }) once.cell;
@@ -25,15 +29,21 @@ then_only_sends first second third once again = record {
 
 -- ---- the first message of a step comes to its port, or there is no memory for it
 
-more_received : (old : PortView) (messages : List Message) (new : PortView) (left : List Message) → HasMore old messages new left → new.received ≡ old.received
-more_received old [] new left more = ap (λ (port : PortView). port.received) more.0
-more_received old (message ∷ messages) new left more = ap (λ (port : PortView). port.received) more.0
+waiting_alone : (old : PortView) (waiting : List Message) (new : PortView) → new ≡ record old { waiting = waiting } → new ≡ record old { waiting = new.waiting }
+waiting_alone old waiting new is = is ∙ ap (λ (port : PortView). record old { waiting = port.waiting }) (sym is)
+
+-- all of the port but what waits there is as before
+more_waiting : (old : PortView) (messages : List Message) (new : PortView) (left : List Message) → HasMore old messages new left
+    → new ≡ record old { waiting = new.waiting }
+more_waiting old [] new left more = waiting_alone old old.waiting new more.0
+more_waiting old (message ∷ messages) new left more = waiting_alone old (old.waiting ++ message ∷ []) new more.0
 
 module _ {A B : Type 0} (station : StationView) (to : ℕ) (none port : PortView) (left : List Message) where
-  pub received_the_same : (result : Result A B) → OnOk result (HasMore (port_at station.ports to none) station.unsorted port left)
-      → OnErr result ((port ≡ port_at station.ports to none) × (left ≡ station.unsorted)) → port.received ≡ (port_at station.ports to none).received
-  received_the_same (Ok done) more same = more_received (port_at station.ports to none) station.unsorted port left more
-  received_the_same (Err refused) more same = ap (λ (port : PortView). port.received) same.0
+  -- what was sent and received there is as before
+  pub the_same_there : (result : Result A B) → OnOk result (HasMore (port_at station.ports to none) station.unsorted port left)
+      → OnErr result ((port ≡ port_at station.ports to none) × (left ≡ station.unsorted)) → port ≡ record (port_at station.ports to none) { waiting = port.waiting }
+  the_same_there (Ok done) more same = more_waiting (port_at station.ports to none) station.unsorted port left more
+  the_same_there (Err refused) more same = waiting_alone (port_at station.ports to none) (port_at station.ports to none).waiting port same.0
 
   pub sorted_or_not : (links : ℕ → ℕ → TableId) (first : Message) (rest : List Message) (result : Result A B) → IsStation links station → to < length station.ports
       → station.unsorted ≡ first ∷ rest → first.to ≡ to → OnOk result (HasMore (port_at station.ports to none) station.unsorted port left)

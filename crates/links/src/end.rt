@@ -9,7 +9,6 @@ use std::sync::Wait;
 
 /// A node's end of its link with another node, or with itself: it sends messages of the type `T` there, and receives those that come
 /// from there. The handle `R` is the leave to wait for a thread that is busy at the other end.
-#[derive(Drop)]
 pub struct LinkEnd<T, R: Wait> {
     rt: R,
     sender: Sender<T>,
@@ -22,6 +21,16 @@ impl<T, R: Wait> Model for LinkEnd<T, R> {
     ghost Value = { EndView T };
 
     ghost view = { λ end. record { to = end.sender.link; from = end.receiver.link; sent = end.sender.sent; received = end.receiver.received } };
+}
+
+impl<T: Drop, R: Wait + Drop> Drop for LinkEnd<T, R> {
+    fn drop(self) {
+        let LinkEnd {
+            rt: _,
+            sender: _,
+            receiver: _,
+        } = self;
+    }
 }
 
 impl<T: Drop, R: Wait + Drop> LinkEnd<T, R> {
@@ -66,7 +75,12 @@ impl<T: Drop, R: Wait + Drop> LinkEnd<T, R> {
     pub fn into_halves(self) -> (Sender<T>, Receiver<T>)
         ensures { self ≡ record { to = result.0.link; from = result.1.link; sent = result.0.sent; received = result.1.received } }
     {
-        (self.sender, self.receiver)
+        let LinkEnd {
+            rt: _,
+            sender,
+            receiver,
+        } = self;
+        (sender, receiver)
     }
 }
 

@@ -11,7 +11,6 @@ use std::marker::Model;
 use std::sync::Wait;
 
 /// A node's end of its link with another node, and its messages for that node that found no room on the link yet.
-#[derive(Drop)]
 pub(crate) struct Port<K: Deployment, R: Wait> {
     end: LinkEnd<Posted<K>, R>,
     waiting: VecDeque<Posted<K>>,
@@ -23,6 +22,12 @@ impl<K: Deployment, R: Wait> Model for Port<K, R> {
     ghost Value = { PortView };
 
     ghost view = { λ port. record { to = port.end.to; from = port.end.from; sent = port.end.sent; received = port.end.received; waiting = port.waiting.items } };
+}
+
+impl<K: Deployment, R: Wait + Drop> Drop for Port<K, R> {
+    fn drop(self) {
+        let Port { end: _, waiting: _ } = self;
+    }
 }
 
 impl<K: Deployment, R: Wait + Drop> Port<K, R> {
@@ -52,7 +57,8 @@ impl<K: Deployment, R: Wait + Drop> Port<K, R> {
 
     /// Sends as many of the messages that wait as the link has room for, and says whether there was one.
     pub(crate) fn send_all(&mut self) -> bool
-        ensures { HasSent self.old self.new }
+        ensures sent { HasSent self.old self.new }
+        ensures none { result ≡ false → self.new ≡ self.old }
     {
         let mut has_sent = false;
         for _ in 0..self.waiting.len() {
@@ -102,6 +108,7 @@ impl<K: Deployment, R: Wait + Drop> Port<K, R> {
     pub(crate) fn into_end(self) -> LinkEnd<Posted<K>, R>
         ensures { result ≡ record { to = self.to; from = self.from; sent = self.sent; received = self.received } }
     {
-        self.end
+        let Port { end, waiting: _ } = self;
+        end
     }
 }

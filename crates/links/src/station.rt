@@ -4,7 +4,7 @@ ghost use Rattle.bus.specs.declared.message.Message.{Message};
 ghost use Rattle.links.specs.Ends.{AreEndsOf};
 ghost use Rattle.links.specs.Halves.{WasFull};
 ghost use Rattle.links.specs.Ports.{PortView};
-ghost use Rattle.links.specs.Stations.{IsStation, OnlySends, Receives, end_of, port_at, port_of};
+ghost use Rattle.links.specs.Stations.{IsStation, OnlySends, Receives, SendsNothing, end_of, port_at, port_of};
 
 use crate::end::LinkEnd;
 use crate::port::Port;
@@ -13,7 +13,7 @@ use cluster_config::Config;
 use node_cell::{
     Asks, DeliveryFault, Deployment, Entered, HoldsCell, Log, NodeCell, Posted, Sending,
 };
-use node_core::{Conn, Event, StepFault};
+use node_core::{Conn, Core, Event, StepFault};
 use resp_values::Reply;
 use slot_table::NodeNo;
 use std::alloc::{AllocError, Global};
@@ -24,7 +24,6 @@ use std::sync::Wait;
 ///
 /// What its steps send goes over these links alone, in order, and it takes no message but those that it receives there. Its type keeps
 /// that, so that it is known of each station behind a lock. One thread receives and sends; others may ask the node meanwhile.
-#[derive(Drop)]
 pub struct Station<K: Deployment, W: Web, L: Log, R: Wait> {
     cell: NodeCell<K, L>,
     // By the number of the node at the other end.
@@ -46,6 +45,17 @@ impl<K: Deployment, W: Web, L: Log, R: Wait> Model for Station<K, W, L, R> {
     ghost view = { λ station. record { cell = station.cell; ports = station.ports.items; unsorted = station.unsorted } };
 
     ghost invariant = { λ station. IsStation W.links (record { cell = station.cell; ports = station.ports.items; unsorted = station.unsorted }) };
+}
+
+impl<K: Deployment, W: Web, L: Log + Drop, R: Wait + Drop> Drop for Station<K, W, L, R> {
+    fn drop(self) {
+        let Station {
+            cell: _,
+            ports: _,
+            unsorted: _,
+            web: _,
+        } = self;
+    }
 }
 
 impl<K: Deployment, W: Web, L: Log + Drop, R: Wait + Drop> Station<K, W, L, R> {
@@ -105,6 +115,7 @@ impl<K: Deployment, W: Web, L: Log + Drop, R: Wait + Drop> Station<K, W, L, R> {
     /// others wait. It fails where there is no memory to put them where they wait.
     pub fn send_out(&mut self, rt: &R, to: usize) -> Result<bool, AllocError>
         ensures sends { OnlySends self.old self.new }
+        ensures none { IfOk result (λ has_sent. has_sent ≡ false → SendsNothing self.old self.new) }
         ensures sorted { IfOk result (λ _. (self.new.unsorted ≡ []) × (self.new.cell.outbox ≡ [])) }
         ensures left { IfOk result (λ _. (none : PortView) → to < length self.new.ports → ((port_at self.new.ports to none).waiting ≡ []) ⊎ WasFull (port_at self.new.ports to none).sent) }
     {
@@ -114,9 +125,10 @@ impl<K: Deployment, W: Web, L: Log + Drop, R: Wait + Drop> Station<K, W, L, R> {
         Ok(has_sent)
     }
 
-    // Sends the messages that wait for the node, as far as there is room.
+    // Sends the messages that wait for the node, as far as there is room, and says whether there was one.
     fn send_to(&mut self, to: usize) -> bool
         ensures sends { OnlySends self.old self.new }
+        ensures none { result ≡ false → SendsNothing self.old self.new }
         ensures cell { (self.new.cell ≡ self.old.cell) × (self.new.unsorted ≡ self.old.unsorted) }
         ensures left { (none : PortView) → to < length self.new.ports → ((port_at self.new.ports to none).waiting ≡ []) ⊎ WasFull (port_at self.new.ports to none).sent }
     {
@@ -126,6 +138,7 @@ impl<K: Deployment, W: Web, L: Log + Drop, R: Wait + Drop> Station<K, W, L, R> {
     // Puts the messages that were sent where they wait for their links.
     fn sort(&mut self, rt: &R) -> Result<(), AllocError>
         ensures sends { OnlySends self.old self.new }
+        ensures unsent { SendsNothing self.old self.new }
         ensures sorted { OnOk result ((self.new.unsorted ≡ []) × (self.new.cell.outbox ≡ [])) }
     {
         for _ in rt.forever() {
@@ -141,6 +154,7 @@ impl<K: Deployment, W: Web, L: Log + Drop, R: Wait + Drop> Station<K, W, L, R> {
     fn take_step(&mut self) -> bool
         requires { self.old.unsorted ≡ [] }
         ensures sends { OnlySends self.old self.new }
+        ensures unsent { SendsNothing self.old self.new }
         ensures none { result ≡ false → (self.new.unsorted ≡ []) × (self.new.cell.outbox ≡ []) }
     {
         match self.cell.take_sent() {
@@ -155,6 +169,7 @@ impl<K: Deployment, W: Web, L: Log + Drop, R: Wait + Drop> Station<K, W, L, R> {
     // Puts all messages of a step to their ports.
     fn sort_step(&mut self) -> Result<(), AllocError>
         ensures sends { OnlySends self.old self.new }
+        ensures unsent { SendsNothing self.old self.new }
         ensures sorted { OnOk result (self.new.unsorted ≡ []) }
     {
         for _ in 0..self.unsorted.len() {
@@ -166,6 +181,7 @@ impl<K: Deployment, W: Web, L: Log + Drop, R: Wait + Drop> Station<K, W, L, R> {
     // Puts the first of them to its port. A message for no node of the cluster is let go.
     fn sort_first(&mut self) -> Result<(), AllocError>
         ensures sends { OnlySends self.old self.new }
+        ensures unsent { SendsNothing self.old self.new }
         ensures sorted { OnOk result (self.new.unsorted ≡ drop 1 self.old.unsorted) }
     {
         let Some(to) = self.unsorted.first_to() else {
@@ -239,6 +255,10 @@ impl<K: Deployment, W: Web, L: Log + Drop, R: Wait + Drop> HoldsCell for Station
 
     fn take_reply(&mut self, conn: Conn) -> Option<Reply> {
         self.cell.take_reply(conn)
+    }
+
+    fn core(&self) -> &Core {
+        self.cell.core()
     }
 
     fn has_undelivered(&self) -> bool {

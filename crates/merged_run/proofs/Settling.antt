@@ -6,7 +6,7 @@ use Rattle.std.specs.FinMap as map
 use Rattle.std.specs.Ordering.{nat_cmp}
 use Rattle.std.specs.Prelude.{MatchBool, Result, Ok, Err, is_some, slice_get, slice_set}
 use Rattle.bus.specs.declared.message.Body.{Body}
-use Rattle.bus.specs.declared.message.Body.TheVariants.{Copy, Ack, Drained, Claim}
+use Rattle.bus.specs.declared.message.Body.TheVariants.{Copy, Ack, Drained, Claim, Report, Request as Requested, Grant, Sync, Piece, Snapshot}
 use Rattle.bus.specs.declared.message.Message.{Message}
 use Rattle.cluster_config.specs.Config.{ClusterConfig}
 use Rattle.command_table.specs.Table.{command_of}
@@ -53,12 +53,14 @@ use Rattle.slot_table.specs.declared.entry.SlotEntry.{SlotEntry}
 use Rattle.node_step.specs.Claiming.{claimed_by}
 use Rattle.node_step.specs.Commands.{asked_of, command_outcome, decision_on}
 use Rattle.node_step.specs.Copies.{acknowledged, copy_outcome, copy_verdict_on, node_at}
-use Rattle.node_step.specs.Messages.{delivered, knowing, taken}
+use Rattle.node_step.proofs.Kept.{pieced_keeps, recorded_keeps, restored_keeps, synced_is}
+use Rattle.node_step.specs.Messages.{Choice, delivered, knowing, taken, taken_so, written_by_message}
 use Rattle.node_step.specs.Orders.{ending_outcome, ending_verdict, import_outcome, migrate_outcome}
 use Rattle.node_step.specs.Outcome.{Outcome, silent}
-use Rattle.node_step.specs.Requests.{asking_of, by_command, cluster_outcome, is_numbered, node_with_id, order_outcome, using_up}
+use Rattle.node_step.specs.Requests.{asking_of, by_command, cluster_outcome, is_numbered, node_with_id, order_outcome, request_outcome, using_up}
 use Rattle.node_step.specs.State.{NodeState}
-use Rattle.node_step.specs.Step.{IsAnswering, IsClosing, NodeStep}
+use Rattle.node_step.specs.Step.{IsAnswering, IsClosing, NodeStep, written}
+use Rattle.node_step.specs.Streams.{Requests, recorded}
 use Rattle.node_step.specs.declared.event.Event.{Event}
 use Rattle.node_step.specs.declared.event.Event.TheVariants.{Open, Close, Request, Deliver, Tick}
 use Rattle.node_step.specs.declared.outputs.Outputs.{Outputs}
@@ -207,6 +209,11 @@ module _ (words : List (List ℕ)) (node : NodeState) (settled : IsSettled node.
   words_quiet conn connection (Ok (Cluster which)) = cluster_quiet conn which
   words_quiet conn connection (Ok (Data which)) = command_quiet (is_numbered connection) which connection (decision_on node which (asking_of connection)) refl
 
+-- so it is where what was executed is written
+recorded_quiet : (words : List (List ℕ)) (outcome : Outcome) (requests : Requests) (dropped : ℕ) → IsQuiet words outcome → IsQuiet words (recorded outcome requests dropped)
+recorded_quiet words outcome [] dropped quiet = quiet
+recorded_quiet words outcome (request ∷ requests) dropped quiet = quiet
+
 -- ---- messages
 
 noted_kind : (from number epoch : ℕ) (move : Move) → comes (Some (note_drained from number epoch move)) ≡ comes (Some move)
@@ -239,17 +246,27 @@ module _ (node : NodeState) (settled : IsSettled node.moves) where
   claim_settled true table = settled
   claim_settled false table = loss_settled node.moves _ settled
 
-  taken_settled : (from : ℕ) (body : Body) → IsSettled (taken node from body).state.moves
-  taken_settled from (Copy slot number copy key value) = arrival_settled slot _
-  taken_settled from (Ack slot number copy) = ack_settled slot number copy (acknowledged_key (move_of node.moves slot) from number copy)
-  taken_settled from (Drained slot number epoch) = changed_settled node.moves settled slot (note_drained from number epoch) (noted_kind from number epoch)
-  taken_settled from (Claim slots) = claim_settled (from == node.number) _
+  taken_so_settled : (from : ℕ) (choice : Choice) (body : Body) → IsSettled (taken_so node from choice body).state.moves
+  taken_so_settled from choice (Copy slot number copy key value) = arrival_settled slot _
+  taken_so_settled from choice (Ack slot number copy) = ack_settled slot number copy (acknowledged_key (move_of node.moves slot) from number copy)
+  taken_so_settled from choice (Drained slot number epoch) = changed_settled node.moves settled slot (note_drained from number epoch) (noted_kind from number epoch)
+  taken_so_settled from choice (Claim slots replaced) = claim_settled (from == node.number) _
+  taken_so_settled from choice (Report suspects) = settled
+  taken_so_settled from choice (Requested request) = settled
+  taken_so_settled from choice (Grant epoch) = settled
+  taken_so_settled from choice (Sync sync) = synced_is (λ (o : Outcome). IsSettled o.state.moves) node from sync settled settled
+  taken_so_settled from choice (Piece piece) = pieced_keeps (λ (s : NodeState). IsSettled s.moves) node (λ stream keyspace. settled) from piece choice.follower
+  taken_so_settled from choice (Snapshot snapshot) = restored_keeps (λ (s : NodeState). IsSettled s.moves) node (λ stream keyspace. settled) from snapshot
 
-delivered_settled : (node : NodeState) (message : Message) → IsSettled node.moves → IsSettled (delivered node message).state.moves
-delivered_settled node message settled = by_receiver (message.to == node.number)
+  taken_settled : (from : ℕ) (choice : Choice) (body : Body) → IsSettled (taken node from choice body).state.moves
+  taken_settled from choice body =
+      recorded_keeps (λ (s : NodeState). IsSettled s.moves) (taken_so node from choice body) (written_by_message node from body) choice.dropped (λ stream. taken_so_settled from choice body)
+
+delivered_settled : (node : NodeState) (message : Message) (choice : Choice) → IsSettled node.moves → IsSettled (delivered node message choice).state.moves
+delivered_settled node message choice settled = by_receiver (message.to == node.number)
   where
-    by_receiver : (own : Bool) → IsSettled (cond own (taken (knowing node message.epoch) message.from message.body) (silent node)).state.moves
-    by_receiver true = taken_settled (knowing node message.epoch) settled message.from message.body
+    by_receiver : (own : Bool) → IsSettled (cond own (taken (knowing node message.epoch) message.from choice message.body) (silent node)).state.moves
+    by_receiver true = taken_settled (knowing node message.epoch) settled message.from choice message.body
     by_receiver false = settled
 
 -- ---- steps
@@ -264,7 +281,9 @@ module _ (old : NodeState) (settled : IsSettled old.moves) (outcome : Outcome) w
 
   request_quiet : (conn : Conn) (words : List (List ℕ)) (asks : Bool) → MatchBool asks (IsAnswering old conn words outcome) (outcome ≡ silent old) → IsQuiet words outcome
   request_quiet conn words true answers =
-      subst (IsQuiet words) (sym answers.comes_to) (words_quiet words (using_up old conn) settled conn (connection_at old.connections conn) (command_of words))
+      subst (IsQuiet words) (sym answers.comes_to)
+      (recorded_quiet words (request_outcome old conn (command_of words)) (written old conn words) answers.dropped
+      (words_quiet words (using_up old conn) settled conn (connection_at old.connections conn) (command_of words)))
   request_quiet conn words false is = subst (IsQuiet words) (sym is) (λ none. settled, λ past n. tt)
 
 -- behind an entry that obeys no order to import, no slot comes, and its request was of no slot that comes
@@ -278,7 +297,7 @@ step_settled past n ticket old new Open outputs settled step none =
 step_settled past n ticket old new (Close conn) outputs settled step none =
     (subst (λ (s : NodeState). IsSettled s.moves) (sym step.state) (close_settled old settled step.outcome conn (is_some (connection_at old.connections conn)) step.may_come), tt)
 step_settled past n ticket old new (Deliver message) outputs settled step none =
-    (subst (λ (s : NodeState). IsSettled s.moves) (sym step.state) (same_settled old settled step.outcome _ step.may_come (delivered_settled old message settled)), tt)
+    (subst (λ (s : NodeState). IsSettled s.moves) (sym step.state) (same_settled old settled step.outcome _ step.may_come.comes_to (delivered_settled old message step.may_come.choice settled)), tt)
 step_settled past n ticket old new Tick outputs settled step none =
     (subst (λ (s : NodeState). IsSettled s.moves) (sym step.state) (same_settled old settled step.outcome _ step.may_come settled), tt)
 step_settled past n ticket old new (Request conn words) outputs settled step none =

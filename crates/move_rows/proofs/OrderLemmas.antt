@@ -172,15 +172,15 @@ module _ (old : NodeState) (conn : Conn) (order : Order) (plan : Plan) where
 -- an import that ends in the new epoch is answered with the claim
 pub end_drafted : (old : NodeState) (conn : Conn) (slot drained epoch : ℕ) (claim : List (Run ℕ)) (reply : Reply) (bodies : List (ℕ × Body)) (draft : Draft)
     → epoch ≡ new_epoch old slot drained → new_epoch old slot drained < 2 ^ 64
-    → claim ≡ runs_of (claim_at (slice_set old.table slot (Some (record { epoch = epoch; owner = old.number }))) old.number) → reply ≡ done → bodies ≡ to_all (others old) (Claim claim)
+    → claim ≡ runs_of (claim_at (slice_set old.table slot (Some (record { epoch = epoch; owner = old.number }))) old.number) → reply ≡ done → bodies ≡ to_all (others old) (Claim claim old.replaced)
     → ((after : NodeState) → after ≡ ending (at_epoch old epoch) conn slot epoch → Drafts old (replied_sending after (Ends (IsOver drained)) reply bodies) draft)
     → Gives old conn slot (IsOver drained) draft
 end_drafted old conn slot drained epoch claim reply bodies draft next below runs replies words drafts =
     let after = with_slot (using_up old conn) slot epoch in
-    let said : Drafts old (replied_sending after (Ends (IsOver drained)) done (to_all (others old) (Claim (claim_of after)))) draft =
-    subst (λ (sent : List (ℕ × Body)). Drafts old (replied_sending after (Ends (IsOver drained)) done sent) draft) (words ∙ ap (λ (runs : List (Run ℕ)). to_all (others old) (Claim runs)) runs)
+    let said : Drafts old (replied_sending after (Ends (IsOver drained)) done (to_all (others old) (Claim (claim_of after) old.replaced))) draft =
+    subst (λ (sent : List (ℕ × Body)). Drafts old (replied_sending after (Ends (IsOver drained)) done sent) draft) (words ∙ ap (λ (runs : List (Run ℕ)). to_all (others old) (Claim runs old.replaced)) runs)
     (subst (λ r. Drafts old (replied_sending after (Ends (IsOver drained)) r bodies) draft) replies (drafts after refl)) in
     record {
       epoch = lt-ltb (new_epoch old slot drained) (2 ^ 64) below;
-      drafts = subst (λ e. Drafts old (replied_sending (with_slot (using_up old conn) slot e) (Ends (IsOver drained)) done (to_all (others old) (Claim (claim_of (with_slot (using_up old conn) slot e))))) draft) next said;
+      drafts = subst (λ e. Drafts old (replied_sending (with_slot (using_up old conn) slot e) (Ends (IsOver drained)) done (to_all (others old) (Claim (claim_of (with_slot (using_up old conn) slot e)) old.replaced))) draft) next said;
     }

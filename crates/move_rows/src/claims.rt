@@ -9,14 +9,15 @@ use command_table::ErrorLine;
 use connections::Waiting;
 use key_slot::Slot;
 use node_parts::{Change, Draft, NodeParts};
+use repl_stream::Stream;
 use slot_store::{SlotKeys, SlotParts};
 use slot_table::{Claim, Epoch, NodeNo};
 use std::alloc::AllocError;
 
 /// Learns the slots of another node. Those that it takes from this one leave with their keys.
 #[inline(never)]
-pub fn take_claim<S: SlotParts + SlotKeys>(
-    node: &NodeParts<S>,
+pub fn take_claim<S: SlotParts + SlotKeys, T: Stream>(
+    node: &NodeParts<S, T>,
     epoch: Epoch,
     from: NodeNo,
     taken: &Claim,
@@ -39,9 +40,9 @@ pub fn take_claim<S: SlotParts + SlotKeys>(
     Ok(())
 }
 
-// The slots of this node that the claim takes.
-fn lost_to<S: SlotParts + SlotKeys>(
-    node: &NodeParts<S>,
+/// The slots of this node that the claim takes.
+pub fn lost_to<S: SlotParts + SlotKeys, T: Stream>(
+    node: &NodeParts<S, T>,
     from: NodeNo,
     claim: &Claim,
 ) -> Result<Vec<Slot>, AllocError>

@@ -13,6 +13,7 @@ use keyspace::{Store, Value, value_fits};
 use migrate::{ArrivalVerdict, acknowledged_key, arrival_verdict};
 use node_parts::{Change, Draft, NodeParts, listed};
 use node_step::Releases;
+use repl_stream::Stream;
 use slot_state::MoveNo;
 use slot_store::{SlotKeys, SlotParts};
 use slot_table::{Epoch, NodeNo};
@@ -30,8 +31,8 @@ pub struct CopyName {
 }
 
 /// Installs a copy that arrives, or only acknowledges it again.
-pub fn take_copy<S: SlotParts + SlotKeys>(
-    node: &NodeParts<S>,
+pub fn take_copy<S: SlotParts + SlotKeys, T: Stream>(
+    node: &NodeParts<S, T>,
     epoch: Epoch,
     from: NodeNo,
     name: CopyName,
@@ -65,8 +66,8 @@ pub fn take_copy<S: SlotParts + SlotKeys>(
 }
 
 /// Deletes the key whose copy was installed, and answers those who wait for that.
-pub fn take_ack<S: SlotParts + SlotKeys>(
-    node: &NodeParts<S>,
+pub fn take_ack<S: SlotParts + SlotKeys, T: Stream>(
+    node: &NodeParts<S, T>,
     epoch: Epoch,
     from: NodeNo,
     name: CopyName,
@@ -88,8 +89,8 @@ pub fn take_ack<S: SlotParts + SlotKeys>(
 }
 
 // The word that the slot is drained, where the key is its last.
-fn drained_by_ack<S: SlotParts + SlotKeys>(
-    node: &NodeParts<S>,
+fn drained_by_ack<S: SlotParts + SlotKeys, T: Stream>(
+    node: &NodeParts<S, T>,
     place: Slot,
     key: &ByteString,
 ) -> Option<(NodeNo, Body)>
@@ -102,7 +103,11 @@ fn drained_by_ack<S: SlotParts + SlotKeys>(
 }
 
 // Whether the key is the only one of the slot.
-fn is_last<S: SlotParts + SlotKeys>(node: &NodeParts<S>, place: Slot, key: &ByteString) -> bool
+fn is_last<S: SlotParts + SlotKeys, T: Stream>(
+    node: &NodeParts<S, T>,
+    place: Slot,
+    key: &ByteString,
+) -> bool
     ensures { result ≡ is_last node.now.keyspace place key.now }
 {
     node.store.count_in_slot(place) == 1
@@ -111,8 +116,8 @@ fn is_last<S: SlotParts + SlotKeys>(node: &NodeParts<S>, place: Slot, key: &Byte
 }
 
 /// Notes that a slot is drained that comes to this node.
-pub fn take_drained<S: SlotParts + SlotKeys>(
-    node: &NodeParts<S>,
+pub fn take_drained<S: SlotParts + SlotKeys, T: Stream>(
+    node: &NodeParts<S, T>,
     epoch: Epoch,
     from: NodeNo,
     slot: Slot,

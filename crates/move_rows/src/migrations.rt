@@ -18,6 +18,7 @@ use keyspace::Store;
 use migrate::{CopyVerdict, copy_verdict};
 use node_parts::{Change, Draft, NodeParts, listed};
 use node_step::{StepFault, Why};
+use repl_stream::Stream;
 use resp_values::{Line, Reply};
 use slot_state::MoveNo;
 use slot_store::{SlotKeys, SlotParts};
@@ -27,8 +28,8 @@ use std::alloc::AllocError;
 /// Copies the key to the node at that address, and has the connection wait for the acknowledgement.
 #[inline(never)]
 #[tactic(auto, using(crate::proofs::SendingLemmas::copy_drafted, crate::proofs::SendingLemmas::copy_drafted_again))]
-pub fn migrate_key<S: SlotParts + SlotKeys>(
-    node: &NodeParts<S>,
+pub fn migrate_key<S: SlotParts + SlotKeys, T: Stream>(
+    node: &NodeParts<S, T>,
     conn: Conn,
     target: Option<NodeNo>,
     key: &ByteString,
@@ -82,8 +83,8 @@ pub fn migrate_key<S: SlotParts + SlotKeys>(
 }
 
 // Sends the outstanding copy again, and the connection waits for it, too.
-fn send_again<S: SlotParts + SlotKeys>(
-    node: &NodeParts<S>,
+fn send_again<S: SlotParts + SlotKeys, T: Stream>(
+    node: &NodeParts<S, T>,
     conn: Conn,
     to: NodeNo,
     key: &ByteString,
@@ -101,8 +102,8 @@ fn send_again<S: SlotParts + SlotKeys>(
 }
 
 // Sends the copy that the connection then waits for. The key is frozen from then on.
-fn send_copy<S: SlotParts + SlotKeys>(
-    node: &NodeParts<S>,
+fn send_copy<S: SlotParts + SlotKeys, T: Stream>(
+    node: &NodeParts<S, T>,
     conn: Conn,
     to: NodeNo,
     key: &ByteString,
@@ -121,8 +122,8 @@ fn send_copy<S: SlotParts + SlotKeys>(
 }
 
 /// The copy of a key with its value, for the node that its slot leaves to.
-pub(crate) fn copy_of<S: SlotParts + SlotKeys>(
-    node: &NodeParts<S>,
+pub(crate) fn copy_of<S: SlotParts + SlotKeys, T: Stream>(
+    node: &NodeParts<S, T>,
     slot: Slot,
     to: NodeNo,
     number: MoveNo,

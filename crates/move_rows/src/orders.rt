@@ -19,6 +19,7 @@ use connections::Conn;
 use key_slot::Slot;
 use node_parts::{Change, Draft, NodeParts, listed};
 use node_step::{StepFault, Why};
+use repl_stream::Stream;
 use resp_values::{Line, Reply};
 use slot_state::{ImportVerdict, MigrateVerdict, MoveNo, NodeVerdict, Order, epoch_after_import};
 use slot_store::{SlotKeys, SlotParts};
@@ -34,8 +35,8 @@ pub fn done() -> Reply
 
 /// Begins or ends a move of a slot, as the order says.
 #[tactic(auto, using(crate::proofs::Obeying::importing_obeys, crate::proofs::Obeying::migrating_obeys, crate::proofs::Obeying::giving_obeys))]
-pub fn obey<S: SlotParts + SlotKeys>(
-    node: &NodeParts<S>,
+pub fn obey<S: SlotParts + SlotKeys, T: Stream>(
+    node: &NodeParts<S, T>,
     conn: Conn,
     order: SlotOrder,
     named: Order,
@@ -56,7 +57,12 @@ pub fn obey<S: SlotParts + SlotKeys>(
 }
 
 // Begins to import the slot, if nothing stands against it.
-fn import<S: SlotParts + SlotKeys>(node: &NodeParts<S>, conn: Conn, order: Order, draft: &mut Draft)
+fn import<S: SlotParts + SlotKeys, T: Stream>(
+    node: &NodeParts<S, T>,
+    conn: Conn,
+    order: Order,
+    draft: &mut Draft,
+)
     requires { HasNothing node.now draft.old }
     ensures { Drafts node.now (importing (using_up node.now conn) order.slot order.node order.number) draft.new }
 {
@@ -67,7 +73,10 @@ fn import<S: SlotParts + SlotKeys>(node: &NodeParts<S>, conn: Conn, order: Order
 }
 
 // The verdict on an order to import a slot.
-fn import_verdict<S: SlotParts + SlotKeys>(node: &NodeParts<S>, order: &Order) -> ImportVerdict
+fn import_verdict<S: SlotParts + SlotKeys, T: Stream>(
+    node: &NodeParts<S, T>,
+    order: &Order,
+) -> ImportVerdict
     ensures { result ≡ import_verdict (standing node.now order.now.slot) (move_of node.now.moves order.now.slot) (last_move_of node.now.moves order.now.slot) order.now.node order.now.number }
 {
     let at = node.standing(order.slot);
@@ -75,8 +84,8 @@ fn import_verdict<S: SlotParts + SlotKeys>(node: &NodeParts<S>, order: &Order) -
 }
 
 // Begins to migrate the slot, if nothing stands against it.
-fn migrate_slot<S: SlotParts + SlotKeys>(
-    node: &NodeParts<S>,
+fn migrate_slot<S: SlotParts + SlotKeys, T: Stream>(
+    node: &NodeParts<S, T>,
     conn: Conn,
     order: Order,
     draft: &mut Draft,
@@ -95,7 +104,10 @@ fn migrate_slot<S: SlotParts + SlotKeys>(
 }
 
 // The verdict on an order to migrate a slot.
-fn migrate_verdict<S: SlotParts + SlotKeys>(node: &NodeParts<S>, order: &Order) -> MigrateVerdict
+fn migrate_verdict<S: SlotParts + SlotKeys, T: Stream>(
+    node: &NodeParts<S, T>,
+    order: &Order,
+) -> MigrateVerdict
     ensures { result ≡ migrate_verdict (standing node.now order.now.slot) (move_of node.now.moves order.now.slot) (last_move_of node.now.moves order.now.slot) order.now.node order.now.number }
 {
     let at = node.standing(order.slot);
@@ -103,8 +115,8 @@ fn migrate_verdict<S: SlotParts + SlotKeys>(node: &NodeParts<S>, order: &Order) 
 }
 
 // A slot without keys is drained as soon as it begins to leave.
-fn drained_at_start<S: SlotParts + SlotKeys>(
-    node: &NodeParts<S>,
+fn drained_at_start<S: SlotParts + SlotKeys, T: Stream>(
+    node: &NodeParts<S, T>,
     slot: Slot,
     verdict: &MigrateVerdict,
 ) -> Option<(NodeNo, Body)>
@@ -121,8 +133,8 @@ fn drained_at_start<S: SlotParts + SlotKeys>(
 }
 
 // The word that none of the slot's keys is left, if that is so.
-fn drained_for<S: SlotParts + SlotKeys>(
-    node: &NodeParts<S>,
+fn drained_for<S: SlotParts + SlotKeys, T: Stream>(
+    node: &NodeParts<S, T>,
     slot: Slot,
     to: NodeNo,
     number: MoveNo,
@@ -144,8 +156,8 @@ fn drained_for<S: SlotParts + SlotKeys>(
 }
 
 // Gives the slot to a node: an import ends, if it is drained.
-fn give_slot<S: SlotParts + SlotKeys>(
-    node: &NodeParts<S>,
+fn give_slot<S: SlotParts + SlotKeys, T: Stream>(
+    node: &NodeParts<S, T>,
     conn: Conn,
     order: Order,
     draft: &mut Draft,
@@ -176,7 +188,10 @@ fn give_slot<S: SlotParts + SlotKeys>(
 }
 
 // The verdict on an order that gives a slot to a node.
-fn node_verdict<S: SlotParts + SlotKeys>(node: &NodeParts<S>, order: Order) -> NodeVerdict
+fn node_verdict<S: SlotParts + SlotKeys, T: Stream>(
+    node: &NodeParts<S, T>,
+    order: Order,
+) -> NodeVerdict
     ensures { result ≡ ending_verdict node.now order.slot order.node order.number }
 {
     let at = node.standing(order.slot);
@@ -184,8 +199,8 @@ fn node_verdict<S: SlotParts + SlotKeys>(node: &NodeParts<S>, order: Order) -> N
 }
 
 // The epoch of a slot that came: above all that the node knows of.
-fn next_epoch<S: SlotParts + SlotKeys>(
-    node: &NodeParts<S>,
+fn next_epoch<S: SlotParts + SlotKeys, T: Stream>(
+    node: &NodeParts<S, T>,
     slot: Slot,
     drained: Epoch,
 ) -> Option<Epoch>
@@ -195,8 +210,8 @@ fn next_epoch<S: SlotParts + SlotKeys>(
 }
 
 // The slot is the node's own in the new epoch, and claimed.
-fn end_of_import<S: SlotParts + SlotKeys>(
-    node: &NodeParts<S>,
+fn end_of_import<S: SlotParts + SlotKeys, T: Stream>(
+    node: &NodeParts<S, T>,
     conn: Conn,
     slot: Slot,
     drained: Epoch,
@@ -216,8 +231,8 @@ fn end_of_import<S: SlotParts + SlotKeys>(
 }
 
 // The claim of the node once the slot is its own in that epoch.
-fn claim_with<S: SlotParts + SlotKeys>(
-    node: &NodeParts<S>,
+fn claim_with<S: SlotParts + SlotKeys, T: Stream>(
+    node: &NodeParts<S, T>,
     slot: Slot,
     epoch: Epoch,
 ) -> Result<Claim, AllocError>
@@ -230,17 +245,17 @@ fn claim_with<S: SlotParts + SlotKeys>(
 }
 
 // The claim for each other node, by rising number.
-fn to_all<S: SlotParts + SlotKeys>(
-    node: &NodeParts<S>,
+fn to_all<S: SlotParts + SlotKeys, T: Stream>(
+    node: &NodeParts<S, T>,
     claim: &Claim,
 ) -> Result<Vec<(NodeNo, Body)>, AllocError>
-    ensures { IfOk result (λ bodies. bodies.items ≡ to_all (others node.now) (Body.Claim claim.now)) }
+    ensures { IfOk result (λ bodies. bodies.items ≡ to_all (others node.now) (Body.Claim claim.now node.now.replaced)) }
 {
     let mut bodies = Vec::new(node.alloc);
     for place in 0..node.config.nodes().len() {
         let to = NodeNo::new(place as u8).unwrap();
         if to != node.number {
-            bodies.push((to, Body::Claim(claim.clone()?)))?;
+            bodies.push((to, Body::Claim(claim.clone()?, None)))?;
         }
     }
     Ok(bodies)

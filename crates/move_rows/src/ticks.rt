@@ -1,8 +1,10 @@
 //! Ticks of a node's time: waits end, and what is not acknowledged is sent again.
-ghost use Rattle.std.specs.Prelude.{◌≡◌, Err, IfOk, OnOk};
+ghost use Rattle.std.specs.Prelude.{◌≡◌, ◌++◌, Err, IfOk, OnOk};
 ghost use Rattle.std.specs.List.{flat_map};
 ghost use Rattle.node_parts.specs.Drafts.{Drafts, HasNothing, bodies_of};
 ghost use Rattle.node_step.specs.Numbers.{NoNumberLeft};
+ghost use Rattle.node_step.specs.Replicas.{sync_to};
+ghost use Rattle.node_step.specs.State.{own_master};
 ghost use Rattle.node_step.specs.Ticks.{sent_again, tick};
 ghost use Rattle.node_step.specs.declared.event.Event.TheVariants.{Tick};
 ghost use Rattle.slot_state.specs.Moves.{running_moves};
@@ -16,14 +18,17 @@ use key_slot::Slot;
 use migrate::{Resend, resent};
 use node_parts::{Change, Draft, NodeParts};
 use node_step::StepFault;
+use repl_stream::Stream;
 use slot_state::Move;
 use slot_store::{SlotKeys, SlotParts};
 use slot_table::NodeNo;
 use std::alloc::AllocError;
+use stream_values::Sync;
 
-/// A tick: connections that waited as long as they wanted get their reply, and copies are sent again.
-pub fn tick<S: SlotParts + SlotKeys>(
-    node: &NodeParts<S>,
+/// A tick: connections that waited as long as they wanted get their reply, copies are sent again, and a replica tells its
+/// master how far it is.
+pub fn tick<S: SlotParts + SlotKeys, T: Stream>(
+    node: &NodeParts<S, T>,
     draft: &mut Draft,
 ) -> Result<(), StepFault>
     requires { HasNothing node.now draft.old }
@@ -32,14 +37,32 @@ pub fn tick<S: SlotParts + SlotKeys>(
 {
     let reply = ErrorLine::NotAcknowledged.reply();
     let released = node.releases(&Waiting::Over, &reply)?;
-    let bodies = sent_again(node)?;
+    let mut bodies = sent_again(node)?;
+    append_sync(node, &mut bodies)?;
     node.write_releases(draft, released, bodies, node.current_epoch, Change::Ages);
     Ok(())
 }
 
+// A replica tells its master how much of its stream it received.
+fn append_sync<S: SlotParts + SlotKeys, T: Stream>(
+    node: &NodeParts<S, T>,
+    bodies: &mut Vec<(NodeNo, Body)>,
+) -> Result<(), AllocError>
+    ensures { OnOk result (bodies.new.items ≡ bodies.old.items ++ sync_to node.now.stream (own_master node.now)) }
+{
+    if let Some(master) = node.own_master() {
+        let sync = Sync {
+            stream: node.stream.id(),
+            received: node.stream.received(),
+        };
+        bodies.push((master, Body::Sync(sync)))?;
+    }
+    Ok(())
+}
+
 // What is sent again, by rising slot.
-fn sent_again<S: SlotParts + SlotKeys>(
-    node: &NodeParts<S>,
+fn sent_again<S: SlotParts + SlotKeys, T: Stream>(
+    node: &NodeParts<S, T>,
 ) -> Result<Vec<(NodeNo, Body)>, AllocError>
     ensures { IfOk result (λ bodies. bodies.items ≡ flat_map (sent_again node.now) (running_moves node.now.moves)) }
 {
@@ -53,8 +76,8 @@ fn sent_again<S: SlotParts + SlotKeys>(
 }
 
 // Of one slot: the copy that is not acknowledged, or the word that no key is left.
-fn sent_again_in<S: SlotParts + SlotKeys>(
-    node: &NodeParts<S>,
+fn sent_again_in<S: SlotParts + SlotKeys, T: Stream>(
+    node: &NodeParts<S, T>,
     slot: Slot,
     running: &Move,
 ) -> Result<Option<(NodeNo, Body)>, AllocError>

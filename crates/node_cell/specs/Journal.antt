@@ -20,7 +20,7 @@ use Rattle.node_cell.specs.declared.entry.Entry.TheVariants.{Step, Skipped}
 
 -- a configuration without nodes, for a type that stands for any cluster
 abbrev pub no_cluster : ClusterConfig
-no_cluster = record { tick_ms = 0; node_timeout = 0; nodes = []; voters = [] }
+no_cluster = record { tick_ms = 0; node_timeout = 0; backlog = 0; nodes = []; voters = [] }
 
 -- a step that was entered
 pub record EnteredView : Type 0 where

@@ -21,7 +21,6 @@ use crate::undelivered::{add_released, has_some, take_reply_to};
 use cluster_config::Config;
 use node_core::{Conn, Core, Event, Messages, Outputs, Releases, StepFault};
 use resp_values::Reply;
-use slot_store::SlotStore;
 use slot_table::NodeNo;
 use std::alloc::{AllocError, Global};
 use std::collections::VecDeque;
@@ -77,7 +76,7 @@ impl<K: Deployment, L: Log> NodeCell<K, L> {
         requires seat { IsFresh K.table K.seats seat }
         ensures { IfOk result (λ cell. cell ≡ record { config = config.now; node = node; state = first_state config.now node; journal = []; undelivered = []; outbox = [] }) }
     {
-        let core = Core::new(alloc, config.clone()?, node, SlotStore::new(alloc)?)?;
+        let core = Core::begin(alloc, config.clone()?, node)?;
         Ok(NodeCell {
             config: config.clone()?,
             node,
@@ -160,6 +159,13 @@ impl<K: Deployment, L: Log> NodeCell<K, L> {
         ensures { result ≡ self.now.node }
     {
         self.node
+    }
+
+    /// The node as its last step left it.
+    pub fn core(&self) -> &Core
+        ensures { result.now ≡ self.now.state }
+    {
+        &self.core
     }
 
     /// Takes the first reply that waits for the connection.
@@ -279,6 +285,7 @@ fn advance<K: Deployment, L: Log>(
                 response,
                 released,
                 sent,
+                promoted: _,
             } = outputs;
             add_released(undelivered, &event, released);
             put_out(outbox, sent);

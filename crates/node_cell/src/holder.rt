@@ -3,6 +3,7 @@ ghost use Rattle.std.specs.Prelude.{◌≡◌, ◌<◌, ◌==◌, ◌++◌, ◌�
 ghost use Rattle.node_cell.specs.Journal.{Enters, IsGiven, IsHistory, IsRefused};
 ghost use Rattle.node_gate.specs.Asks.{outcome_of, IsOwn};
 ghost use Rattle.node_gate.specs.Asks.Asked.{asking};
+ghost use Rattle.node_step.specs.Released.{reply_to, without_reply_to};
 ghost use Rattle.node_step.specs.State.{first_state};
 
 use crate::asks::Asks;
@@ -10,7 +11,7 @@ use crate::cell::NodeCell;
 use crate::deployment::Deployment;
 use crate::entered::Entered;
 use crate::log::Log;
-use node_core::{Conn, Event, StepFault};
+use node_core::{Conn, Core, Event, StepFault};
 use resp_values::Reply;
 
 /// A node's cell, or what holds one. Clauses see the cell.
@@ -41,7 +42,13 @@ pub trait HoldsCell {
         ensures cluster { (cell self.old).config ≡ Self.Cluster.config }
         ensures number { (cell self.old).node < length (cell self.old).config.nodes }
         ensures history { IsHistory (first_state (cell self.old).config (cell self.old).node) (cell self.old).journal (cell self.old).state }
-        ensures given { IfSome result (λ reply. IsGiven (cell self.old).journal (record { conn = conn; reply = reply })) };
+        ensures given { IfSome result (λ reply. IsGiven (cell self.old).journal (record { conn = conn; reply = reply })) }
+        ensures reply { result ≡ reply_to conn (cell self.old).undelivered }
+        ensures left { cell self.new ≡ record (cell self.old) { undelivered = without_reply_to conn (cell self.old).undelivered } };
+
+    /// The node as its last step left it.
+    fn core(&self) -> &Core
+        ensures { result.now ≡ (cell self.now).state };
 
     /// Whether there are replies that nobody has taken yet.
     fn has_undelivered(&self) -> bool
@@ -63,6 +70,10 @@ impl<K: Deployment, L: Log> HoldsCell for NodeCell<K, L> {
 
     fn take_reply(&mut self, conn: Conn) -> Option<Reply> {
         NodeCell::take_reply(self, conn)
+    }
+
+    fn core(&self) -> &Core {
+        NodeCell::core(self)
     }
 
     fn has_undelivered(&self) -> bool {

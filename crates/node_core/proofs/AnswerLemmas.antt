@@ -1,11 +1,14 @@
 -- Answers of the parts of a node are answers of the whole node.
-use Rattle.std.proofs.Common.{◌≡◌, ℕ, true, false, List, [], Option, Some, None, ℤ, refl, sym, ap, subst, ◌∙◌, ◌==◌, Bool, not, true≢false}
+use Rattle.std.proofs.Common.{◌≡◌, ℕ, true, false, ◌&&◌, List, [], Option, Some, None, ℤ, refl, sym, ap, subst, ◌∙◌, Bool}
 use Rattle.std.specs.List.{position}
 use Rattle.std.specs.Str.{bytes_eq}
 use Rattle.cluster_config.specs.declared.config.NodeConfig.{NodeConfig}
-use Rattle.std.specs.Prelude.{MatchBool, OnOk, Result, max, Ok, Err, is_none, is_some}
+use Rattle.std.specs.Prelude.{MatchBool, OnOk, Result, Ok, Err, is_none, is_some}
 use Rattle.resp_values.specs.declared.reply.Reply.{Reply}
+use Rattle.command_table.specs.Keys.{is_data_write}
 use Rattle.command_table.specs.Table.{command_of}
+use Rattle.resp2.specs.Stream.{stream_spelling}
+use Rattle.command_table.specs.declared.command.Command.{Command}
 use Rattle.command_table.specs.declared.command.ClusterCommand.{ClusterCommand}
 use Rattle.command_table.specs.declared.command.ClusterCommand.TheVariants.{KeySlot, MyId, Slots, CountKeysInSlot, GetKeysInSlot, SlotState, SetSlot, Numbered, Asking, Migrate}
 use Rattle.command_table.specs.ErrorLine.{line_of}
@@ -19,25 +22,25 @@ use Rattle.connections.specs.declared.conn.Conn.{Conn}
 use Rattle.connections.specs.declared.conn.Connection.{Connection}
 use Rattle.connections.specs.declared.conn.Wait.{Wait}
 use Rattle.redirect.specs.declared.asked.Asking.{Asking as AskingFor}
-use Rattle.bus.specs.declared.message.Body.TheVariants.{Drained}
-use Rattle.bus.specs.declared.message.Message.{Message}
-use Rattle.node_step.specs.Outcome.{no_outputs, outputs_of, replied, silent}
+use Rattle.node_step.specs.Outcome.{Outcome, no_outputs, outputs_of, replied, silent}
 use Rattle.node_step.specs.Commands.{command_outcome, decision_on}
-use Rattle.node_step.specs.Copies.{copy_outcome, copy_verdict_on, is_at, noted}
-use Rattle.node_step.specs.Messages.{delivered, knowing, taken}
+use Rattle.node_step.specs.Copies.{copy_outcome, copy_verdict_on, is_at}
 use Rattle.node_step.specs.Orders.{done}
 use Rattle.node_step.specs.Outcome.{error}
 use Rattle.node_step.specs.Requests.{asking_for, asking_of, at_connection, has_copy_number, has_number, has_order_number, is_numbered, node_with_id, request_outcome, using_up, with_numbers}
 use Rattle.node_step.specs.Ticks.{tick}
 use Rattle.node_step.specs.State.{NodeState}
-use Rattle.node_step.specs.Step.{NodeStep}
-use Rattle.node_step.specs.declared.event.Event.TheVariants.{Close, Deliver, Open, Request, Tick}
+use Rattle.node_step.specs.Step.{NodeStep, written}
+use Rattle.node_step.specs.Streams.{Requests, is_written, written_by_request}
+use Rattle.node_step.specs.declared.event.Event.TheVariants.{Close, Open, Request, Tick}
 use Rattle.node_step.specs.declared.outputs.Outputs.{Outputs}
+use Rattle.node_step.specs.declared.response.Response.{Response}
 use Rattle.node_step.specs.declared.response.Response.TheVariants.{Opened}
 use Rattle.node_step.specs.declared.response.Why.TheVariants.{NotACommand, Reported, Told}
 use Rattle.step_fault.specs.declared.fault.StepFault.{StepFault}
-use Rattle.node_core.specs.Comes.{AnswersSo}
-use Rattle.node_parts.specs.Drafts.{Drafts, IsDraftOf, at_epoch}
+use Rattle.node_core.specs.Comes.{AnswersAndWrites, AnswersSo}
+use Rattle.node_parts.proofs.ChangeLemmas.{records_nothing}
+use Rattle.node_parts.specs.Drafts.{Drafts, IsDraftOf, Records}
 use Rattle.node_parts.specs.declared.draft.Draft.{Draft}
 use Rattle.move_rows.specs.Orders.{Obeys}
 use Rattle.report_rows.specs.Questions.{IsReport, is_question}
@@ -119,30 +122,57 @@ pub fault_answered : (old : NodeState) (conn : Conn) (fault : CommandFault) (rep
     → Drafts old (replied (using_up old conn) (NotACommand fault) reply) draft → AnswersSo old conn (Err fault) draft
 fault_answered old conn fault reply draft is drafts = record { number = refl; drafts = rw (sym is) drafts }
 
--- what comes of a message, or of a tick, is drafted
-pub delivery_is_drafted : (old : NodeState) (message : Message) (draft : Draft) → Drafts old (delivered old message) draft → IsDraftOf old (Deliver message) draft
-delivery_is_drafted old message draft drafts = record { outcome = delivered old message; may_come = refl; drafts = drafts }
-
+-- what comes of a tick is drafted
 pub tick_is_drafted : (old : NodeState) (draft : Draft) → Drafts old (tick old) draft → IsDraftOf old Tick draft
-tick_is_drafted old draft drafts = record { outcome = tick old; may_come = refl; drafts = drafts }
+tick_is_drafted old draft drafts = record { outcome = tick old; requests = []; may_come = λ dropped within. refl; records = records_nothing old (tick old) draft drafts }
 
 -- wherever it is made
-pub delivery_drafted : (old : NodeState) (message : Message) (draft : Draft) (result : Result Unit StepFault) → OnOk result (Drafts old (delivered old message) draft)
-    → OnOk result (IsDraftOf old (Deliver message) draft)
-delivery_drafted old message draft (Ok done) drafts = delivery_is_drafted old message draft drafts
-delivery_drafted old message draft (Err fault) drafts = tt
-
 pub tick_drafted : (old : NodeState) (draft : Draft) (result : Result Unit StepFault) → OnOk result (Drafts old (tick old) draft) → OnOk result (IsDraftOf old Tick draft)
 tick_drafted old draft (Ok done) drafts = tick_is_drafted old draft drafts
 tick_drafted old draft (Err fault) drafts = tt
 
--- and an answer
+pub same_spelling : (old : NodeState) (conn : Conn) (words : List (List ℕ)) (before : Draft) → AnswersSo old conn (command_of words) before
+    → stream_spelling (written_by_request words (command_of words) before.response) ≡ stream_spelling (written old conn words)
+same_spelling old conn words before answers = ap (λ (response : Response). stream_spelling (written_by_request words (command_of words) response)) answers.drafts.response
+
+-- an answer, and what is written by its words
+pub answered_and_written : (old : NodeState) (conn : Conn) (words : List (List ℕ)) (is_write : Bool) (bytes : List ℕ) (before draft : Draft)
+    → is_write ≡ is_written (command_of words) → AnswersSo old conn (command_of words) before
+    → ((command : Result Command CommandFault) → is_write ≡ is_written command → bytes ≡ stream_spelling (written_by_request words command before.response))
+    → ((outcome : Outcome) (requests : Requests) → bytes ≡ stream_spelling requests → Drafts old outcome before → Records old outcome requests draft)
+    → AnswersAndWrites old conn words draft
+answered_and_written old conn words is_write bytes before draft is answers spelled records =
+    record {
+      number = answers.number;
+      records = records (request_outcome old conn (command_of words)) (written old conn words) (spelled (command_of words) is ∙ same_spelling old conn words before answers) answers.drafts;
+    }
+
+-- which words are a write
+pub data_written : (read : Result Command CommandFault) (command : DataCommand) (is_write : Bool) → read ≡ Ok (Data command) → is_write ≡ is_data_write command → is_write ≡ is_written read
+data_written read command is_write is same = same ∙ sym (ap is_written is)
+
+pub cluster_not_written : (read : Result Command CommandFault) (command : ClusterCommand) → read ≡ Ok (Cluster command) → false ≡ is_written read
+cluster_not_written read command is = sym (ap is_written is)
+
+pub fault_not_written : (read : Result Command CommandFault) (fault : CommandFault) → read ≡ Err fault → false ≡ is_written read
+fault_not_written read fault is = sym (ap is_written is)
+
+-- a number that is missing, or an offset
+pub no_number : (number offset : Bool) → number ≡ false → (number && offset) ≡ false
+no_number number offset is = ap (λ b. b && offset) is
+
+pub no_offset : (number offset : Bool) → offset ≡ false → (number && offset) ≡ false
+no_offset true offset is = is
+no_offset false offset is = refl
+
+-- both are drafted
 pub answer_is_drafted : (old : NodeState) (conn : Conn) (words : List (List ℕ)) (draft : Draft)
-    → may_ask (connection_at old.connections conn) ≡ true → AnswersSo old conn (command_of words) draft → IsDraftOf old (Request conn words) draft
+    → may_ask (connection_at old.connections conn) ≡ true → AnswersAndWrites old conn words draft → IsDraftOf old (Request conn words) draft
 answer_is_drafted old conn words draft asks answers = record {
   outcome = request_outcome old conn (command_of words);
-  may_come = rw asks record { number = answers.number; comes_to = refl };
-  drafts = answers.drafts;
+  requests = written old conn words;
+  may_come = λ dropped within. rw asks record { number = answers.number; dropped = dropped; may_drop = within; comes_to = refl };
+  records = answers.records;
 }
 
 -- a request that is not taken changes nothing
@@ -150,8 +180,9 @@ pub untaken_is_drafted : (old : NodeState) (conn : Conn) (words : List (List ℕ
     → may_ask (connection_at old.connections conn) ≡ false → Drafts old (silent old) draft → IsDraftOf old (Request conn words) draft
 untaken_is_drafted old conn words draft asks drafts = record {
   outcome = silent old;
-  may_come = rw asks refl;
-  drafts = drafts;
+  requests = [];
+  may_come = λ dropped within. rw asks refl;
+  records = records_nothing old (silent old) draft drafts;
 }
 
 -- since its connection isn't open
@@ -197,28 +228,3 @@ module _ (ticket : ℕ) (old : NodeState) (connections : ConnectionTable) (conn 
   pub closing_is_step : (was_open : Bool) → was_open ≡ is_some (connection_at old.connections conn) → MatchBool was_open (Closes old.connections connections conn) (connections ≡ old.connections)
       → NodeStep ticket old (Close conn) outputs new
   closing_is_step was_open opened closes = closing was_open (sym opened) closes
-
--- a message for another node is not taken
-pub passed_by : (old : NodeState) (message : Message) (draft : Draft) → not (message.to == old.number) ≡ true → Drafts old (silent old) draft → Drafts old (delivered old message) draft
-passed_by old message draft other drafts =
-    by_test (message.to == old.number) other refl
-  where
-    by_test : (test : Bool) → not test ≡ true → (message.to == old.number) ≡ test → Drafts old (delivered old message) draft
-    by_test true is same = absurd (true≢false (sym is))
-    by_test false is same = rw same drafts
-
--- the word that a slot is drained is taken
-pub takes_word : (old : NodeState) (message : Message) (epoch slot number drained : ℕ) (draft : Draft) → not (message.to == old.number) ≡ false
-    → epoch ≡ max old.current_epoch message.epoch → message.body ≡ Drained slot number drained
-    → Drafts old (noted (at_epoch old epoch) message.from slot number drained) draft → Drafts old (delivered old message) draft
-takes_word old message epoch slot number drained draft own known body drafts =
-    by_test (message.to == old.number) own refl
-  where
-    taken_so : Drafts old (taken (knowing old message.epoch) message.from message.body) draft
-    taken_so =
-        subst (λ b. Drafts old (taken (knowing old message.epoch) message.from b) draft) (sym body)
-        (subst (λ e. Drafts old (noted (at_epoch old e) message.from slot number drained) draft) known drafts)
-
-    by_test : (test : Bool) → not test ≡ false → (message.to == old.number) ≡ test → Drafts old (delivered old message) draft
-    by_test true is same = rw same taken_so
-    by_test false is same = absurd (true≢false is)

@@ -1,24 +1,67 @@
 -- What comes of an event, as the parts of a node say it of themselves.
-use Rattle.std.specs.Prelude.{◌≡◌, Bool, true, false, Result}
+use Rattle.std.specs.Prelude.{◌≡◌, ℕ, Bool, true, false, not, List, Result}
+use Rattle.bus.specs.declared.message.Body.{Body}
+use Rattle.bus.specs.declared.message.Body.TheVariants.{Copy, Ack, Drained, Claim, Report, Request, Grant, Sync, Piece, Snapshot}
+use Rattle.command_table.specs.Table.{command_of}
 use Rattle.command_table.specs.declared.command.Command.{Command}
 use Rattle.command_table.specs.declared.fault.CommandFault.{CommandFault}
 use Rattle.connections.specs.declared.conn.Conn.{Conn}
-use Rattle.node_parts.specs.Drafts.{Drafts}
+use Rattle.node_parts.specs.Drafts.{Drafts, Records}
 use Rattle.node_parts.specs.declared.draft.Draft.{Draft}
 use Rattle.node_step.specs.Requests.{has_number, request_outcome, using_up}
+use Rattle.node_step.specs.Claiming.{claim}
+use Rattle.node_step.specs.Copies.{acknowledgement, arrival, noted}
+use Rattle.node_step.specs.Outcome.{Outcome, silent}
+use Rattle.node_step.specs.Replicas.{synced}
 use Rattle.node_step.specs.State.{NodeState}
+use Rattle.node_step.specs.Step.{written}
 use Rattle.node_step.specs.declared.event.Event.{Event}
-use Rattle.node_step.specs.declared.event.Event.TheVariants.{Open, Close, Request, Deliver, Tick}
+use Rattle.node_step.specs.declared.event.Event.TheVariants.{Open, Close, Request as Asked, Deliver, Tick}
+
+-- a replica follows a stream by these
+abbrev pub is_followed : Body → Bool
+is_followed (Piece piece) = true
+is_followed (Snapshot snapshot) = true
+is_followed (Copy slot number copy key value) = false
+is_followed (Ack slot number copy) = false
+is_followed (Drained slot number epoch) = false
+is_followed (Claim slots replaced) = false
+is_followed (Report suspects) = false
+is_followed (Request request) = false
+is_followed (Grant epoch) = false
+is_followed (Sync sync) = false
+
+-- a message is taken by a draft: all but those
+abbrev pub is_drafted_body : Body → Bool
+is_drafted_body body = not (is_followed body)
+
+-- what comes of such a message but for what is written
+abbrev pub taken_by_draft : NodeState → ℕ → Body → Outcome
+taken_by_draft node from (Copy slot number copy key value) = arrival node from slot number copy key value
+taken_by_draft node from (Ack slot number copy) = acknowledgement node from slot number copy
+taken_by_draft node from (Drained slot number epoch) = noted node from slot number epoch
+taken_by_draft node from (Claim slots replaced) = claim node from slots
+taken_by_draft node from (Report suspects) = silent node
+taken_by_draft node from (Request request) = silent node
+taken_by_draft node from (Grant epoch) = silent node
+taken_by_draft node from (Sync sync) = synced node from sync
+taken_by_draft node from (Piece piece) = silent node
+taken_by_draft node from (Snapshot snapshot) = silent node
 
 -- the step is drafted first, and then made
 abbrev pub is_drafted : Event → Bool
 is_drafted Open = false
 is_drafted (Close conn) = false
-is_drafted (Request conn words) = true
-is_drafted (Deliver message) = true
+is_drafted (Asked conn words) = true
+is_drafted (Deliver message) = is_drafted_body message.body
 is_drafted Tick = true
 
 -- the draft of the answer to a request that was read so
 pub record AnswersSo (old : NodeState) (conn : Conn) (read : Result Command CommandFault) (draft : Draft) : Type 0 where
   pub number : has_number (using_up old conn) read ≡ true
   pub drafts : Drafts old (request_outcome old conn read) draft
+
+-- and with what is written by its words
+pub record AnswersAndWrites (old : NodeState) (conn : Conn) (words : List (List ℕ)) (draft : Draft) : Type 0 where
+  pub number : has_number (using_up old conn) (command_of words) ≡ true
+  pub records : Records old (request_outcome old conn (command_of words)) (written old conn words) draft

@@ -18,6 +18,7 @@ use move_rows::{done, migrate_key, node_at, node_with_id, obey};
 use node_parts::{Change, Draft, NodeParts};
 use node_step::{StepFault, Why};
 use redirect::Asking;
+use repl_stream::Stream;
 use report_rows::report;
 use slot_state::Order;
 use slot_store::{SlotKeys, SlotParts};
@@ -26,8 +27,8 @@ use std::alloc::AllocError;
 /// Answers a command about the cluster.
 #[inline(never)]
 #[tactic(auto, using(crate::proofs::AnswerLemmas::numbered_answered))]
-pub(crate) fn answer_about_cluster<S: SlotParts + SlotKeys>(
-    node: &NodeParts<S>,
+pub(crate) fn answer_about_cluster<S: SlotParts + SlotKeys, T: Stream>(
+    node: &NodeParts<S, T>,
     conn: Conn,
     command: &ClusterCommand,
     draft: &mut Draft,
@@ -78,8 +79,8 @@ pub(crate) fn answer_about_cluster<S: SlotParts + SlotKeys>(
 
 // Answers a question about the cluster.
 #[tactic(auto, using(crate::proofs::AnswerLemmas::question_answered))]
-fn answer_question<S: SlotParts + SlotKeys>(
-    node: &NodeParts<S>,
+fn answer_question<S: SlotParts + SlotKeys, T: Stream>(
+    node: &NodeParts<S, T>,
     conn: Conn,
     question: &ClusterCommand,
     draft: &mut Draft,
@@ -94,7 +95,11 @@ fn answer_question<S: SlotParts + SlotKeys>(
 }
 
 // From now on the ASK lines of the connection name the move.
-fn number_asks<S: SlotParts + SlotKeys>(node: &NodeParts<S>, conn: Conn, draft: &mut Draft)
+fn number_asks<S: SlotParts + SlotKeys, T: Stream>(
+    node: &NodeParts<S, T>,
+    conn: Conn,
+    draft: &mut Draft,
+)
     requires { HasNothing node.now draft.old }
     ensures { Drafts node.now (replied (with_numbers (using_up node.now conn) conn) Told done) draft.new }
 {
@@ -102,8 +107,8 @@ fn number_asks<S: SlotParts + SlotKeys>(node: &NodeParts<S>, conn: Conn, draft: 
 }
 
 // The next request of the connection may be served in a slot that comes to this node.
-fn allow<S: SlotParts + SlotKeys>(
-    node: &NodeParts<S>,
+fn allow<S: SlotParts + SlotKeys, T: Stream>(
+    node: &NodeParts<S, T>,
     conn: Conn,
     asking: Asking,
     draft: &mut Draft,

@@ -1,23 +1,27 @@
 -- Changes of a node, and a draft that is made.
-use Rattle.std.proofs.Common.{◌≡◌, ℕ, List, Option, Some, None, refl, sym, ap, ◌∙◌, subst}
+use Rattle.std.proofs.Common.{◌≡◌, ◌≤◌, ◌+◌, ℕ, List, [], ◌∷◌, length, Option, Some, None, refl, sym, ap, ◌∙◌, subst, arith}
 use Rattle.bus.specs.declared.message.Body.{Body}
 use Rattle.migrate.specs.Acknowledging.{frozen_key}
 use Rattle.slot_state.specs.Moves.{move_of}
 use Rattle.keyspace.specs.Keyspace.{Keyspace}
 use Rattle.keyspace.specs.declared.plans.Plan.{Plan}
 use Rattle.node_parts.specs.Becomes.{Becomes, CanBeMade, freed}
-use Rattle.node_parts.specs.Drafts.{Drafts, HasNothing, IsDraftOf, at_epoch, sends, stamped_draft}
+use Rattle.node_parts.specs.Drafts.{Drafts, HasNothing, IsDraftOf, Records, at_epoch, sends, stamped_draft}
+use Rattle.node_parts.specs.Making.{GoesOn, IsMade}
 use Rattle.node_parts.specs.declared.change.Change.{Change}
 use Rattle.node_parts.specs.declared.change.Change.TheVariants.{Nothing, Asks, Allows, Numbers, Keys, Imports, Migrates, Ends, Parks, Freezes, Installs, Frees, Notes, Loses, Ages}
 use Rattle.node_parts.specs.declared.draft.Draft.{Draft}
 use Rattle.node_parts.proofs.Commits.{committed_lies, committed_one}
-use Rattle.node_step.specs.Outcome.{replied, replied_sending, silent}
+use Rattle.node_step.specs.Outcome.{Outcome, outputs_of, replied, replied_sending, silent}
 use Rattle.node_step.specs.declared.response.Response.TheVariants.{Replied}
 use Rattle.node_step.specs.declared.response.Why.{Why}
 use Rattle.resp_values.specs.declared.reply.Reply.{Reply}
 use Rattle.node_step.specs.Requests.{using_up}
 use Rattle.node_step.specs.State.{NodeState}
 use Rattle.node_step.specs.Step.{NodeStep}
+use Rattle.node_step.specs.Streams.{MayGiveUp, Requests, recorded}
+use Rattle.resp2.specs.Stream.{stream_spelling}
+use Rattle.stream_values.specs.Stream.{StreamView, written}
 use Rattle.node_step.specs.declared.event.Event.{Event}
 use Rattle.node_step.specs.declared.outputs.Outputs.{Outputs}
 
@@ -64,31 +68,36 @@ at_any_epoch : (old : NodeState) (epoch slot number copy : ℕ) (key : Option (L
 at_any_epoch old epoch slot number copy None = refl
 at_any_epoch old epoch slot number copy (Some key) = refl
 
-own_parts : (old : NodeState) (slot number copy : ℕ) (key : Option (List ℕ))
-    → ((freed old slot number copy key).number ≡ old.number) × ((freed old slot number copy key).current_epoch ≡ old.current_epoch)
-own_parts old slot number copy None = (refl, refl)
-own_parts old slot number copy (Some key) = (refl, refl)
+-- no change touches the node's number, the epoch, who copies whom, or the stream
+pub record KeepsOwn (old new : NodeState) : Type 0 where
+  pub number : new.number ≡ old.number
+  pub epoch : new.current_epoch ≡ old.current_epoch
+  pub masters : new.masters ≡ old.masters
+  pub stream : new.stream ≡ old.stream
 
-same_parts : (old new other : NodeState) → new ≡ other → (other.number ≡ old.number) × (other.current_epoch ≡ old.current_epoch) → (new.number ≡ old.number) × (new.current_epoch ≡ old.current_epoch)
-same_parts old new other is own = (ap (λ (node : NodeState). node.number) is ∙ own.0, ap (λ (node : NodeState). node.current_epoch) is ∙ own.1)
+freed_keeps : (old : NodeState) (slot number copy : ℕ) (key : Option (List ℕ)) → KeepsOwn old (freed old slot number copy key)
+freed_keeps old slot number copy None = record { number = refl; epoch = refl; masters = refl; stream = refl }
+freed_keeps old slot number copy (Some key) = record { number = refl; epoch = refl; masters = refl; stream = refl }
 
--- no change touches the node's number, or the epoch
-pub keeps_number_and_epoch : (old : NodeState) (plan : Plan) (change : Change) (new : NodeState) → Becomes old plan change new → (new.number ≡ old.number) × (new.current_epoch ≡ old.current_epoch)
-keeps_number_and_epoch old plan (Keys conn slot) new is = same_parts old new _ is.state (refl, refl)
-keeps_number_and_epoch old plan Nothing new is = same_parts old new _ is (refl, refl)
-keeps_number_and_epoch old plan (Asks conn) new is = same_parts old new _ is (refl, refl)
-keeps_number_and_epoch old plan (Allows conn asking) new is = same_parts old new _ is (refl, refl)
-keeps_number_and_epoch old plan (Numbers conn) new is = same_parts old new _ is (refl, refl)
-keeps_number_and_epoch old plan (Imports conn slot from number) new is = same_parts old new _ is.state (refl, refl)
-keeps_number_and_epoch old plan (Migrates conn slot to number) new is = same_parts old new _ is.state (refl, refl)
-keeps_number_and_epoch old plan (Ends conn slot epoch) new is = same_parts old new _ is (refl, refl)
-keeps_number_and_epoch old plan (Parks conn wait) new is = same_parts old new _ is (refl, refl)
-keeps_number_and_epoch old plan (Freezes conn key wait) new is = same_parts old new _ is (refl, refl)
-keeps_number_and_epoch old plan (Installs slot copy key value) new is = same_parts old new _ is (refl, refl)
-keeps_number_and_epoch old plan (Frees slot number copy) new is = same_parts old new _ is (own_parts old slot number copy (frozen_key (move_of old.moves slot)))
-keeps_number_and_epoch old plan (Notes from slot number epoch) new is = same_parts old new _ is (refl, refl)
-keeps_number_and_epoch old plan (Loses from claim lost) new is = same_parts old new _ is (refl, refl)
-keeps_number_and_epoch old plan Ages new is = same_parts old new _ is (refl, refl)
+as_other : (old new other : NodeState) → new ≡ other → KeepsOwn old other → KeepsOwn old new
+as_other old new other is keeps = subst (λ (node : NodeState). KeepsOwn old node) (sym is) keeps
+
+pub keeps_own : (old : NodeState) (plan : Plan) (change : Change) (new : NodeState) → Becomes old plan change new → KeepsOwn old new
+keeps_own old plan (Keys conn slot) new is = as_other old new _ is.state (record { number = refl; epoch = refl; masters = refl; stream = refl })
+keeps_own old plan Nothing new is = as_other old new _ is (record { number = refl; epoch = refl; masters = refl; stream = refl })
+keeps_own old plan (Asks conn) new is = as_other old new _ is (record { number = refl; epoch = refl; masters = refl; stream = refl })
+keeps_own old plan (Allows conn asking) new is = as_other old new _ is (record { number = refl; epoch = refl; masters = refl; stream = refl })
+keeps_own old plan (Numbers conn) new is = as_other old new _ is (record { number = refl; epoch = refl; masters = refl; stream = refl })
+keeps_own old plan (Imports conn slot from number) new is = as_other old new _ is.state (record { number = refl; epoch = refl; masters = refl; stream = refl })
+keeps_own old plan (Migrates conn slot to number) new is = as_other old new _ is.state (record { number = refl; epoch = refl; masters = refl; stream = refl })
+keeps_own old plan (Ends conn slot epoch) new is = as_other old new _ is (record { number = refl; epoch = refl; masters = refl; stream = refl })
+keeps_own old plan (Parks conn wait) new is = as_other old new _ is (record { number = refl; epoch = refl; masters = refl; stream = refl })
+keeps_own old plan (Freezes conn key wait) new is = as_other old new _ is (record { number = refl; epoch = refl; masters = refl; stream = refl })
+keeps_own old plan (Installs slot copy key value) new is = as_other old new _ is (record { number = refl; epoch = refl; masters = refl; stream = refl })
+keeps_own old plan (Frees slot number copy) new is = as_other old new _ is (freed_keeps old slot number copy (frozen_key (move_of old.moves slot)))
+keeps_own old plan (Notes from slot number epoch) new is = as_other old new _ is (record { number = refl; epoch = refl; masters = refl; stream = refl })
+keeps_own old plan (Loses from claim lost) new is = as_other old new _ is (record { number = refl; epoch = refl; masters = refl; stream = refl })
+keeps_own old plan Ages new is = as_other old new _ is (record { number = refl; epoch = refl; masters = refl; stream = refl })
 
 -- the epoch is none of its parts
 pub beside_epoch : (old new : NodeState) (epoch : ℕ) (plan : Plan) (change : Change) → Becomes old plan change new → Becomes (at_epoch old epoch) plan change (at_epoch new epoch)
@@ -108,28 +117,76 @@ beside_epoch old new epoch plan (Notes from slot number drained) is = ap (λ nod
 beside_epoch old new epoch plan (Loses from claim lost) is = ap (λ node. at_epoch node epoch) is
 beside_epoch old new epoch plan Ages is = ap (λ node. at_epoch node epoch) is
 
+-- a change beside a stream that grows
+pub made_at_epoch : (old new : NodeState) (epoch : ℕ) (plan : Plan) (change : Change) (bytes : List ℕ) → IsMade old plan change bytes new → IsMade (at_epoch old epoch) plan change bytes (at_epoch new epoch)
+made_at_epoch old new epoch plan change bytes is = record {
+  after = at_epoch is.after epoch;
+  changes = beside_epoch old is.after epoch plan change is.changes;
+  goes_on = is.goes_on;
+  state = ap (λ node. at_epoch node epoch) is.state;
+}
+
+-- how many bytes the stream gives up in front
+pub record GivesUp (old : NodeState) (outcome : Outcome) (requests : Requests) (new : NodeState) : Type 0 where
+  pub dropped : ℕ
+  pub within : MayGiveUp old requests dropped
+  pub state : new ≡ (recorded outcome requests dropped).state
+
+gives_up : (old after new : NodeState) (outcome : Outcome) (requests : Requests) → after ≡ outcome.state → after.stream ≡ old.stream
+    → GoesOn (stream_spelling requests) after.stream new.stream → new ≡ record after { stream = new.stream } → GivesUp old outcome requests new
+gives_up old after new outcome [] same own goes state = record {
+  dropped = 0;
+  within = omega arith;
+  state = state ∙ ap (λ s. record after { stream = s }) goes ∙ same;
+}
+gives_up old after new outcome (request ∷ requests) same own goes state = record {
+  dropped = goes.dropped;
+  within = subst (λ (s : StreamView). goes.dropped ≤ length s.held.bytes + length (stream_spelling (request ∷ requests))) own goes.within;
+  state =
+      state ∙ ap (λ s. record after { stream = s }) goes.stream
+      ∙ ap (λ (n : NodeState). record n { stream = written goes.dropped (stream_spelling (request ∷ requests)) n.stream }) same;
+}
+
+-- what is sent, and by whom, doesn't depend on that
+sent_alike : (outcome : Outcome) (requests : Requests) (dropped : ℕ) → (recorded outcome requests 0).sent ≡ (recorded outcome requests dropped).sent
+sent_alike outcome [] dropped = refl
+sent_alike outcome (request ∷ requests) dropped = refl
+
+outputs_alike : (ticket : ℕ) (outcome : Outcome) (requests : Requests) (dropped : ℕ) → outcome.promoted ≡ None
+    → sends outcome.state.number ticket outcome.state.current_epoch outcome.response outcome.released (recorded outcome requests dropped).sent ≡ outputs_of ticket (recorded outcome requests dropped)
+outputs_alike ticket outcome [] dropped none =
+    ap (λ p. record (sends outcome.state.number ticket outcome.state.current_epoch outcome.response outcome.released outcome.sent) { promoted = p }) (sym none)
+outputs_alike ticket outcome (request ∷ requests) dropped none =
+    ap (λ p. record (sends outcome.state.number ticket outcome.state.current_epoch outcome.response outcome.released (recorded outcome (request ∷ requests) dropped).sent) { promoted = p }) (sym none)
+
 -- a draft that is made is a step
 pub made_is_step : (ticket : ℕ) (old : NodeState) (event : Event) (draft : Draft) (outputs : Outputs) (new : NodeState) → IsDraftOf old event draft → outputs ≡ stamped_draft old.number ticket draft
-    → Becomes (at_epoch old draft.epoch) draft.plan draft.change new → NodeStep ticket old event outputs new
-made_is_step ticket old event draft outputs new is are leads =
-    let parts = keeps_number_and_epoch (at_epoch old draft.epoch) draft.plan draft.change is.outcome.state is.drafts.state in
+    → IsMade (at_epoch old draft.epoch) draft.plan draft.change draft.written new → NodeStep ticket old event outputs new
+made_is_step ticket old event draft outputs new is are made =
     let outcome = is.outcome in
+    let records = is.records in
+    let own = keeps_own (at_epoch old draft.epoch) draft.plan draft.change outcome.state records.state in
     let bodies : List (ℕ × Body) = draft.bodies.items in
+    let given : GivesUp old outcome is.requests new =
+    gives_up old made.after new outcome is.requests (leads_to_one (at_epoch old draft.epoch) draft.plan draft.change made.after outcome.state made.changes records.state)
+    ((keeps_own (at_epoch old draft.epoch) draft.plan draft.change made.after made.changes).stream)
+    (subst (λ bytes. GoesOn bytes made.after.stream new.stream) records.written made.goes_on) made.state in
     record {
-      outcome = outcome;
-      may_come = is.may_come;
+      outcome = recorded outcome is.requests given.dropped;
+      may_come = is.may_come given.dropped given.within;
       outputs_are =
-          are ∙ ap (λ r. sends old.number ticket draft.epoch r draft.released bodies) is.drafts.response
-          ∙ ap (λ r. sends old.number ticket draft.epoch outcome.response r bodies) is.drafts.released
-          ∙ ap (sends old.number ticket draft.epoch outcome.response outcome.released) is.drafts.sent
-          ∙ ap (λ n. sends n ticket draft.epoch outcome.response outcome.released outcome.sent) (sym parts.0)
-          ∙ ap (λ e. sends outcome.state.number ticket e outcome.response outcome.released outcome.sent) (sym parts.1);
-      state = leads_to_one (at_epoch old draft.epoch) draft.plan draft.change new outcome.state leads is.drafts.state;
+          are ∙ ap (λ r. sends old.number ticket draft.epoch r draft.released bodies) records.response
+          ∙ ap (λ r. sends old.number ticket draft.epoch outcome.response r bodies) records.released
+          ∙ ap (sends old.number ticket draft.epoch outcome.response outcome.released) (records.sent ∙ sent_alike outcome is.requests given.dropped)
+          ∙ ap (λ n. sends n ticket draft.epoch outcome.response outcome.released (recorded outcome is.requests given.dropped).sent) (sym own.number)
+          ∙ ap (λ e. sends outcome.state.number ticket e outcome.response outcome.released (recorded outcome is.requests given.dropped).sent) (sym own.epoch)
+          ∙ outputs_alike ticket outcome is.requests given.dropped records.promoted;
+      state = given.state;
     }
 
 -- and it can be made
 pub draft_can_be_made : (old : NodeState) (event : Event) (draft : Draft) → IsDraftOf old event draft → CanBeMade old draft.plan draft.change
-draft_can_be_made old event draft is = in_any_epoch draft.change (can_be_made (at_epoch old draft.epoch) draft.plan draft.change is.outcome.state is.drafts.state)
+draft_can_be_made old event draft is = in_any_epoch draft.change (can_be_made (at_epoch old draft.epoch) draft.plan draft.change is.outcome.state is.records.state)
   where
     in_any_epoch : (change : Change) → CanBeMade (at_epoch old draft.epoch) draft.plan change → CanBeMade old draft.plan change
     in_any_epoch (Keys conn slot) can = can
@@ -148,6 +205,17 @@ draft_can_be_made old event draft is = in_any_epoch draft.change (can_be_made (a
     in_any_epoch (Loses from claim lost) can = tt
     in_any_epoch Ages can = tt
 
+-- a draft that writes nothing
+pub records_nothing : (old : NodeState) (outcome : Outcome) (draft : Draft) → Drafts old outcome draft → Records old outcome [] draft
+records_nothing old outcome draft drafts = record {
+  response = drafts.response;
+  released = drafts.released;
+  sent = drafts.sent;
+  promoted = drafts.promoted;
+  written = drafts.written;
+  state = drafts.state;
+}
+
 -- a draft with nothing in it is that of a step in which nothing comes out, and nothing changes
 pub drafts_nothing : (old : NodeState) (draft : Draft) → HasNothing old draft → Drafts old (silent old) draft
 drafts_nothing old draft is =
@@ -155,6 +223,8 @@ drafts_nothing old draft is =
       response = is.response;
       released = is.released;
       sent = is.sent;
+      promoted = refl;
+      written = is.written;
       state =
           subst (λ change. Becomes (at_epoch old draft.epoch) draft.plan change old) (sym is.change)
           (subst (λ epoch. old ≡ at_epoch old epoch) (sym is.epoch) refl);
@@ -171,16 +241,18 @@ module _ (old : NodeState) (draft replied_draft : Draft) (why : Why) (reply : Re
   pub drafts_reply : (new : Draft) → new ≡ record replied_draft { epoch = epoch; change = change } → Drafts old (replied after why reply) new
   drafts_reply new changes =
       subst (λ d. Drafts old (replied after why reply) d) (sym (changes ∙ ap (λ (d : Draft). record d { epoch = epoch; change = change }) replies))
-      (record { response = refl; released = nothing.released; sent = nothing.sent; state = in_own_epoch old epoch draft.plan change after own leads })
+      (record { response = refl; released = nothing.released; sent = nothing.sent; promoted = refl; written = nothing.written; state = in_own_epoch old epoch draft.plan change after own leads })
 
   -- the same with messages between them
   pub drafts_sending : (bodies : List (ℕ × Body)) (said new : Draft) → said.bodies.items ≡ bodies → said.response ≡ replied_draft.response → said.released ≡ replied_draft.released
-      → said.plan ≡ replied_draft.plan → new ≡ record said { epoch = epoch; change = change } → Drafts old (replied_sending after why reply bodies) new
-  drafts_sending bodies said new says response released plan changes =
+      → said.written ≡ replied_draft.written → said.plan ≡ replied_draft.plan → new ≡ record said { epoch = epoch; change = change } → Drafts old (replied_sending after why reply bodies) new
+  drafts_sending bodies said new says response released written plan changes =
       subst (λ d. Drafts old (replied_sending after why reply bodies) d) (sym changes)
       (record {
         response = response ∙ ap (λ (d : Draft). d.response) replies;
         released = released ∙ ap (λ (d : Draft). d.released) replies ∙ nothing.released;
         sent = says;
+        promoted = refl;
+        written = written ∙ ap (λ (d : Draft). d.written) replies ∙ nothing.written;
         state = subst (λ p. Becomes (at_epoch old epoch) p change after) (sym (plan ∙ ap (λ (d : Draft). d.plan) replies)) (in_own_epoch old epoch draft.plan change after own leads);
       })

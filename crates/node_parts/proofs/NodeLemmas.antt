@@ -1,17 +1,28 @@
 -- Nodes of the configuration, and nodes that it doesn't have.
-use Rattle.std.proofs.Common.{◌≡◌, ℕ, zero, suc, List, [], ◌∷◌, None, false, refl, sym, ap, ◌∙◌}
-use Rattle.std.proofs.lemmas.Option.{none-some}
-use Rattle.std.specs.Prelude.{is_some, slice_get, slice_index_or}
+use Rattle.std.proofs.Common.{◌≡◌, ℕ, zero, suc, List, [], ◌∷◌, Option, Some, None, refl, sym, ap, ◌∙◌}
+use Rattle.std.specs.Prelude.{slice_get, slice_index_or}
 use Rattle.cluster_config.specs.declared.config.NodeConfig.{NodeConfig}
-use Rattle.node_step.specs.State.{NodeState, first_masters, own_master}
+use Rattle.cluster_config.specs.declared.config.Role.TheVariants.{Master, Replica}
+use Rattle.key_slot.specs.declared.slots.SlotRange.{SlotRange}
+use Rattle.node_step.specs.State.{first_masters, master_in}
 
--- it has no master
-unknown_has_no_master : (nodes : List NodeConfig) (number : ℕ) → slice_get nodes number ≡ None → slice_index_or (first_masters nodes) number None ≡ None
-unknown_has_no_master [] number unknown = refl
-unknown_has_no_master (node ∷ nodes) zero unknown = absurd (none-some node (sym unknown))
-unknown_has_no_master (node ∷ nodes) (suc number) unknown = unknown_has_no_master nodes number unknown
+-- the master of a node, if it is there and has one
+abbrev master_by : Option NodeConfig → Option ℕ
+master_by None = None
+master_by (Some node) = master_in node.role
 
--- so it is no replica
-pub unknown_is_no_replica : (node : NodeState) (nodes : List NodeConfig) → node.masters ≡ first_masters nodes → slice_get nodes node.number ≡ None → false ≡ is_some (own_master node)
-unknown_is_no_replica node nodes are unknown =
-    sym (ap is_some (ap (λ masters. slice_index_or masters node.number None) are ∙ unknown_has_no_master nodes node.number unknown))
+master_at : (nodes : List NodeConfig) (number : ℕ) → slice_index_or (first_masters nodes) number None ≡ master_by (slice_get nodes number)
+master_at [] number = refl
+master_at (node ∷ nodes) zero = refl
+master_at (node ∷ nodes) (suc number) = master_at nodes number
+
+-- one that isn't there has none
+pub unknown_has_no_master : (nodes : List NodeConfig) (number : ℕ) → slice_get nodes number ≡ None → None ≡ slice_index_or (first_masters nodes) number None
+unknown_has_no_master nodes number unknown = sym (master_at nodes number ∙ ap master_by unknown)
+
+-- one that is there has the master of its role
+pub replica_has_master : (nodes : List NodeConfig) (number : ℕ) (node : NodeConfig) (of : ℕ) → slice_get nodes number ≡ Some node → node.role ≡ Replica of → Some of ≡ slice_index_or (first_masters nodes) number None
+replica_has_master nodes number node of known is = sym (master_at nodes number ∙ ap master_by known ∙ ap master_in is)
+
+pub master_has_none : (nodes : List NodeConfig) (number : ℕ) (node : NodeConfig) (slots : List SlotRange) → slice_get nodes number ≡ Some node → node.role ≡ Master slots → None ≡ slice_index_or (first_masters nodes) number None
+master_has_none nodes number node slots known is = sym (master_at nodes number ∙ ap master_by known ∙ ap master_in is)

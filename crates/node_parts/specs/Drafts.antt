@@ -1,5 +1,6 @@
 -- The draft of a step.
 use Rattle.std.specs.Prelude.{◌≡◌, ℕ, List, [], ◌∷◌, Option, Some, None, map}
+use Rattle.resp2.specs.Stream.{stream_spelling}
 use Rattle.bus.specs.declared.message.Body.{Body}
 use Rattle.node_parts.specs.Becomes.{Becomes}
 use Rattle.node_parts.specs.declared.change.Change.TheVariants.{Nothing as Unchanged}
@@ -7,6 +8,7 @@ use Rattle.node_parts.specs.declared.draft.Draft.{Draft}
 use Rattle.node_step.specs.Outcome.{Outcome, no_outputs, silent, stamped}
 use Rattle.node_step.specs.State.{NodeState}
 use Rattle.node_step.specs.Step.{MayCome}
+use Rattle.node_step.specs.Streams.{MayGiveUp, Requests, recorded}
 use Rattle.node_step.specs.declared.event.Event.{Event}
 use Rattle.node_step.specs.declared.outputs.Outputs.{Outputs}
 use Rattle.node_step.specs.declared.outputs.Release.{Release}
@@ -22,6 +24,8 @@ pub record Drafts (old : NodeState) (outcome : Outcome) (draft : Draft) : Type 0
   pub response : draft.response ≡ outcome.response
   pub released : draft.released ≡ outcome.released
   pub sent : draft.bodies.items ≡ outcome.sent
+  pub promoted : outcome.promoted ≡ None
+  pub written : draft.written ≡ []
   pub state : Becomes (at_epoch old draft.epoch) draft.plan draft.change outcome.state
 
 -- nothing comes out of the draft yet, in the node's epoch
@@ -30,13 +34,24 @@ pub record HasNothing (old : NodeState) (draft : Draft) : Type 0 where
   pub released : draft.released ≡ []
   pub sent : draft.bodies.items ≡ []
   pub epoch : draft.epoch ≡ old.current_epoch
+  pub written : draft.written ≡ []
   pub change : draft.change ≡ Unchanged
 
--- the draft of what may come of an event
+-- the draft of an outcome in which these requests are recorded
+pub record Records (old : NodeState) (outcome : Outcome) (requests : Requests) (draft : Draft) : Type 0 where
+  pub response : draft.response ≡ outcome.response
+  pub released : draft.released ≡ outcome.released
+  pub sent : draft.bodies.items ≡ (recorded outcome requests 0).sent
+  pub promoted : outcome.promoted ≡ None
+  pub written : draft.written ≡ stream_spelling requests
+  pub state : Becomes (at_epoch old draft.epoch) draft.plan draft.change outcome.state
+
+-- the draft of what may come of an event, however many bytes the stream gives up in front
 pub record IsDraftOf (old : NodeState) (event : Event) (draft : Draft) : Type 0 where
   pub outcome : Outcome
-  pub may_come : MayCome old event outcome
-  pub drafts : Drafts old outcome draft
+  pub requests : Requests
+  pub may_come : (dropped : ℕ) → MayGiveUp old requests dropped → MayCome old event (recorded outcome requests dropped)
+  pub records : Records old outcome requests draft
 
 -- what comes out of a step at the node of that number
 abbrev pub sends : ℕ → ℕ → ℕ → Response → List Release → List (ℕ × Body) → Outputs

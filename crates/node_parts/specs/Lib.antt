@@ -1,2 +1,3 @@
 pub mod Becomes
 pub mod Drafts
+pub mod Making

@@ -3,7 +3,6 @@ ghost use Rattle.std.specs.Prelude.{◌≡◌, None, OnOk, OnErr};
 ghost use Rattle.keyspace.specs.Plan.{committed};
 ghost use Rattle.migrate.specs.Acknowledging.{frozen_key};
 ghost use Rattle.node_parts.specs.Becomes.{Becomes, CanBeMade, ending, freed, losing};
-ghost use Rattle.node_parts.specs.Drafts.{at_epoch};
 ghost use Rattle.node_step.specs.Copies.{parked};
 ghost use Rattle.node_step.specs.Orders.{with_moves};
 ghost use Rattle.node_step.specs.Requests.{using_up};
@@ -11,7 +10,6 @@ ghost use Rattle.slot_state.specs.Moves.{begun, move_of};
 ghost use Rattle.slot_store.specs.InSlot.{IsCommittedInSlot, LiesInSlot, in_slot};
 
 use crate::clearing::clear_slots;
-use crate::draft::Draft;
 use crate::parts::NodeParts;
 use byte_string::ByteString;
 use connections::{Conn, Wait, Waiting};
@@ -19,6 +17,7 @@ use key_slot::Slot;
 use keyspace::{Plan, Store, Value};
 use migrate::{count_copy, freeze, on_drained, on_lost, unfreeze};
 use redirect::Asking;
+use repl_stream::Stream;
 use slot_state::{Move, MoveNo};
 use slot_store::{SlotKeys, SlotParts};
 use slot_table::{Claim, Epoch, NodeNo, SlotEntry};
@@ -145,20 +144,9 @@ pub enum Change {
     Ages,
 }
 
-impl<S: SlotParts + SlotKeys> NodeParts<S> {
-    /// Makes the change of a draft, and sets the epoch.
-    pub fn apply(&mut self, draft: &mut Draft) -> Result<(), AllocError>
-        requires { CanBeMade self.old draft.old.plan draft.old.change }
-        ensures ok { OnOk result (Becomes (at_epoch self.old draft.old.epoch) draft.old.plan draft.old.change self.new) }
-        ensures err { OnErr result (self.new ≡ self.old) }
-    {
-        self.change(&mut draft.plan, &mut draft.change)?;
-        self.current_epoch = draft.epoch;
-        Ok(())
-    }
-
+impl<S: SlotParts + SlotKeys, T: Stream> NodeParts<S, T> {
     // Makes a change, whose parts are taken out of it. At most one call of an arm can fail, and that is its first.
-    fn change(&mut self, plan: &mut Plan, change: &mut Change) -> Result<(), AllocError>
+    pub(crate) fn change(&mut self, plan: &mut Plan, change: &mut Change) -> Result<(), AllocError>
         requires { CanBeMade self.old plan.old change.old }
         ensures ok { OnOk result (Becomes self.old plan.old change.old self.new) }
         ensures err { OnErr result (self.new ≡ self.old) }
@@ -244,7 +232,7 @@ impl<S: SlotParts + SlotKeys> NodeParts<S> {
     }
 
     // The next request of the connection has no ASKING before it.
-    fn use_up(&mut self, conn: Conn)
+    pub(crate) fn use_up(&mut self, conn: Conn)
         ensures { self.new ≡ using_up self.old conn }
     {
         self.connections.use_up(conn);
@@ -316,7 +304,7 @@ impl<S: SlotParts + SlotKeys> NodeParts<S> {
     }
 
     // Deletes the frozen key of the slot. Who waited for that waits no more.
-    fn free(&mut self, slot: Slot, number: MoveNo, copy: u64)
+    pub(crate) fn free(&mut self, slot: Slot, number: MoveNo, copy: u64)
         ensures { self.new ≡ freed self.old slot number copy (frozen_key (move_of self.old.moves slot)) }
     {
         if let Some(key) = unfreeze(&mut self.moves, slot) {
@@ -326,7 +314,7 @@ impl<S: SlotParts + SlotKeys> NodeParts<S> {
     }
 
     // Takes the slots of a claim out.
-    fn lose(&mut self, from: NodeNo, claim: &Claim, lost: &[Slot])
+    pub(crate) fn lose(&mut self, from: NodeNo, claim: &Claim, lost: &[Slot])
         ensures { self.new ≡ losing self.old claim.now from lost.now }
     {
         self.table.take(from, claim);

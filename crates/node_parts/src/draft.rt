@@ -13,9 +13,11 @@ ghost use Rattle.node_step.specs.State.{NodeState};
 use crate::change::Change;
 use crate::parts::NodeParts;
 use bus::Body;
+use byte_string::ByteString;
 use connections::{Conn, Waiting};
 use keyspace::Plan;
 use node_step::{Answer, Releases, Response, Why};
+use repl_stream::Stream;
 use resp_values::Reply;
 use slot_store::{SlotKeys, SlotParts};
 use slot_table::{Epoch, NodeNo};
@@ -33,6 +35,8 @@ pub struct Draft {
     pub bodies: Vec<(NodeNo, Body)>,
     /// The node's epoch after the step.
     pub epoch: Epoch,
+    /// The requests that it writes behind the node's stream, as bytes.
+    pub written: ByteString,
     /// What changes of keys, where the change says that a plan is committed.
     pub plan: Plan,
     /// What else changes in the node.
@@ -47,6 +51,7 @@ impl Drop for Draft {
             released: _,
             bodies: _,
             epoch: _,
+            written: _,
             plan: _,
             change: _,
         } = self;
@@ -74,7 +79,7 @@ impl Draft {
     }
 }
 
-impl<S: SlotParts + SlotKeys> NodeParts<S> {
+impl<S: SlotParts + SlotKeys, T: Stream> NodeParts<S, T> {
     /// A draft in which nothing comes out, and nothing changes.
     pub fn blank(&self) -> Draft
         ensures nothing { HasNothing self.now result }
@@ -85,6 +90,7 @@ impl<S: SlotParts + SlotKeys> NodeParts<S> {
             released: Releases::new(),
             bodies: Vec::new(self.alloc),
             epoch: self.current_epoch,
+            written: ByteString::new(),
             plan: Plan::new(self.alloc),
             change: Change::Nothing,
         }

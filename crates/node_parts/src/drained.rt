@@ -6,11 +6,12 @@ ghost use Rattle.node_step.specs.Slots.{drained, drained_if_empty, slot_epoch};
 use crate::parts::NodeParts;
 use bus::Body;
 use key_slot::Slot;
+use repl_stream::Stream;
 use slot_state::Move;
 use slot_store::{SlotKeys, SlotParts};
 use slot_table::{Epoch, NodeNo};
 
-impl<S: SlotParts + SlotKeys> NodeParts<S> {
+impl<S: SlotParts + SlotKeys, T: Stream> NodeParts<S, T> {
     /// The epoch of the slot in the table; 0 of a slot without an owner.
     pub fn slot_epoch(&self, slot: Slot) -> Epoch
         ensures { result ≡ slot_epoch self.now slot }

@@ -1,6 +1,7 @@
 //! What a node consists of, and how a step of it is made: the rows of the step draft it, and it is made in one place.
 #![tactic(auto)]
 
+mod applying;
 mod change;
 mod clearing;
 mod draft;

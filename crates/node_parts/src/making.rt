@@ -1,17 +1,19 @@
 //! A step that is made: its outputs and what is recorded of them first, then the change of the node.
-ghost use Rattle.std.specs.Prelude.{◌≡◌, [], IfOk, OnOk, OnErr};
-ghost use Rattle.node_parts.specs.Becomes.{Becomes, CanBeMade};
+ghost use Rattle.std.specs.Prelude.{◌≡◌, [], None, IfOk, OnOk, OnErr};
+ghost use Rattle.node_parts.specs.Becomes.{CanBeMade};
 ghost use Rattle.node_parts.specs.Drafts.{at_epoch, stamped_draft};
+ghost use Rattle.node_parts.specs.Making.{IsMade};
 ghost use Rattle.node_step.specs.Plain.{HasNoReply};
 
 use crate::draft::Draft;
 use crate::parts::NodeParts;
-use node_step::{Messages, Outputs, Recorder, Releases, Response};
+use node_step::{Messages, Outputs, Promoted, Recorder, Releases, Response};
+use repl_stream::Stream;
 use slot_store::{SlotKeys, SlotParts};
 use std::alloc::AllocError;
 use std::mem;
 
-impl<S: SlotParts + SlotKeys> NodeParts<S> {
+impl<S: SlotParts + SlotKeys, T: Stream> NodeParts<S, T> {
     /// Makes a drafted step. Outputs and what `K` records of them are made before the node changes, so that a refusal leaves
     /// the node as it was.
     pub fn make<K: Recorder>(
@@ -21,7 +23,7 @@ impl<S: SlotParts + SlotKeys> NodeParts<S> {
     ) -> Result<(Outputs, K::Record), AllocError>
         requires { CanBeMade self.old draft.old.plan draft.old.change }
         ensures outputs { IfOk result (λ made. made.0 ≡ stamped_draft self.old.number ticket draft.old) }
-        ensures state { OnOk result (Becomes (at_epoch self.old draft.old.epoch) draft.old.plan draft.old.change self.new) }
+        ensures state { OnOk result (IsMade (at_epoch self.old draft.old.epoch) draft.old.plan draft.old.change draft.old.written self.new) }
         ensures recorded { IfOk result (λ made. K.recorded made.1 ≡ made.0) }
         ensures err { OnErr result (self.new ≡ self.old) }
     {
@@ -39,6 +41,7 @@ impl<S: SlotParts + SlotKeys> NodeParts<S> {
         ensures outputs { IfOk result (λ made. made.0 ≡ stamped_draft self.now.number ticket draft.old) }
         ensures recorded { IfOk result (λ made. K.recorded made.1 ≡ made.0) }
         ensures epoch { draft.new.epoch ≡ draft.old.epoch }
+        ensures written { draft.new.written ≡ draft.old.written }
         ensures plan { draft.new.plan ≡ draft.old.plan }
         ensures change { draft.new.change ≡ draft.old.change }
     {
@@ -49,6 +52,7 @@ impl<S: SlotParts + SlotKeys> NodeParts<S> {
             response: mem::replace(&mut draft.response, Response::Nothing),
             released: mem::replace(&mut draft.released, Releases::new()),
             sent,
+            promoted: Promoted::none(),
         })
     }
 }
@@ -65,7 +69,7 @@ fn recorded<K: Recorder>(outputs: Outputs) -> Result<(Outputs, K::Record), Alloc
 /// The outputs of a step that gives this response and nothing else, which take no memory.
 pub fn plain<K: Recorder>(ticket: u64, response: Response) -> (Outputs, K::Record)
     requires { HasNoReply response }
-    ensures outputs { result.0 ≡ record { ticket = ticket; response = response; released = []; sent = [] } }
+    ensures outputs { result.0 ≡ record { ticket = ticket; response = response; released = []; sent = []; promoted = None } }
     ensures recorded { K.recorded result.1 ≡ result.0 }
 {
     let outputs = responded(ticket, response);
@@ -77,12 +81,13 @@ pub fn plain<K: Recorder>(ticket: u64, response: Response) -> (Outputs, K::Recor
 
 // The outputs of a step that gives this response and nothing else.
 fn responded(ticket: u64, response: Response) -> Outputs
-    ensures { result ≡ record { ticket = ticket; response = response; released = []; sent = [] } }
+    ensures { result ≡ record { ticket = ticket; response = response; released = []; sent = []; promoted = None } }
 {
     Outputs {
         ticket,
         response,
         released: Releases::new(),
         sent: Messages::new(),
+        promoted: Promoted::none(),
     }
 }

@@ -1,19 +1,22 @@
 //! The parts of a node.
-ghost use Rattle.std.specs.Prelude.{◌≡◌, IfOk};
+ghost use Rattle.std.specs.Prelude.{◌≡◌, IfOk, None, slice_index_or};
 ghost use Rattle.std.specs.FinMap as fin_map;
-ghost use Rattle.node_step.specs.State.{first_state};
+ghost use Rattle.node_step.specs.State.{first_id, first_masters, first_state};
 
+use crate::standing::master_of;
 use cluster_config::Config;
 use connections::Connections;
+use repl_stream::{Replica, Stream};
 use slot_state::SlotMoves;
 use slot_store::{SlotKeys, SlotParts};
 use slot_table::{Epoch, NodeNo, SlotTable};
 use std::alloc::{AllocError, Global};
 use std::marker::Model;
+use stream_values::StreamId;
 
 /// What a node holds. The crates of a step's rows read it; only a draft that is made changes it.
 #[derive(Drop)]
-pub struct NodeParts<S: SlotParts + SlotKeys> {
+pub struct NodeParts<S: SlotParts + SlotKeys, T: Stream> {
     /// Where its memory comes from.
     pub alloc: Global,
     /// The cluster.
@@ -28,11 +31,13 @@ pub struct NodeParts<S: SlotParts + SlotKeys> {
     pub moves: SlotMoves,
     /// The greatest epoch that it knows of.
     pub current_epoch: Epoch,
+    /// The stream of its writes, or what it has of its master's.
+    pub stream: Replica<T>,
     /// The connections of its clients.
     pub connections: Connections,
 }
 
-impl<S: SlotParts + SlotKeys> Model for NodeParts<S> {
+impl<S: SlotParts + SlotKeys, T: Stream> Model for NodeParts<S, T> {
     ghost use Rattle.std.specs.Prelude.{◌≡◌, ℕ, length};
     ghost use Rattle.node_step.specs.CodedState.{coded_state};
     ghost use Rattle.node_step.specs.State.{NodeState, first_state};
@@ -46,27 +51,31 @@ impl<S: SlotParts + SlotKeys> Model for NodeParts<S> {
       table = parts.table;
       moves = parts.moves;
       current_epoch = parts.current_epoch;
+      stream = parts.stream.stream;
       connections = parts.connections;
     } };
 
     ghost invariant = { λ parts. length parts.table ≡ 16384 };
 }
 
-impl<S: SlotParts + SlotKeys> NodeParts<S> {
-    /// Those of the node of that number over an empty store, as it begins.
+impl<S: SlotParts + SlotKeys, T: Stream> NodeParts<S, T> {
+    /// Those of the node of that number over an empty store, as it begins. Its stream is kept in the body that is given.
     pub fn new(
         alloc: Global,
         config: Config,
         number: NodeNo,
         store: S,
-    ) -> Result<NodeParts<S>, AllocError>
+        stream: T,
+    ) -> Result<NodeParts<S, T>, AllocError>
     where
         S: Drop,
+        T: Drop,
         requires { S.contents store ≡ fin_map.empty }
         ensures { IfOk result (λ parts. parts ≡ first_state config number) }
     {
         let owners = config.first_owners(alloc)?;
         let table = SlotTable::new(alloc, owners.as_slice())?;
+        let id = first_id(&config, number);
         Ok(NodeParts {
             alloc,
             config,
@@ -75,7 +84,18 @@ impl<S: SlotParts + SlotKeys> NodeParts<S> {
             table,
             moves: SlotMoves::new(alloc),
             current_epoch: Epoch::FIRST,
+            stream: Replica::new(alloc, stream, id),
             connections: Connections::new(alloc),
         })
+    }
+}
+
+// The stream with which the node of that number begins: its master's, or its own.
+fn first_id(config: &Config, number: NodeNo) -> StreamId
+    ensures { result ≡ first_id (slice_index_or (first_masters config.now.nodes) number None) number }
+{
+    StreamId {
+        node: master_of(config, number).unwrap_or(number),
+        epoch: Epoch::new(0),
     }
 }

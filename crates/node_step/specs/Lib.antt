@@ -6,6 +6,9 @@ pub mod Commands
 pub mod Orders
 pub mod Copies
 pub mod Claiming
+pub mod Roles
+pub mod Streams
+pub mod Replicas
 pub mod Messages
 pub mod Ticks
 pub mod Reports

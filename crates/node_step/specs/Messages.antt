@@ -1,25 +1,70 @@
 -- A message of another node arrives (Redis Cluster specification, "Cluster current epoch": a node takes a greater epoch over).
-use Rattle.std.specs.Prelude.{ℕ, ◌==◌, max, if◌then◌else◌}
+use Rattle.std.specs.Prelude.{◌≡◌, ℕ, ◌==◌, ⊤, true, [], max, if◌then◌else◌}
 use Rattle.bus.specs.declared.message.Body.{Body}
-use Rattle.bus.specs.declared.message.Body.TheVariants.{Copy, Ack, Drained, Claim}
+use Rattle.bus.specs.declared.message.Body.TheVariants.{Copy, Ack, Drained, Claim, Report, Request, Grant, Sync, Piece, Snapshot}
 use Rattle.bus.specs.declared.message.Message.{Message}
+use Rattle.migrate.specs.Acknowledging.{acknowledged_key}
+use Rattle.migrate.specs.Arriving.{arrival_verdict}
+use Rattle.slot_state.specs.Moves.{move_of}
+use Rattle.stream_values.specs.Follower.{Follower}
 use Rattle.node_step.specs.Claiming.{claim}
-use Rattle.node_step.specs.Copies.{arrival, acknowledgement, noted}
+use Rattle.node_step.specs.Copies.{arrival, acknowledgement, keeps_limits, noted}
 use Rattle.node_step.specs.Outcome.{Outcome, silent}
-use Rattle.node_step.specs.State.{NodeState}
+use Rattle.node_step.specs.Replicas.{MayFollow, pieced, restored_by, synced}
+use Rattle.node_step.specs.Roles.{is_just}
+use Rattle.node_step.specs.State.{NodeState, own_master}
+use Rattle.node_step.specs.Streams.{MayGiveUp, Requests, recorded, written_by_ack, written_by_claim, written_by_copy}
 
 -- the greater of the node's epoch and that of the message
 abbrev pub knowing : NodeState → ℕ → NodeState
 knowing node epoch = record node { current_epoch = max node.current_epoch epoch }
 
--- a row a body
-abbrev pub taken : NodeState → ℕ → Body → Outcome
-taken node from (Copy slot number copy key value) = arrival node from slot number copy key value
-taken node from (Ack slot number copy) = acknowledgement node from slot number copy
-taken node from (Drained slot number epoch) = noted node from slot number epoch
-taken node from (Claim slots) = claim node from slots
+-- what a step may choose as it takes a message: what a piece makes of the stream and the keyspace, and how many bytes in front of the
+-- stream are kept no longer
+pub record Choice : Type 0 where
+  pub follower : Follower
+  pub dropped : ℕ
+
+-- a row a body. Votes and what is reported of other nodes change nothing yet
+abbrev pub taken_so : NodeState → ℕ → Choice → Body → Outcome
+taken_so node from choice (Copy slot number copy key value) = arrival node from slot number copy key value
+taken_so node from choice (Ack slot number copy) = acknowledgement node from slot number copy
+taken_so node from choice (Drained slot number epoch) = noted node from slot number epoch
+taken_so node from choice (Claim slots replaced) = claim node from slots
+taken_so node from choice (Report suspects) = silent node
+taken_so node from choice (Request request) = silent node
+taken_so node from choice (Grant epoch) = silent node
+taken_so node from choice (Sync sync) = synced node from sync
+taken_so node from choice (Piece piece) = pieced node from piece choice.follower
+taken_so node from choice (Snapshot snapshot) = restored_by node from snapshot
+
+-- what is written by it
+abbrev pub written_by_message : NodeState → ℕ → Body → Requests
+written_by_message node from (Copy slot number copy key value) =
+    written_by_copy node.keyspace key value (arrival_verdict (move_of node.moves slot) from number copy (keeps_limits key value))
+written_by_message node from (Ack slot number copy) = written_by_ack (acknowledged_key (move_of node.moves slot) from number copy)
+written_by_message node from (Drained slot number epoch) = []
+written_by_message node from (Claim slots replaced) = written_by_claim node from slots
+written_by_message node from (Report suspects) = []
+written_by_message node from (Request request) = []
+written_by_message node from (Grant epoch) = []
+written_by_message node from (Sync sync) = []
+written_by_message node from (Piece piece) = []
+written_by_message node from (Snapshot snapshot) = []
+
+abbrev pub taken : NodeState → ℕ → Choice → Body → Outcome
+taken node from choice body = recorded (taken_so node from choice body) (written_by_message node from body) choice.dropped
+
+-- what a piece of the own master makes
+abbrev pub MayMake : NodeState → ℕ → Body → Follower → Type 0
+MayMake node from (Piece piece) follower = is_just (own_master node) from ≡ true → MayFollow node piece follower
+MayMake node from body follower = ⊤
+
+pub record MayChoose (node : NodeState) (from : ℕ) (body : Body) (choice : Choice) : Type 0 where
+  pub follower : MayMake node from body choice.follower
+  pub dropped : MayGiveUp node (written_by_message node from body) choice.dropped
 
 -- a message for another node is not taken
-abbrev pub delivered : NodeState → Message → Outcome
-delivered node message =
-    if message.to == node.number then taken (knowing node message.epoch) message.from message.body else silent node
+abbrev pub delivered : NodeState → Message → Choice → Outcome
+delivered node message choice =
+    if message.to == node.number then taken (knowing node message.epoch) message.from choice message.body else silent node

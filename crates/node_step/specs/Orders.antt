@@ -110,7 +110,7 @@ claim_of node = runs_of (claim_at node.table node.number)
 -- by the verdict
 abbrev pub ending_outcome : NodeState → ℕ → NodeVerdict → Outcome
 ending_outcome node slot (ending.Ends drained) = let after = with_slot node slot (new_epoch node slot drained) in
-    replied_sending after (Ends (ending.Ends drained)) done (to_all (others node) (Claims (claim_of after)))
+    replied_sending after (Ends (ending.Ends drained)) done (to_all (others node) (Claims (claim_of after) node.replaced))
 ending_outcome node slot verdict = replied node (Ends verdict) (ending_reply verdict)
 
 abbrev pub ending_verdict : NodeState → ℕ → Option ℕ → Option ℕ → NodeVerdict

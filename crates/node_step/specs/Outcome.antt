@@ -1,5 +1,5 @@
 -- What comes of an event at a node.
-use Rattle.std.specs.Prelude.{ℕ, List, [], map}
+use Rattle.std.specs.Prelude.{ℕ, List, [], map, Option, None}
 use Rattle.resp_values.specs.declared.reply.Reply.{Reply}
 use Rattle.resp_values.specs.declared.reply.Reply.TheVariants.{Error}
 use Rattle.command_table.specs.ErrorLine.{error_text}
@@ -9,22 +9,24 @@ use Rattle.bus.specs.declared.message.Message.{Message}
 use Rattle.node_step.specs.State.{NodeState}
 use Rattle.connections.specs.declared.conn.Conn.{Conn}
 use Rattle.node_step.specs.declared.outputs.Outputs.{Outputs}
+use Rattle.node_step.specs.declared.promotion.Promotion.{Promotion}
 use Rattle.node_step.specs.declared.outputs.Release.{Release}
 use Rattle.node_step.specs.declared.response.Response.{Response}
 use Rattle.node_step.specs.declared.response.Response.TheVariants.{Nothing, Replied}
 use Rattle.node_step.specs.declared.response.Why.{Why}
 
 -- what the sender of the event gets back, the replies to connections that waited, the messages to other nodes, each with
--- the node that it is for, and the node's next state
+-- the node that it is for, the promotion of the node, if it is promoted, and its next state
 pub record Outcome : Type 0 where
   pub response : Response
   pub released : List Release
   pub sent : List (ℕ × Body)
+  pub promoted : Option Promotion
   pub state : NodeState
 
 -- nothing comes out, and this is the next state
 abbrev pub silent : NodeState → Outcome
-silent node = record { response = Nothing; released = []; sent = []; state = node }
+silent node = record { response = Nothing; released = []; sent = []; promoted = None; state = node }
 
 -- a reply comes out, and nothing else
 abbrev pub replied : NodeState → Why → Reply → Outcome
@@ -49,7 +51,7 @@ stamped from ticket epoch body = record { from = from; to = body.0; ticket = tic
 
 -- nothing comes out of a step under the ticket
 abbrev pub no_outputs : ℕ → Outputs
-no_outputs ticket = record { ticket = ticket; response = Nothing; released = []; sent = [] }
+no_outputs ticket = record { ticket = ticket; response = Nothing; released = []; sent = []; promoted = None }
 
 -- the outputs of a step
 abbrev pub outputs_of : ℕ → Outcome → Outputs
@@ -57,4 +59,5 @@ outputs_of ticket outcome = record (no_outputs ticket) {
   response = outcome.response;
   released = outcome.released;
   sent = map (stamped outcome.state.number ticket outcome.state.current_epoch) outcome.sent;
+  promoted = outcome.promoted;
 }

@@ -1,11 +1,13 @@
 -- What a step of a node may be.
-use Rattle.std.specs.Prelude.{◌≡◌, ℕ, true, List, is_some, MatchBool}
+use Rattle.std.specs.Prelude.{◌≡◌, ◌==◌, ℕ, true, List, is_some, MatchBool}
 use Rattle.command_table.specs.Table.{command_of}
 use Rattle.connections.specs.Connections.{connection_at, may_ask, Opens, Closes}
-use Rattle.node_step.specs.Messages.{delivered}
+use Rattle.bus.specs.declared.message.Message.{Message}
+use Rattle.node_step.specs.Messages.{Choice, MayChoose, delivered, knowing}
 use Rattle.node_step.specs.Outcome.{Outcome, outputs_of, silent}
 use Rattle.node_step.specs.Requests.{has_number, request_outcome, using_up}
 use Rattle.node_step.specs.State.{NodeState}
+use Rattle.node_step.specs.Streams.{MayGiveUp, Requests, recorded, written_by_request}
 use Rattle.node_step.specs.Ticks.{tick}
 use Rattle.connections.specs.declared.conn.Conn.{Conn}
 use Rattle.node_step.specs.declared.event.Event.{Event}
@@ -24,10 +26,25 @@ pub record IsClosing (old : NodeState) (conn : Conn) (outcome : Outcome) : Type 
   pub closes : Closes old.connections outcome.state.connections conn
   pub comes_to : outcome ≡ silent (record old { connections = outcome.state.connections })
 
+-- what comes of the words of a request, and what is written by them
+abbrev pub written : NodeState → Conn → List (List ℕ) → Requests
+written node conn words = written_by_request words (command_of words) (request_outcome node conn (command_of words)).response
+
+abbrev pub answered : NodeState → Conn → List (List ℕ) → ℕ → Outcome
+answered node conn words dropped = recorded (request_outcome node conn (command_of words)) (written node conn words) dropped
+
 -- the words were read as a command and answered
 pub record IsAnswering (old : NodeState) (conn : Conn) (words : List (List ℕ)) (outcome : Outcome) : Type 0 where
   pub number : has_number (using_up old conn) (command_of words) ≡ true
-  pub comes_to : outcome ≡ request_outcome old conn (command_of words)
+  pub dropped : ℕ
+  pub may_drop : MayGiveUp old (written old conn words) dropped
+  pub comes_to : outcome ≡ answered old conn words dropped
+
+-- the message was taken, for which something may be chosen, or was for another node
+pub record IsTaking (old : NodeState) (message : Message) (outcome : Outcome) : Type 0 where
+  pub choice : Choice
+  pub may_choose : (message.to == old.number) ≡ true → MayChoose (knowing old message.epoch) message.from message.body choice
+  pub comes_to : outcome ≡ delivered old message choice
 
 -- what may come of an event. A connection that isn't open, or waits for a reply, is not answered
 abbrev pub MayCome : NodeState → Event → Outcome → Type 0
@@ -35,7 +52,7 @@ MayCome old Open outcome = IsOpening old outcome
 MayCome old (Close conn) outcome = MatchBool (is_some (connection_at old.connections conn)) (IsClosing old conn outcome) (outcome ≡ silent old)
 MayCome old (Request conn words) outcome =
     MatchBool (may_ask (connection_at old.connections conn)) (IsAnswering old conn words outcome) (outcome ≡ silent old)
-MayCome old (Deliver message) outcome = outcome ≡ delivered old message
+MayCome old (Deliver message) outcome = IsTaking old message outcome
 MayCome old Tick outcome = outcome ≡ tick old
 
 -- a step of a node: the ticket under which it is made, the node's state, what happens, what comes out, and the next state

@@ -4,11 +4,13 @@
 mod event;
 mod few;
 mod outputs;
+mod promotion;
 mod recorder;
 mod response;
 
 pub use event::Event;
 pub use outputs::{Messages, Outputs, Release, Releases};
+pub use promotion::{Promoted, Promotion};
 pub use recorder::Recorder;
 pub use response::{Answer, Response, Why};
 pub use step_fault::StepFault;

@@ -5,6 +5,7 @@ ghost use Rattle.node_step.specs.Outcome.{release, stamped};
 ghost use Rattle.node_step.specs.Plain.{IsPlain};
 
 use crate::few::Few;
+use crate::promotion::Promoted;
 use crate::response::Response;
 use bus::{Body, Message};
 use connections::Conn;
@@ -240,10 +241,12 @@ pub struct Outputs {
     pub released: Releases,
     /// What other nodes are sent.
     pub sent: Messages,
+    /// That the node became a master, if it did.
+    pub promoted: Promoted,
 }
 
 impl Outputs {
-    /// An equal copy, which shares what is long. It fails only where there is a reply or a message.
+    /// An equal copy, which shares what is long. It fails only where there is a reply, a message or a promotion.
     pub fn copy(&self) -> Result<Outputs, AllocError>
         ensures same { IfOk result (λ copy. copy ≡ self.now) }
         ensures plain { IsPlain self.now → IsOk result }
@@ -253,6 +256,7 @@ impl Outputs {
             response: self.response.copy()?,
             released: self.released.copy()?,
             sent: self.sent.copy()?,
+            promoted: self.promoted.copy()?,
         })
     }
 }

@@ -15,7 +15,7 @@ pub trait Recorder {
 
     ghost recorded: { Self.Record → NodeOutputs };
 
-    /// A record of these outputs. It fails only where they hold a reply or a message.
+    /// A record of these outputs. It fails only where they hold a reply, a message or a promotion.
     fn record(outputs: &Outputs) -> Result<Self::Record, AllocError>
         ensures recorded { IfOk result (λ made. recorded made ≡ outputs.now) }
         ensures plain { IsPlain outputs.now → IsOk result };

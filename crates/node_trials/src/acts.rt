@@ -81,6 +81,12 @@ fn name_of(body: &Body) -> &'static [u8] {
         Body::Copy { .. } => b"copy ",
         Body::Ack { .. } => b"ack ",
         Body::Drained { .. } => b"drained ",
-        Body::Claim(_) => b"claim ",
+        Body::Claim(_, _) => b"claim ",
+        Body::Report(_) => b"report ",
+        Body::Request(_) => b"request ",
+        Body::Grant(_) => b"grant ",
+        Body::Sync(_) => b"sync ",
+        Body::Piece(_) => b"piece ",
+        Body::Snapshot(_) => b"snapshot ",
     }
 }

@@ -3,7 +3,6 @@ ghost use Rattle.std.specs.Prelude.{◌≡◌, IfOk, length};
 
 use cluster_config::{Config, ConfigFault, read_config};
 use node_core::Core;
-use slot_store::SlotStore;
 use slot_table::NodeNo;
 use std::alloc::{AllocError, Global};
 
@@ -27,5 +26,5 @@ pub fn three_masters(alloc: Global) -> Result<Config, ConfigFault>
 
 /// The node of that number as it begins.
 pub fn node_of(alloc: Global, config: &Config, number: NodeNo) -> Result<Core, AllocError> {
-    Core::new(alloc, config.clone()?, number, SlotStore::new(alloc)?)
+    Core::begin(alloc, config.clone()?, number)
 }

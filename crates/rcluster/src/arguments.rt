@@ -16,9 +16,9 @@ const VERSION: &str = "0.1.0";
 pub enum Call<'a> {
     /// To serve a cluster.
     Serve {
-        /// Where its nodes are told.
-        source: Source<'a>,
-        /// Whether the program looks for faults of the cluster alone, and serves nobody.
+        /// Where its nodes are told, or None where the words don't say it.
+        source: Option<Source<'a>>,
+        /// Whether the program checks the configuration, and serves nobody.
         only_checks: bool,
         /// After how many ticks of the first node the program ends, or None where it goes on.
         ticks: Option<u64>,
@@ -114,9 +114,8 @@ fn command_of<'a>(
 fn arg_of<'a>(alloc: Global, argument: &Argument) -> Result<Arg<'a>, AllocError> {
     match &argument.kind {
         Kind::Text => Ok(option_of(alloc, argument).required(true)),
-        Kind::TextOr(other) => option_of(alloc, argument)
-            .required_unless_present(*other)?
-            .conflicts_with(*other),
+        // That one of both is there is looked at behind the parse, which would ask for both.
+        Kind::TextOr(other) => option_of(alloc, argument).conflicts_with(*other),
         Kind::Number { least, most } => Ok(number_of(alloc, argument, *least, *most)),
         Kind::NumberBeside {
             one,
@@ -181,7 +180,7 @@ fn serve_call<'a>(serve: Option<&ArgMatches<'a>>) -> Call<'a> {
         },
         // The command line has a verb, and it is none of the others.
         None => Call::Serve {
-            source: Source::File(""),
+            source: None,
             only_checks: false,
             ticks: None,
             records_journal: false,
@@ -190,15 +189,15 @@ fn serve_call<'a>(serve: Option<&ArgMatches<'a>>) -> Call<'a> {
     }
 }
 
-// One of the two options is there.
-fn source_of<'a>(serve: &ArgMatches<'a>) -> Source<'a> {
+// One of the two options at most is there.
+fn source_of<'a>(serve: &ArgMatches<'a>) -> Option<Source<'a>> {
     match serve.get_one::<u64>("masters") {
-        Some(count) => Source::Masters {
+        Some(count) => Some(Source::Masters {
             count,
             replicas: serve.get_one::<u64>("replicas").unwrap_or(0),
             first_port: serve.get_one::<u64>("port").unwrap_or(FIRST_PORT),
-        },
-        None => Source::File(text(serve, "config")),
+        }),
+        None => Some(Source::File(serve.get_str("config")?)),
     }
 }
 

@@ -1,4 +1,5 @@
-//! `rcluster serve --log`: a line on standard error for each thing that happens to a cluster and that no client is told.
+//! `rcluster serve --log`: a line on standard error for each thing that happens to a cluster and that no client is told, and for each
+//! slot that arrives at a node or leaves it.
 
 use crate::failure::Failure;
 use crate::fault::ProgramFault;
@@ -87,6 +88,24 @@ impl fmt::Display for Line {
                 f,
                 "node {node}: a thread isn't started, since {}",
                 text_of(shortage)
+            ),
+            Incident::SlotArrived {
+                node,
+                slot,
+                from,
+                keys,
+            } => write!(
+                f,
+                "node {node}: slot {slot} arrived from node {from}, keys: {keys}"
+            ),
+            Incident::SlotLeft {
+                node,
+                slot,
+                to,
+                deleted,
+            } => write!(
+                f,
+                "node {node}: slot {slot} left for node {to}, keys deleted: {deleted}"
             ),
             Incident::Missed(count) => write!(f, "lines that are missing before this one: {count}"),
         }

@@ -6,7 +6,7 @@ use crate::output::write;
 use crate::patient::Patient;
 use crate::progress::{Progress, Terminals};
 use crate::shown::Shown;
-use crate::sockets::{ADDRESS_TEXT, Sockets};
+use crate::sockets::{Sockets, no_address};
 use crate::telling::{run_failure, unlisted_failure};
 use crate::watched::{Seen, Watched};
 use bytes::Bytes;
@@ -39,12 +39,12 @@ impl<'a> Move<'a> {
         from: &'a str,
         to: &'a str,
         slots: &str,
-    ) -> Result<Result<Move<'a>, &'static str>, AllocError> {
+    ) -> Result<Result<Move<'a>, String>, AllocError> {
         let Some(start) = Address::read(alloc, address.as_bytes())? else {
-            return Ok(Err(ADDRESS_TEXT));
+            return Ok(Err(no_address(alloc, address)?));
         };
         let Some(slots) = range_in(slots) else {
-            return Ok(Err("--slots takes A-B, two slots from 0 to 16383, A not above B"));
+            return Ok(Err(no_range(alloc, slots)?));
         };
         Ok(Ok(Move {
             start,
@@ -88,7 +88,7 @@ where
         + Copy
         + Drop,
 {
-    let connections = Connections::new(rt.alloc(), Sockets::new(rt));
+    let connections = Connections::new(rt.alloc(), Sockets::new(rt, seen));
     let network = Watched::new(Patient::new(rt, connections), seen);
     reshard_over(&rt, network, wanted, limit, terminals, seen)
 }
@@ -122,6 +122,9 @@ where
     progress.end(rt);
     match ended? {
         Ok(()) => {
+            if from == to {
+                tell_of_one_master(rt);
+            }
             tell(rt, &done, imports_of(seen), begun);
             Ok(())
         }
@@ -204,6 +207,13 @@ fn imports_of(seen: &RefCell<Seen>) -> u64 {
     }
 }
 
+// Where the slots are to leave a master for itself.
+fn tell_of_one_master<R: Eprint>(rt: &R) {
+    let _told = eprintln!(rt;
+        "rcluster: --from and --to are the same master, so no slot was to be moved"
+    );
+}
+
 // Where it can't be told what was done, it is done all the same.
 fn tell<R: Eprint + Clock>(rt: &R, done: &Done, moved: u64, begun: Option<Instant>) {
     let before = done.slots.saturating_sub(moved);
@@ -225,11 +235,19 @@ fn id_in(alloc: Global, text: &str) -> Result<NodeId, Failure> {
         None => Err(Failure::new(
             ProgramFault::Reshard(ReshardFault::NotListed),
             format!(in alloc;
-                "\"{}\" is no id of a node, which has 40 lowercase hexadecimal digits",
+                "\"{}\" is no id of a node: an id is 40 lowercase hexadecimal digits, as CLUSTER SLOTS lists them",
                 Shown(text.as_bytes())
             ),
         )),
     }
+}
+
+// A sentence for a text that is no range of slots.
+fn no_range(alloc: Global, text: &str) -> Result<String, AllocError> {
+    format!(in alloc;
+        "\"{}\" is no range: --slots takes A-B, two slots from 0 to 16383, A not above B",
+        Shown(text.as_bytes())
+    )
 }
 
 // The slots `first-last`.

@@ -6,6 +6,9 @@ use crate::masters::masters;
 use cluster_config::Config;
 use std::rt::Files;
 
+/// What is wrong with a command line that doesn't say where they are told.
+pub const NO_SOURCE_TEXT: &str = "one of --config FILE and --masters M is required";
+
 /// Where the nodes of a cluster are told.
 #[derive(Clone, Copy)]
 pub enum Source<'a> {

@@ -35,7 +35,12 @@ fn no_connection_text(alloc: Global, seen: &Seen) -> Result<String, AllocError> 
 
 fn wrong_answer_text(alloc: Global, seen: &Seen) -> Result<String, AllocError> {
     let answered = Answered { seen };
-    format!(in alloc; "{answered}, which no node does")
+    let outcome = if seen.has_sent_command {
+        "whether the command was executed is unknown"
+    } else {
+        "the command was not executed"
+    };
+    format!(in alloc; "{answered}, which no node does; {outcome}")
 }
 
 /// Why a run stopped whose next slot is that one.
@@ -138,11 +143,15 @@ struct Unreached<'a> {
 impl fmt::Display for Unreached<'_> {
     fn fmt<W: fmt::Write>(&self, f: &mut fmt::Formatter<W>) -> fmt::Result {
         let place = &self.seen.place;
-        if self.seen.request.is_empty() {
-            write!(f, "{place} can't be reached")
-        } else {
-            write!(f, "the connection to {place} failed")
+        let error = &self.seen.error;
+        if !self.seen.request.is_empty() {
+            return write!(f, "the connection to {place} failed");
         }
+        write!(f, "{place} can't be reached")?;
+        if !error.is_empty() {
+            write!(f, ": {error}")?;
+        }
+        Ok(())
     }
 }
 

@@ -50,7 +50,7 @@ pub struct Argument {
 pub enum Kind {
     /// A text, which has to be there.
     Text,
-    /// A text, which has to be there unless the option of this name is. Both exclude each other.
+    /// A text, beside which the option of this name can't be. One of both has to be there.
     TextOr(&'static str),
     /// A number from `least` to `most`.
     Number {
@@ -158,7 +158,7 @@ const PORT: Argument = Argument {
 const CHECK: Argument = Argument {
     name: "check",
     value_name: "",
-    help: "Looks for faults of the cluster alone: prints nothing where there is none, and else what serving prints",
+    help: "Checks the configuration and serves nobody: prints nothing where it is right, else what serving prints; no port is opened",
     kind: Kind::Flag,
 };
 
@@ -182,7 +182,7 @@ const JOURNAL: Argument = Argument {
 const LOG: Argument = Argument {
     name: "log",
     value_name: "",
-    help: "Tells on standard error of each client that can't be served, and why, behind the seconds since the beginning",
+    help: "Tells on standard error of each client that can't be served, and why, and of each slot that arrives at a node or leaves it, behind the seconds since the beginning",
     kind: Kind::Flag,
 };
 
@@ -253,24 +253,24 @@ pub const AFTER: &str = "\
 Exit status:\n  \
 0  what was asked is done\n  \
 1  a fault: standard output gets its code, as `fault C5`, and standard error a sentence\n  \
-2  the words are no command line of this program\n\
+2  an argument is wrong or missing\n\
 The help of each verb lists its codes.";
 
 const AFTER_SERVE: &str = "\
 Exit status:\n  \
 0  the ticks of --ticks are over, or --check found no fault\n  \
 1  a fault, whose code is printed as `fault K3`\n  \
-2  the words are no command line of this program\n\n\
+2  an argument is wrong or missing\n\n\
 Codes:\n  \
 F1  the file can't be read\n  \
 K1  it is no JSON text, or a member is missing, strange or of the wrong kind\n  \
 K2  an id isn't 40 lowercase hexadecimal digits, or the ids don't rise\n  \
 K3  a range of slots is none, or a slot is listed twice\n  \
 K4  replica_of names no master\n  \
-K5  no node votes, or a voter is unknown or stands twice\n  \
+K5  there is no node or no voter, or a voter is unknown or listed twice\n  \
 K6  there are more than 16 nodes\n  \
 K7  an address stands twice\n  \
-K8  a time or a port is out of its range\n  \
+K8  a time, a port or the backlog is out of its range\n  \
 F2  an address can't be listened on\n  \
 F3  memory was refused, or a thread can't be started\n  \
 F4  the output can't be written, and so this code isn't either\n  \
@@ -282,7 +282,7 @@ pub const AFTER_SIMULATE: &str = "\
 Exit status:\n  \
 0  the script was played\n  \
 1  a fault, whose code is printed as `fault S3`\n  \
-2  the words are no command line of this program\n\n\
+2  an argument is wrong or missing\n\n\
 Codes:\n  \
 F1        a file can't be read\n  \
 K1 to K8  the configuration describes no cluster; the help of serve lists them\n  \
@@ -294,7 +294,7 @@ const AFTER_CLI: &str = "\
 Exit status:\n  \
 0  there is a reply, which may be an error reply\n  \
 1  a fault, whose code is printed as `fault C5`\n  \
-2  the words are no command line of this program\n\n\
+2  an argument is wrong or missing\n\n\
 Codes:\n  \
 C1  the connection failed: whether the command was executed is unknown\n  \
 C2  the command was redirected too often, and was not executed\n  \
@@ -311,10 +311,10 @@ Where standard error is a terminal, it tells meanwhile how many slots are done.\
 Exit status:\n  \
 0  all slots are at their new master\n  \
 1  a fault, whose code is printed as `fault V1`; the same words may be given again\n  \
-2  the words are no command line of this program\n\n\
+2  an argument is wrong or missing\n\n\
 Codes:\n  \
 V1  a node was asked the same again as often as --limit allows\n  \
-V2  a node can't be reached, or no master with slots has one of the ids\n  \
-V3  a node refused, or no next number of a move is left\n  \
+V2  a node can't be reached, the connection to it failed, or no master with slots has one of the ids\n  \
+V3  a node refused, as where the slot belongs to neither master, or no next number of a move is left\n  \
 F3  memory was refused\n  \
 F4  the output can't be written, and so this code isn't either";

@@ -8,6 +8,7 @@ use smart_client::{Action, Event, Network};
 use std::alloc::Global;
 use std::cell::RefCell;
 use std::fmt::{Display, Write};
+use std::io;
 
 // A cluster has so many masters at most.
 const MOST_MASTERS: usize = 16;
@@ -18,8 +19,12 @@ pub struct Seen {
     pub place: String,
     /// The words that were sent to it last, or nothing where none were.
     pub request: String,
+    /// Whether these are the command of a call, and no order that prepares the node for it.
+    pub has_sent_command: bool,
     /// What it answered, or nothing where no answer came.
     pub answer: String,
+    /// Why it can't be reached, as the system says it, or nothing where it says nothing.
+    pub error: String,
     /// How many slots were asked to come to another node.
     pub imports: u64,
     /// The ids of the masters that CLUSTER SLOTS listed.
@@ -34,7 +39,9 @@ impl Drop for Seen {
         let Seen {
             place: _place,
             request: _request,
+            has_sent_command: _has_sent_command,
             answer: _answer,
+            error: _error,
             imports: _imports,
             masters: _masters,
             lists_masters: _lists_masters,
@@ -48,7 +55,9 @@ impl Seen {
         RefCell::new(Seen {
             place: String::new(alloc),
             request: String::new(alloc),
+            has_sent_command: false,
             answer: String::new(alloc),
+            error: String::new(alloc),
             imports: 0,
             masters: Vec::new(alloc),
             lists_masters: false,
@@ -66,6 +75,7 @@ impl Seen {
 
     fn see_place(&mut self, address: &Address) {
         self.request.clear();
+        self.error.clear();
         let host = str::from_utf8(address.host().as_slice()).unwrap_or("");
         note(&mut self.place, format_args!("{host}:{}", address.port()));
     }
@@ -73,10 +83,17 @@ impl Seen {
     fn see_request(&mut self, words: &Words) {
         let words = words.as_slice();
         note(&mut self.request, ShownWords(words));
+        // These two a client sends of its own accord, before the command.
+        self.has_sent_command = !is_word(words, 0, b"CLUSTER") && !is_word(words, 0, b"ASKING");
         self.lists_masters = is_word(words, 1, b"SLOTS");
         if is_word(words, 3, b"IMPORTING") {
             self.imports = self.imports.saturating_add(1);
         }
+    }
+
+    /// Sees why the node can't be reached.
+    pub fn see_error(&mut self, error: &io::Error) {
+        note(&mut self.error, format_args!("{error}"));
     }
 
     fn see_event(&mut self, event: &Event) {

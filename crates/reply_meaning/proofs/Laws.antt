@@ -34,7 +34,7 @@ use Rattle.node_step.specs.Orders.{done, ending_outcome, ending_verdict}
 use Rattle.node_step.specs.Outcome.{Outcome, silent}
 use Rattle.node_step.specs.Requests.{asking_of, by_command, cluster_outcome, is_numbered, node_with_id, order_outcome, request_outcome, using_up}
 use Rattle.node_step.specs.State.{NodeState}
-use Rattle.node_step.specs.Step.{IsAnswering}
+use Rattle.node_step.specs.Step.{IsAnswering, written}
 use Rattle.node_step.specs.declared.outputs.Outputs.{Outputs}
 use Rattle.node_step.specs.declared.response.Answer.{Answer}
 use Rattle.node_step.specs.declared.response.Response.{Response}
@@ -45,6 +45,7 @@ use Rattle.reply_meaning.specs.Law.IsOfClient.{command as plain_command, numbers
 use Rattle.reply_meaning.specs.Law.Prepares.{numbers, asks}
 use Rattle.reply_meaning.specs.Refusal.{is_refusal}
 use Rattle.reply_meaning.proofs.Executions.{told}
+use Rattle.node_step.proofs.Recorded.{recorded_response}
 use Rattle.reply_meaning.proofs.Steps.{Says, says_so}
 use Rattle.reply_meaning.proofs.Words.{IsOfCluster, IsOfData, cluster_words, data_words}
 use Rattle.reply_meaning.proofs.Words.IsOfCluster.{order, none}
@@ -192,5 +193,6 @@ pub client_is_answered : ClientsAreAnswered
 client_is_answered ticket node after conn words outputs step may_be client =
     let may = subst (λ (b : Bool). MatchBool b (IsAnswering node conn words step.outcome) (step.outcome ≡ silent node)) may_be step.may_come in
     let same : (request_outcome node conn (command_of words)).response ≡ outputs.response =
-    ap (λ (o : Outcome). o.response) (sym may.comes_to) ∙ sym (ap (λ (o : Outputs). o.response) step.outputs_are) in
+    sym (recorded_response (request_outcome node conn (command_of words)) (written node conn words) may.dropped)
+    ∙ ap (λ (o : Outcome). o.response) (sym may.comes_to) ∙ sym (ap (λ (o : Outputs). o.response) step.outputs_are) in
     subst IsAnswered same (client_answered node conn words client)

@@ -1,5 +1,5 @@
--- Errors have their reasons, and what a client sends needs no number.
-use Rattle.std.proofs.Common.{◌≡◌, ◌||◌, ℕ, Bool, true, false, true≢false, List, [], Option, Some, None, refl, sym, ap, subst, ◌∙◌}
+-- Errors have their reasons, and what a client sends needs no number but an offset.
+use Rattle.std.proofs.Common.{◌≡◌, ◌&&◌, ◌||◌, ℕ, Bool, true, false, true≢false, List, [], Option, Some, None, refl, sym, ap, subst, ◌∙◌}
 use Rattle.std.proofs.lemmas.Bool.{or_parts}
 use Rattle.std.specs.Prelude.{Result, Ok, Err, codes, decimal, slice_get}
 use Rattle.cluster_config.specs.declared.config.NodeConfig.{NodeConfig}
@@ -24,13 +24,18 @@ use Rattle.redirect.specs.declared.decision.Reason.TheVariants.{Frozen, SomeAreM
 use Rattle.resp_values.specs.declared.reply.Reply.{Reply}
 use Rattle.resp_values.specs.declared.reply.Reply.TheVariants.{Error}
 use Rattle.node_step.specs.Commands.{ask_reply, command_outcome, decision_on, moved_reply, named}
-use Rattle.node_step.specs.Requests.{asking_of, by_command, has_number, is_numbered, using_up}
+use Rattle.node_step.specs.Numbers.{NoNumberLeft, has_offset}
+use Rattle.node_step.specs.Requests.{asking_of, by_command, has_number, is_numbered, request_outcome, using_up}
 use Rattle.node_step.specs.State.{NodeState}
+use Rattle.node_step.specs.Step.{written}
+use Rattle.node_step.specs.Streams.{written_by_request}
+use Rattle.node_step.specs.declared.event.Event.TheVariants.{Request}
 use Rattle.node_step.specs.declared.response.Answer.{Answer}
 use Rattle.node_step.specs.declared.response.Why.{Why}
 use Rattle.node_step.specs.declared.response.Why.TheVariants.{NotACommand, Decided}
+use Rattle.smart_client.specs.Words.{asking_words}
 use Rattle.world_run.specs.Executed.{decision_in}
-use Rattle.reply_meaning.specs.Law.{ClientsNeedNoNumber, ErrorsHaveReasons, IsOfClient}
+use Rattle.reply_meaning.specs.Law.{ClientsNeedOffsetsAlone, ErrorsHaveReasons, HasNoOffset, IsOfClient}
 use Rattle.reply_meaning.specs.Law.IsOfClient.{command as plain_command, numbers as plain_numbers, asks as plain_asks}
 use Rattle.reply_meaning.specs.Reasons.{IsOfNobody, IsReason, is_of_kind}
 use Rattle.reply_meaning.specs.Refusal.{begins_so, is_of_no_command, is_refusal}
@@ -148,15 +153,23 @@ data_number node (Ok (Data _)) (command which) = refl
 data_number node (Ok (Cluster _)) is = elim is [ ]
 data_number node (Err _) (fault why refuses) = refl
 
-asking_number : (node : NodeState) (number : Option ℕ) → has_number node (asking (number_or_fault number)) ≡ true
-asking_number node None = refl
-asking_number node (Some number) = refl
+-- what stands in front of a command needs no number, and writes nothing
+abbrev NeedsNone : NodeState → Conn → List (List ℕ) → Result Command CommandFault → Type 0
+NeedsNone node conn words read =
+    (has_number (using_up node conn) read && has_offset node (written_by_request words read (request_outcome node conn read).response)) ≡ true
 
-client_number : (node : NodeState) (words : List (List ℕ)) → IsOfClient words → has_number node (command_of words) ≡ true
-client_number node words (plain_command plain) = data_number node (command_of words) (data_words words plain)
-client_number node words (plain_numbers is) = ap (λ (ws : List (List ℕ)). has_number node (command_of ws)) is
-client_number node words (plain_asks number is) =
-    ap (λ (ws : List (List ℕ)). has_number node (command_of ws)) is ∙ asking_number node (positive_of (decimal number))
+asking_needs : (node : NodeState) (conn : Conn) (words : List (List ℕ)) (number : Option ℕ) → NeedsNone node conn words (asking (number_or_fault number))
+asking_needs node conn words None = refl
+asking_needs node conn words (Some number) = refl
 
-pub need_no_number : ClientsNeedNoNumber
-need_no_number node conn words client none = absurd (true≢false (sym (client_number (using_up node conn) words client) ∙ none))
+client_needs : (node : NodeState) (conn : Conn) (words : List (List ℕ)) → IsOfClient words → NoNumberLeft node (Request conn words) → HasNoOffset node conn words
+client_needs node conn words (plain_command plain) none = record {
+  plain = plain;
+  none = sym (ap (λ (b : Bool). b && has_offset node (written node conn words)) (data_number (using_up node conn) (command_of words) (data_words words plain))) ∙ none;
+}
+client_needs node conn words (plain_numbers is) none = absurd (true≢false (sym (subst (λ (ws : List (List ℕ)). NeedsNone node conn ws (command_of ws)) (sym is) refl) ∙ none))
+client_needs node conn words (plain_asks number is) none =
+    absurd (true≢false (sym (subst (λ (ws : List (List ℕ)). NeedsNone node conn ws (command_of ws)) (sym is) (asking_needs node conn (asking_words number) (positive_of (decimal number)))) ∙ none))
+
+pub need_offsets_alone : ClientsNeedOffsetsAlone
+need_offsets_alone = client_needs

@@ -14,10 +14,10 @@ use Rattle.smart_client.specs.Calls.{IsRefusal}
 use Rattle.smart_client.specs.Step.{is_last_line}
 use Rattle.smart_client.specs.declared.action.Event.TheVariants as happened
 use Rattle.smart_client.specs.Words.{asking_words, is_refused, numbered_words}
-use Rattle.node_step.specs.Numbers.{NoNumberLeft}
+use Rattle.node_step.specs.Numbers.{NoNumberLeft, has_offset}
 use Rattle.node_step.specs.Orders.{done}
 use Rattle.node_step.specs.State.{NodeState}
-use Rattle.node_step.specs.Step.{NodeStep}
+use Rattle.node_step.specs.Step.{NodeStep, written}
 use Rattle.node_step.specs.declared.event.Event.TheVariants.{Request}
 use Rattle.node_step.specs.declared.outputs.Outputs.{Outputs}
 use Rattle.node_step.specs.declared.response.Answer.{Answer}
@@ -95,6 +95,12 @@ abbrev pub ClientsAreAnswered : Type 0
 ClientsAreAnswered = (ticket : ℕ) (node after : NodeState) (conn : Conn) (words : List (List ℕ)) (outputs : Outputs) → NodeStep ticket node (Request conn words) outputs after
     → may_ask (connection_at node.connections conn) ≡ true → IsOfClient words → (answer : Answer) × (outputs.response ≡ Replied answer)
 
--- and it needs no number that could have no next one
-abbrev pub ClientsNeedNoNumber : Type 0
-ClientsNeedNoNumber = (node : NodeState) (conn : Conn) (words : List (List ℕ)) → IsOfClient words → NoNumberLeft node (Request conn words) → ⊥
+-- the words are about data, and the stream has no offset for what is written by them
+pub record HasNoOffset (node : NodeState) (conn : Conn) (words : List (List ℕ)) : Type 0 where
+  pub plain : is_refused words ≡ false
+  pub none : has_offset node (written node conn words) ≡ false
+
+-- and it finds no number only there: CLUSTER NUMBERED and ASKING, which are not about data, need none
+abbrev pub ClientsNeedOffsetsAlone : Type 0
+ClientsNeedOffsetsAlone = (node : NodeState) (conn : Conn) (words : List (List ℕ)) → IsOfClient words → NoNumberLeft node (Request conn words)
+    → HasNoOffset node conn words

@@ -1,5 +1,5 @@
 //! Laws of the replies of a node.
-ghost use Rattle.reply_meaning.specs.Law.{AsksAreOfMoves, CallsGoOnAfterRefusals, ClientsAreAnswered, ClientsNeedNoNumber, ClusterWordsAreNotExecuted, ErrorsHaveReasons, PreparationsAreWelcome, RepliesTellExecution};
+ghost use Rattle.reply_meaning.specs.Law.{AsksAreOfMoves, CallsGoOnAfterRefusals, ClientsAreAnswered, ClientsNeedOffsetsAlone, ClusterWordsAreNotExecuted, ErrorsHaveReasons, PreparationsAreWelcome, RepliesTellExecution};
 
 /// A command on keys was executed exactly where its reply is no refusal. This is said of all words whose name is not CLUSTER,
 /// MIGRATE or ASKING, also of words that are no command.
@@ -40,7 +40,8 @@ pub fn clients_are_answered()
     ensures { ClientsAreAnswered }
 {}
 
-/// What a client sends needs no number that could have no next one, so a node makes a step for it.
-pub fn clients_need_no_number()
-    ensures { ClientsNeedNoNumber }
+/// What a client sends finds no number only where the stream of the node has no offset for what its command writes; else a node
+/// makes a step for it. What is sent in front of a command writes nothing and always finds its numbers.
+pub fn clients_need_offsets_alone()
+    ensures { ClientsNeedOffsetsAlone }
 {}

@@ -11,6 +11,7 @@ use cluster_config::{Config, NodeConfig};
 use command_table::ClusterCommand;
 use key_slot::{Slot, slot};
 use node_parts::NodeParts;
+use repl_stream::Stream;
 use resp_values::{Array, Reply};
 use slot_state::{Move, SlotState};
 use slot_store::{SlotKeys, SlotParts};
@@ -18,8 +19,8 @@ use slot_table::{NodeNo, Run};
 use std::alloc::{AllocError, Global};
 
 /// What the node says to a question.
-pub fn report<S: SlotParts + SlotKeys>(
-    node: &NodeParts<S>,
+pub fn report<S: SlotParts + SlotKeys, T: Stream>(
+    node: &NodeParts<S, T>,
     question: &ClusterCommand,
 ) -> Result<Reply, AllocError>
     requires { IsTrue (is_question question.now) }
@@ -43,22 +44,25 @@ pub fn report<S: SlotParts + SlotKeys>(
 }
 
 /// The id of a node.
-fn id<S: SlotParts + SlotKeys>(node: &NodeParts<S>, number: NodeNo) -> Result<Reply, AllocError>
+fn id<S: SlotParts + SlotKeys, T: Stream>(
+    node: &NodeParts<S, T>,
+    number: NodeNo,
+) -> Result<Reply, AllocError>
     ensures { IfOk result (λ reply. reply ≡ id_of node.now.config number) }
 {
     id_reply(node.alloc, node.config.node(number))
 }
 
 /// How many keys of the slot are here.
-fn count<S: SlotParts + SlotKeys>(node: &NodeParts<S>, slot: Slot) -> Reply
+fn count<S: SlotParts + SlotKeys, T: Stream>(node: &NodeParts<S, T>, slot: Slot) -> Reply
     ensures { result ≡ count_reply node.now slot }
 {
     Reply::Integer(node.store.count_in_slot(slot) as i64)
 }
 
 /// The first keys of the slot that are here.
-fn keys<S: SlotParts + SlotKeys>(
-    node: &NodeParts<S>,
+fn keys<S: SlotParts + SlotKeys, T: Stream>(
+    node: &NodeParts<S, T>,
     slot: Slot,
     count: u64,
 ) -> Result<Reply, AllocError>
@@ -73,7 +77,10 @@ fn keys<S: SlotParts + SlotKeys>(
 }
 
 /// What the node does with the slot.
-fn slot_state<S: SlotParts + SlotKeys>(node: &NodeParts<S>, slot: Slot) -> Result<Reply, AllocError>
+fn slot_state<S: SlotParts + SlotKeys, T: Stream>(
+    node: &NodeParts<S, T>,
+    slot: Slot,
+) -> Result<Reply, AllocError>
     ensures { IfOk result (λ reply. reply ≡ state_reply node.now slot) }
 {
     let owner = node.table.owner(slot);

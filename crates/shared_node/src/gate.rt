@@ -32,6 +32,21 @@ impl<'n, C: HoldsCell + Drop, R: Wait> Gate<'n, C, R> {
         }
     }
 
+    /// Locks the node, where this conversation doesn't hold it yet. It is held until others are let in.
+    pub fn hold(&mut self)
+        ensures { ⟦<Gate<'n, C, R> as NodeGate>⟧.asked self.new ≡ ⟦<Gate<'n, C, R> as NodeGate>⟧.asked self.old }
+    {
+        self.held = Some(self.take_or_lock());
+    }
+
+    /// The node behind its lock, as long as this conversation holds it.
+    pub fn held(&self) -> Option<&C> {
+        match &self.held {
+            Some(cell) => Some(&**cell),
+            None => None,
+        }
+    }
+
     // The node with its lock, which is taken where this conversation doesn't hold it yet.
     fn take_or_lock(&mut self) -> MutexGuard<'n, C>
         ensures { self.new.asks ≡ self.old.asks }

@@ -2,11 +2,11 @@
 use Rattle.std.specs.Prelude.{◌++◌, ℕ, List, Ok, Err, codes, decimal}
 use Rattle.std.specs.List.{flat_map}
 use Rattle.bus.specs.declared.message.Body.{Body}
-use Rattle.bus.specs.declared.message.Body.TheVariants.{Copy, Ack, Drained, Claim}
+use Rattle.bus.specs.declared.message.Body.TheVariants.{Copy, Ack, Drained, Claim, Report, Request, Grant, Sync, Piece, Snapshot}
 use Rattle.resp_values.specs.Reply.{reply_spelling}
 use Rattle.smart_client.specs.Faults.{code_of}
 use Rattle.world.specs.declared.output.Output.{Output}
-use Rattle.world.specs.declared.output.Output.TheVariants.{Answer, Admin, Sent, Nothing}
+use Rattle.world.specs.declared.output.Output.TheVariants.{Answer, Admin, Sent, Promoted, Nothing}
 use Rattle.simulator.specs.Escaping.{escaped}
 
 -- ---- outputs
@@ -16,15 +16,23 @@ abbrev pub kind : Body → List ℕ
 kind (Copy slot number copy key value) = codes "Copy"
 kind (Ack slot number copy) = codes "Ack"
 kind (Drained slot number epoch) = codes "Drained"
-kind (Claim claim) = codes "Claim"
+kind (Claim claim replaced) = codes "Claim"
+kind (Report suspects) = codes "Report"
+kind (Request request) = codes "Request"
+kind (Grant epoch) = codes "Grant"
+kind (Sync sync) = codes "Sync"
+kind (Piece piece) = codes "Piece"
+kind (Snapshot snapshot) = codes "Snapshot"
 
--- `answer <client> <reply>`, `fault <client> <code>`, `admin <node> <reply>`, `sent <message> <from> <to> <kind>` or `none`
+-- `answer <client> <reply>`, `fault <client> <code>`, `admin <node> <reply>`, `sent <message> <from> <to> <kind>`,
+-- `promoted <node> <epoch> <offset>` or `none`
 abbrev pub shown : Output → List ℕ
 shown (Answer client (Ok reply)) = codes "answer " ++ decimal client ++ codes " " ++ flat_map escaped (reply_spelling reply)
 shown (Answer client (Err fault)) = codes "fault " ++ decimal client ++ codes " " ++ code_of fault
 shown (Admin node reply) = codes "admin " ++ decimal node ++ codes " " ++ flat_map escaped (reply_spelling reply)
 shown (Sent number message) =
     codes "sent " ++ decimal number ++ codes " " ++ decimal message.from ++ codes " " ++ decimal message.to ++ codes " " ++ kind message.body
+shown (Promoted node promotion) = codes "promoted " ++ decimal node ++ codes " " ++ decimal promotion.epoch ++ codes " " ++ decimal promotion.offset
 shown Nothing = codes "none"
 
 -- its line

@@ -9,13 +9,14 @@ ghost use Rattle.world.specs.declared.output.Output.TheVariants as output;
 use crate::escaping::print_bytes;
 use bus::{Body, Message};
 use itoa::Buffer;
+use node_step::Promotion;
 use resp2::{Reply, append_reply};
 use smart_client::ClientFault;
 use std::alloc::AllocError;
 use world::Output;
 
 /// Puts the outputs behind the text, a line each: `answer CLIENT REPLY`, `fault CLIENT CODE`, `admin NODE REPLY`,
-/// `sent MESSAGE FROM TO KIND` or `none`.
+/// `sent MESSAGE FROM TO KIND`, `promoted NODE EPOCH OFFSET` or `none`.
 ///
 /// A reply is shown as its bytes on the connection: CR as `\r`, LF as `\n`, a backslash as `\\`, and other bytes outside of
 /// 32 to 126 as `\x` and two hexadecimal digits.
@@ -41,6 +42,7 @@ fn print_output(
         Output::Answer { client, answer } => print_answer(*client, answer, spelling, out)?,
         Output::Admin { node, reply } => print_admin(*node, reply, spelling, out)?,
         Output::Sent { number, message } => print_sent(*number, message, out)?,
+        Output::Promoted { node, promotion } => print_promoted(*node, promotion, out)?,
         Output::Nothing => out.extend_from_slice(b"none")?,
     }
     out.extend_from_slice(b"\n")
@@ -97,6 +99,17 @@ fn print_sent(number: u64, message: &Message, out: &mut Vec<u8>) -> Result<(), A
     out.extend_from_slice(kind(&message.body))
 }
 
+fn print_promoted(node: u64, promotion: &Promotion, out: &mut Vec<u8>) -> Result<(), AllocError>
+    ensures { OnOk result (out.new.items ≡ out.old.items ++ shown (output.Promoted node promotion.now)) }
+{
+    out.extend_from_slice(b"promoted ")?;
+    print_number(node, out)?;
+    out.extend_from_slice(b" ")?;
+    print_number(promotion.epoch.get(), out)?;
+    out.extend_from_slice(b" ")?;
+    print_number(promotion.offset, out)
+}
+
 fn print_number(number: u64, out: &mut Vec<u8>) -> Result<(), AllocError>
     ensures { OnOk result (out.new.items ≡ out.old.items ++ decimal number) }
 {
@@ -111,7 +124,13 @@ fn kind(body: &Body) -> &'static [u8]
         Body::Copy { .. } => b"Copy",
         Body::Ack { .. } => b"Ack",
         Body::Drained { .. } => b"Drained",
-        Body::Claim(_) => b"Claim",
+        Body::Claim(_, _) => b"Claim",
+        Body::Report(_) => b"Report",
+        Body::Request(_) => b"Request",
+        Body::Grant(_) => b"Grant",
+        Body::Sync(_) => b"Sync",
+        Body::Piece(_) => b"Piece",
+        Body::Snapshot(_) => b"Snapshot",
     }
 }
 

@@ -8,7 +8,9 @@ use Rattle.connections.specs.Connections.{connection_at, may_ask}
 use Rattle.node_step.specs.Outcome.{Outcome, outputs_of, silent}
 use Rattle.node_step.specs.Requests.{request_outcome, using_up}
 use Rattle.node_step.specs.State.{NodeState}
-use Rattle.node_step.specs.Step.{IsAnswering, IsClosing, MayCome}
+use Rattle.node_step.specs.Streams.{Requests, recorded}
+use Rattle.node_step.specs.declared.response.Response.{Response}
+use Rattle.node_step.specs.Step.{IsAnswering, IsClosing, MayCome, written}
 use Rattle.connections.specs.declared.conn.Conn.{Conn}
 use Rattle.node_step.specs.declared.event.Event.{Event}
 use Rattle.node_step.specs.declared.event.Event.TheVariants.{Open, Close, Request, Deliver, Tick}
@@ -19,7 +21,8 @@ use Rattle.single_keyspace.specs.Stands.{NodeStands}
 use Rattle.single_keyspace.proofs.MessageSteps.{delivered_stands, tick_stands}
 use Rattle.single_keyspace.proofs.RequestSteps.{command_stands}
 use Rattle.single_keyspace.proofs.Seen.{SlotWas, again}
-use Rattle.single_keyspace.proofs.Steps.{StepStands, nothing_sent, quiet_still}
+use Rattle.node_step.proofs.Recorded.{recorded_response}
+use Rattle.single_keyspace.proofs.Steps.{StepStands, nothing_sent, quiet_still, recorded_stands}
 
 module _ {past : List Entry} {n : ℕ} {before : NodeState} {one : Keyspace} (was : (slot : ℕ) → SlotWas past n before one slot) (stands : NodeStands n before) (local : CommandsAreLocal) where
   nothing_happens : StepStands was None (silent before)
@@ -30,17 +33,21 @@ module _ {past : List Entry} {n : ℕ} {before : NodeState} {one : Keyspace} (wa
   closing_stands conn true outcome may =
       let after : NodeState = record before { connections = outcome.state.connections } in
       subst (StepStands was None) (sym may.comes_to)
-      (quiet_still was None refl refl (silent after) (record { number_is = stands.number_is; slots = stands.slots }) (λ slot. refl) (nothing_sent past n after))
+      (quiet_still was None refl refl (silent after) (record { number_is = stands.number_is; slots = stands.slots; is_master = stands.is_master }) (λ slot. refl) (nothing_sent past n after))
 
   answering_stands : (conn : Conn) (words : List (List ℕ)) (outcome : Outcome) → IsAnswering before conn words outcome → MayAsk past n (answered_with words outcome.response)
       → StepStands was (answered_with words outcome.response) outcome
   answering_stands conn words outcome answering may =
-      let inner = command_stands (λ slot. again (was slot) (using_up before conn) refl) (record { number_is = stands.number_is; slots = stands.slots }) local words conn (connection_at before.connections conn)
-      (command_of words) refl (subst (λ (o : Outcome). MayAsk past n (answered_with words o.response)) answering.comes_to may) in
       let asked : Outcome = request_outcome before conn (command_of words) in
+      let requests : Requests = written before conn words in
+      let inner = command_stands (λ slot. again (was slot) (using_up before conn) refl) (record { number_is = stands.number_is; slots = stands.slots; is_master = stands.is_master }) local words conn (connection_at before.connections conn)
+      (command_of words) refl (subst (λ (r : Response). MayAsk past n (answered_with words r)) (recorded_response asked requests answering.dropped)
+      (subst (λ (o : Outcome). MayAsk past n (answered_with words o.response)) answering.comes_to may)) in
       let answered_so : StepStands was (answered_with words asked.response) asked =
       record { node = inner.node; holds = inner.holds; sent = inner.sent; told = inner.told; replies = inner.replies } in
-      subst (λ (o : Outcome). StepStands was (answered_with words o.response) o) (sym answering.comes_to) answered_so
+      subst (λ (o : Outcome). StepStands was (answered_with words o.response) o) (sym answering.comes_to)
+      (subst (λ (r : Response). StepStands was (answered_with words r) (recorded asked requests answering.dropped)) (sym (recorded_response asked requests answering.dropped))
+      (recorded_stands was (answered_with words asked.response) asked requests answering.dropped answered_so))
 
   request_stands : (conn : Conn) (words : List (List ℕ)) (asks : Bool) (outcome : Outcome) → MatchBool asks (IsAnswering before conn words outcome) (outcome ≡ silent before)
       → MayAsk past n (answered_with words outcome.response) → StepStands was (answered_with words outcome.response) outcome
@@ -52,8 +59,8 @@ module _ {past : List Entry} {n : ℕ} {before : NodeState} {one : Keyspace} (wa
   event_stands ticket Open outcome happens may asking =
       let after : NodeState = record before { connections = outcome.state.connections } in
       subst (StepStands was None) (sym may.comes_to)
-      (quiet_still was None refl refl _ (record { number_is = stands.number_is; slots = stands.slots }) (λ slot. refl) (nothing_sent past n after))
+      (quiet_still was None refl refl _ (record { number_is = stands.number_is; slots = stands.slots; is_master = stands.is_master }) (λ slot. refl) (nothing_sent past n after))
   event_stands ticket (Close conn) outcome happens may asking = closing_stands conn (is_some (connection_at before.connections conn)) outcome may
   event_stands ticket (Request conn words) outcome happens may asking = request_stands conn words (may_ask (connection_at before.connections conn)) outcome may asking
-  event_stands ticket (Deliver message) outcome happens may asking = subst (StepStands was None) (sym may) (delivered_stands was stands message happens)
+  event_stands ticket (Deliver message) outcome happens may asking = subst (StepStands was None) (sym may.comes_to) (delivered_stands was stands message may.choice happens)
   event_stands ticket Tick outcome happens may asking = subst (StepStands was None) (sym may) (tick_stands was stands)

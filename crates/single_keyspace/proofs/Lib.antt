@@ -10,10 +10,12 @@ pub mod MovesHold
 pub mod Lost
 pub mod Served
 pub mod Sendings
+pub mod Roles
 pub mod Steps
 pub mod OrderSteps
 pub mod MessageSteps
 pub mod RequestSteps
 pub mod EventSteps
+pub mod Replicas
 pub mod Start
 pub mod Worlds

@@ -45,7 +45,7 @@ unfolding merged
 length_merged table runs from = length-map-range_with_len (λ (s : ℕ). greater (entry_at table s) (claimed runs from s)) 0 16384
 
 -- an entry stays, or is the claim, which is above it
-merged_cases : (table : List (Option SlotEntry)) (runs : List (Run ℕ)) (from slot : ℕ) → length table ≡ 16384
+pub merged_cases : (table : List (Option SlotEntry)) (runs : List (Run ℕ)) (from slot : ℕ) → length table ≡ 16384
     → (entry_at (merged table runs from) slot ≡ entry_at table slot)
     ⊎ ((entry : SlotEntry) × (claimed runs from slot ≡ Some entry) × (is_above entry (entry_at table slot) ≡ true) × (entry_at (merged table runs from) slot ≡ Some entry))
 merged_cases table runs from slot whole =
@@ -84,7 +84,7 @@ both_cancel true = refl
 both_cancel false = refl
 
 module _ (node : NodeState) (table : List (Option SlotEntry)) (slot : ℕ) where
-  move_left : map.get (with_table node table).moves.running slot ≡ cond (not (is_lost node table slot && is_leaving (move_of node.moves slot))) (move_of node.moves slot) None
+  pub move_left : map.get (with_table node table).moves.running slot ≡ cond (not (is_lost node table slot && is_leaving (move_of node.moves slot))) (move_of node.moves slot) None
   move_left = retained_here node.moves.running slot (λ s. not (is_lost node table s && is_leaving (move_of node.moves s)))
 
   value_left : (key : List ℕ) → map.get (with_table node table).keyspace key ≡ cond (not (is_lost node table (hash_slot key))) (map.get node.keyspace key) None

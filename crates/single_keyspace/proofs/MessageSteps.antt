@@ -1,6 +1,6 @@
 -- Steps that take messages, and ticks.
-use Rattle.std.proofs.Common.{◌≡◌, ◌≢◌, ◌≤◌, ◌+◌, ◌==◌, ◌&&◌, ℕ, List, [], ◌∷◌, map, Bool, true, false, cond, Option, Some, None, Contains, refl, sym, ap, subst, ◌∙◌, inl, inr, arith}
-use Rattle.std.proofs.lemmas.Bool.{and_parts, cases_eq, eqb-true, eqb-false, ne_eqb}
+use Rattle.std.proofs.Common.{◌≡◌, ◌≢◌, ◌≤◌, ◌+◌, ◌==◌, ◌&&◌, ℕ, List, [], ◌∷◌, map, Bool, true, false, cond, Option, Some, None, Contains, length, refl, sym, ap, subst, ◌∙◌, inl, inr, arith}
+use Rattle.std.proofs.lemmas.Bool.{and_parts, both_ways, cases_eq, eqb-true, eqb-false, ne_eqb}
 use Rattle.std.proofs.lemmas.Cmp.{nat_list_cmp_total}
 use Rattle.std.specs.FinMap as fin_map
 use Rattle.std.specs.List.{flat_map}
@@ -10,7 +10,7 @@ use Rattle.keyspace.specs.declared.value.Value.{Value}
 use Rattle.slot_store.specs.InSlot.{is_in_slot}
 use Rattle.slot_table.specs.Claims.{merged}
 use Rattle.slot_table.specs.declared.runs.Run.{Run}
-use Rattle.slot_state.specs.Moves.{Moves, move_of}
+use Rattle.slot_state.specs.Moves.{Moves, last_move_of, move_of}
 use Rattle.slot_state.specs.declared.running.Move.{Move}
 use Rattle.slot_state.specs.declared.running.Move.TheVariants.{Leaves, Comes}
 use Rattle.migrate.specs.Acknowledging.{acknowledged_key, unfrozen}
@@ -28,14 +28,22 @@ use Rattle.node_step.specs.Claiming.{claim, claimed_by, with_table}
 use Rattle.connections.specs.Connections.{all_freed, waiting}
 use Rattle.connections.specs.Waiting.{is_for}
 use Rattle.node_step.specs.Copies.{acknowledged, arrived, keeps_limits, noted}
-use Rattle.node_step.specs.Messages.{delivered, knowing, taken}
+use Rattle.stream_values.specs.Syncing.{answer_to}
+use Rattle.stream_values.specs.declared.answer.SyncAnswer.{SyncAnswer}
+use Rattle.stream_values.specs.declared.answer.SyncAnswer.TheVariants as answers
+use Rattle.stream_values.specs.declared.sync.Sync.{Sync}
+use Rattle.bus.specs.declared.message.Replaced.{Replaced}
+use Rattle.node_step.specs.Messages.{Choice, delivered, knowing, taken, taken_so, written_by_message}
 use Rattle.node_step.specs.Orders.{done}
 use Rattle.node_step.specs.Outcome.{release, silent}
+use Rattle.node_step.specs.Roles.{is_just}
+use Rattle.node_step.specs.Replicas.{sync_answer, sync_to}
 use Rattle.node_step.specs.Slots.{drained_since}
-use Rattle.node_step.specs.State.{NodeState}
+use Rattle.node_step.specs.State.{NodeState, is_replica, own_master}
 use Rattle.node_step.specs.Ticks.{older, sent_again, tick}
+use Rattle.world_run.specs.Executed.{Answered}
 use Rattle.world_run.specs.Run.{Entry, sent_by}
-use Rattle.single_keyspace.specs.Slots.{view_of}
+use Rattle.single_keyspace.specs.Slots.{values_in, view_of}
 use Rattle.single_keyspace.specs.Stands.{NodeStands, Says}
 use Rattle.single_keyspace.proofs.Lists.{contains_nothing, contains_one, from_flat_map}
 use Rattle.single_keyspace.proofs.Lost.{claims_hold, length_merged}
@@ -45,8 +53,9 @@ use Rattle.single_keyspace.proofs.MovesHold.{arriving_is_there, frozen_is_there,
 use Rattle.single_keyspace.proofs.OrderSteps.{copy_justified}
 use Rattle.single_keyspace.proofs.Running.{got_from_entry}
 use Rattle.single_keyspace.proofs.Seen.{SlotWas, again, holds_but, same_values, same_view}
-use Rattle.single_keyspace.proofs.Sendings.{AreJustified, IsJustified, IsInstalled, drained_if_empty_justified, drained_since_justified}
-use Rattle.single_keyspace.proofs.Steps.{StepStands, nothing_sent, quiet, quiet_still}
+use Rattle.single_keyspace.proofs.Roles.{no_messages_from_master}
+use Rattle.single_keyspace.proofs.Sendings.{AreJustified, IsJustified, IsInstalled, both_justified, one_justified, drained_if_empty_justified, drained_since_justified}
+use Rattle.single_keyspace.proofs.Steps.{StepStands, nothing_sent, quiet, quiet_still, recorded_stands}
 use Rattle.single_keyspace.proofs.Values.{is_key, puts_here, puts_elsewhere}
 use Rattle.single_keyspace.proofs.Verdicts.{copy_arrives, copy_repeats, ack_counts}
 
@@ -79,7 +88,7 @@ module _ {past : List Entry} {n : ℕ} {before : NodeState} {one : Keyspace} (wa
     ack_justified : (node : NodeState) (copied : ℕ) (drained : Option ℕ) → move_of node.moves slot ≡ Some (Comes message.from number copied drained) → copy ≤ copied
         → AreJustified past n node ((message.from, body.Ack slot number copy) ∷ [])
     ack_justified node copied drained move reached to said among =
-        let installed : IsInstalled past n node message.from slot number copy = record {
+        let installed : IsInstalled past n node.moves message.from slot number copy = record {
           copied = copied;
           drained = drained;
           move = move;
@@ -97,11 +106,11 @@ module _ {past : List Entry} {n : ℕ} {before : NodeState} {one : Keyspace} (wa
     pub arrival_stands : (verdict : ArrivalVerdict) → arrival_verdict (move_of before.moves slot) message.from number copy (keeps_limits key value) ≡ verdict
         → StepStands was None (arrived before message.from slot number copy key value verdict)
     arrival_stands Ignored counts =
-        quiet_still was None refl refl (arrived before message.from slot number copy key value Ignored) (record { number_is = stands.number_is; slots = stands.slots }) (λ other. refl)
+        quiet_still was None refl refl (arrived before message.from slot number copy key value Ignored) (record { number_is = stands.number_is; slots = stands.slots; is_master = stands.is_master }) (λ other. refl)
         (nothing_sent past n (arrived before message.from slot number copy key value Ignored).state)
     arrival_stands Repeats counts =
         let facts = copy_repeats (move_of before.moves slot) message.from number copy (keeps_limits key value) counts in
-        quiet_still was None refl refl (arrived before message.from slot number copy key value Repeats) (record { number_is = stands.number_is; slots = stands.slots }) (λ other. refl)
+        quiet_still was None refl refl (arrived before message.from slot number copy key value Repeats) (record { number_is = stands.number_is; slots = stands.slots; is_master = stands.is_master }) (λ other. refl)
         (ack_justified (arrived before message.from slot number copy key value Repeats).state facts.0 facts.1 facts.2 facts.3)
     arrival_stands Installs counts =
         let facts = copy_arrives (move_of before.moves slot) message.from number copy (keeps_limits key value) counts in
@@ -119,7 +128,7 @@ module _ {past : List Entry} {n : ℕ} {before : NodeState} {one : Keyspace} (wa
         let reached : copy ≤ copied + 1 = omega (arith, facts.3) in
         subst (λ (m : Moves). StepStands was None (record (silent (record before { keyspace = keyspace; moves = m })) { sent = (message.from, body.Ack slot number copy) ∷ [] }))
         (sym (ap (changed_at before.moves slot one_more) facts.2))
-        (quiet was None refl refl (record (silent after) { sent = (message.from, body.Ack slot number copy) ∷ [] }) (record { number_is = stands.number_is; slots = stands.slots })
+        (quiet was None refl refl (record (silent after) { sent = (message.from, body.Ack slot number copy) ∷ [] }) (record { number_is = stands.number_is; slots = stands.slots; is_master = stands.is_master })
         (holds_but was after one slot
         (copy_installed_holds (was slot) message.from number copied drained key value keyspace facts.2 next_said (puts_here before.keyspace keyspace slot key (Some value) inside put))
         (λ other apart. moved_apart before keyspace slot move other apart (same_values (puts_elsewhere before.keyspace keyspace other key (Some value) (in_one_slot slot other key inside apart) put)))
@@ -146,7 +155,7 @@ module _ {past : List Entry} {n : ℕ} {before : NodeState} {one : Keyspace} (wa
       subst (λ (m : Moves). StepStands was None (record (silent (left m)) { released = map (release done) (waiting before.connections (is_for slot number copy)); sent = drained_since before.keyspace (left m) slot }))
       (sym (ap (changed_at before.moves slot unfrozen) counted))
       (quiet was None refl refl (record (silent after) { released = map (release done) (waiting before.connections (is_for slot number copy)); sent = drained_since before.keyspace after slot })
-      (record { number_is = stands.number_is; slots = stands.slots })
+      (record { number_is = stands.number_is; slots = stands.slots; is_master = stands.is_master })
       (holds_but was after one slot
       (copy_acknowledged_holds (was slot) message.from number copy key keyspace counted acked (puts_here before.keyspace keyspace slot key None inside put))
       (λ other apart. moved_apart before keyspace slot move other apart (same_values (puts_elsewhere before.keyspace keyspace other key None (in_one_slot slot other key inside apart) put)))
@@ -160,7 +169,7 @@ module _ {past : List Entry} {n : ℕ} {before : NodeState} {one : Keyspace} (wa
     where
       same_again : (move : Move) → move_of before.moves slot ≡ Some move → StepStands was None (silent (record before { moves = with_move before.moves slot move }))
       same_again move same =
-          quiet_still was None refl refl (silent (record before { moves = with_move before.moves slot move })) (record { number_is = stands.number_is; slots = stands.slots })
+          quiet_still was None refl refl (silent (record before { moves = with_move before.moves slot move })) (record { number_is = stands.number_is; slots = stands.slots; is_master = stands.is_master })
           (put_again before slot move same) (nothing_sent past n (record before { moves = with_move before.moves slot move }))
 
       by_test : (source other copied : ℕ) (known : Option ℕ) → move_of before.moves slot ≡ Some (Comes source other copied known) → (b : Bool) → (source == message.from && other == number) ≡ b
@@ -174,7 +183,7 @@ module _ {past : List Entry} {n : ℕ} {before : NodeState} {one : Keyspace} (wa
           (said slot (body.Drained slot number epoch) (Drained message.from message.to number epoch) is (refl, refl)) in
           let move : Move = Comes source other copied (Some epoch) in
           let after : NodeState = record before { moves = with_move before.moves slot move } in
-          quiet was None refl refl (silent after) (record { number_is = stands.number_is; slots = stands.slots })
+          quiet was None refl refl (silent after) (record { number_is = stands.number_is; slots = stands.slots; is_master = stands.is_master })
           (holds_but was after one slot (drained_noted_holds (was slot) source other copied known epoch same drained_said)
           (λ s apart. moved_apart before before.keyspace slot move s apart refl) (λ s apart q. refl))
           (nothing_sent past n after)
@@ -186,42 +195,72 @@ module _ {past : List Entry} {n : ℕ} {before : NodeState} {one : Keyspace} (wa
 
   -- ---- claims
 
-  pub claims_stand : (runs : List (Run ℕ)) → message.body ≡ body.Claim runs → StepStands was None (claim before message.from runs)
-  claims_stand runs is = by_sender (message.from == before.number) refl
+  pub claims_stand : (runs : List (Run ℕ)) (replaced : Option Replaced) → message.body ≡ body.Claim runs replaced → StepStands was None (claim before message.from runs)
+  claims_stand runs replaced is = by_sender (message.from == before.number) refl
     where
       by_sender : (b : Bool) → (message.from == before.number) ≡ b → StepStands was None (cond b (silent before) (claimed_by before (merged before.table runs message.from)))
       by_sender true own = quiet_still was None refl refl (silent before) stands (λ other. refl) (nothing_sent past n before)
       by_sender false other =
-          quiet was None refl refl (claimed_by before (merged before.table runs message.from)) (record { number_is = stands.number_is; slots = length_merged before.table runs message.from })
+          quiet was None refl refl (claimed_by before (merged before.table runs message.from)) (record { number_is = stands.number_is; slots = length_merged before.table runs message.from; is_master = stands.is_master })
           (λ slot.
           claims_hold (was slot) runs message.from (λ same. eqb-false message.from before.number other (same ∙ sym stands.number_is)) stands.number_is stands.slots
-          (λ epoch claims. said slot (body.Claim runs) (Claimed message.from epoch) is (epoch, claims, refl)))
+          (λ epoch claims. said slot (body.Claim runs replaced) (Claimed message.from epoch) is (epoch, claims, refl)))
           (nothing_sent past n (with_table before (merged before.table runs message.from)))
+
+  -- ---- streams
+
+  sync_stands : (from : ℕ) (answer : SyncAnswer) → StepStands was None (record (silent before) { sent = sync_answer before from answer })
+  sync_stands from answers.UpToDate = quiet_still was None refl refl (silent before) stands (λ slot. refl) (nothing_sent past n before)
+  sync_stands from (answers.Piece piece) =
+      quiet_still was None refl refl (record (silent before) { sent = sync_answer before from (answers.Piece piece) }) stands (λ slot. refl) (one_justified past n before from (body.Piece piece) tt)
+  sync_stands from answers.Snapshot =
+      quiet_still was None refl refl (record (silent before) { sent = sync_answer before from answers.Snapshot }) stands (λ slot. refl) (one_justified past n before from _ tt)
+
+  synced_stands : (from : ℕ) (sync : Sync) (b : Bool) → StepStands was None (cond b (silent before) (record (silent before) { sent = sync_answer before from (answer_to before.stream sync) }))
+  synced_stands from sync true = quiet_still was None refl refl (silent before) stands (λ slot. refl) (nothing_sent past n before)
+  synced_stands from sync false = sync_stands from (answer_to before.stream sync)
+
+  -- a master follows nobody
+  not_followed : (after : NodeState) (b : Bool) → b ≡ false → StepStands was None (silent (cond b after before))
+  not_followed after false is = quiet_still was None refl refl (silent before) stands (λ slot. refl) (nothing_sent past n before)
+  not_followed after true is = absurd (both_ways true is refl)
 
   -- ---- any message
 
-  pub taken_stands : (said : Body) → message.body ≡ said → StepStands was None (taken before message.from said)
-  taken_stands (body.Copy slot number copy key value) is =
+  so_taken_stands : (choice : Choice) (said : Body) → message.body ≡ said → StepStands was None (taken_so before message.from choice said)
+  so_taken_stands choice (body.Copy slot number copy key value) is =
       arrival_stands slot number copy key value is (arrival_verdict (move_of before.moves slot) message.from number copy (keeps_limits key value)) refl
-  taken_stands (body.Ack slot number copy) is = acknowledgement_stands slot number copy is (acknowledged_key (move_of before.moves slot) message.from number copy) refl
-  taken_stands (body.Drained slot number epoch) is = drained_stands slot number epoch is
-  taken_stands (body.Claim runs) is = claims_stand runs is
+  so_taken_stands choice (body.Ack slot number copy) is = acknowledgement_stands slot number copy is (acknowledged_key (move_of before.moves slot) message.from number copy) refl
+  so_taken_stands choice (body.Drained slot number epoch) is = drained_stands slot number epoch is
+  so_taken_stands choice (body.Claim runs replaced) is = claims_stand runs replaced is
+  so_taken_stands choice (body.Report suspects) is = quiet_still was None refl refl (silent before) stands (λ slot. refl) (nothing_sent past n before)
+  so_taken_stands choice (body.Request request) is = quiet_still was None refl refl (silent before) stands (λ slot. refl) (nothing_sent past n before)
+  so_taken_stands choice (body.Grant epoch) is = quiet_still was None refl refl (silent before) stands (λ slot. refl) (nothing_sent past n before)
+  so_taken_stands choice (body.Sync sync) is = synced_stands message.from sync (is_replica before)
+  so_taken_stands choice (body.Piece piece) is = not_followed _ (is_just (own_master before) message.from) (no_messages_from_master (own_master before) message.from stands.is_master)
+  so_taken_stands choice (body.Snapshot snapshot) is = not_followed _ (is_just (own_master before) message.from) (no_messages_from_master (own_master before) message.from stands.is_master)
+
+  pub taken_stands : (choice : Choice) → StepStands was None (taken before message.from choice message.body)
+  taken_stands choice =
+      recorded_stands was None (taken_so before message.from choice message.body) (written_by_message before message.from message.body) choice.dropped (so_taken_stands choice message.body refl)
 
 module _ {past : List Entry} {n : ℕ} {before : NodeState} {one : Keyspace} (was : (slot : ℕ) → SlotWas past n before one slot) (stands : NodeStands n before) where
-  pub delivered_stands : (message : Message) → Contains (sent_by past) message → StepStands was None (delivered before message)
-  delivered_stands message sent = by_target (message.to == before.number) refl
+  pub delivered_stands : (message : Message) (choice : Choice) → Contains (sent_by past) message → StepStands was None (delivered before message choice)
+  delivered_stands message choice sent = by_target (message.to == before.number) refl
     where
-      by_target : (b : Bool) → (message.to == before.number) ≡ b → StepStands was None (cond b (taken (knowing before message.epoch) message.from message.body) (silent before))
+      by_target : (b : Bool) → (message.to == before.number) ≡ b → StepStands was None (cond b (taken (knowing before message.epoch) message.from choice message.body) (silent before))
       by_target false other = quiet_still was None refl refl (silent before) stands (λ slot. refl) (nothing_sent past n before)
       by_target true mine =
-          let inner = taken_stands (λ slot. again (was slot) (knowing before message.epoch) refl) (record { number_is = stands.number_is; slots = stands.slots }) message sent
-          (eqb-true message.to before.number mine ∙ stands.number_is) message.body refl in
+          let inner = taken_stands (λ slot. again (was slot) (knowing before message.epoch) refl) (record { number_is = stands.number_is; slots = stands.slots; is_master = stands.is_master }) message sent
+          (eqb-true message.to before.number mine ∙ stands.number_is) choice in
           record { node = inner.node; holds = inner.holds; sent = inner.sent; told = inner.told; replies = inner.replies }
 
   -- ---- a tick
 
   pub tick_stands : StepStands was None (tick before)
-  tick_stands = quiet_still was None refl refl (tick before) (record { number_is = stands.number_is; slots = stands.slots }) (λ slot. refl) sent
+  tick_stands =
+      quiet_still was None refl refl (tick before) (record { number_is = stands.number_is; slots = stands.slots; is_master = stands.is_master }) (λ slot. refl)
+      (both_justified past n (older before) (flat_map (sent_again before) (fin_map.entries before.moves.running)) (sync_to before.stream (own_master before)) sent_of_moves (sync (own_master before)))
     where
       by_move : (slot : ℕ) (move : Move) → move_of before.moves slot ≡ Some move → AreJustified past n (older before) (sent_again before (slot, move))
       by_move slot (Comes from number last drained) is = λ to said among. absurd (contains_nothing (to, said) among)
@@ -230,7 +269,11 @@ module _ {past : List Entry} {n : ℕ} {before : NodeState} {one : Keyspace} (wa
           let there = frozen_is_there (was slot).holds n to number copies key (ap (λ (v : View Value). v.move) (was slot).here ∙ is) in
           copy_justified past n (older before) slot to number copies key is (valued_in_slot one slot key there.0 there.1)
 
-      sent : AreJustified past n (older before) (flat_map (sent_again before) (fin_map.entries before.moves.running))
-      sent to said among =
+      sent_of_moves : AreJustified past n (older before) (flat_map (sent_again before) (fin_map.entries before.moves.running))
+      sent_of_moves to said among =
           let found = from_flat_map (sent_again before) (fin_map.entries before.moves.running) (to, said) among in
           by_move found.0.0 found.0.1 (got_from_entry before.moves.running found.0.0 found.0.1 found.1) to said found.2
+
+      sync : (master : Option ℕ) → AreJustified past n (older before) (sync_to before.stream master)
+      sync None = nothing_sent past n (older before)
+      sync (Some master) = one_justified past n (older before) master _ tt

@@ -82,7 +82,7 @@ module _ {past : List Entry} {n : ℕ} {before : NodeState} {one : Keyspace} (wa
   import_stands slot other asked (import.Begins from number) is =
       let facts = import_begins (standing before slot) (move_of before.moves slot) (last_move_of before.moves slot) other asked from number is in
       let after : NodeState = record before { moves = begun before.moves slot number (Comes from number 0 None) } in
-      quiet was _ refl refl (import_outcome before slot (import.Begins from number)) (record { number_is = stands.number_is; slots = stands.slots })
+      quiet was _ refl refl (import_outcome before slot (import.Begins from number)) (record { number_is = stands.number_is; slots = stands.slots; is_master = stands.is_master })
       (holds_but was after one slot (import_begun_holds (was slot) from number facts.0 facts.1 (λ same. facts.2 (same ∙ sym stands.number_is)) facts.3)
       (begun_apart before slot number (Comes from number 0 None)) (λ other apart key. refl))
       (nothing_sent past n after)
@@ -99,7 +99,7 @@ module _ {past : List Entry} {n : ℕ} {before : NodeState} {one : Keyspace} (wa
   migration_stands slot other asked (migrate.Begins to number) is =
       let facts = migration_begins (standing before slot) (move_of before.moves slot) (last_move_of before.moves slot) other asked to number is in
       let after : NodeState = record before { moves = begun before.moves slot number (Leaves to number 0 None) } in
-      quiet was _ refl refl (migrate_outcome before slot (migrate.Begins to number)) (record { number_is = stands.number_is; slots = stands.slots })
+      quiet was _ refl refl (migrate_outcome before slot (migrate.Begins to number)) (record { number_is = stands.number_is; slots = stands.slots; is_master = stands.is_master })
       (holds_but was after one slot
       (migration_begun_holds (was slot) to number facts.0 (facts.1 ∙ ap Some stands.number_is) (λ same. facts.2 (same ∙ sym stands.number_is)) facts.3)
       (begun_apart before slot number (Leaves to number 0 None)) (λ other apart key. refl))
@@ -125,15 +125,15 @@ module _ {past : List Entry} {n : ℕ} {before : NodeState} {one : Keyspace} (wa
       let newer : ℕ = new_epoch before slot drained in
       let after : NodeState = with_slot before slot newer in
       quiet was _ refl refl (ending_outcome before slot (ending.Ends drained))
-      (record { number_is = stands.number_is; slots = length-set before.table slot (Some (record { epoch = newer; owner = before.number })) ∙ stands.slots })
+      (record { number_is = stands.number_is; slots = length-set before.table slot (Some (record { epoch = newer; owner = before.number })) ∙ stands.slots; is_master = stands.is_master })
       (holds_but was after one slot
       (subst (λ (o : ℕ). HoldsAfter (was slot) (with_entry before slot (record { epoch = newer; owner = o }) newer) one) (sym stands.number_is)
       (import_ended_holds (was slot) facts.0 facts.1 facts.2 drained newer facts.3 (epoch_above slot drained) stands.slots))
       (ended_apart before slot (record { epoch = newer; owner = before.number }) newer) (λ other apart key. refl))
       (λ to said among.
-      let found = from_map (λ (number : ℕ). (number, body.Claim (claim_of after))) (others before) (to, said) among in
+      let found = from_map (λ (number : ℕ). (number, body.Claim (claim_of after) before.replaced)) (others before) (to, said) among in
       subst (λ (p : ℕ × Body). IsJustified past n after p.0 p.1) found.2
-      (subst (λ (o : ℕ). IsJustified past n after found.0 (body.Claim (runs_of (claim_at after.table o)))) (sym stands.number_is) (claim_justified past n after found.0 (length-set before.table slot (Some (record { epoch = newer; owner = before.number })) ∙ stands.slots))))
+      (subst (λ (o : ℕ). IsJustified past n after found.0 (body.Claim (runs_of (claim_at after.table o)) before.replaced)) (sym stands.number_is) (claim_justified past n after found.0 before.replaced (length-set before.table slot (Some (record { epoch = newer; owner = before.number })) ∙ stands.slots))))
 
   -- ---- MIGRATE
 
@@ -146,7 +146,7 @@ module _ {past : List Entry} {n : ℕ} {before : NodeState} {one : Keyspace} (wa
       let slot : ℕ = hash_slot key in
       let facts = copy_is_again (move_of before.moves slot) target key (is_some (fin_map.get before.keyspace key)) to number copy is in
       let after : NodeState = parked before conn slot number copy ticks in
-      quiet_still was _ refl refl (copy_outcome before conn key ticks (copies.SendAgain to number copy)) (record { number_is = stands.number_is; slots = stands.slots }) (λ other. refl)
+      quiet_still was _ refl refl (copy_outcome before conn key ticks (copies.SendAgain to number copy)) (record { number_is = stands.number_is; slots = stands.slots; is_master = stands.is_master }) (λ other. refl)
       (copy_justified past n after slot to number copy key
       (subst (λ (k : List ℕ). move_of before.moves slot ≡ Some (Leaves to number copy (Some k))) facts.2 facts.1) (eq-eqb (hash_slot key) slot refl))
   copy_stands conn key ticks target (copies.Copies to number copy) is =
@@ -156,7 +156,7 @@ module _ {past : List Entry} {n : ℕ} {before : NodeState} {one : Keyspace} (wa
       let inside : is_in_slot slot key ≡ true = eq-eqb (hash_slot key) slot refl in
       let moved : NodeState = record before { moves = with_move before.moves slot (Leaves to number copy (Some key)) } in
       let after : NodeState = parked moved conn slot number copy ticks in
-      quiet was _ refl refl (copy_outcome before conn key ticks (copies.Copies to number copy)) (record { number_is = stands.number_is; slots = stands.slots })
+      quiet was _ refl refl (copy_outcome before conn key ticks (copies.Copies to number copy)) (record { number_is = stands.number_is; slots = stands.slots; is_master = stands.is_master })
       (holds_but was after one slot
       (subst (λ (c : ℕ). HoldsAfter (was slot) (record before { moves = with_move before.moves slot (Leaves to number c (Some key)) }) one) (sym facts.2)
       (copy_ordered_holds (was slot) to number facts.0 key there.0 facts.1 (value_here before.keyspace slot key inside ∙ there.1)))

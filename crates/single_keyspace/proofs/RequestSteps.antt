@@ -59,7 +59,7 @@ module _ {past : List Entry} {n : ℕ} {before : NodeState} {one : Keyspace} (wa
         → if_served (answered_with words (served before command why).response) ≡ Some (record { words = words; answer = record { why = Decided why; reply = (exec before.keyspace command).reply } })
         → redirection_in (answered_with words (served before command why).response) ≡ None → Answers (served before command why)
     executed_stands why holding is_served not_sent_on = record {
-      node = record { number_is = stands.number_is; slots = stands.slots };
+      node = record { number_is = stands.number_is; slots = stands.slots; is_master = stands.is_master };
       holds = λ slot.
           subst (λ (o : Option Answered). HoldsAfter (was slot) (executed before command) (next_of one o)) (sym is_served)
           (subst (λ (r : Result Command CommandFault). HoldsAfter (was slot) (executed before command) (execution_of one r).after) (sym reads) (holding.holds slot));
@@ -117,10 +117,10 @@ module _ {past : List Entry} {n : ℕ} {before : NodeState} {one : Keyspace} (wa
   cluster_stands conn (cluster.SlotState slot) = quiet_still was _ refl refl (cluster_outcome before conn (cluster.SlotState slot)) stands (λ s. refl) (nothing_sent past n before)
   cluster_stands conn (cluster.SetSlot slot order id number) = order_stands slot order (node_with_id before id) number
   cluster_stands conn cluster.Numbered =
-      quiet_still was _ refl refl (cluster_outcome before conn cluster.Numbered) (record { number_is = stands.number_is; slots = stands.slots }) (λ slot. refl)
+      quiet_still was _ refl refl (cluster_outcome before conn cluster.Numbered) (record { number_is = stands.number_is; slots = stands.slots; is_master = stands.is_master }) (λ slot. refl)
       (nothing_sent past n (cluster_outcome before conn cluster.Numbered).state)
   cluster_stands conn (cluster.Asking number) =
-      quiet_still was _ refl refl (cluster_outcome before conn (cluster.Asking number)) (record { number_is = stands.number_is; slots = stands.slots }) (λ slot. refl)
+      quiet_still was _ refl refl (cluster_outcome before conn (cluster.Asking number)) (record { number_is = stands.number_is; slots = stands.slots; is_master = stands.is_master }) (λ slot. refl)
       (nothing_sent past n (cluster_outcome before conn (cluster.Asking number)).state)
   cluster_stands conn (cluster.Migrate host port key timeout) =
       copy_stands was stands words conn key timeout (node_at before host port) (copy_verdict_on before key (node_at before host port)) refl

@@ -1,6 +1,6 @@
 -- How a slot is seen when one node changes.
-use Rattle.std.proofs.Common.{◌≡◌, ◌≢◌, ◌<◌, ℕ, zero, suc, List, [], ◌∷◌, Option, Some, None, refl, sym, ap, subst, ◌∙◌, inl, inr}
-use Rattle.std.proofs.lemmas.Bool.{cases_eq}
+use Rattle.std.proofs.Common.{◌≡◌, ◌≢◌, ◌<◌, ℕ, zero, suc, List, [], ◌∷◌, true, false, Option, Some, None, refl, sym, ap, subst, ◌∙◌, inl, inr}
+use Rattle.std.proofs.lemmas.Bool.{cases_eq, cond-true, cond-false}
 use Rattle.std.specs.Prelude.{slice_get, slice_set}
 use Rattle.keyspace.specs.Keyspace.{Keyspace}
 use Rattle.keyspace.specs.declared.value.Value.{Value}
@@ -8,9 +8,9 @@ use Rattle.slot_table.specs.declared.entry.SlotEntry.{SlotEntry}
 use Rattle.one_slot.specs.View.{View, Views}
 use Rattle.one_slot.specs.Slot.{Holds}
 use Rattle.one_slot.specs.Events.{Changes, Keeps}
-use Rattle.node_step.specs.State.{NodeState}
+use Rattle.node_step.specs.State.{NodeState, is_replica}
 use Rattle.world_run.specs.Run.{Entry}
-use Rattle.single_keyspace.specs.Slots.{values_in, view_of, view_at, views}
+use Rattle.single_keyspace.specs.Slots.{nowhere, values_in, view_of, view_at, views}
 use Rattle.single_keyspace.specs.Stands.{IsTrueOf}
 
 pub no_some : {A : Type 0} {o : Option A} {x : A} → o ≡ None → o ≡ Some x → ⊥
@@ -33,15 +33,32 @@ set_apart (z ∷ xs) zero y (suc j) apart = refl
 set_apart (z ∷ xs) (suc i) y zero apart = refl
 set_apart (z ∷ xs) (suc i) y (suc j) apart = set_apart xs i y j (λ same. apart (ap suc same))
 
-module _ (first : SlotEntry) (slot : ℕ) (nodes : List NodeState) (n : ℕ) (before : NodeState) (was : slice_get nodes n ≡ Some before) where
-  pub seen_here : views first nodes slot n ≡ view_of before slot
-  seen_here = ap (view_at first slot) was
+module _ (first : SlotEntry) (slot : ℕ) where
+  -- a master is seen, and a replica isn't
+  seen_master : (node : NodeState) → is_replica node ≡ false → view_at first slot (Some node) ≡ view_of node slot
+  seen_master node is = cond-false (is_replica node) (nowhere first) (view_of node slot) is
 
-  pub seen_changes : (after : NodeState) → Changes (views first nodes slot) (views first (slice_set nodes n after) slot) n (view_of after slot)
-  seen_changes after = record {
-    here = ap (view_at first slot) (set_here nodes n before after was);
-    there = λ other apart. ap (view_at first slot) (set_apart nodes n after other apart);
-  }
+  seen_replica : (node : NodeState) → is_replica node ≡ true → view_at first slot (Some node) ≡ nowhere first
+  seen_replica node is = cond-true (is_replica node) (nowhere first) (view_of node slot) is
+
+  module _ (nodes : List NodeState) (n : ℕ) (before : NodeState) (was : slice_get nodes n ≡ Some before) where
+    changes_to : (after : NodeState) (view : View Value) → view_at first slot (Some after) ≡ view → Changes (views first nodes slot) (views first (slice_set nodes n after) slot) n view
+    changes_to after view is = record {
+      here = ap (view_at first slot) (set_here nodes n before after was) ∙ is;
+      there = λ other apart. ap (view_at first slot) (set_apart nodes n after other apart);
+    }
+
+    pub seen_here : is_replica before ≡ false → views first nodes slot n ≡ view_of before slot
+    seen_here is = ap (view_at first slot) was ∙ seen_master before is
+
+    pub seen_changes : (after : NodeState) → is_replica after ≡ false → Changes (views first nodes slot) (views first (slice_set nodes n after) slot) n (view_of after slot)
+    seen_changes after is = changes_to after (view_of after slot) (seen_master after is)
+
+    pub hidden_here : is_replica before ≡ true → views first nodes slot n ≡ nowhere first
+    hidden_here is = ap (view_at first slot) was ∙ seen_replica before is
+
+    pub hidden_changes : (after : NodeState) → is_replica after ≡ true → Changes (views first nodes slot) (views first (slice_set nodes n after) slot) n (nowhere first)
+    hidden_changes after is = changes_to after (nowhere first) (seen_replica after is)
 
 -- ---- views
 

@@ -1,7 +1,7 @@
 -- What a node may send, by its state, and that it is true of the slot.
-use Rattle.std.proofs.Common.{length, ◌≡◌, ◌≤◌, ◌==◌, ℕ, List, [], ◌∷◌, false, Option, Some, None, All, Contains, refl, sym, ap, ap₂, subst, ◌∙◌, inl, inr, arith}
+use Rattle.std.proofs.Common.{length, ◌≡◌, ◌≤◌, ◌==◌, ℕ, List, [], ◌∷◌, ◌++◌, false, Option, Some, None, All, Contains, refl, sym, ap, ap₂, subst, ◌∙◌, inl, inr, arith}
 use Rattle.std.proofs.lemmas.Bool.{cases_Bool, cases_eq, cond-true, cond-false, eqb-true, ltb-false}
-use Rattle.std.proofs.lemmas.List.Elements.{All-head, All-tail}
+use Rattle.std.proofs.lemmas.List.Elements.{All-head, All-tail, Contains-append_cases}
 use Rattle.std.proofs.lemmas.Map.Lookups.{exact_bytes}
 use Rattle.std.specs.Cmp.Lexicographic.{slice_cmp}
 use Rattle.std.specs.Ordering.{nat_cmp}
@@ -16,31 +16,34 @@ use Rattle.slot_table.specs.Runs.{IsRun, AreRunsOf, runs_of}
 use Rattle.slot_table.specs.Table.{entry_at, epoch_in, claim_at}
 use Rattle.slot_table.specs.declared.entry.SlotEntry.{SlotEntry}
 use Rattle.slot_table.specs.declared.runs.Run.{Run}
-use Rattle.slot_state.specs.Moves.{move_of}
+use Rattle.slot_state.specs.Moves.{Moves, move_of}
 use Rattle.slot_state.specs.declared.running.Move.{Move}
 use Rattle.slot_state.specs.declared.running.Move.TheVariants.{Leaves, Comes}
 use Rattle.bus.specs.declared.message.Body.{Body}
 use Rattle.bus.specs.declared.message.Body.TheVariants as body
 use Rattle.bus.specs.declared.message.Message.{Message}
+use Rattle.bus.specs.declared.message.Replaced.{Replaced}
+use Rattle.std.specs.Prelude.{⊤}
 use Rattle.one_slot.specs.View.{View, Views}
 use Rattle.one_slot.specs.Slot.{Holds, IsLeaving}
 use Rattle.one_slot.specs.Sent.{Sent, IsSent}
 use Rattle.one_slot.specs.Sent.Sent.{Drained, Copy}
 use Rattle.one_slot.proofs.Sendings.{drained-is_sent}
 use Rattle.node_step.specs.Slots.{has_keys, slot_epoch, epoch_in_table, drained, drained_by, drained_if_empty, drained_since}
+use Rattle.node_step.specs.Orders.{to_all}
 use Rattle.node_step.specs.State.{NodeState}
 use Rattle.world_run.specs.Run.{Entry, sent_by}
 use Rattle.single_keyspace.specs.Slots.{values_in, view_of}
 use Rattle.single_keyspace.specs.Stands.{Says}
 use Rattle.single_keyspace.proofs.Laws.{laws_at}
-use Rattle.single_keyspace.proofs.Lists.{contains_nothing, contains_one}
+use Rattle.single_keyspace.proofs.Lists.{contains_nothing, contains_one, from_map}
 use Rattle.single_keyspace.proofs.Seen.{no_some, same_some}
 
 -- a copy of that number was sent to the node before, and it is installed
-pub record IsInstalled (past : List Entry) (n : ℕ) (node : NodeState) (to slot number count : ℕ) : Type 0 where
+pub record IsInstalled (past : List Entry) (n : ℕ) (moves : Moves) (to slot number count : ℕ) : Type 0 where
   pub copied : ℕ
   pub drained : Option ℕ
-  pub move : move_of node.moves slot ≡ Some (Comes to number copied drained)
+  pub move : move_of moves slot ≡ Some (Comes to number copied drained)
   pub reached : count ≤ copied
   pub key : List ℕ
   pub value : Value
@@ -51,22 +54,43 @@ pub record IsInstalled (past : List Entry) (n : ℕ) (node : NodeState) (to slot
   pub says : message.body ≡ body.Copy slot number count key value
 
 -- the slot leaves, and no key of it is left
-pub record IsLeft (node : NodeState) (to slot number epoch : ℕ) : Type 0 where
+pub record IsLeft (moves : Moves) (keyspace : Keyspace) (table : List (Option SlotEntry)) (to slot number epoch : ℕ) : Type 0 where
   pub copies : ℕ
   pub frozen : Option (List ℕ)
-  pub move : move_of node.moves slot ≡ Some (Leaves to number copies frozen)
-  pub epoch_is : epoch ≡ slot_epoch node slot
-  pub empty : has_keys node.keyspace slot ≡ false
+  pub move : move_of moves slot ≡ Some (Leaves to number copies frozen)
+  pub epoch_is : epoch ≡ epoch_in_table (entry_at table slot)
+  pub empty : has_keys keyspace slot ≡ false
+
+-- by what the node has of slots alone, so that nothing else of it matters
+abbrev pub IsJustifiedBy : List Entry → ℕ → Moves → Keyspace → List (Option SlotEntry) → ℕ → Body → Type 0
+IsJustifiedBy past n moves keyspace table to (body.Copy slot number copy key value) = (move_of moves slot ≡ Some (Leaves to number copy (Some key))) × (values_in keyspace slot key ≡ Some value)
+IsJustifiedBy past n moves keyspace table to (body.Ack slot number copy) = IsInstalled past n moves to slot number copy
+IsJustifiedBy past n moves keyspace table to (body.Drained slot number epoch) = IsLeft moves keyspace table to slot number epoch
+IsJustifiedBy past n moves keyspace table to (body.Claim runs replaced) = (slot epoch : ℕ) → claimed runs n slot ≡ Some (record { epoch = epoch; owner = n }) → entry_at table slot ≡ Some (record { epoch = epoch; owner = n })
+IsJustifiedBy past n moves keyspace table to other = ⊤
 
 abbrev pub IsJustified : List Entry → ℕ → NodeState → ℕ → Body → Type 0
-IsJustified past n node to (body.Copy slot number copy key value) = (move_of node.moves slot ≡ Some (Leaves to number copy (Some key))) × (values_in node.keyspace slot key ≡ Some value)
-IsJustified past n node to (body.Ack slot number copy) = IsInstalled past n node to slot number copy
-IsJustified past n node to (body.Drained slot number epoch) = IsLeft node to slot number epoch
-IsJustified past n node to (body.Claim runs) = (slot epoch : ℕ) → claimed runs n slot ≡ Some (record { epoch = epoch; owner = n }) → entry_at node.table slot ≡ Some (record { epoch = epoch; owner = n })
+IsJustified past n node to body = IsJustifiedBy past n node.moves node.keyspace node.table to body
 
 -- all messages are
 abbrev pub AreJustified : List Entry → ℕ → NodeState → List (ℕ × Body) → Type 0
 AreJustified past n node sent = (to : ℕ) (body : Body) → Contains sent (to, body) → IsJustified past n node to body
+
+pub both_justified : (past : List Entry) (n : ℕ) (node : NodeState) (sent others : List (ℕ × Body)) → AreJustified past n node sent → AreJustified past n node others → AreJustified past n node (sent ++ others)
+both_justified past n node sent others first second to body among =
+    elim (Contains-append_cases sent others (to, body) among) [
+      | inl one ↦ first to body one
+      | inr other ↦ second to body other
+    ]
+
+pub one_justified : (past : List Entry) (n : ℕ) (node : NodeState) (to : ℕ) (body : Body) → IsJustified past n node to body → AreJustified past n node ((to, body) ∷ [])
+one_justified past n node to body just other said among =
+    subst (λ (p : ℕ × Body). IsJustified past n node p.0 p.1) (contains_one (to, body) (other, said) among) just
+
+pub to_all_justified : (past : List Entry) (n : ℕ) (node : NodeState) (numbers : List ℕ) (body : Body) → ((to : ℕ) → IsJustified past n node to body) → AreJustified past n node (to_all numbers body)
+to_all_justified past n node numbers body just to said among =
+    let found = from_map (λ (number : ℕ). (number, body)) numbers (to, said) among in
+    subst (λ (p : ℕ × Body). IsJustified past n node p.0 p.1) found.2 (just found.0)
 
 -- ---- they are true
 
@@ -79,7 +103,7 @@ no_keys keyspace slot none key =
     ∙ ap (λ (m : Keyspace). fin_map.get m key) empty ∙ fin_map.get-empty (slice_cmp nat_cmp) key
 
 left_is_true : {top : SlotEntry} {seen : Views Value} {one : List ℕ → Option Value} {n : ℕ} {slot : ℕ} (node : NodeState) → Holds top seen one → seen n ≡ view_of node slot
-    → (to number epoch : ℕ) → IsLeft node to slot number epoch → IsSent top seen (Drained n to number epoch)
+    → (to number epoch : ℕ) → IsLeft node.moves node.keyspace node.table to slot number epoch → IsSent top seen (Drained n to number epoch)
 left_is_true {top = top} {seen = seen} {n = n} {slot = slot} node holds here to number epoch left =
     let leaving : IsLeaving (seen n) to number = record { copies = left.copies; frozen = left.frozen; is = ap (λ (v : View Value). v.move) here ∙ left.move } in
     elim (cases_eq n top.owner) [
@@ -115,10 +139,16 @@ module _ (past : List Entry) (node : NodeState) {top : SlotEntry} {seen : Views 
       just.reached
       (subst (IsSent top seen) (ap₂ (λ (f t : ℕ). Copy f t number copy just.key just.value) just.from_there just.to_here) copied))
   justified_is_true to (body.Drained other number epoch) sent just says =
-      subst (IsSent top seen) (sym says.1) (left_is_true node holds here to number epoch (subst (λ (s : ℕ). IsLeft node to s number epoch) says.0 just))
-  justified_is_true to (body.Claim runs) sent just says =
+      subst (IsSent top seen) (sym says.1) (left_is_true node holds here to number epoch (subst (λ (s : ℕ). IsLeft node.moves node.keyspace node.table to s number epoch) says.0 just))
+  justified_is_true to (body.Claim runs replaced) sent just says =
       subst (IsSent top seen) (sym says.2)
       ((laws_at top seen one n (view_of node slot) holds here).claim_sent says.0 (just slot says.0 says.1))
+  justified_is_true to (body.Report suspects) sent just says = absurd says
+  justified_is_true to (body.Request request) sent just says = absurd says
+  justified_is_true to (body.Grant epoch) sent just says = absurd says
+  justified_is_true to (body.Sync sync) sent just says = absurd says
+  justified_is_true to (body.Piece piece) sent just says = absurd says
+  justified_is_true to (body.Snapshot snapshot) sent just says = absurd says
 
 -- ---- drained
 
@@ -173,7 +203,7 @@ named_in number (Some entry) epoch is =
     ]
 
 -- the longest runs of a node's own slots are what it may claim
-pub claim_justified : (past : List Entry) (n : ℕ) (node : NodeState) (to : ℕ) → length node.table ≡ 16384 → IsJustified past n node to (body.Claim (runs_of (claim_at node.table n)))
-claim_justified past n node to whole slot epoch is =
+pub claim_justified : (past : List Entry) (n : ℕ) (node : NodeState) (to : ℕ) (replaced : Option Replaced) → length node.table ≡ 16384 → IsJustified past n node to (body.Claim (runs_of (claim_at node.table n)) replaced)
+claim_justified past n node to replaced whole slot epoch is =
     let are : AreRunsOf (claim_at node.table n) (runs_of (claim_at node.table n)) = are_runs_of (claim_at node.table n) (no_claim_behind node.table n whole) in
     named_in n (entry_at node.table slot) epoch (claimed_value (claim_at node.table n) (runs_of (claim_at node.table n)) n slot epoch are.each is)

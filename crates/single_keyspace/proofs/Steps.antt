@@ -1,18 +1,21 @@
 -- What a step of a node leaves of all slots.
-use Rattle.std.proofs.Common.{◌≡◌, ℕ, List, [], Option, Some, None, refl, sym, subst}
+use Rattle.std.proofs.Common.{◌≡◌, ℕ, List, [], ◌∷◌, Option, Some, None, refl, sym, subst}
 use Rattle.command_table.specs.Table.{command_of}
 use Rattle.keyspace.specs.Commands.{exec_words}
 use Rattle.keyspace.specs.Keyspace.{Keyspace}
 use Rattle.one_slot.specs.Events.{IsAsked}
+use Rattle.node_step.specs.Orders.{to_all}
 use Rattle.node_step.specs.Outcome.{Outcome}
+use Rattle.node_step.specs.Roles.{replicas_of}
 use Rattle.node_step.specs.State.{NodeState}
+use Rattle.node_step.specs.Streams.{Requests, recorded}
 use Rattle.world_run.specs.Executed.{Answered, Redirection, if_served, redirection_in}
 use Rattle.world_run.specs.Run.{Entry}
 use Rattle.single_keyspace.specs.Slots.{view_of}
 use Rattle.single_keyspace.specs.Stands.{BeginsIn, NodeStands, keys_in}
 use Rattle.single_keyspace.proofs.Lists.{contains_nothing}
 use Rattle.single_keyspace.proofs.Seen.{no_some, SlotWas, HoldsAfter, holds_untouched}
-use Rattle.single_keyspace.proofs.Sendings.{AreJustified}
+use Rattle.single_keyspace.proofs.Sendings.{AreJustified, both_justified, to_all_justified}
 
 -- the one keyspace after a request, if that was executed
 abbrev pub next_of : Keyspace → Option Answered → Keyspace
@@ -52,3 +55,17 @@ module _ {past : List Entry} {n : ℕ} {before : NodeState} {one : Keyspace} (wa
       → ((slot : ℕ) → view_of outcome.state slot ≡ view_of before slot) → AreJustified past n outcome.state outcome.sent → StepStands was answer outcome
   quiet_still answer not_served not_sent_on outcome node same sent =
       quiet answer not_served not_sent_on outcome node (λ slot. holds_untouched (was slot) outcome.state one (same slot) (λ key. refl)) sent
+
+  -- ---- what is put round a step
+
+  -- bytes that are written change no slot, and no piece says anything of one
+  pub recorded_stands : (answer : Option Answered) (outcome : Outcome) (requests : Requests) (dropped : ℕ) → StepStands was answer outcome → StepStands was answer (recorded outcome requests dropped)
+  recorded_stands answer outcome [] dropped step = step
+  recorded_stands answer outcome (request ∷ requests) dropped step = record {
+    node = record { number_is = step.node.number_is; slots = step.node.slots; is_master = step.node.is_master };
+    holds = step.holds;
+    sent = both_justified past n outcome.state outcome.sent (to_all (replicas_of outcome.state.masters outcome.state.number) _) step.sent
+        (to_all_justified past n outcome.state (replicas_of outcome.state.masters outcome.state.number) _ (λ to. tt));
+    told = step.told;
+    replies = step.replies;
+  }

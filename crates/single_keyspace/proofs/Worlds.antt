@@ -1,5 +1,5 @@
 -- The law of a cluster, along its runs.
-use Rattle.std.proofs.Common.{◌≡◌, ◌≢◌, ◌<◌, ◌≤◌, ℕ, List, [], ◌∷◌, map, Option, Some, None, Contains, length, refl, sym, ap, ap₂, subst, ◌∙◌, inl, inr, arith}
+use Rattle.std.proofs.Common.{◌≡◌, ◌≢◌, ◌<◌, ◌≤◌, ◌⊎◌, ℕ, Bool, true, false, cond, List, [], ◌∷◌, map, Option, Some, None, Contains, length, refl, sym, ap, ap₂, subst, ◌∙◌, inl, inr, arith}
 use Rattle.std.proofs.lemmas.Bool.{cases_lt, cases_eq}
 use Rattle.std.proofs.lemmas.List.{get_or_past}
 use Rattle.std.proofs.lemmas.List.Elements.{Contains-append_cases}
@@ -12,6 +12,7 @@ use Rattle.keyspace.specs.Commands.{replay_from}
 use Rattle.keyspace.specs.Keyspace.{Keyspace}
 use Rattle.keyspace.specs.Locality.{CommandsAreLocal}
 use Rattle.keyspace.specs.declared.value.Value.{Value}
+use Rattle.bus.specs.declared.message.Body.{Body}
 use Rattle.bus.specs.declared.message.Message.{Message}
 use Rattle.cluster_config.specs.Config.{ClusterConfig}
 use Rattle.slot_table.specs.declared.entry.SlotEntry.{SlotEntry}
@@ -20,106 +21,155 @@ use Rattle.one_slot.specs.Sent.{Sent, IsSent}
 use Rattle.one_slot.specs.Sent.Sent.{Told}
 use Rattle.one_slot.specs.View.{Views}
 use Rattle.node_step.specs.Outcome.{Outcome, outputs_of, silent, stamped}
-use Rattle.node_step.specs.State.{NodeState}
+use Rattle.node_step.specs.State.{NodeState, is_replica}
 use Rattle.node_step.specs.declared.outputs.Outputs.{Outputs}
-use Rattle.world_run.specs.Executed.{Answered, KeepsAsking, MayAsk, answered, executed, if_served, redirection_in}
+use Rattle.world_run.specs.Executed.{Answered, KeepsAsking, MayAsk, Redirection, answered, executed, if_served, redirection_in}
 use Rattle.world_run.specs.Law.{SingleKeyspace}
 use Rattle.world_run.specs.Run.{Deed, Entry, Goes, Leads, WorldStep, sent_by, sent_in}
 use Rattle.world_run.specs.Run.Deed.{Made, Skipped}
-use Rattle.single_keyspace.specs.Slots.{first_of, values_in, view_at, view_of, views}
-use Rattle.single_keyspace.specs.Stands.{NodeStands, Says, SlotStands, WorldStands, keys_in}
+use Rattle.single_keyspace.specs.Slots.{first_of, nowhere, values_in, view_at, view_of, views}
+use Rattle.single_keyspace.specs.Stands.{BeginsIn, NodeStands, ReplicaStands, Says, SlotStands, WorldStands, keys_in}
 use Rattle.single_keyspace.proofs.EventSteps.{event_stands}
 use Rattle.single_keyspace.proofs.Laws.{laws_at}
 use Rattle.single_keyspace.proofs.Lists.{first_found_or_more, from_map}
-use Rattle.single_keyspace.proofs.Seen.{SlotWas, no_some, same_some, seen_changes, seen_here, set_apart, set_here}
+use Rattle.single_keyspace.proofs.Replicas.{ReplicaStep, event_replica, skipped_replica}
+use Rattle.single_keyspace.proofs.Seen.{SlotHolds, SlotWas, hidden_changes, hidden_here, holds_still, no_some, same_some, same_values, seen_changes, seen_here, set_apart, set_here}
 use Rattle.single_keyspace.proofs.Sendings.{justified_is_true}
 use Rattle.single_keyspace.proofs.Start.{first_world_stands}
 use Rattle.single_keyspace.proofs.Steps.{RepliesAs, StepStands, next_of, nothing_sent, quiet_still}
+
+-- a node at its place, a master or a replica
+abbrev IsAt : ℕ → NodeState → Type 0
+IsAt number node = NodeStands number node ⊎ ReplicaStands number node
+
+whole_table : (number : ℕ) (node : NodeState) → IsAt number node → length node.table ≡ 16384
+whole_table number node (inl master) = master.slots
+whole_table number node (inr replica) = replica.slots
+
+at_number : (number : ℕ) (node : NodeState) → IsAt number node → node.number ≡ number
+at_number number node (inl master) = master.number_is
+at_number number node (inr replica) = replica.number_is
 
 module _ (config : ClusterConfig) {past : List Entry} {nodes : List NodeState} {one : Keyspace} (stands : WorldStands config past nodes one) where
   -- a slot that moves at a node is one of its table's
   pub below_all : (slot j : ℕ) (entry : SlotEntry) → (views (first_of config slot) nodes slot j).move ≢ None → (views (first_of config slot) nodes slot j).entry ≡ Some entry → slot < 16384
   below_all slot j entry = by_node (slice_get nodes j) refl
     where
-      by_node : (o : Option NodeState) → slice_get nodes j ≡ o → (view_at (first_of config slot) slot o).move ≢ None → (view_at (first_of config slot) slot o).entry ≡ Some entry → slot < 16384
-      by_node None none moves is = absurd (moves refl)
-      by_node (Some node) there moves is =
+      by_role : (node : NodeState) → slice_get nodes j ≡ Some node → (b : Bool) → (cond b (nowhere (first_of config slot)) (view_of node slot)).move ≢ None → (cond b (nowhere (first_of config slot)) (view_of node slot)).entry ≡ Some entry → slot < 16384
+      by_role node there true moves is = absurd (moves refl)
+      by_role node there false moves is =
           elim (cases_lt slot 16384) [
             | inl below ↦ below
             | inr past ↦
-                let whole : length node.table ≡ 16384 = (stands.each j node there).slots in
+                let whole : length node.table ≡ 16384 = whole_table j node (stands.each j node there) in
                 let beyond : length node.table ≤ slot = omega (arith, whole, past) in
                 absurd (no_some (get_or_past node.table slot None beyond) is)
           ]
 
+      by_node : (o : Option NodeState) → slice_get nodes j ≡ o → (view_at (first_of config slot) slot o).move ≢ None → (view_at (first_of config slot) slot o).entry ≡ Some entry → slot < 16384
+      by_node None none moves is = absurd (moves refl)
+      by_node (Some node) there moves is = by_role node there (is_replica node) moves is
+
   module _ (n : ℕ) (before : NodeState) (there : slice_get nodes n ≡ Some before) where
-    abbrev pub slot_was : (slot : ℕ) → SlotWas past n before one slot
-    slot_was slot =
+    abbrev pub slot_was : NodeStands n before → (slot : ℕ) → SlotWas past n before one slot
+    slot_was master slot =
         let was = stands.slots slot in
         record {
           top = was.top;
           seen = views (first_of config slot) nodes slot;
           holds = was.holds;
-          here = seen_here (first_of config slot) slot nodes n before there;
+          here = seen_here (first_of config slot) slot nodes n before there master.is_master;
           history = was.history;
           below = below_all slot;
         }
 
     -- the world after a step, of which this is the entry
-    module _ (entry : Entry) (outcome : Outcome) (ticket : ℕ) (sends : sent_in entry.deed ≡ map (stamped outcome.state.number ticket outcome.state.current_epoch) outcome.sent)
-        (step : StepStands slot_was (answered entry.deed) outcome) where
+    module _ (entry : Entry) (outcome : Outcome) (ticket : ℕ) (sends : sent_in entry.deed ≡ map (stamped outcome.state.number ticket outcome.state.current_epoch) outcome.sent) where
       abbrev new : List NodeState
       new = slice_set nodes n outcome.state
 
       abbrev next : Keyspace
       next = next_of one (if_served (answered entry.deed))
 
-      slot_after : (slot : ℕ) → SlotStands (first_of config slot) (entry ∷ past) new next slot
-      slot_after slot =
-          let was = slot_was slot in
-          let changes = seen_changes (first_of config slot) slot nodes n before there outcome.state in
-          let slot_holds = step.holds slot (views (first_of config slot) new slot) changes in
-          let newest : SlotEntry = slot_holds.newest in
+      -- what the step leaves of a slot: it is kept, and what is now sent and told is true of it
+      pub record SlotLeft (slot : ℕ) : Type 0 where
+        pub kept : SlotHolds (views (first_of config slot) nodes slot) (stands.slots slot).top (views (first_of config slot) new slot) (values_in next slot)
+        pub sent : (to : ℕ) (body : Body) (said : Sent Value) → Contains outcome.sent (to, body) → Says slot n to body said → IsSent kept.newest (views (first_of config slot) new slot) said
+        pub told : (redirection : Redirection) → redirection_in (answered entry.deed) ≡ Some redirection → BeginsIn slot (keys_in (command_of redirection.words))
+            → (by : ℕ) × IsSent kept.newest (views (first_of config slot) new slot) (Told by redirection.to redirection.number (keys_in (command_of redirection.words)))
+
+      slot_after : outcome.state.number ≡ n → (slot : ℕ) → SlotLeft slot → SlotStands (first_of config slot) (entry ∷ past) new next slot
+      slot_after number_is slot left =
+          let was = stands.slots slot in
+          let newest : SlotEntry = left.kept.newest in
+          let old_seen : Views Value = views (first_of config slot) nodes slot in
           let seen : Views Value = views (first_of config slot) new slot in
-          let holding : Keeps was.top newest was.seen seen (values_in next slot) = slot_holds.holds in
-          let history : (message : Message) (sent : Sent Value) → Contains (sent_by past) message → Says slot message.from message.to message.body sent → IsSent newest seen sent =
-          λ message sent among says. holding.sent sent (was.history.sent message sent among says) in
+          let keeps : Keeps was.top newest old_seen seen (values_in next slot) = left.kept.holds in
           record {
             top = newest;
-            holds = holding.holds;
+            holds = keeps.holds;
             history = record {
               sent = λ message sent among says.
                   elim (Contains-append_cases (sent_in entry.deed) (sent_by past) message among) [
                     | inl now ↦
                         let found = from_map (stamped outcome.state.number ticket outcome.state.current_epoch) outcome.sent message (subst (λ (l : List Message). Contains l message) sends now) in
                         let says_so : Says slot outcome.state.number found.0.0 found.0.1 sent = subst (λ (m : Message). Says slot m.from m.to m.body sent) (sym found.2) says in
-                        justified_is_true past outcome.state holding.holds changes.here history found.0.0 found.0.1 sent (step.sent found.0.0 found.0.1 found.1)
-                        (subst (λ (from : ℕ). Says slot from found.0.0 found.0.1 sent) step.node.number_is says_so)
-                    | inr earlier ↦ history message sent earlier says
+                        left.sent found.0.0 found.0.1 sent found.1 (subst (λ (from : ℕ). Says slot from found.0.0 found.0.1 sent) number_is says_so)
+                    | inr earlier ↦ keeps.sent sent (was.history.sent message sent earlier says)
                   ];
               told = λ redirection among begins.
                   elim (first_found_or_more (λ (e : Entry). redirection_in (answered e.deed)) entry past redirection among) [
-                    | inl now ↦ (
-                      n,
-                      (laws_at newest seen (values_in next slot) n (view_of outcome.state slot) holding.holds changes.here).told_sent redirection.to redirection.number
-                          (keys_in (command_of redirection.words)) (step.told redirection now slot begins),
-                    )
-                    | inr earlier ↦ let told = was.history.told redirection earlier begins in (told.0, holding.sent (Told told.0 redirection.to redirection.number (keys_in (command_of redirection.words))) told.1)
+                    | inl now ↦ left.told redirection now begins
+                    | inr earlier ↦ let told = was.history.told redirection earlier begins in (told.0, keeps.sent (Told told.0 redirection.to redirection.number (keys_in (command_of redirection.words))) told.1)
                   ];
             };
           }
 
-      each_after : (number : ℕ) (node : NodeState) → slice_get new number ≡ Some node → NodeStands number node
-      each_after number node is =
+      each_after : IsAt n outcome.state → (number : ℕ) (node : NodeState) → slice_get new number ≡ Some node → IsAt number node
+      each_after is_at number node is =
           elim (cases_eq number n) [
             | inl same ↦
                 let node_is : outcome.state ≡ node = same_some (set_here nodes n before outcome.state there) (ap (slice_get new) (sym same) ∙ is) in
-                subst (λ (m : ℕ). NodeStands m node) (sym same) (subst (NodeStands n) node_is step.node)
+                subst (λ (m : ℕ). IsAt m node) (sym same) (subst (IsAt n) node_is is_at)
             | inr apart ↦ stands.each number node (sym (set_apart nodes n outcome.state number apart) ∙ is)
           ]
 
-      pub world_after : WorldStands config (entry ∷ past) new next
-      world_after = record { each = each_after; slots = slot_after }
+      world_after : IsAt n outcome.state → ((slot : ℕ) → SlotLeft slot) → WorldStands config (entry ∷ past) new next
+      world_after is_at left = record { each = each_after is_at; slots = λ slot. slot_after (at_number n outcome.state is_at) slot (left slot) }
+
+      -- by a master
+      pub master_after : (master : NodeStands n before) → StepStands (slot_was master) (answered entry.deed) outcome → WorldStands config (entry ∷ past) new next
+      master_after master step = world_after (inl step.node) (λ slot.
+          let was = slot_was master slot in
+          let changes = seen_changes (first_of config slot) slot nodes n before there outcome.state step.node.is_master in
+          let kept = step.holds slot (views (first_of config slot) new slot) changes in
+          record {
+            kept = kept;
+            sent = λ to body said among says.
+                justified_is_true past outcome.state kept.holds.holds changes.here
+                (λ message sent earlier says_so. kept.holds.sent sent (was.history.sent message sent earlier says_so)) to body said (step.sent to body among) says;
+            told = λ redirection now begins. (
+              n,
+              (laws_at kept.newest (views (first_of config slot) new slot) (values_in next slot) n (view_of outcome.state slot) kept.holds.holds changes.here).told_sent redirection.to redirection.number
+                  (keys_in (command_of redirection.words)) (step.told redirection now slot begins),
+            );
+          })
+
+      -- by a replica, which is not seen
+      pub replica_after : is_replica before ≡ true → ReplicaStep n one (answered entry.deed) outcome → WorldStands config (entry ∷ past) new next
+      replica_after replica step = world_after (inr step.node) (λ slot.
+          let first : SlotEntry = first_of config slot in
+          let still : Keeps (stands.slots slot).top (stands.slots slot).top (views first nodes slot) (views first new slot) (values_in one slot) =
+          holds_still (stands.slots slot).top (views first nodes slot) (views first new slot) (values_in one slot) n (nowhere first) (stands.slots slot).holds
+          (hidden_here first slot nodes n before there replica) (hidden_changes first slot nodes n before there outcome.state step.node.is_one) in
+          record {
+            kept = record {
+              newest = (stands.slots slot).top;
+              holds = subst (Keeps (stands.slots slot).top (stands.slots slot).top (views first nodes slot) (views first new slot)) (sym (same_values (step.stays slot))) still;
+            };
+            sent = λ to body said among says. absurd (step.mute to body among slot said says);
+            told = λ redirection now begins. absurd (step.told redirection now);
+          })
 
   -- what is left of the world by an entry
   pub record EntryStands (entry : Entry) (new : List NodeState) : Type 0 where
@@ -130,28 +180,43 @@ module _ (config : ClusterConfig) {past : List Entry} {nodes : List NodeState} {
   entry_stands local entry after step may =
       subst (EntryStands entry) (sym step.is) (by_deed entry.deed refl step.leads may)
     where
-      node : NodeStands entry.node step.before
-      node = stands.each entry.node step.before step.was
-
-      was : (slot : ℕ) → SlotWas past entry.node step.before one slot
-      was = slot_was entry.node step.before step.was
+      is_at : IsAt entry.node step.before
+      is_at = stands.each entry.node step.before step.was
 
       by_deed : (deed : Deed) → entry.deed ≡ deed → Leads past entry.ticket step.before deed step.after → MayAsk past entry.node (answered deed) → EntryStands entry (slice_set nodes entry.node step.after)
       by_deed Skipped skipped same may =
-          let still : StepStands was (answered entry.deed) (silent step.before) =
-          subst (λ (d : Deed). StepStands was (answered d) (silent step.before)) (sym skipped)
-          (quiet_still was None refl refl (silent step.before) node (λ slot. refl) (nothing_sent past entry.node step.before)) in
-          subst (λ (s : NodeState). EntryStands entry (slice_set nodes entry.node s)) (sym same)
-          (record { world = world_after entry.node step.before step.was entry (silent step.before) 0 (ap sent_in skipped) still; replies = still.replies })
+          subst (λ (s : NodeState). EntryStands entry (slice_set nodes entry.node s)) (sym same) (by_role is_at)
+        where
+          by_role : IsAt entry.node step.before → EntryStands entry (slice_set nodes entry.node step.before)
+          by_role (inl master) =
+              let was = slot_was entry.node step.before step.was master in
+              let still : StepStands was (answered entry.deed) (silent step.before) =
+              subst (λ (d : Deed). StepStands was (answered d) (silent step.before)) (sym skipped)
+              (quiet_still was None refl refl (silent step.before) master (λ slot. refl) (nothing_sent past entry.node step.before)) in
+              record { world = master_after entry.node step.before step.was entry (silent step.before) 0 (ap sent_in skipped) master still; replies = still.replies }
+          by_role (inr replica) =
+              let still : ReplicaStep entry.node one (answered entry.deed) (silent step.before) =
+              subst (λ (d : Deed). ReplicaStep entry.node one (answered d) (silent step.before)) (sym skipped) (skipped_replica one replica) in
+              record { world = replica_after entry.node step.before step.was entry (silent step.before) 0 (ap sent_in skipped) replica.is_one still; replies = still.replies }
       by_deed (Made event outputs) made (happens, stepped) may =
-          let outcome : Outcome = stepped.outcome in
-          let deed_is : entry.deed ≡ Made event (outputs_of entry.ticket outcome) = made ∙ ap (Made event) stepped.outputs_are in
-          let made_so : StepStands was (answered (Made event (outputs_of entry.ticket outcome))) outcome =
-          event_stands was node local entry.ticket event outcome happens stepped.may_come
-          (subst (λ (o : Outputs). MayAsk past entry.node (answered (Made event o))) stepped.outputs_are may) in
-          let stood : StepStands was (answered entry.deed) outcome = subst (λ (d : Deed). StepStands was (answered d) outcome) (sym deed_is) made_so in
-          subst (λ (s : NodeState). EntryStands entry (slice_set nodes entry.node s)) (sym stepped.state)
-          (record { world = world_after entry.node step.before step.was entry outcome entry.ticket (ap sent_in deed_is) stood; replies = stood.replies })
+          subst (λ (s : NodeState). EntryStands entry (slice_set nodes entry.node s)) (sym stepped.state) (by_role is_at)
+        where
+          deed_is : entry.deed ≡ Made event (outputs_of entry.ticket stepped.outcome)
+          deed_is = made ∙ ap (Made event) stepped.outputs_are
+
+          by_role : IsAt entry.node step.before → EntryStands entry (slice_set nodes entry.node stepped.outcome.state)
+          by_role (inl master) =
+              let was = slot_was entry.node step.before step.was master in
+              let made_so : StepStands was (answered (Made event (outputs_of entry.ticket stepped.outcome))) stepped.outcome =
+              event_stands was master local entry.ticket event stepped.outcome happens stepped.may_come
+              (subst (λ (o : Outputs). MayAsk past entry.node (answered (Made event o))) stepped.outputs_are may) in
+              let stood : StepStands was (answered entry.deed) stepped.outcome = subst (λ (d : Deed). StepStands was (answered d) stepped.outcome) (sym deed_is) made_so in
+              record { world = master_after entry.node step.before step.was entry stepped.outcome entry.ticket (ap sent_in deed_is) master stood; replies = stood.replies }
+          by_role (inr replica) =
+              let made_so : ReplicaStep entry.node one (answered (Made event (outputs_of entry.ticket stepped.outcome))) stepped.outcome =
+              event_replica one replica local entry.ticket event stepped.outcome stepped.may_come in
+              let stood : ReplicaStep entry.node one (answered entry.deed) stepped.outcome = subst (λ (d : Deed). ReplicaStep entry.node one (answered d) stepped.outcome) (sym deed_is) made_so in
+              record { world = replica_after entry.node step.before step.was entry stepped.outcome entry.ticket (ap sent_in deed_is) replica.is_one stood; replies = stood.replies }
 
 -- ---- runs
 

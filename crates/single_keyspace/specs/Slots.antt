@@ -9,7 +9,7 @@ use Rattle.slot_state.specs.Moves.{last_move_of, move_of}
 use Rattle.slot_table.specs.Table.{entry_at, first_table}
 use Rattle.slot_table.specs.declared.entry.SlotEntry.{SlotEntry}
 use Rattle.one_slot.specs.View.{View, Views}
-use Rattle.node_step.specs.State.{NodeState}
+use Rattle.node_step.specs.State.{NodeState, is_replica}
 
 -- what a keyspace has of a slot
 abbrev pub values_in : Keyspace → ℕ → List ℕ → Option Value
@@ -28,9 +28,10 @@ view_of node slot = record {
 abbrev pub nowhere : SlotEntry → View Value
 nowhere first = record { entry = Some first; move = None; last = 0; value = λ key. None }
 
+-- a replica has no part in a slot: what it copies of its master's keys is not seen
 abbrev pub view_at : SlotEntry → ℕ → Option NodeState → View Value
 view_at first slot None = nowhere first
-view_at first slot (Some node) = view_of node slot
+view_at first slot (Some node) = if is_replica node then nowhere first else view_of node slot
 
 abbrev pub views : SlotEntry → List NodeState → ℕ → Views Value
 views first nodes slot number = view_at first slot (slice_get nodes number)

@@ -30,10 +30,12 @@ use Rattle.connections.specs.Connections.{ConnectionTable, connection_at, open_a
 use Rattle.connections.specs.declared.conn.Conn.{Conn}
 use Rattle.connections.specs.declared.conn.Connection.{Connection}
 use Rattle.node_step.specs.Commands.{command_outcome, decision_on, served as served_by, executed}
-use Rattle.node_step.specs.Outcome.{Outcome, outputs_of}
+use Rattle.node_step.proofs.Recorded.{recorded_response, recorded_state}
+use Rattle.node_step.specs.Outcome.{Outcome}
 use Rattle.node_step.specs.Requests.{asking_of, is_numbered, request_outcome, using_up}
 use Rattle.node_step.specs.State.{NodeState}
-use Rattle.node_step.specs.Step.{NodeStep}
+use Rattle.node_step.specs.Step.{NodeStep, written}
+use Rattle.node_step.specs.Streams.{recorded}
 use Rattle.node_step.specs.declared.event.Event.{Event}
 use Rattle.node_step.specs.declared.event.Event.TheVariants.{Open, Request}
 use Rattle.node_step.specs.declared.outputs.Outputs.{Outputs}
@@ -120,18 +122,24 @@ opened ticket old new conn outputs step is_conn =
 may : (state : NodeState) (conn : Conn) → IsFresh state conn → may_ask (connection_at state.connections conn) ≡ true
 may state conn is = ap may_ask is
 
--- a command that the node decides to serve is executed
+-- a command that the node decides to serve is executed, and may be written behind the stream
 answered : (ticket : ℕ) (old new : NodeState) (conn : Conn) (words : List (List ℕ)) (outputs : Outputs) (command : DataCommand)
     → NodeStep ticket old (Request conn words) outputs new → command_of words ≡ Ok (Data command) → IsFresh old conn → IsServedBy old (data_keys command)
-    → outputs ≡ outputs_of ticket (served_by (using_up old conn) command Serve) × (new ≡ executed (using_up old conn) command)
+    → (outputs.response ≡ (served_by (using_up old conn) command Serve).response) × (new ≡ record (executed (using_up old conn) command) { stream = new.stream })
 answered ticket old new conn words outputs command step is_command is serves =
     let answering = rw (may old conn is) at step.may_come in
-    let read : step.outcome ≡ request_outcome old conn (Ok (Data command)) =
-    answering.comes_to ∙ ap (λ c. request_outcome old conn c) is_command in
-    let known : step.outcome ≡ command_outcome (using_up old conn) false command (decision_on (using_up old conn) command No) =
-    read ∙ ap (λ c. command_outcome (using_up old conn) (is_numbered c) command (decision_on (using_up old conn) command (asking_of c))) is in
-    let made : step.outcome ≡ served_by (using_up old conn) command Serve = known ∙ ap (command_outcome (using_up old conn) false command) serves in
-    (step.outputs_are ∙ ap (outputs_of ticket) made, step.state ∙ ap (λ (o : Outcome). o.state) made)
+    let asked : Outcome = request_outcome old conn (command_of words) in
+    let behind : Outcome = recorded asked (written old conn words) answering.dropped in
+    let known : asked ≡ command_outcome (using_up old conn) false command (decision_on (using_up old conn) command No) =
+    ap (λ c. request_outcome old conn c) is_command
+    ∙ ap (λ c. command_outcome (using_up old conn) (is_numbered c) command (decision_on (using_up old conn) command (asking_of c))) is in
+    let made : asked ≡ served_by (using_up old conn) command Serve = known ∙ ap (command_outcome (using_up old conn) false command) serves in
+    let comes : new ≡ behind.state = step.state ∙ ap (λ (o : Outcome). o.state) answering.comes_to in (
+      ap (λ (o : Outputs). o.response) step.outputs_are ∙ ap (λ (o : Outcome). o.response) answering.comes_to ∙ recorded_response asked (written old conn words) answering.dropped
+          ∙ ap (λ (o : Outcome). o.response) made,
+      comes ∙ recorded_state asked (written old conn words) answering.dropped ∙ ap (λ (node : NodeState). record asked.state { stream = node.stream }) (sym comes)
+          ∙ ap (λ (o : Outcome). record o.state { stream = new.stream }) made,
+    )
 
 -- the value that was set is the one that is got
 pub set_is_got : (t0 t1 t2 : ℕ) (s0 s1 s2 s3 : NodeState) (conn : Conn) (key value : List ℕ) (o1 o2 o3 : Outputs)
@@ -148,7 +156,7 @@ set_is_got t0 t1 t2 s0 s1 s2 s3 conn key value o1 o2 o3 opens is_conn setting ge
     ap (λ (s : NodeState). decision s.table s.moves s.number (asked_one key (is_some (map.get s2.keyspace key)))) set.1
     ∙ ap (λ found. decision s1.table s1.moves s1.number (asked_one key (is_some found))) there ∙ served_then in
     let got = answered t2 s2 s3 conn _ o3 (Get key) getting refl still second in
-    ap (λ (o : Outputs). o.response) got.0 ∙ ap (λ found. served (string_reply found)) there
+    got.0 ∙ ap (λ found. served (string_reply found)) there
 
 -- an event that was answered is one more entry
 pub one_entry : (old new : CellView) (event : Event) (entered : EnteredView) → Enters old event entered new → length new.journal ≡ length old.journal + 1

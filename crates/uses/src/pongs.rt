@@ -6,7 +6,7 @@ use connections::Conn;
 use history::History;
 use listener::{ConnFault, serve_conn};
 use node_gate::{Answered, NodeGate};
-use node_step::{Answer, Event, Messages, Outputs, Releases, Response, StepFault, Why};
+use node_step::{Answer, Event, Messages, Outputs, Promoted, Releases, Response, StepFault, Why};
 use redirect::Decision;
 use resp2::{Counting, Line, Reply, a_stream_is_read_in_one_way, no_unfinished_is_whole};
 use std::alloc::Global;
@@ -115,6 +115,7 @@ fn outputs_for(event: &Event) -> Outputs
         response,
         released: Releases::new(),
         sent: Messages::new(),
+        promoted: Promoted::none(),
     }
 }
 

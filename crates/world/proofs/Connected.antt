@@ -5,7 +5,7 @@ use Rattle.std.proofs.lemmas.Bool.{cases_eq, cond-true, cond-false}
 use Rattle.std.proofs.lemmas.List.{get_or-set_other}
 use Rattle.std.specs.Prelude.{MatchBool, Result, Ok, Err, ⊤}
 use Rattle.bus.specs.declared.message.Body.{Body}
-use Rattle.bus.specs.declared.message.Body.TheVariants.{Copy, Ack, Drained, Claim}
+use Rattle.bus.specs.declared.message.Body.TheVariants.{Copy, Ack, Drained, Claim, Report, Request as Requested, Grant, Sync, Piece, Snapshot}
 use Rattle.bus.specs.declared.message.Message.{Message}
 use Rattle.command_table.specs.Keys.{data_keys}
 use Rattle.command_table.specs.Table.{command_of}
@@ -22,6 +22,7 @@ use Rattle.connections.specs.declared.conn.Conn.{Conn}
 use Rattle.connections.specs.declared.conn.Connection.{Connection}
 use Rattle.connections.specs.declared.conn.Wait.{Wait}
 use Rattle.key_slot.specs.Slot.{hash_slot}
+use Rattle.keyspace.specs.Keyspace.{Keyspace}
 use Rattle.migrate.specs.Acknowledging.{acknowledged_key}
 use Rattle.migrate.specs.declared.sending.CopyVerdict.{CopyVerdict}
 use Rattle.migrate.specs.declared.sending.CopyVerdict.TheVariants as copies
@@ -44,12 +45,14 @@ use Rattle.slot_table.specs.declared.entry.SlotEntry.{SlotEntry}
 use Rattle.node_step.specs.Claiming.{claimed_by}
 use Rattle.node_step.specs.Commands.{asked_of, command_outcome, decision_on}
 use Rattle.node_step.specs.Copies.{acknowledged, copy_outcome, copy_verdict_on, node_at, waiting_for}
-use Rattle.node_step.specs.Messages.{delivered, knowing, taken}
+use Rattle.node_step.proofs.Kept.{pieced_keeps, recorded_keeps, restored_keeps, synced_is}
+use Rattle.node_step.proofs.Recorded.{recorded_response}
+use Rattle.node_step.specs.Messages.{Choice, delivered, knowing, taken, taken_so, written_by_message}
 use Rattle.node_step.specs.Orders.{ending_outcome, ending_verdict}
 use Rattle.node_step.specs.Outcome.{Outcome, silent}
 use Rattle.node_step.specs.Requests.{asking_for, asking_of, by_command, cluster_outcome, is_numbered, node_with_id, order_outcome, request_outcome, using_up, with_asking}
 use Rattle.node_step.specs.State.{NodeState}
-use Rattle.node_step.specs.Step.{IsAnswering, IsClosing, IsOpening, MayCome, NodeStep}
+use Rattle.node_step.specs.Step.{IsAnswering, IsClosing, IsOpening, MayCome, NodeStep, written}
 use Rattle.node_step.specs.Ticks.{tick}
 use Rattle.node_step.specs.declared.event.Event.{Event}
 use Rattle.node_step.specs.declared.event.Event.TheVariants.{Open, Close, Request, Deliver, Tick}
@@ -57,6 +60,7 @@ use Rattle.node_step.specs.declared.outputs.Outputs.{Outputs}
 use Rattle.node_step.specs.declared.response.Answer.{Answer}
 use Rattle.node_step.specs.declared.response.Response.{Response}
 use Rattle.node_step.specs.declared.response.Response.TheVariants.{Nothing, Opened, Replied, Parked}
+use Rattle.stream_values.specs.Stream.{StreamView}
 use Rattle.world_run.specs.Executed.{decision_in}
 
 -- the connection allows its next request what it did, or nothing any more
@@ -391,8 +395,12 @@ is_answering old conn words false outcome answer may answers = absurd (no_reply 
 
 -- ---- other events
 
-delivered_stays : (node : NodeState) (message : Message) → Stays node (delivered node message).state
-delivered_stays node message = by_node (message.to == node.number)
+-- whatever its stream is, and its keyspace
+stays_beside : {old : NodeState} (new : NodeState) (stream : StreamView) (keyspace : Keyspace) → Stays old new → Stays old (record new { stream = stream; keyspace = keyspace })
+stays_beside new stream keyspace stays = record { config = stays.config; opens = stays.opens; asking = stays.asking }
+
+delivered_stays : (node : NodeState) (message : Message) (choice : Choice) → Stays node (delivered node message choice).state
+delivered_stays node message choice = by_node (message.to == node.number)
   where
     acknowledged_stays : (slot number copy : ℕ) (key : Option (List ℕ)) → Stays node (acknowledged (knowing node message.epoch) slot number copy key).state
     acknowledged_stays slot number copy None = still refl refl
@@ -402,13 +410,24 @@ delivered_stays node message = by_node (message.to == node.number)
     claim_stays true table = still refl refl
     claim_stays false table = record { config = refl; opens = refl; asking = all_freed_asking node.connections _ }
 
-    taken_stays : (body : Body) → Stays node (taken (knowing node message.epoch) message.from body).state
-    taken_stays (Copy slot number copy key value) = still refl refl
-    taken_stays (Ack slot number copy) = acknowledged_stays slot number copy (acknowledged_key (move_of node.moves slot) message.from number copy)
-    taken_stays (Drained slot number epoch) = still refl refl
-    taken_stays (Claim slots) = claim_stays (message.from == node.number) (merged node.table slots message.from)
+    taken_so_stays : (body : Body) → Stays node (taken_so (knowing node message.epoch) message.from choice body).state
+    taken_so_stays (Copy slot number copy key value) = still refl refl
+    taken_so_stays (Ack slot number copy) = acknowledged_stays slot number copy (acknowledged_key (move_of node.moves slot) message.from number copy)
+    taken_so_stays (Drained slot number epoch) = still refl refl
+    taken_so_stays (Claim slots replaced) = claim_stays (message.from == node.number) (merged node.table slots message.from)
+    taken_so_stays (Report suspects) = still refl refl
+    taken_so_stays (Requested request) = still refl refl
+    taken_so_stays (Grant epoch) = still refl refl
+    taken_so_stays (Sync sync) = synced_is (λ (o : Outcome). Stays node o.state) (knowing node message.epoch) message.from sync (still refl refl) (still refl refl)
+    taken_so_stays (Piece piece) = pieced_keeps (Stays node) (knowing node message.epoch) (λ stream keyspace. still refl refl) message.from piece choice.follower
+    taken_so_stays (Snapshot snapshot) = restored_keeps (Stays node) (knowing node message.epoch) (λ stream keyspace. still refl refl) message.from snapshot
 
-    by_node : (is_here : Bool) → Stays node (cond is_here (taken (knowing node message.epoch) message.from message.body) (silent node)).state
+    taken_stays : (body : Body) → Stays node (taken (knowing node message.epoch) message.from choice body).state
+    taken_stays body =
+        let outcome : Outcome = taken_so (knowing node message.epoch) message.from choice body in
+        recorded_keeps (Stays node) outcome (written_by_message (knowing node message.epoch) message.from body) choice.dropped (λ stream. stays_beside outcome.state stream outcome.state.keyspace (taken_so_stays body))
+
+    by_node : (is_here : Bool) → Stays node (cond is_here (taken (knowing node message.epoch) message.from choice message.body) (silent node)).state
     by_node true = taken_stays message.body
     by_node false = still refl refl
 
@@ -464,7 +483,11 @@ close_leaves old conn false outcome may = silent_leaves (Close conn) old outcome
 
 answer_leaves : (old : NodeState) (conn : Conn) (words : List (List ℕ)) (asks : Bool) (outcome : Outcome) → MatchBool asks (IsAnswering old conn words outcome) (outcome ≡ silent old)
     → Leaves (Request conn words) old outcome.state
-answer_leaves old conn words true outcome may = subst (λ (o : Outcome). Leaves (Request conn words) old o.state) (sym may.comes_to) (request_leaves old conn words)
+answer_leaves old conn words true outcome may =
+    let left = request_leaves old conn words in
+    subst (λ (o : Outcome). Leaves (Request conn words) old o.state) (sym may.comes_to)
+    (recorded_keeps (Leaves (Request conn words) old) (request_outcome old conn (command_of words)) (written old conn words) may.dropped
+    (λ stream. record { config = left.config; opens = left.opens; calm = left.calm }))
 answer_leaves old conn words false outcome may = silent_leaves (Request conn words) old outcome may
 
 event_leaves : (old : NodeState) (event : Event) (outcome : Outcome) → MayCome old event outcome → Leaves event old outcome.state
@@ -472,7 +495,8 @@ event_leaves old Open outcome may = open_leaves old outcome may
 event_leaves old (Close conn) outcome may = close_leaves old conn (is_some (connection_at old.connections conn)) outcome may
 event_leaves old (Request conn words) outcome may = answer_leaves old conn words (may_ask (connection_at old.connections conn)) outcome may
 event_leaves old (Deliver message) outcome may =
-    subst (λ (o : Outcome). Leaves (Deliver message) old o.state) (sym may) (stays_leaves (Deliver message) old (delivered old message).state (delivered_stays old message))
+    subst (λ (o : Outcome). Leaves (Deliver message) old o.state) (sym may.comes_to)
+    (stays_leaves (Deliver message) old (delivered old message may.choice).state (delivered_stays old message may.choice))
 event_leaves old Tick outcome may = subst (λ (o : Outcome). Leaves Tick old o.state) (sym may) (stays_leaves Tick old (tick old).state (tick_stays old))
 
 pub step_leaves : (ticket : ℕ) (old new : NodeState) (event : Event) (outputs : Outputs) → NodeStep ticket old event outputs new → Leaves event old new
@@ -485,7 +509,8 @@ pub request_uses_up : (ticket : ℕ) (old new : NodeState) (conn : Conn) (words 
 request_uses_up ticket old new conn words outputs answer step answers =
     let answered : step.outcome.response ≡ Replied answer = sym (ap (λ (o : Outputs). o.response) step.outputs_are) ∙ answers in
     let may : IsAnswering old conn words step.outcome = is_answering old conn words (may_ask (connection_at old.connections conn)) step.outcome answer step.may_come answered in
-    subst (UsesUp conn words) (sym (step.state ∙ ap (λ (o : Outcome). o.state) may.comes_to)) (uses_up old conn words)
+    subst (UsesUp conn words) (sym (step.state ∙ ap (λ (o : Outcome). o.state) may.comes_to))
+    (recorded_keeps (UsesUp conn words) (request_outcome old conn (command_of words)) (written old conn words) may.dropped (λ stream. uses_up old conn words))
 
 -- a connection that is opened wasn't opened before, and allows nothing
 pub record IsNew (old new : NodeState) (conn : Conn) : Type 0 where
@@ -629,5 +654,6 @@ pub served_if_allowed : (ticket : ℕ) (old new : NodeState) (conn : Conn) (word
 served_if_allowed ticket old new conn words outputs answer number step answers =
     let answered : step.outcome.response ≡ Replied answer = sym (ap (λ (o : Outputs). o.response) step.outputs_are) ∙ answers in
     let may : IsAnswering old conn words step.outcome = is_answering old conn words (may_ask (connection_at old.connections conn)) step.outcome answer step.may_come answered in
-    subst (Says (AnswersAllowed (asking_on old conn) number)) (ap (λ (o : Outcome). o.response) (sym may.comes_to) ∙ answered)
+    subst (Says (AnswersAllowed (asking_on old conn) number))
+    (sym (recorded_response (request_outcome old conn (command_of words)) (written old conn words) may.dropped) ∙ ap (λ (o : Outcome). o.response) (sym may.comes_to) ∙ answered)
     (command_allowed (using_up old conn) conn (connection_at old.connections conn) (command_of words) number)

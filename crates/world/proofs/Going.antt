@@ -24,19 +24,9 @@ use Rattle.std.proofs.Math.Seq.{drop-append_seam}
 use Rattle.world.specs.declared.output.Output.{Output}
 use Rattle.world.specs.View.{GoesOn, RemembersSent, RunView}
 use Rattle.world.proofs.Allowing.{taken_may_ask}
+use Rattle.world.proofs.Runs.{goes-append}
 
 -- ---- runs in two parts
-
-pub goes-append : (past : List Entry) (old mid new : List NodeState) (first others : List Entry) → Goes past old first mid
-    → Goes (reverse first ++ past) mid others new → Goes past old (first ++ others) new
-goes-append past old mid new [] others same goes = subst (λ (nodes : List NodeState). Goes past nodes others new) same goes
-goes-append past old mid new (entry ∷ first) others goes more =
-    let behind : reverse (entry ∷ first) ++ past ≡ reverse first ++ (entry ∷ past) =
-    ap (λ (entries : List Entry). entries ++ past) (reverse-append (entry ∷ []) first) ∙ append_assoc (reverse first) (entry ∷ []) past in (
-      goes.0,
-      goes.1,
-      goes-append (entry ∷ past) goes.0 mid new first others goes.2 (subst (λ (entries : List Entry). Goes entries mid others new) behind more),
-    )
 
 pub keeps-append : (past : List Entry) (first others : List Entry) → KeepsAsking past first → KeepsAsking (reverse first ++ past) others → KeepsAsking past (first ++ others)
 keeps-append past [] others keeps more = more

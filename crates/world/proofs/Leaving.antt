@@ -1,5 +1,5 @@
 -- What steps of nodes leave of the connections that clients have.
-use Rattle.std.proofs.Common.{◌≡◌, ◌≢◌, ◌⊎◌, ◌<◌, ◌≤◌, ◌∙◌, ℕ, List, [], ◌∷◌, ◌++◌, Contains, Option, Some, None, length, refl, sym, ap, subst, inl, inr, arith}
+use Rattle.std.proofs.Common.{◌≡◌, ◌≢◌, ◌⊎◌, ◌<◌, ◌≤◌, ◌∙◌, ℕ, List, [], ◌∷◌, ◌++◌, Contains, Option, Some, None, length, refl, sym, ap, subst, inl, inr, append-nil, append_assoc, arith}
 use Rattle.std.proofs.lemmas.Bool.{cases_eq}
 use Rattle.std.proofs.lemmas.List.{length-set, reverse-append}
 use Rattle.std.specs.List.{cons_option}
@@ -15,12 +15,13 @@ use Rattle.single_keyspace.proofs.Seen.{same_some, set_apart, set_here}
 use Rattle.redirect.specs.declared.asked.Asking.{Asking}
 use Rattle.redirect.specs.declared.asked.Asking.TheVariants.{No}
 use Rattle.world_run.specs.Executed.{Redirection, answered, redirection_in, redirections}
-use Rattle.world_run.specs.Run.{Deed, Entry, Leads, WorldStep}
+use Rattle.world_run.specs.Run.{Deed, Entry, Goes, Leads, WorldStep, first_nodes}
 use Rattle.world_run.specs.Run.Deed.{Made, Skipped}
-use Rattle.world.specs.Asking.{HaveConfig, IsKnown, IsTold, asking_at, asking_in, opens_in, past_of}
+use Rattle.world.specs.Asking.{HaveConfig, IsKnown, IsRunOf, IsTold, asking_at, asking_in, opens_in, past_of}
 use Rattle.world.specs.NodeSteps.{Closes, Enters, Makes}
 use Rattle.world.specs.View.{RunView}
 use Rattle.world.specs.declared.client.Link.{Link}
+use Rattle.world.proofs.Runs.{goes-append}
 use Rattle.world.proofs.Connected.{IsAskedBy, IsCalm, IsNew, close_is_calm, open_is_new, step_leaves}
 
 -- all connections but those that are changed are as they were, or allow nothing any more; and what was told stays told, as all that
@@ -32,13 +33,24 @@ pub record Leaves (changed : Link → Type 0) (old new : RunView) : Type 0 where
   pub calm : (link : Link) → IsCalm (asking_at old link) (asking_at new link) ⊎ changed link
   pub told : (words : List (List ℕ)) (node number : ℕ) → IsTold (past_of old) words node number → IsTold (past_of new) words node number
   pub entered : (entry : Entry) → Contains (past_of old) entry → Contains (past_of new) entry
+  pub goes : (config : ClusterConfig) → IsRunOf config old → IsRunOf config new
+  pub further : (more : List Entry) × (past_of new ≡ more ++ past_of old)
 
 abbrev pub none_changed : Link → Type 0
 none_changed link = ⊥
 
 pub leaves_all : (changed : Link → Type 0) (run : RunView) → Leaves changed run run
 leaves_all changed run =
-    record { nodes = refl; configs = λ config have. have; known = λ link known. known; calm = λ link. inl (inl refl); told = λ words node number told. told; entered = λ entry among. among }
+    record {
+      nodes = refl;
+      configs = λ config have. have;
+      known = λ link known. known;
+      calm = λ link. inl (inl refl);
+      told = λ words node number told. told;
+      entered = λ entry among. among;
+      goes = λ config goes. goes;
+      further = ([], refl);
+    }
 
 pub leaves_more : (changed others : Link → Type 0) (old new : RunView) → ((link : Link) → changed link → others link) → Leaves changed old new → Leaves others old new
 leaves_more changed others old new more leaves = record {
@@ -52,6 +64,8 @@ leaves_more changed others old new more leaves = record {
       ];
   told = leaves.told;
   entered = leaves.entered;
+  goes = leaves.goes;
+  further = leaves.further;
 }
 
 pub calm_further : (old mid new : Asking) → IsCalm old mid → IsCalm mid new → IsCalm old new
@@ -75,6 +89,11 @@ leaves_further changed old mid new first more = record {
       ];
   told = λ words node number told. more.told words node number (first.told words node number told);
   entered = λ entry among. more.entered entry (first.entered entry among);
+  goes = λ config goes. more.goes config (first.goes config goes);
+  further = (
+    more.further.0 ++ first.further.0,
+    more.further.1 ∙ ap (λ (past : List Entry). more.further.0 ++ past) first.further.1 ∙ sym (append_assoc more.further.0 first.further.0 (past_of old)),
+  );
 }
 
 -- what is left where nothing is changed
@@ -173,7 +192,7 @@ module _ (old new : RunView) (node : ℕ) (deed : Deed) (enters : Enters old nod
   abbrev pub entry_now : Entry
   entry_now = record { node = node; ticket = enters.enters.ticket; deed = deed }
 
-  past_is : past_of new ≡ entry_now ∷ past_of old
+  pub past_is : past_of new ≡ entry_now ∷ past_of old
   past_is = ap reverse enters.enters.entered ∙ newest_first old.entries entry_now
 
   entered_after : (entry : Entry) → Contains (past_of old) entry → Contains (past_of new) entry
@@ -182,6 +201,12 @@ module _ (old new : RunView) (node : ℕ) (deed : Deed) (enters : Enters old nod
   -- the entry stands in the past
   pub entered_now : Contains (past_of new) entry_now
   entered_now = subst (λ (past : List Entry). Contains past entry_now) (sym past_is) (contains_first entry_now (past_of old))
+
+  goes_after : (config : ClusterConfig) → IsRunOf config old → IsRunOf config new
+  goes_after config goes =
+      subst (λ (entries : List Entry). Goes [] (first_nodes config) entries new.nodes) (sym enters.enters.entered)
+      (goes-append [] (first_nodes config) old.nodes new.nodes old.entries (entry_now ∷ []) goes
+      (subst (λ (past : List Entry). Goes past old.nodes (entry_now ∷ []) new.nodes) (sym (append-nil (past_of old))) (new.nodes, step, refl)))
 
   told_after : (words : List (List ℕ)) (to number : ℕ) → IsTold (past_of old) words to number → IsTold (past_of new) words to number
   told_after words to number was =
@@ -196,6 +221,8 @@ module _ (old new : RunView) (node : ℕ) (deed : Deed) (enters : Enters old nod
     calm = calm_after;
     told = told_after;
     entered = entered_after;
+    goes = goes_after;
+    further = (entry_now ∷ [], past_is);
   }
 
   -- what the entry itself tells

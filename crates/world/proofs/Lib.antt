@@ -7,6 +7,7 @@ pub mod Worlds
 pub mod Allowing
 pub mod Connected
 pub mod Pool
+pub mod Runs
 pub mod Leaving
 pub mod Parts
 pub mod Playing

@@ -12,7 +12,7 @@ use Rattle.smart_client.specs.State.{ClientState}
 use Rattle.smart_client.specs.Step.{Answer, without_call}
 use Rattle.smart_client.specs.declared.action.Event.TheVariants as happened
 use Rattle.smart_client.specs.declared.call.Call.{Call}
-use Rattle.world.specs.Asking.{AreConnected, AreReady, AsksWell, HaveConfig, Holds, IsAllowed, IsCutOff, IsInPool, IsOfCall, IsTold, MayBeCarried, MayComeLate, MayLinger, asking_at, past_of}
+use Rattle.world.specs.Asking.{AreConnected, AreReady, AsksWell, HaveConfig, Holds, IsAllowed, IsCutOff, IsInPool, IsOfCall, IsRunOf, IsTold, MayBeCarried, MayComeLate, MayLinger, asking_at, past_of}
 use Rattle.world.specs.Calls.{Arrives, Begins, Carries, ComesLate, Cuts, IsBegun, IsCarried, IsCut, IsLate, IsReturned, IsShut, Lingers, Rests, Returns, Serves, Takes}
 use Rattle.world.specs.Clients.{ClientView, broken_off, fault_of, is_elsewhere, leads_to, stopped_at, used_by, without_late}
 use Rattle.world.specs.View.{RunView, is_up}
@@ -95,7 +95,7 @@ returns_well nodes old new client after outputs asks = by_traffic client.traffic
 
 -- ---- a request reaches its node
 
-module _ (config : ClusterConfig) (cluster_is : IsCluster config) (old new : RunView) (have : HaveConfig config old.nodes) (client after : ClientView) (link : Link) (words : List (List ℕ))
+module _ (config : ClusterConfig) (cluster_is : IsCluster config) (old new : RunView) (have : HaveConfig config old.nodes) (run_of : IsRunOf config old) (client after : ClientView) (link : Link) (words : List (List ℕ))
     (connected : AreConnected old client.pool client.late (Some link)) where
   abbrev Ask : Link → Type 0
   Ask = AskedOn link words
@@ -114,8 +114,8 @@ module _ (config : ClusterConfig) (cluster_is : IsCluster config) (old new : Run
   arrives_so None is of_call reply outputs serves left = absurd of_call
   arrives_so (Some call) is (under_way, sent) reply outputs serves left =
       let leaves : Leaves Ask old new = serves_leaves old new link.node link.conn words (Some reply) outputs serves in
-      let answers = replied_so config cluster_is old have link.node link.conn words reply outputs new call call.stage under_way.called.plain under_way.called.number sent serves in
-      let comes = comes_so config cluster_is old have link.node link.conn words reply outputs new call call.stage under_way.called.plain under_way.called.number sent serves in
+      let answers = replied_so config cluster_is old have run_of link.node link.conn words reply outputs new call call.stage under_way.called.plain under_way.called.number sent serves in
+      let comes = comes_so config cluster_is old have run_of link.node link.conn words reply outputs new call call.stage under_way.called.plain under_way.called.number sent serves in
       let of_call : IsOfCall config.nodes new client.core client.pool (Answered link reply) client.core.call =
       subst (IsOfCall config.nodes new client.core client.pool (Answered link reply)) (sym is)
       (under_way_stays Ask old new leaves config.nodes client.core client.pool link call under_way, answers, comes) in
@@ -126,14 +126,14 @@ module _ (config : ClusterConfig) (cluster_is : IsCluster config) (old new : Run
         holds = λ other held. inl held;
       })
 
-pub carries_well : (config : ClusterConfig) → IsCluster config → (old new : RunView) → HaveConfig config old.nodes → (client after : ClientView) (outputs : List Output) → AsksWell config.nodes old client
+pub carries_well : (config : ClusterConfig) → IsCluster config → (old new : RunView) → HaveConfig config old.nodes → IsRunOf config old → (client after : ClientView) (outputs : List Output) → AsksWell config.nodes old client
     → Carries old client outputs new after → PartOf config.nodes old client new after
-carries_well config cluster_is old new have client after outputs asks = by_traffic client.traffic refl
+carries_well config cluster_is old new have run_of client after outputs asks = by_traffic client.traffic refl
   where
     by_up : (link : Link) (words : List (List ℕ)) → client.traffic ≡ Asked link words → (up : Bool) → MatchBool up (Arrives old client link words outputs new after) (Rests old client outputs new after)
         → PartOf config.nodes old client new after
     by_up link words is true arrives =
-        arrives_so config cluster_is old new have client after link words (used_so config.nodes old client (Asked link words) is asks) client.core.call refl
+        arrives_so config cluster_is old new have run_of client after link words (used_so config.nodes old client (Asked link words) is asks) client.core.call refl
         (of_call_so config.nodes old client (Asked link words) is asks client.core.call refl) arrives.reply outputs arrives.serves arrives.left
     by_up link words is false rested = rests config.nodes old new client after outputs asks rested
 

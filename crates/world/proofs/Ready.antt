@@ -4,7 +4,7 @@ use Rattle.std.proofs.Math.ListN.{get_or-map}
 use Rattle.std.proofs.lemmas.Bool.{cases_eq, cases_Bool, cond-true, cond-false}
 use Rattle.std.specs.Prelude.{MatchBool, Result, Ok, Err, ⊤}
 use Rattle.bus.specs.declared.message.Body.{Body}
-use Rattle.bus.specs.declared.message.Body.TheVariants.{Copy, Ack, Drained, Claim}
+use Rattle.bus.specs.declared.message.Body.TheVariants.{Copy, Ack, Drained, Claim, Report, Request as Requested, Grant, Sync, Piece, Snapshot}
 use Rattle.bus.specs.declared.message.Message.{Message}
 use Rattle.command_table.specs.Table.{command_of}
 use Rattle.command_table.specs.declared.command.ClusterCommand.{ClusterCommand}
@@ -32,13 +32,15 @@ use Rattle.slot_state.specs.declared.ending.NodeVerdict.TheVariants as ending
 use Rattle.slot_table.specs.Claims.{merged}
 use Rattle.node_step.specs.Claiming.{claimed_by}
 use Rattle.node_step.specs.Commands.{command_outcome, decision_on}
-use Rattle.node_step.specs.Copies.{acknowledged, copy_outcome, copy_verdict_on, node_at, waiting_for}
-use Rattle.node_step.specs.Messages.{delivered, knowing, taken}
+use Rattle.node_step.specs.Copies.{acknowledged, arrival, copy_outcome, copy_verdict_on, node_at, noted, waiting_for}
+use Rattle.node_step.proofs.Kept.{pieced_keeps, restored_keeps, synced_is}
+use Rattle.node_step.specs.Messages.{Choice, delivered, knowing, taken, taken_so, written_by_message}
 use Rattle.node_step.specs.Orders.{ending_outcome, ending_verdict}
 use Rattle.node_step.specs.Outcome.{Outcome, release, silent}
 use Rattle.node_step.specs.Requests.{asking_for, asking_of, by_command, cluster_outcome, is_numbered, node_with_id, order_outcome, request_outcome, using_up}
 use Rattle.node_step.specs.State.{NodeState}
-use Rattle.node_step.specs.Step.{IsAnswering, IsClosing, IsOpening, MayCome, NodeStep}
+use Rattle.node_step.specs.Step.{IsAnswering, IsClosing, IsOpening, MayCome, NodeStep, written}
+use Rattle.node_step.specs.Streams.{Requests, recorded}
 use Rattle.node_step.specs.Ticks.{tick}
 use Rattle.node_step.specs.declared.event.Event.{Event}
 use Rattle.node_step.specs.declared.event.Event.TheVariants.{Open, Close, Request, Deliver, Tick}
@@ -362,22 +364,43 @@ claimed_ready event old node table same = record {
   freed = λ one among. ap (λ (conns : ConnectionTable). may_at conns one.conn) (sym same) ∙ those_waited node.connections _ _ one among;
 }
 
-taken_ready : (event : Event) (old : NodeState) (epoch from : ℕ) (body : Body) → KeepsReady event old (taken (knowing old epoch) from body)
-taken_ready event old epoch from (Copy slot number copy key value) = same_ready event old (taken (knowing old epoch) from (Copy slot number copy key value)) refl refl
-taken_ready event old epoch from (Ack slot number copy) =
+-- the same behind a write, and with another stream and keyspace
+recorded_ready : (event : Event) (old : NodeState) (outcome : Outcome) (requests : Requests) (dropped : ℕ) → KeepsReady event old outcome → KeepsReady event old (recorded outcome requests dropped)
+recorded_ready event old outcome [] dropped kept = kept
+recorded_ready event old outcome (request ∷ requests) dropped kept = record { ready = kept.ready; freed = kept.freed }
+
+quiet_ready : (event : Event) (old node : NodeState) → node.connections ≡ old.connections → KeepsReady event old (silent node)
+quiet_ready event old node same = same_ready event old (silent node) same refl
+
+taken_so_ready : (event : Event) (old : NodeState) (epoch from : ℕ) (choice : Choice) (body : Body) → KeepsReady event old (taken_so (knowing old epoch) from choice body)
+taken_so_ready event old epoch from choice (Copy slot number copy key value) = same_ready event old (arrival (knowing old epoch) from slot number copy key value) refl refl
+taken_so_ready event old epoch from choice (Ack slot number copy) =
     acknowledged_ready event old (knowing old epoch) slot number copy (acknowledged_key (move_of old.moves slot) from number copy) refl
-taken_ready event old epoch from (Drained slot number drained) = same_ready event old (taken (knowing old epoch) from (Drained slot number drained)) refl refl
-taken_ready event old epoch from (Claim runs) = by_own (from == old.number)
+taken_so_ready event old epoch from choice (Drained slot number drained) = same_ready event old (noted (knowing old epoch) from slot number drained) refl refl
+taken_so_ready event old epoch from choice (Claim runs replaced) = by_own (from == old.number)
   where
     by_own : (own : Bool) → KeepsReady event old (cond own (silent (knowing old epoch)) (claimed_by (knowing old epoch) (merged old.table runs from)))
     by_own true = same_ready event old (silent (knowing old epoch)) refl refl
     by_own false = claimed_ready event old (knowing old epoch) (merged old.table runs from) refl
+taken_so_ready event old epoch from choice (Report suspects) = quiet_ready event old (knowing old epoch) refl
+taken_so_ready event old epoch from choice (Requested request) = quiet_ready event old (knowing old epoch) refl
+taken_so_ready event old epoch from choice (Grant granted) = quiet_ready event old (knowing old epoch) refl
+taken_so_ready event old epoch from choice (Sync sync) =
+    synced_is (KeepsReady event old) (knowing old epoch) from sync (quiet_ready event old (knowing old epoch) refl) (same_ready event old _ refl refl)
+taken_so_ready event old epoch from choice (Piece piece) =
+    pieced_keeps (λ (node : NodeState). KeepsReady event old (silent node)) (knowing old epoch) (λ stream keyspace. quiet_ready event old _ refl) from piece choice.follower
+taken_so_ready event old epoch from choice (Snapshot snapshot) =
+    restored_keeps (λ (node : NodeState). KeepsReady event old (silent node)) (knowing old epoch) (λ stream keyspace. quiet_ready event old _ refl) from snapshot
 
-delivered_ready : (old : NodeState) (message : Message) → KeepsReady (Deliver message) old (delivered old message)
-delivered_ready old message = by_node (message.to == old.number)
+taken_ready : (event : Event) (old : NodeState) (epoch from : ℕ) (choice : Choice) (body : Body) → KeepsReady event old (taken (knowing old epoch) from choice body)
+taken_ready event old epoch from choice body =
+    recorded_ready event old (taken_so (knowing old epoch) from choice body) (written_by_message (knowing old epoch) from body) choice.dropped (taken_so_ready event old epoch from choice body)
+
+delivered_ready : (old : NodeState) (message : Message) (choice : Choice) → KeepsReady (Deliver message) old (delivered old message choice)
+delivered_ready old message choice = by_node (message.to == old.number)
   where
-    by_node : (here : Bool) → KeepsReady (Deliver message) old (cond here (taken (knowing old message.epoch) message.from message.body) (silent old))
-    by_node true = taken_ready (Deliver message) old message.epoch message.from message.body
+    by_node : (here : Bool) → KeepsReady (Deliver message) old (cond here (taken (knowing old message.epoch) message.from choice message.body) (silent old))
+    by_node true = taken_ready (Deliver message) old message.epoch message.from choice message.body
     by_node false = same_ready (Deliver message) old (silent old) refl refl
 
 tick_ready : (old : NodeState) → KeepsReady Tick old (tick old)
@@ -406,16 +429,17 @@ answering_ready : (old : NodeState) (conn : Conn) (words : List (List ℕ)) (out
 answering_ready old conn words outcome false may = silent_ready (Request conn words) old outcome may
 answering_ready old conn words outcome true may =
     subst (KeepsReady (Request conn words) old) (sym may.comes_to)
+    (recorded_ready (Request conn words) old (request_outcome old conn (command_of words)) (written old conn words) may.dropped
     (record {
       ready = λ other spared was. request_keeps old conn (command_of words) other spared was;
       freed = none_freed old (request_outcome old conn (command_of words)).released (request_frees old conn (command_of words));
-    })
+    }))
 
 event_ready : (old : NodeState) (event : Event) (outcome : Outcome) → MayCome old event outcome → KeepsReady event old outcome
 event_ready old Open outcome may = opening_ready old outcome may
 event_ready old (Close conn) outcome may = closing_ready old conn outcome may
 event_ready old (Request conn words) outcome may = answering_ready old conn words outcome (may_ask (connection_at old.connections conn)) may
-event_ready old (Deliver message) outcome may = subst (KeepsReady (Deliver message) old) (sym may) (delivered_ready old message)
+event_ready old (Deliver message) outcome may = subst (KeepsReady (Deliver message) old) (sym may.comes_to) (delivered_ready old message may.choice)
 event_ready old Tick outcome may = subst (KeepsReady Tick old) (sym may) (tick_ready old)
 
 -- a step of a node: what may ask still may, unless the step takes it away, and those that are freed waited

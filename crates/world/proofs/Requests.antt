@@ -1,6 +1,7 @@
 -- What requests of clients leave of their connections, and what the replies to them tell.
 use Rattle.std.proofs.Common.{◌≡◌, ◌⊎◌, ◌<◌, ◌∙◌, ◌==◌, ◌&&◌, not, ℕ, zero, suc, Bool, true, false, true≢false, List, [], ◌∷◌, Contains, Option, None, Some, Result, Ok, get_or, length, refl, sym, ap, subst, inl, inr, arith}
 use Rattle.std.proofs.lemmas.Bool.{and_parts, eq-eqb}
+use Rattle.std.proofs.lemmas.List.{reverse-reverse}
 use Rattle.std.proofs.lemmas.List.Sums.{position_or_len_is}
 use Rattle.std.proofs.lemmas.Option.{get_or_from_slice_get, slice_get_within}
 use Rattle.std.proofs.lemmas.Slice.Eq.{bytes_eq-Decides}
@@ -28,9 +29,9 @@ use Rattle.redirection.specs.Address.{Place}
 use Rattle.redirection.specs.Redirection.{IsMove}
 use Rattle.reply_meaning.proofs.Asks.{line_is_none, of_moves}
 use Rattle.reply_meaning.proofs.Laws.{asking_is, welcome}
-use Rattle.reply_meaning.proofs.Reasons.{have_reasons, need_no_number}
+use Rattle.reply_meaning.proofs.Reasons.{have_reasons, need_offsets_alone}
 use Rattle.reply_meaning.proofs.Words.{IsOfData, data_words}
-use Rattle.reply_meaning.specs.Law.{Answers, IsOfClient, IsOfMove, Prepares}
+use Rattle.reply_meaning.specs.Law.{Answers, HasNoOffset, IsOfClient, IsOfMove, Prepares}
 use Rattle.reply_meaning.specs.Law.IsOfClient.{command as plain_command, numbers as plain_numbers, asks as plain_asks}
 use Rattle.reply_meaning.specs.Law.Prepares.{numbers as prepares_numbers, asks as prepares_asks}
 use Rattle.reply_meaning.specs.Reasons.{IsReason}
@@ -44,9 +45,9 @@ use Rattle.smart_client.specs.declared.call.Call.{Call}
 use Rattle.smart_client.specs.declared.call.Stage.{Stage}
 use Rattle.smart_client.specs.declared.call.Stage.TheVariants as stage
 use Rattle.world_run.specs.Executed.{Redirection, answered, answered_with, decision_in, redirected, redirection_in}
-use Rattle.world_run.specs.Run.{Entry}
-use Rattle.world_run.specs.Run.Deed.{Made}
-use Rattle.world.specs.Asking.{ComesFrom, Follows, HaveConfig, IsAllowed, IsAsking, IsReplied, IsSent, IsTold, TellsTruth, WasAnswered, asking_at, asking_in, past_of}
+use Rattle.world_run.specs.Run.{Entry, Goes, first_nodes}
+use Rattle.world_run.specs.Run.Deed.{Made, Skipped}
+use Rattle.world.specs.Asking.{ComesFrom, Follows, HadNoOffset, HaveConfig, IsAllowed, IsAsking, IsReplied, IsRunOf, IsSent, IsTold, TellsTruth, WasAnswered, WasRefused, asking_at, asking_in, past_of}
 use Rattle.world.specs.Calls.{IsServed, IsSkipped, Serves, reply_in}
 use Rattle.world.specs.Clients.{is_at, node_at}
 use Rattle.world.specs.NodeSteps.{released_conns}
@@ -54,7 +55,7 @@ use Rattle.world.specs.View.{RunView}
 use Rattle.world.specs.declared.client.Link.{Link}
 use Rattle.world.specs.declared.output.Output.{Output}
 use Rattle.world.proofs.Connected.{IsAskingWords, IsCalm, asking_on, request_uses_up}
-use Rattle.world.proofs.Leaving.{ChangedBy, Leaves, closes_leaves, entered_now, enters_leaves, entry_now, leaves_further, leaves_more, leaves_none, none_changed, skips_leaves, tells_now}
+use Rattle.world.proofs.Leaving.{ChangedBy, Leaves, closes_leaves, entered_now, enters_leaves, entry_now, leaves_further, leaves_more, leaves_none, none_changed, past_is, skips_leaves, tells_now}
 use Rattle.world.proofs.Stays.{no_stays, still_calm}
 
 -- ---- addresses
@@ -158,7 +159,7 @@ replied_in Nothing reply is = absurd (cc)
 replied_in (Opened conn) reply is = absurd (cc)
 replied_in Parked reply is = absurd (cc)
 
-module _ (config : ClusterConfig) (cluster_is : IsCluster config) (old : RunView) (have : HaveConfig config old.nodes) (node : ℕ) (conn : Conn) (words : List (List ℕ)) (reply : Reply) (outputs : List Output) (new : RunView) where
+module _ (config : ClusterConfig) (cluster_is : IsCluster config) (old : RunView) (have : HaveConfig config old.nodes) (run_of : IsRunOf config old) (node : ℕ) (conn : Conn) (words : List (List ℕ)) (reply : Reply) (outputs : List Output) (new : RunView) where
   abbrev here : Link
   here = record { node = node; conn = conn }
 
@@ -255,7 +256,7 @@ module _ (config : ClusterConfig) (cluster_is : IsCluster config) (old : RunView
     is_welcome : Prepares words → reply ≡ done
     is_welcome prepares = sym given.2 ∙ welcome served.makes.enters.step.before conn words given.0 answers prepares
 
-    comes_if_served : (call : Call) (at : Stage) → is_refused call.words ≡ false → IsMove call.asking → IsSent call at words (asking_at old here) → ComesFrom config.nodes (past_of new) node call at reply
+    comes_if_served : (call : Call) (at : Stage) → is_refused call.words ≡ false → IsMove call.asking → IsSent call at words (asking_at old here) → ComesFrom config.nodes new here call at reply
     comes_if_served call stage.Connecting plain move sent = absurd sent
     comes_if_served call stage.Introducing plain move sent = is_welcome (prepares_numbers sent.0)
     comes_if_served call stage.Asking plain move sent = by_number call.asking move sent.0
@@ -264,7 +265,7 @@ module _ (config : ClusterConfig) (cluster_is : IsCluster config) (old : RunView
         by_number None move is = absurd is
         by_number (Some number) move is = is_welcome (prepares_asks number move is)
     comes_if_served call stage.Sent plain move sent =
-        subst (λ (ws : List (List ℕ)). WasAnswered config.nodes (past_of new) node ws reply) sent.0 (was_answered (ap is_refused sent.0 ∙ plain))
+        inl (subst (λ (ws : List (List ℕ)). WasAnswered config.nodes (past_of new) node ws reply) sent.0 (was_answered (ap is_refused sent.0 ∙ plain)))
 
   module _ (skipped : IsSkipped old node conn words (Some reply) outputs new) where
     skip_leaves : Leaves none_changed old new
@@ -275,6 +276,41 @@ module _ (config : ClusterConfig) (cluster_is : IsCluster config) (old : RunView
 
     exhausted : reply ≡ error Exhausted
     exhausted = in_some skipped.replies
+
+    -- the node and its stream then
+    abbrev before : NodeState
+    before = skipped.skips.enters.enters.step.before
+
+    had_none : HasNoOffset before conn words → HadNoOffset config (past_of new) here words
+    had_none has = record {
+      earlier = past_of old;
+      later = [];
+      ticket = skipped.skips.enters.enters.ticket;
+      skipped = past_is old new node Skipped skipped.skips.enters;
+      nodes = old.nodes;
+      goes = subst (λ (entries : List Entry). Goes [] (first_nodes config) entries old.nodes) (sym (reverse-reverse old.entries)) run_of;
+      state = before;
+      was = skipped.skips.enters.enters.step.was;
+      none = has.none;
+    }
+
+    was_refused : HasNoOffset before conn words → WasRefused new here words reply
+    was_refused has = record { config = config; have = skip_leaves.configs config have; had = had_none has; same = exhausted }
+
+    -- what is sent in front of a command needs no offset
+    comes_if_skipped : (call : Call) (at : Stage) → is_refused call.words ≡ false → IsSent call at words (asking_at old here) → ComesFrom config.nodes new here call at reply
+    comes_if_skipped call at plain sent =
+        by_stage at sent (need_offsets_alone before conn words (words_of_client call at words (asking_at old here) plain sent) skipped.skips.why)
+      where
+        by_number : (asked : Option ℕ) → IsAsking asked words → is_refused words ≡ false → reply ≡ done
+        by_number None is other = absurd is
+        by_number (Some number) is other = absurd (true≢false (sym (ap is_refused is) ∙ other))
+
+        by_stage : (at : Stage) → IsSent call at words (asking_at old here) → HasNoOffset before conn words → ComesFrom config.nodes new here call at reply
+        by_stage stage.Connecting sent has = absurd sent
+        by_stage stage.Introducing sent has = absurd (true≢false (sym (ap is_refused sent.0) ∙ has.plain))
+        by_stage stage.Asking sent has = by_number call.asking sent.0 has.plain
+        by_stage stage.Sent sent has = inr (subst (λ (ws : List (List ℕ)). WasRefused new here ws reply) sent.0 (was_refused has))
 
     replied_if_skipped : (call : Call) (at : Stage) → IsSent call at words (asking_at old here) → IsReplied config.nodes (past_of new) call at reply (asking_at new here)
     replied_if_skipped call stage.Connecting sent = absurd sent
@@ -288,12 +324,11 @@ module _ (config : ClusterConfig) (cluster_is : IsCluster config) (old : RunView
   replied_so call at plain move sent (inl served) = replied_if_served served call at plain move sent
   replied_so call at plain move sent (inr skipped) = replied_if_skipped skipped call at sent
 
-  -- where it comes from: a node makes a step for what a client sends
+  -- where it comes from: a node makes a step for what a client sends, or its stream has no offset for what the command writes
   pub comes_so : (call : Call) (at : Stage) → is_refused call.words ≡ false → IsMove call.asking → IsSent call at words (asking_at old here) → Serves old node conn words (Some reply) outputs new
-      → ComesFrom config.nodes (past_of new) node call at reply
+      → ComesFrom config.nodes new here call at reply
   comes_so call at plain move sent (inl served) = comes_if_served served call at plain move sent
-  comes_so call at plain move sent (inr skipped) =
-      absurd (need_no_number skipped.skips.enters.enters.step.before conn words (words_of_client call at words (asking_at old here) plain sent) skipped.skips.why)
+  comes_so call at plain move sent (inr skipped) = comes_if_skipped skipped call at plain sent
 
 -- ---- a request that a client sends is one that it may send
 

@@ -281,7 +281,16 @@ module _ (nodes : List NodeConfig) (run : RunView) (node : ℕ) where
 -- which nodes were stopped changes no connection
 stop_leaves : (run : RunView) (stopped : List Bool) → Leaves (Unknown run) run (record run { stopped = stopped })
 stop_leaves run stopped =
-    record { nodes = refl; configs = λ config have. have; known = λ link known. known; calm = λ link. inl (inl refl); told = λ words node number told. told; entered = λ entry among. among }
+    record {
+      nodes = refl;
+      configs = λ config have. have;
+      known = λ link known. known;
+      calm = λ link. inl (inl refl);
+      told = λ words node number told. told;
+      entered = λ entry among. among;
+      goes = λ config goes. goes;
+      further = ([], refl);
+    }
 
 -- ---- one of the clients
 
@@ -311,7 +320,7 @@ module _ (old : SceneView) (cluster_is : IsCluster old.config) (rule : KeepsRule
   of_nodes does outputs new leaves readies of =
       let left = leaves of.run of.steps in
       subst KeepsRule (sym of.is)
-      (record { nodes = left.nodes ∙ rule.nodes; configs = left.configs old.config rule.configs; clients = none_steps old.config.nodes old.run of.run left old.clients rule.clients; ready = none_steps_ready old.config.nodes old.run of.run (readies of.run of.steps) old.clients rule.clients rule.ready })
+      (record { nodes = left.nodes ∙ rule.nodes; goes = left.goes old.config rule.goes; configs = left.configs old.config rule.configs; clients = none_steps old.config.nodes old.run of.run left old.clients rule.clients; ready = none_steps_ready old.config.nodes old.run of.run (readies of.run of.steps) old.clients rule.clients rule.ready })
 
   of_client : (does : ClientStep) (clients : List ClientView) (place : ℕ) (outputs : List Output) (new : SceneView) → AllAskWell old.config.nodes old.run clients → AllReady old.run clients
       → ((client : ClientView) (run : RunView) (after : ClientView) → AsksWell old.config.nodes old.run client → does old.run client outputs run after → PartOf old.config.nodes old.run client run after)
@@ -324,6 +333,7 @@ module _ (old : SceneView) (cluster_is : IsCluster old.config) (rule : KeepsRule
       subst KeepsRule (sym of.is)
       (record {
         nodes = part.leaves.nodes ∙ rule.nodes;
+        goes = part.leaves.goes old.config rule.goes;
         configs = part.leaves.configs old.config rule.configs;
         clients = one_steps old.config.nodes old.run of.run of.client of.after part clients place of.was all;
         ready = one_steps_ready old.config.nodes old.run of.run of.client of.after ready_part clients place of.was all ready;
@@ -345,6 +355,7 @@ module _ (old : SceneView) (cluster_is : IsCluster old.config) (rule : KeepsRule
       subst KeepsRule (sym stopping.stops)
       (record {
         nodes = rule.nodes;
+        goes = rule.goes;
         configs = rule.configs;
         clients = none_steps old.config.nodes old.run (record old.run { stopped = slice_set old.run.stopped node true }) (stop_leaves old.run (slice_set old.run.stopped node true))
             (map (stopped_at node) old.clients) (all_stopped old.config.nodes old.run node old.clients rule.clients);
@@ -357,7 +368,7 @@ module _ (old : SceneView) (cluster_is : IsCluster old.config) (rule : KeepsRule
       (λ client run after asks begins. begins_well_so old.config.nodes old.run run client after words outputs asks begins)
       (λ client run after asks ready begins. begins_ready old.config.nodes old.run run client after outputs asks ready words begins) plays
   plays_well (step.Carry number) outputs new plays =
-      of_some _ number outputs new (λ client run after asks carries. carries_well old.config cluster_is old.run run rule.configs client after outputs asks carries)
+      of_some _ number outputs new (λ client run after asks carries. carries_well old.config cluster_is old.run run rule.configs rule.goes client after outputs asks carries)
       (λ client run after asks ready carries. carries_ready old.config.nodes old.run run client after outputs asks ready carries) (client_at number old.clients) plays
   plays_well (step.Return number) outputs new plays =
       of_some _ number outputs new (λ client run after asks returns. returns_well old.config.nodes old.run run client after outputs asks returns)
@@ -382,4 +393,4 @@ first_configs config first (suc count) zero node is = ap (λ (s : NodeState). s.
 first_configs config first (suc count) (suc number) node is = first_configs config (first + 1) count number node is
 
 pub first_rule : (config : ClusterConfig) → KeepsRule (first_scene config)
-first_rule config = record { nodes = length-map-range_with_len (first_state config) 0 (length config.nodes); configs = first_configs config 0 (length config.nodes); clients = tt; ready = tt }
+first_rule config = record { nodes = length-map-range_with_len (first_state config) 0 (length config.nodes); goes = refl; configs = first_configs config 0 (length config.nodes); clients = tt; ready = tt }

@@ -1,8 +1,9 @@
 -- What holds of a client's connections and of its call, as long as nobody else uses them.
-use Rattle.std.proofs.Common.{◌≡◌, ◌≢◌, ◌⊎◌, ◌∙◌, ℕ, false, List, Contains, Option, None, Some, get_or, set, refl, sym, ap, subst, inl, inr}
+use Rattle.std.proofs.Common.{◌≡◌, ◌≢◌, ◌⊎◌, ◌∙◌, ◌++◌, ℕ, false, List, Contains, Option, None, Some, get_or, set, refl, sym, ap, subst, inl, inr, append_assoc}
 use Rattle.std.proofs.lemmas.Bool.{cases_eq, ne_eqb}
 use Rattle.std.proofs.lemmas.List.{get_or-set_other, length-set}
 use Rattle.std.specs.Prelude.{IfSome, slice_set}
+use Rattle.cluster_config.specs.Config.{ClusterConfig}
 use Rattle.cluster_config.specs.declared.config.NodeConfig.{NodeConfig}
 use Rattle.connections.specs.declared.conn.Conn.{Conn}
 use Rattle.resp_values.specs.declared.reply.Reply.{Reply}
@@ -14,7 +15,7 @@ use Rattle.smart_client.specs.declared.call.Call.{Call}
 use Rattle.smart_client.specs.declared.call.Stage.{Stage}
 use Rattle.smart_client.specs.declared.call.Stage.TheVariants as stage
 use Rattle.world_run.specs.Run.{Entry}
-use Rattle.world.specs.Asking.{AreConnected, AsksWell, ComesFrom, Follows, Holds, IsAllowed, IsCalled, IsCutOff, IsIdle, IsInPool, IsKnown, IsOfCall, IsReplied, IsSent, IsTold, IsUnderWay, MayComeLate, TellsTruth, asking_at, past_of}
+use Rattle.world.specs.Asking.{AreConnected, AsksWell, ComesFrom, Follows, HadNoOffset, Holds, IsAllowed, IsCalled, IsCutOff, IsIdle, IsInPool, IsKnown, IsOfCall, IsReplied, IsSent, IsTold, IsUnderWay, MayComeLate, TellsTruth, asking_at, past_of}
 use Rattle.world.specs.Clients.{ClientView, leads_to, used_by}
 use Rattle.world.specs.View.{RunView}
 use Rattle.world.specs.declared.client.Late.{Late}
@@ -120,19 +121,35 @@ module _ (changed : Link → Type 0) (old new : RunView) (leaves : Leaves change
   replied_stays nodes call stage.Sent reply before after calm (inl nothing, truth) = (inl (no_stays before after calm nothing), truth_stays nodes call.words reply truth)
   replied_stays nodes call stage.Sent reply before after calm (inr exhausted, truth) = (inr exhausted, truth_stays nodes call.words reply truth)
 
-  comes_stays : (nodes : List NodeConfig) (node : ℕ) (call : Call) (at : Stage) (reply : Reply) → ComesFrom nodes (past_of old) node call at reply → ComesFrom nodes (past_of new) node call at reply
-  comes_stays nodes node call stage.Connecting reply comes = comes
-  comes_stays nodes node call stage.Introducing reply comes = comes
-  comes_stays nodes node call stage.Asking reply comes = comes
-  comes_stays nodes node call stage.Sent reply was = record {
-    entry = was.entry;
-    among = leaves.entered was.entry was.among;
-    there = was.there;
-    answer = was.answer;
-    gives = was.gives;
-    same = was.same;
-    reason = was.reason;
+  had_stays : (config : ClusterConfig) (link : Link) (words : List (List ℕ)) → HadNoOffset config (past_of old) link words → HadNoOffset config (past_of new) link words
+  had_stays config link words had = record {
+    earlier = had.earlier;
+    later = leaves.further.0 ++ had.later;
+    ticket = had.ticket;
+    skipped = leaves.further.1 ∙ ap (λ (past : List Entry). leaves.further.0 ++ past) had.skipped ∙ sym (append_assoc leaves.further.0 had.later _);
+    nodes = had.nodes;
+    goes = had.goes;
+    state = had.state;
+    was = had.was;
+    none = had.none;
   }
+
+  comes_stays : (nodes : List NodeConfig) (link : Link) (call : Call) (at : Stage) (reply : Reply) → ComesFrom nodes old link call at reply → ComesFrom nodes new link call at reply
+  comes_stays nodes link call stage.Connecting reply comes = comes
+  comes_stays nodes link call stage.Introducing reply comes = comes
+  comes_stays nodes link call stage.Asking reply comes = comes
+  comes_stays nodes link call stage.Sent reply (inl was) =
+      inl (record {
+        entry = was.entry;
+        among = leaves.entered was.entry was.among;
+        there = was.there;
+        answer = was.answer;
+        gives = was.gives;
+        same = was.same;
+        reason = was.reason;
+      })
+  comes_stays nodes link call stage.Sent reply (inr refused) =
+      inr (record { config = refused.config; have = leaves.configs refused.config refused.have; had = had_stays refused.config link call.words refused.had; same = refused.same })
 
   -- the connection in use is as it was, or allows nothing any more
   pub still_calm : (link : Link) → (changed link → ⊥) → IsCalm (asking_at old link) (asking_at new link)
@@ -156,7 +173,7 @@ module _ (changed : Link → Type 0) (old new : RunView) (leaves : Leaves change
       under_way_stays nodes core pool link call under_way,
       replied_stays nodes call call.stage reply (asking_at old link) (asking_at new link)
           (still_calm link (unchanged link under_way.in_use)) replied,
-      comes_stays nodes link.node call call.stage reply comes,
+      comes_stays nodes link call call.stage reply comes,
     )
 
   -- a client whose connections nobody else uses

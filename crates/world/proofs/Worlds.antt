@@ -10,7 +10,8 @@ use Rattle.world.specs.Reached.{IsPlayed, IsReached}
 use Rattle.world.specs.View.{GoesOn, IsWhole, SceneView, WorldView, first_scene, first_world}
 use Rattle.world.specs.declared.output.Output.{Output}
 use Rattle.world.specs.declared.step.Step.{Step}
-use Rattle.world.proofs.Going.{goes-append, keeps-append}
+use Rattle.world.proofs.Going.{keeps-append}
+use Rattle.world.proofs.Runs.{goes-append}
 use Rattle.world.proofs.Rule.{first_rule, plays_well}
 
 -- ---- steps one after another

@@ -1,16 +1,18 @@
 -- Which clients keep to the asking rule (Redis Cluster specification, "ASK redirection": the next request alone is to be sent to
 -- the node that ASK names, behind ASKING).
-use Rattle.std.specs.Prelude.{◌≡◌, ◌<◌, ◌⊎◌, ◌∷◌, ℕ, Bool, true, false, List, [], length, reverse, slice_index_or, Contains, Option, Some, None, IfSome, slice_get, ⊤}
+use Rattle.std.specs.Prelude.{◌≡◌, ◌<◌, ◌⊎◌, ◌++◌, ◌∷◌, ℕ, Bool, true, false, List, [], length, reverse, slice_index_or, Contains, Option, Some, None, IfSome, slice_get, ⊤}
 use Rattle.std.specs.List.{AllByRecursion}
 use Rattle.cluster_config.specs.Config.{ClusterConfig}
 use Rattle.cluster_config.specs.declared.config.NodeConfig.{NodeConfig}
 use Rattle.command_table.specs.declared.error_line.ErrorLine.TheVariants.{Exhausted}
 use Rattle.connections.specs.Connections.{connection_at, may_ask, opens_at}
 use Rattle.connections.specs.declared.conn.Conn.{Conn}
+use Rattle.node_step.specs.Numbers.{has_offset}
 use Rattle.node_step.specs.Orders.{done}
 use Rattle.node_step.specs.Outcome.{error}
 use Rattle.node_step.specs.Requests.{asking_of}
 use Rattle.node_step.specs.State.{NodeState}
+use Rattle.node_step.specs.Step.{written}
 use Rattle.node_step.specs.declared.event.Event.{Event}
 use Rattle.node_step.specs.declared.event.Event.TheVariants.{Open, Close, Request, Deliver, Tick}
 use Rattle.node_step.specs.declared.response.Answer.{Answer}
@@ -30,13 +32,18 @@ use Rattle.smart_client.specs.declared.call.Call.{Call}
 use Rattle.smart_client.specs.declared.call.Stage.{Stage}
 use Rattle.smart_client.specs.declared.call.Stage.TheVariants as stage
 use Rattle.world_run.specs.Executed.{answered, redirections}
-use Rattle.world_run.specs.Run.{Entry}
+use Rattle.world_run.specs.Run.{Entry, Goes, first_nodes}
+use Rattle.world_run.specs.Run.Deed.{Skipped}
 use Rattle.world.specs.Clients.{ClientView, leads_to, node_at, used_by}
 use Rattle.world.specs.View.{RunView, SceneView}
 use Rattle.world.specs.declared.client.Late.{Late}
 use Rattle.world.specs.declared.client.Link.{Link}
 use Rattle.world.specs.declared.client.Traffic.{Traffic}
 use Rattle.world.specs.declared.client.Traffic.TheVariants.{Quiet, Asked, Answered}
+
+-- what the nodes did, the newest first
+abbrev pub past_of : RunView → List Entry
+past_of run = reverse run.entries
 
 -- ---- connections
 
@@ -130,17 +137,38 @@ pub record WasAnswered (nodes : List NodeConfig) (past : List Entry) (node : ℕ
   pub same : answer.reply ≡ reply
   pub reason : (text : List ℕ) → reply ≡ Error text → IsReason nodes text answer.why
 
+-- a request with these words came to its node in this past of the cluster, and the node's stream had no offset for what would have been
+-- written by it: no step was made, so nothing was executed
+pub record HadNoOffset (config : ClusterConfig) (past : List Entry) (link : Link) (words : List (List ℕ)) : Type 0 where
+  pub earlier : List Entry
+  pub later : List Entry
+  pub ticket : ℕ
+  pub skipped : past ≡ later ++ (record { node = link.node; ticket = ticket; deed = Skipped }) ∷ earlier
+  pub nodes : List NodeState
+  pub goes : Goes [] (first_nodes config) (reverse earlier) nodes
+  pub state : NodeState
+  pub was : slice_get nodes link.node ≡ Some state
+  pub none : has_offset state (written state link.conn words) ≡ false
+
+-- the nodes have the configuration of the cluster
+abbrev pub HaveConfig : ClusterConfig → List NodeState → Type 0
+HaveConfig config nodes = (number : ℕ) (node : NodeState) → slice_get nodes number ≡ Some node → node.config ≡ config
+
+-- EXHAUSTED answers such a request
+pub record WasRefused (run : RunView) (link : Link) (words : List (List ℕ)) (reply : Reply) : Type 0 where
+  pub config : ClusterConfig
+  pub have : HaveConfig config run.nodes
+  pub had : HadNoOffset config (past_of run) link words
+  pub same : reply ≡ error Exhausted
+
 -- where the reply to what the call sent comes from: what stands in front of its command is welcome
-abbrev pub ComesFrom : List NodeConfig → List Entry → ℕ → Call → Stage → Reply → Type 0
-ComesFrom nodes past node call stage.Connecting reply = ⊥
-ComesFrom nodes past node call stage.Introducing reply = reply ≡ done
-ComesFrom nodes past node call stage.Asking reply = reply ≡ done
-ComesFrom nodes past node call stage.Sent reply = WasAnswered nodes past node call.words reply
+abbrev pub ComesFrom : List NodeConfig → RunView → Link → Call → Stage → Reply → Type 0
+ComesFrom nodes run link call stage.Connecting reply = ⊥
+ComesFrom nodes run link call stage.Introducing reply = reply ≡ done
+ComesFrom nodes run link call stage.Asking reply = reply ≡ done
+ComesFrom nodes run link call stage.Sent reply = WasAnswered nodes (past_of run) link.node call.words reply ⊎ WasRefused run link call.words reply
 
 -- ---- clients
-
-abbrev pub past_of : RunView → List Entry
-past_of run = reverse run.entries
 
 -- the connection is the one to its node
 abbrev pub IsInPool : List (Option Conn) → Link → Type 0
@@ -181,7 +209,7 @@ IsOfCall nodes run core pool (Asked link words) (Some call) =
 IsOfCall nodes run core pool (Answered link reply) None = ⊥
 IsOfCall nodes run core pool (Answered link reply) (Some call) =
     IsUnderWay nodes (past_of run) core pool link call × IsReplied nodes (past_of run) call call.stage reply (asking_at run link)
-    × ComesFrom nodes (past_of run) link.node call call.stage reply
+    × ComesFrom nodes run link call call.stage reply
 
 -- a client asks only what it was told to ask
 pub record AsksWell (nodes : List NodeConfig) (run : RunView) (client : ClientView) : Type 0 where
@@ -212,12 +240,13 @@ abbrev pub AllReady : RunView → List ClientView → Type 0
 AllReady run [] = ⊤
 AllReady run (client ∷ clients) = AreReady run client.pool × AllReady run clients
 
--- the nodes have the configuration of the cluster
-abbrev pub HaveConfig : ClusterConfig → List NodeState → Type 0
-HaveConfig config nodes = (number : ℕ) (node : NodeState) → slice_get nodes number ≡ Some node → node.config ≡ config
+-- what the nodes did leads from the cluster's start to them
+abbrev pub IsRunOf : ClusterConfig → RunView → Type 0
+IsRunOf config run = Goes [] (first_nodes config) run.entries run.nodes
 
 pub record KeepsRule (scene : SceneView) : Type 0 where
   pub nodes : length scene.run.nodes ≡ length scene.config.nodes
+  pub goes : IsRunOf scene.config scene.run
   pub configs : HaveConfig scene.config scene.run.nodes
   pub clients : AllAskWell scene.config.nodes scene.run scene.clients
   pub ready : AllReady scene.run scene.clients

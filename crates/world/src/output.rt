@@ -2,12 +2,13 @@
 ghost use Rattle.std.specs.Prelude.{◌≡◌, ◌≤◌, ◌++◌, ◌∷◌, [], map, length, drop, IfOk, OnOk};
 ghost use Rattle.node_step.specs.Outcome.{error};
 ghost use Rattle.command_table.specs.declared.error_line.ErrorLine.TheVariants.{Exhausted};
-ghost use Rattle.world.specs.Outputs.{numbered, own_reply, released_reply};
+ghost use Rattle.world.specs.Outputs.{numbered, own_reply, promotion_of, released_reply};
 ghost use Rattle.world.specs.declared.output.Output.TheVariants.{Admin, Nothing};
 
 use bus::Message;
 use command_table::ErrorLine;
 use node_core::{Release, Response};
+use node_step::{Promoted, Promotion};
 use resp_values::Reply;
 use smart_client::ClientFault;
 use std::alloc::{AllocError, Global};
@@ -35,6 +36,13 @@ pub enum Output {
         number: u64,
         /// The message.
         message: Message,
+    },
+    /// A node became a master.
+    Promoted {
+        /// The node.
+        node: u64,
+        /// The stream that it followed, how much of it the node had, and the epoch of its election.
+        promotion: Promotion,
     },
     /// There was nothing to do.
     Nothing,
@@ -112,6 +120,20 @@ pub(crate) fn add_sent(
             number: at as u64 + 1,
             message: sent[at].clone()?,
         })?;
+    }
+    Ok(())
+}
+
+/// Adds that the node became a master, if it did.
+pub(crate) fn add_promotion(
+    outputs: &mut Vec<Output>,
+    node: u64,
+    promoted: &Promoted,
+) -> Result<(), AllocError>
+    ensures { OnOk result (outputs.new.items ≡ outputs.old.items ++ promotion_of node promoted.now) }
+{
+    if let Some(promotion) = promoted.get() {
+        outputs.push(Output::Promoted { node, promotion })?;
     }
     Ok(())
 }

@@ -13,13 +13,12 @@ ghost use Rattle.world.specs.Outputs.{beside_from, shown_from};
 ghost use Rattle.world.specs.View.{GoesOn, RemembersSent, first_run, is_up};
 
 use crate::entries::Entries;
-use crate::output::{Output, add_own, add_released, add_sent, exhausted, nothing};
+use crate::output::{Output, add_own, add_promotion, add_released, add_sent, exhausted, nothing};
 use bus::Message;
 use cluster_config::Config;
 use connections::Conn;
 use node_core::{Core, Event, Outputs, Release, Response};
 use resp_values::Words;
-use slot_store::SlotStore;
 use slot_table::NodeNo;
 use std::alloc::{AllocError, Global};
 use std::marker::Model;
@@ -304,6 +303,7 @@ impl Run {
         add_own(&mut outputs, node, &made.response)?;
         add_released(&mut outputs, node, made.released.as_slice())?;
         add_sent(&mut outputs, self.sent.as_slice(), first)?;
+        add_promotion(&mut outputs, node, &made.promoted)?;
         Ok(outputs)
     }
 
@@ -316,6 +316,7 @@ impl Run {
         let mut outputs = Vec::new(self.alloc);
         add_released(&mut outputs, node, made.released.as_slice())?;
         add_sent(&mut outputs, self.sent.as_slice(), first)?;
+        add_promotion(&mut outputs, node, &made.promoted)?;
         Ok(outputs)
     }
 
@@ -379,7 +380,7 @@ fn first_node(alloc: Global, config: &Config, at: u8) -> Result<Core, AllocError
     ensures { IfOk result (λ core. core ≡ first_state config.now at) }
 {
     let number = NodeNo::new(at).unwrap();
-    Core::new(alloc, config.clone()?, number, SlotStore::new(alloc)?)
+    Core::begin(alloc, config.clone()?, number)
 }
 
 fn none_stopped(alloc: Global, count: usize) -> Result<Vec<bool>, AllocError>

@@ -25,6 +25,7 @@ impl Config {
         Ok(Config {
             tick_ms: draft.tick_ms as u32,
             node_timeout: draft.node_timeout as u32,
+            backlog: draft.backlog as u32,
             nodes: nodes_of(alloc, nodes)?,
             voters: voters_of(alloc, nodes, draft.voters.items.as_slice())?,
         })

@@ -1,17 +1,19 @@
-use Rattle.std.proofs.Common.{◌≡◌, ap, rules, sym, ◌∙◌, ◌==◌, not, max}
-use Rattle.node_step.specs.State.{NodeState}
-use Rattle.node_core.proofs.AnswerLemmas.{passed_by, takes_word}
-use Rattle.node_parts.proofs.ChangeLemmas.{drafts_nothing}
+use Rattle.std.proofs.Common.{ap, rules, sym, ◌∙◌, ◌==◌, not}
+use Rattle.node_core.proofs.MessageLemmas.{passed_by, taken_drafted}
 use Rattle.node_core.proofs.messages.deliver.Goals as goal
+use Rattle.node_parts.proofs.ChangeLemmas.{drafts_nothing}
+use Rattle.node_step.specs.State.{NodeState}
 
 pub returns-then-ne-clause-draft : goal.returns-then-ne-clause-draft
 returns-then-ne-clause-draft g c =
     passed_by c.args.node.now c.args.message.now c.args.draft.now
-    (ap (λ (node : NodeState). not (c.args.message.now.to == node.number)) (sym c.node.view_is) ∙ sym c.ne.ensures ∙ c.if-ne.true) (drafts_nothing _ _ c.requires)
+    (ap (λ (node : NodeState). not (c.args.message.now.to == node.number)) (sym c.node.view_is) ∙ sym c.ne.ensures ∙ c.if-ne.true) (drafts_nothing _ _ c.requires.nothing)
 
-pub returns-in-Drained-clause-draft : goal.returns-in-Drained-clause-draft
-returns-in-Drained-clause-draft g c =
-    let known : c.max-epoch.result ≡ max c.node.inside.current_epoch c.args.message.now.epoch = search rules in
-    takes_word c.args.node.now c.args.message.now c.max-epoch.result c.in-Drained.slot c.in-Drained.number c.in-Drained.drained c.take_drained.new.draft
-    (ap (λ (node : NodeState). not (c.args.message.now.to == node.number)) (sym c.node.view_is) ∙ sym c.ne.ensures ∙ c.if-ne.false)
-    (known ∙ ap (λ (node : NodeState). max node.current_epoch c.args.message.now.epoch) c.node.view_is) c.in-Drained.is c.take_drained.ensures
+pub returns-clause-draft : goal.returns-clause-draft
+returns-clause-draft g c =
+    taken_drafted c.args.node.now c.args.message.now c.record.new.draft
+    (ap (λ (node : NodeState). not (c.args.message.now.to == node.number)) (sym c.node.view_is) ∙ sym c.ne.ensures ∙ c.if-ne.false) c.requires.body
+    (c.in_ok-record.ensures.records _ _ c.in_ok-bytes.ensures c.in_ok-take.ensures)
+
+pub returns-in_err-record-clause-exhausted : goal.returns-in_err-record-clause-exhausted
+returns-in_err-record-clause-exhausted g c = λ exhausted. c.in_err-record.ensures.exhausted (search rules) _ c.in_ok-bytes.ensures

@@ -2,13 +2,8 @@ use Rattle.std.proofs.Common.{sym, subst}
 use Rattle.std.specs.Prelude.{OnOk}
 use Rattle.node_parts.specs.Drafts.{IsDraftOf}
 use Rattle.node_step.specs.declared.event.Event.{Event}
-use Rattle.node_core.proofs.AnswerLemmas.{delivery_drafted, tick_drafted}
+use Rattle.node_core.proofs.AnswerLemmas.{tick_drafted}
 use Rattle.node_core.proofs.node.write_draft.Goals as goal
-
-pub returns-in-Deliver-clause-draft : goal.returns-in-Deliver-clause-draft
-returns-in-Deliver-clause-draft g c =
-    subst (λ (event : Event). OnOk c.deliver.result (IsDraftOf c.args.node.now event c.deliver.new.draft)) (sym c.in-Deliver.is)
-    (delivery_drafted c.args.node.now c.in-Deliver.message c.deliver.new.draft c.deliver.result c.deliver.ensures.draft)
 
 pub returns-in-Tick-clause-draft : goal.returns-in-Tick-clause-draft
 returns-in-Tick-clause-draft g c =

@@ -16,6 +16,11 @@ overflow_cast-result-2 c =
     let within = (faultless c.args.draft.now c.requires).node_timeout in
     search rules
 
+pub overflow_cast-result-3 : goal.overflow_cast-result-3
+overflow_cast-result-3 c =
+    let within = (faultless c.args.draft.now c.requires).backlog in
+    search rules
+
 pub nodes_of-requires-clause-few : goal.nodes_of-requires-clause-few
 nodes_of-requires-clause-few c =
     let nodes = c.as_slice-nodes.ensures.value ∙ ap (λ (d : Draft). d.nodes) c.draft.view_is in
@@ -41,7 +46,7 @@ pub invariant_of-result : goal.invariant_of-result
 invariant_of-result c =
     let nodes = c.as_slice-nodes.ensures.value ∙ ap (λ (d : Draft). d.nodes) c.draft.view_is in
     let voters = c.as_slice.ensures.value ∙ ap (λ (d : Draft). d.voters) c.draft.view_is in
-    cluster_of c.args.draft.now (faultless c.args.draft.now c.requires) _ _ _ _ (search rules) (search rules)
+    cluster_of c.args.draft.now (faultless c.args.draft.now c.requires) _ _ _ _ _ (search rules) (search rules) (search rules)
     (c.in_ok-nodes_of.ensures.nodes ∙ ap (λ (nodes : List NodeDraft). map (node_of nodes) nodes) nodes)
     (c.in_ok-voters_of.ensures ∙ ap₂ (λ (nodes : List NodeDraft) (voters : List (List ℕ)). map (number_of nodes) voters) nodes voters)
     c.in_ok-nodes_of.ensures.hosts

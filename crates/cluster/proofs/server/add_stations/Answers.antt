@@ -1,0 +1,11 @@
+use Rattle.std.proofs.Common.{rules, ◌≡◌, ◌+◌, vec_len}
+use Rattle.cluster.proofs.PlaceLemmas.{counted_one_more}
+use Rattle.cluster.proofs.server.add_stations.Goals as goal
+
+pub loop-node-preserved : goal.loop-node-preserved
+loop-node-preserved g c =
+    let grown : vec_len c.add_station.new.stations ≡ vec_len c.loop-node.stations + 1 = search rules in
+    record {
+      count = search rules;
+      numbers = counted_one_more _ _ (vec_len c.loop-node.stations) _ grown (search rules) c.loop-node.invariant.numbers;
+    }

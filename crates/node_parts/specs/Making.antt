@@ -1,0 +1,26 @@
+-- A step that is made: a change of the node, and what is written behind its stream.
+use Rattle.std.specs.Prelude.{◌≡◌, ℕ, List, [], ◌∷◌}
+use Rattle.keyspace.specs.declared.plans.Plan.{Plan}
+use Rattle.node_parts.specs.Becomes.{Becomes}
+use Rattle.node_parts.specs.declared.change.Change.{Change}
+use Rattle.node_step.specs.State.{NodeState}
+use Rattle.stream_values.specs.Stream.{StreamView, Writes}
+
+-- the bytes are put behind the stream; where there are none it stays
+abbrev pub GoesOn : List ℕ → StreamView → StreamView → Type 0
+GoesOn [] old new = new ≡ old
+GoesOn (byte ∷ bytes) old new = Writes (byte ∷ bytes) old new
+
+-- the node changed, and the bytes stand behind its stream
+pub record IsMade (old : NodeState) (plan : Plan) (change : Change) (bytes : List ℕ) (new : NodeState) : Type 0 where
+  pub after : NodeState
+  pub changes : Becomes old plan change after
+  pub goes_on : GoesOn bytes after.stream new.stream
+  pub state : new ≡ record after { stream = new.stream }
+
+-- the same of bytes that are some
+pub record IsWritten (old : NodeState) (plan : Plan) (change : Change) (bytes : List ℕ) (new : NodeState) : Type 0 where
+  pub after : NodeState
+  pub changes : Becomes old plan change after
+  pub writes : Writes bytes after.stream new.stream
+  pub state : new ≡ record after { stream = new.stream }

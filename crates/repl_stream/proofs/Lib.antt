@@ -1,0 +1,4 @@
+mod BlockLemmas
+mod PartLemmas
+mod ReadingLemmas
+mod TakingLemmas

@@ -1,0 +1,4 @@
+pub mod Bodies
+pub mod Faults
+pub mod Reading
+pub mod Replica

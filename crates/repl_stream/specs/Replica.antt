@@ -1,0 +1,8 @@
+-- What a contract sees of a replica.
+use Rattle.std.specs.Prelude.{ℕ}
+use Rattle.stream_values.specs.Stream.{StreamView}
+
+-- what the node has of the stream; and for how many bytes there is room, which only who appends has to know
+pub record ReplicaView : Type 0 where
+  pub stream : StreamView
+  pub room : ℕ

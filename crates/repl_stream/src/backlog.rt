@@ -1,0 +1,89 @@
+//! A stream of which the last bytes are kept.
+ghost use Rattle.std.specs.Prelude.{◌≡◌, ◌≤◌, length, IfOk};
+ghost use Rattle.stream_values.specs.Stream.{begun};
+
+use crate::fault::StreamFault;
+use crate::parts::part_of_two;
+use crate::stream::Stream;
+use byte_string::ByteString;
+use circular_buffer::HeapCircularBuffer;
+use std::alloc::{AllocError, Global};
+use stream_values::StreamId;
+
+/// A stream of which the last bytes are kept, as many as find room in a ring of a fixed size. Only to make it takes memory.
+#[derive(Drop)]
+pub struct Backlog {
+    id: StreamId,
+    /// Where the bytes end.
+    end: u64,
+    /// The last ones before that.
+    ring: HeapCircularBuffer<u8>,
+    ghost within: { length ring.items ≤ end },
+}
+
+impl Backlog {
+    ghost use Rattle.repl_stream.specs.Bodies.{last_of};
+
+    /// A stream without bytes, which begins at offset 0, and will keep the last `capacity` bytes.
+    pub fn new(alloc: Global, id: StreamId, capacity: usize) -> Result<Backlog, AllocError>
+        ensures empty { IfOk result (λ stream. last_of stream ≡ begun id 0) }
+        ensures capacity { IfOk result (λ stream. stream.ring.capacity ≡ capacity) }
+    {
+        let ring = HeapCircularBuffer::with_capacity(alloc, capacity)?;
+        Ok(Backlog { id, end: 0, ring })
+    }
+}
+
+impl Stream for Backlog {
+    ghost use Rattle.std.specs.Prelude.{◌^◌};
+    ghost use Rattle.repl_stream.specs.Bodies.{last_of, overwritten};
+
+    ghost held = { last_of };
+
+    ghost room = { λ stream. 2 ^ 64 };
+
+    ghost gives_up = { overwritten };
+
+    fn id(&self) -> StreamId {
+        self.id
+    }
+
+    fn first(&self) -> u64 {
+        self.end - self.ring.len() as u64
+    }
+
+    fn end(&self) -> u64 {
+        self.end
+    }
+
+    fn reserve(&mut self, _count: usize) -> Result<(), AllocError> {
+        Ok(())
+    }
+
+    fn append(&mut self, bytes: &[u8]) {
+        self.ring.extend_from_slice(bytes);
+        self.end += bytes.len() as u64;
+    }
+
+    fn piece(&self, alloc: Global, from: u64, most: usize) -> Result<ByteString, StreamFault> {
+        let first = self.end - self.ring.len() as u64;
+        if from < first {
+            return Err(StreamFault::TooOld);
+        }
+        let (front, back) = self.ring.as_slices();
+        Ok(part_of_two(alloc, front, back, from - first, most)?)
+    }
+
+    fn cut_at(&mut self, offset: u64, id: StreamId) {
+        let kept = offset.saturating_sub(self.end - self.ring.len() as u64);
+        self.ring.truncate_back(kept as usize);
+        self.end = offset;
+        self.id = id;
+    }
+
+    fn begin_at(&mut self, id: StreamId, offset: u64) {
+        self.ring.clear();
+        self.end = offset;
+        self.id = id;
+    }
+}

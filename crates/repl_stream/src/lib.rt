@@ -1,0 +1,26 @@
+//! What a node has of a stream of writes.
+#![tactic(auto)]
+
+mod answering;
+mod backlog;
+mod block;
+mod fault;
+mod lengths;
+mod offering;
+mod parts;
+mod received;
+mod replaces;
+mod replica;
+mod requests;
+mod restoring;
+mod stream;
+mod whole_stream;
+mod writing;
+
+pub use backlog::Backlog;
+pub use block::block_of;
+pub use fault::{AppendFault, OfferFault, StreamFault};
+pub use replaces::Replaces;
+pub use replica::Replica;
+pub use stream::Stream;
+pub use whole_stream::WholeStream;

@@ -1,0 +1,112 @@
+//! What a replica takes of its master's stream.
+ghost use Rattle.std.specs.Prelude.{◌≡◌, ◌+◌, ◌<◌, ◌≤◌, ◌^◌, length, IfOk, IfErr, IfSome, OnOk, OnErr};
+ghost use Rattle.stream_values.specs.Piece.{TakesBehind, TakesPiece, common_end, end_by_base, news_in, verdict_on};
+ghost use Rattle.stream_values.specs.Piece.PieceVerdict.{Takes};
+ghost use Rattle.stream_values.specs.Stream.{received};
+ghost use Rattle.repl_stream.specs.Faults.{IsRefusedFor};
+
+use crate::fault::OfferFault;
+use crate::parts::front;
+use crate::received::read;
+use crate::replica::Replica;
+use crate::stream::Stream;
+use keyspace::{Store, commit};
+use std::alloc::{AllocError, Global};
+use stream_values::{Base, Piece};
+
+impl<T: Stream> Replica<T> {
+    /// Takes what is new of the piece, and executes the requests that are whole now, or changes nothing.
+    pub fn offer<S: Store>(
+        &mut self,
+        alloc: Global,
+        store: &mut S,
+        piece: &Piece,
+    ) -> Result<(), OfferFault>
+        ensures taken { OnOk result (TakesPiece
+            (record { stream = self.old.stream; keyspace = S.contents store.old }) piece.now
+            (record { stream = self.new.stream; keyspace = S.contents store.new })) }
+        ensures refused { IfErr result (λ fault. IsRefusedFor fault (verdict_on self.old.stream piece.now)) }
+        ensures unchanged { OnErr result ((self.new.stream ≡ self.old.stream) × (S.contents store.new ≡ S.contents store.old)) }
+    {
+        let place = self.judge(piece)?;
+        self.take(alloc, store, piece, place)?;
+        Ok(())
+    }
+
+    // Up to where what was received is of the piece's stream, if that isn't before the piece.
+    fn judge(&self, piece: &Piece) -> Result<u64, OfferFault>
+        ensures takes { IfOk result (λ place. verdict_on self.now.stream piece.now ≡ Takes place) }
+        ensures within { IfOk result (λ place. (piece.now.from ≤ place) × (self.now.stream.offset ≤ place) × (place ≤ received self.now.stream)) }
+        ensures refused { IfErr result (λ fault. IsRefusedFor fault (verdict_on self.now.stream piece.now)) }
+    {
+        let Some(place) = self.common_end(piece) else {
+            return Err(OfferFault::OtherStream);
+        };
+        if place < piece.from() {
+            return Err(OfferFault::Gap);
+        }
+        Ok(place)
+    }
+
+    fn common_end(&self, piece: &Piece) -> Option<u64>
+        ensures end { result ≡ common_end self.now.stream piece.now }
+        ensures within { IfSome result (λ place. (self.now.stream.offset ≤ place) × (place ≤ received self.now.stream)) }
+    {
+        if piece.stream() == self.id() {
+            return Some(self.received());
+        }
+        self.end_by_base(piece.base())
+    }
+
+    fn end_by_base(&self, base: Option<Base>) -> Option<u64>
+        ensures end { result ≡ end_by_base self.now.stream base }
+        ensures within { IfSome result (λ place. (self.now.stream.offset ≤ place) × (place ≤ received self.now.stream)) }
+    {
+        let base = base?;
+        if base.stream != self.id() || base.end < self.offset {
+            return None;
+        }
+        Some(self.received().min(base.end))
+    }
+
+    // Takes what is new of the piece behind that place.
+    fn take<S: Store>(
+        &mut self,
+        alloc: Global,
+        store: &mut S,
+        piece: &Piece,
+        place: u64,
+    ) -> Result<(), AllocError>
+        requires behind { piece.now.from ≤ place }
+        requires within { (self.old.stream.offset ≤ place) × (place ≤ received self.old.stream) }
+        ensures taken { OnOk result (TakesBehind place
+            (record { stream = self.old.stream; keyspace = S.contents store.old }) piece.now
+            (record { stream = self.new.stream; keyspace = S.contents store.new })) }
+        ensures err { OnErr result ((self.new.stream ≡ self.old.stream) × (S.contents store.new ≡ S.contents store.old)) }
+    {
+        let stayed = front(self.partial.as_slice(), place - self.offset);
+        let news = news_of(piece, place);
+        let received = read(alloc, &*store, stayed, news)?;
+        self.stream.reserve(news.len())?;
+        commit(alloc, store, received.plan)?;
+        self.stream.cut_at(place, piece.stream());
+        self.stream.append(news);
+        self.offset = self.stream.end() - received.rest.len() as u64;
+        self.partial = received.rest;
+        Ok(())
+    }
+}
+
+// The bytes of the piece from that offset on.
+fn news_of(piece: &Piece, place: u64) -> &[u8]
+    requires { piece.now.from ≤ place }
+    ensures news { result.now ≡ news_in piece.now place }
+    ensures fits { place + length result.now < 2 ^ 64 }
+{
+    let bytes = piece.bytes().as_slice();
+    let before = place - piece.from();
+    if before >= bytes.len() as u64 {
+        return &[];
+    }
+    &bytes[before as usize..]
+}

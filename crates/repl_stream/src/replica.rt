@@ -1,0 +1,107 @@
+//! What a node has of a stream.
+ghost use Rattle.std.specs.Prelude.{◌≡◌, ◌≤◌};
+ghost use Rattle.stream_values.specs.Stream.{first_stream, promoted, received};
+
+use crate::stream::Stream;
+use std::alloc::Global;
+use std::marker::Model;
+use stream_values::{Base, StreamId};
+
+/// What a node has of a stream: the bytes that it received or wrote, and how far they are whole writes.
+pub struct Replica<T: Stream> {
+    /// The bytes.
+    pub(crate) stream: T,
+    /// The end of the last whole write.
+    pub(crate) offset: u64,
+    /// What was received past it.
+    pub(crate) partial: Vec<u8>,
+    /// The stream that it followed before it was promoted.
+    pub(crate) former: Option<Base>,
+}
+
+impl<T: Stream + Drop> Drop for Replica<T> {
+    fn drop(self) {
+        let Replica {
+            stream: _,
+            offset: _,
+            partial: _,
+            former: _,
+        } = self;
+    }
+}
+
+impl<T: Stream> Model for Replica<T> {
+    ghost use Rattle.std.specs.Prelude.{◌≡◌, ◌+◌, length};
+    ghost use Rattle.repl_stream.specs.Replica.{ReplicaView};
+    ghost use Rattle.stream_values.specs.Stream.{end_of};
+
+    ghost Value = { ReplicaView };
+
+    ghost view = { λ replica. record {
+      stream = record {
+        held = T.held replica.stream;
+        offset = replica.offset;
+        partial = replica.partial.items;
+        former = replica.former;
+      };
+      room = T.room replica.stream;
+    } };
+
+    ghost invariant = { λ replica. end_of (T.held replica.stream) ≡ replica.offset + length replica.partial.items };
+}
+
+impl<T: Stream> Replica<T> {
+    /// Nothing yet of a stream, in this body, from where it begins.
+    pub fn new(alloc: Global, mut stream: T, id: StreamId) -> Replica<T>
+        ensures { result.stream ≡ first_stream id }
+    {
+        stream.begin_at(id, 0);
+        Replica {
+            stream,
+            offset: 0,
+            partial: Vec::new(alloc),
+            former: None,
+        }
+    }
+
+    /// The stream that it follows, or writes.
+    pub fn id(&self) -> StreamId
+        ensures { result ≡ self.now.stream.held.id }
+    {
+        self.stream.id()
+    }
+
+    /// Where the bytes end.
+    pub fn received(&self) -> u64
+        ensures end { result ≡ received self.now.stream }
+        ensures whole { self.now.stream.offset ≤ result }
+    {
+        self.stream.end()
+    }
+
+    /// The end of the last whole write.
+    pub fn offset(&self) -> u64
+        ensures { result ≡ self.now.stream.offset }
+    {
+        self.offset
+    }
+
+    /// The stream that it followed before it was promoted, and where that one ended.
+    pub fn former(&self) -> Option<Base>
+        ensures { result ≡ self.now.stream.former }
+    {
+        self.former
+    }
+
+    /// Makes the node, which was a replica, a master: it goes on from its offset under an id of its own. It takes no memory.
+    pub fn promote(&mut self, id: StreamId)
+        ensures { self.new.stream ≡ promoted id self.old.stream }
+    {
+        self.former = Some(Base {
+            stream: self.stream.id(),
+            end: self.offset,
+        });
+        self.stream.cut_at(self.offset, id);
+        self.partial.clear();
+    }
+}

@@ -1,0 +1,61 @@
+//! A whole keyspace, taken from a snapshot.
+ghost use Rattle.std.specs.Prelude.{◌≡◌, [], IfOk, OnOk, OnErr};
+ghost use Rattle.keyspace.specs.Keyspace.{keyspace_of};
+ghost use Rattle.stream_values.specs.Snapshot.{is_known, restored};
+ghost use Rattle.stream_values.specs.Stream.{begun};
+
+use crate::replaces::Replaces;
+use crate::replica::Replica;
+use crate::stream::Stream;
+use std::alloc::{AllocError, Global};
+use stream_values::{Pair, Snapshot, StreamId};
+
+impl<T: Stream> Replica<T> {
+    /// Takes all pairs of the snapshot in place of what is in the store, and its place in the stream, or changes nothing.
+    ///
+    /// One of the own stream that isn't past the offset is known: it changes nothing either.
+    pub fn snapshot<S: Replaces>(
+        &mut self,
+        alloc: Global,
+        store: &mut S,
+        snapshot: &Snapshot,
+    ) -> Result<(), AllocError>
+        ensures ok { OnOk result (record { stream = self.new.stream; keyspace = S.contents store.new }
+            ≡ restored snapshot.now (record { stream = self.old.stream; keyspace = S.contents store.old })) }
+        ensures err { OnErr result ((self.new.stream ≡ self.old.stream) × (S.contents store.new ≡ S.contents store.old)) }
+    {
+        if self.knows(snapshot) {
+            return Ok(());
+        }
+        *store = store_of(alloc, snapshot.pairs.as_slice())?;
+        self.begin(snapshot.stream, snapshot.offset);
+        Ok(())
+    }
+
+    fn knows(&self, snapshot: &Snapshot) -> bool
+        ensures { result ≡ is_known self.now.stream snapshot.now }
+    {
+        snapshot.stream == self.id() && snapshot.offset <= self.offset
+    }
+
+    // The stream goes on from there, and nothing of it is kept.
+    fn begin(&mut self, id: StreamId, offset: u64)
+        ensures { self.new.stream ≡ record self.old.stream { held = begun id offset; offset = offset; partial = [] } }
+    {
+        self.stream.begin_at(id, offset);
+        self.offset = offset;
+        self.partial.clear();
+    }
+}
+
+// A store with these pairs. Of two at one key the first counts.
+fn store_of<S: Replaces>(alloc: Global, pairs: &[Pair]) -> Result<S, AllocError>
+    ensures { IfOk result (λ store. S.contents store ≡ keyspace_of pairs.now) }
+{
+    let mut store = S::empty(alloc)?;
+    for place in 0..pairs.len() {
+        let pair = &pairs[pairs.len() - 1 - place];
+        store.insert(pair.key().clone()?, pair.value().clone()?)?;
+    }
+    Ok(store)
+}

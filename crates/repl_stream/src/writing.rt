@@ -1,0 +1,35 @@
+//! What a master puts behind its stream.
+ghost use Rattle.std.specs.Prelude.{◌≡◌, ◌+◌, ◌<◌, ◌≤◌, ◌^◌, length, IfErr, OnOk};
+ghost use Rattle.stream_values.specs.Stream.{Writes, received};
+ghost use Rattle.repl_stream.specs.Faults.{IsRefusedAt};
+
+use crate::fault::AppendFault;
+use crate::replica::Replica;
+use crate::stream::Stream;
+
+impl<T: Stream> Replica<T> {
+    /// Makes room for so many more bytes, so that [`append`](Replica::append) takes no memory. What can fail is done between
+    /// the two calls.
+    pub fn reserve(&mut self, count: usize) -> Result<(), AppendFault>
+        ensures stream { self.new.stream ≡ self.old.stream }
+        ensures room { OnOk result (count ≤ self.new.room) }
+        ensures fits { OnOk result (received self.new.stream + count < 2 ^ 64) }
+        ensures fault { IfErr result (λ fault. IsRefusedAt fault (received self.old.stream + count)) }
+    {
+        if count as u64 > u64::MAX - self.stream.end() {
+            return Err(AppendFault::Exhausted);
+        }
+        self.stream.reserve(count)?;
+        Ok(())
+    }
+
+    /// Puts the bytes of whole writes behind the stream. It takes no memory.
+    pub fn append(&mut self, bytes: &[u8])
+        requires room { length bytes.now ≤ self.old.room }
+        requires fits { received self.old.stream + length bytes.now < 2 ^ 64 }
+        ensures { Writes bytes.now self.old.stream self.new.stream }
+    {
+        self.stream.append(bytes);
+        self.offset += bytes.len() as u64;
+    }
+}

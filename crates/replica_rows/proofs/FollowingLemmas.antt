@@ -1,0 +1,76 @@
+-- A replica that follows its master.
+use Rattle.std.proofs.Common.{◌≡◌, ℕ, true, false, true≢false, refl, sym, ap, subst, ◌∙◌}
+use Rattle.std.proofs.lemmas.Bool.{cond-false, cond-true}
+use Rattle.node_parts.specs.Drafts.{at_epoch}
+use Rattle.node_step.specs.Replicas.{MayFollow, follower_of, pieced, restored_by, with_follower, with_piece}
+use Rattle.node_step.specs.Roles.{is_just}
+use Rattle.node_step.specs.State.{NodeState, own_master}
+use Rattle.replica_rows.specs.Following.{Follows, TakesOrNot}
+use Rattle.stream_values.specs.Follower.{Follower}
+use Rattle.stream_values.specs.Piece.{PieceVerdict, PieceView, TakesBy, TakesPiece, verdict_on}
+use Rattle.stream_values.specs.Piece.PieceVerdict.{Gap, OtherStream, Takes}
+use Rattle.stream_values.specs.Snapshot.{restored}
+use Rattle.stream_values.specs.declared.snapshot.Snapshot.{Snapshot as Whole}
+
+-- a piece that is taken
+module _ (old new : NodeState) (piece : PieceView) (follower : Follower) (state : new ≡ with_follower old follower) where
+  by_verdict : (verdict : PieceVerdict) → verdict_on old.stream piece ≡ verdict → TakesBy verdict (follower_of old) piece follower → TakesOrNot old piece new
+  by_verdict Gap is taken = absurd taken
+  by_verdict OtherStream is taken = absurd taken
+  by_verdict (Takes place) is taken = record {
+    follower = follower;
+    may_follow = λ other same. subst (λ v. TakesBy v (follower_of old) piece follower) (sym is ∙ same) taken;
+    state = state ∙ ap (with_piece old follower) (sym is);
+  }
+
+  pub piece_taken : TakesPiece (follower_of old) piece follower → TakesOrNot old piece new
+  piece_taken taken = by_verdict (verdict_on old.stream piece) refl taken
+
+-- one that is refused
+module _ (old new : NodeState) (piece : PieceView) (same : new ≡ old) where
+  pub piece_gap : verdict_on old.stream piece ≡ Gap → TakesOrNot old piece new
+  piece_gap is = record { follower = follower_of old; may_follow = λ place takes. absurd (gap_is_none place (sym is ∙ takes)); state = same ∙ ap (with_piece old (follower_of old)) (sym is) }
+    where
+      gap_is_none : (place : ℕ) → Gap ≡ Takes place → ⊥
+      gap_is_none place never = cc
+
+  pub piece_of_other : verdict_on old.stream piece ≡ OtherStream → TakesOrNot old piece new
+  piece_of_other is = record { follower = follower_of old; may_follow = λ place takes. absurd (other_is_none place (sym is ∙ takes)); state = same ∙ ap (with_piece old (follower_of old)) (sym is) }
+    where
+      other_is_none : (place : ℕ) → OtherStream ≡ Takes place → ⊥
+      other_is_none place never = cc
+
+-- a piece of the own master
+module _ (old new : NodeState) (epoch from : ℕ) (piece : PieceView) where
+  pub own_piece : is_just (own_master old) from ≡ true → TakesOrNot old piece new → Follows (at_epoch old epoch) from piece (at_epoch new epoch)
+  own_piece is takes = record {
+    follower = takes.follower;
+    may_follow = λ own. takes.may_follow;
+    state =
+        ap (λ (node : NodeState). at_epoch node epoch) takes.state ∙ behind_verdict (verdict_on old.stream piece)
+        ∙ sym (cond-true (is_just (own_master old) from) (with_piece (at_epoch old epoch) takes.follower (verdict_on old.stream piece)) (at_epoch old epoch) is);
+  }
+    where
+      behind_verdict : (verdict : PieceVerdict) → at_epoch (with_piece old takes.follower verdict) epoch ≡ with_piece (at_epoch old epoch) takes.follower verdict
+      behind_verdict Gap = refl
+      behind_verdict OtherStream = refl
+      behind_verdict (Takes place) = refl
+
+  -- one of another node
+  pub other_piece : is_just (own_master old) from ≡ false → Follows (at_epoch old epoch) from piece (at_epoch old epoch)
+  other_piece is = record {
+    follower = follower_of old;
+    may_follow = λ own. absurd (true≢false (sym own ∙ is));
+    state = sym (cond-false (is_just (own_master old) from) (with_piece (at_epoch old epoch) (follower_of old) (verdict_on old.stream piece)) (at_epoch old epoch) is);
+  }
+
+-- a snapshot of the own master
+module _ (old : NodeState) (epoch from : ℕ) (snapshot : Whole) where
+  pub own_snapshot : (new : NodeState) → is_just (own_master old) from ≡ true → new ≡ with_follower old (restored snapshot (follower_of old))
+      → at_epoch new epoch ≡ (restored_by (at_epoch old epoch) from snapshot).state
+  own_snapshot new is restores =
+      ap (λ (node : NodeState). at_epoch node epoch) restores
+      ∙ sym (cond-true (is_just (own_master old) from) (with_follower (at_epoch old epoch) (restored snapshot (follower_of old))) (at_epoch old epoch) is)
+
+  pub other_snapshot : is_just (own_master old) from ≡ false → at_epoch old epoch ≡ (restored_by (at_epoch old epoch) from snapshot).state
+  other_snapshot is = sym (cond-false (is_just (own_master old) from) (with_follower (at_epoch old epoch) (restored snapshot (follower_of old))) (at_epoch old epoch) is)

@@ -1,0 +1,6 @@
+mod FollowingLemmas
+mod PieceLemmas
+mod RecordingLemmas
+mod SpellingLemmas
+mod SyncLemmas
+mod WriteLemmas

@@ -1,0 +1,19 @@
+use Rattle.std.proofs.Common.{◌≡◌, sym, ◌∙◌, rules}
+use Rattle.replica_rows.proofs.PieceLemmas.{piece-push, piece-skip}
+use Rattle.replica_rows.proofs.pieces.append_pieces.Goals as goal
+use Rattle.replica_rows.proofs.pieces.append_pieces.Goals.{then-has_replica+in_ok-piece_of+in_ok-push, else-has_replica}
+use Rattle.replica_rows.specs.Recording.{piece_of}
+
+pub loop-place-preserved : goal.loop-place-preserved
+loop-place-preserved g c =
+    let node = c.args.node.now in
+    let body = piece_of node c.args.bytes.now in
+    let at : c.unwrap-to.result ≡ c.loop-place.place = search rules in
+    elim c.if-has_replica.branch [
+      | then-has_replica+in_ok-piece_of+in_ok-push w ↦
+          piece-push node.masters node.number c.loop-place.place body c.unwrap-to.result w.in_ok-piece_of.field-0 c.args.bodies.now.items c.loop-place.bodies.items c.if-has_replica.bodies.items
+          at w.in_ok-piece_of.ensures (sym c.has_replica.ensures ∙ w.if-has_replica.true) c.loop-place.invariant (rw w.bodies-is w.in_ok-push.ensures.items)
+      | else-has_replica w ↦
+          piece-skip node.masters node.number c.loop-place.place body c.unwrap-to.result c.args.bodies.now.items c.loop-place.bodies.items c.if-has_replica.bodies.items
+          at (sym c.has_replica.ensures ∙ w.if-has_replica.false) c.loop-place.invariant (rw w.bodies-is)
+    ]

@@ -1,0 +1,60 @@
+-- What a step writes, as the parts of a node say it of themselves.
+use Rattle.std.specs.Prelude.{◌≡◌, ◌++◌, ◌∷◌, ◌&&◌, ℕ, Bool, false, not, List, [], if◌then◌else◌}
+use Rattle.bus.specs.declared.message.Body.{Body}
+use Rattle.bus.specs.declared.message.Body.TheVariants.{Piece}
+use Rattle.keyspace.specs.Rebuilding.{rebuilding}
+use Rattle.keyspace.specs.declared.value.Value.{Value}
+use Rattle.migrate.specs.declared.arriving.ArrivalVerdict.{ArrivalVerdict}
+use Rattle.migrate.specs.declared.arriving.ArrivalVerdict.TheVariants.{Ignored, Installs, Repeats}
+use Rattle.node_parts.specs.declared.draft.Draft.{Draft}
+use Rattle.node_step.specs.Orders.{to_all}
+use Rattle.node_step.specs.Roles.{replicas_of}
+use Rattle.node_step.specs.State.{NodeState}
+use Rattle.node_step.specs.Streams.{Requests, deletion, is_error, is_executed}
+use Rattle.node_step.specs.declared.response.Response.{Response}
+use Rattle.node_step.specs.declared.response.Response.TheVariants.{Nothing, Opened, Parked, Replied}
+use Rattle.resp_values.specs.Request.{request_spelling}
+use Rattle.stream_values.specs.Stream.{end_of}
+
+-- what makes a key anew
+abbrev pub rebuilt : Bool → List ℕ → Value → Requests
+rebuilt is_there key value = if is_there then deletion key ∷ rebuilding key value ∷ [] else rebuilding key value ∷ []
+
+-- the bytes of a deletion
+abbrev pub deletion_bytes : List ℕ → List ℕ
+deletion_bytes key = request_spelling (deletion key)
+
+-- by the verdict on a copy
+abbrev pub installing : Bool → List ℕ → Value → ArrivalVerdict → Requests
+installing is_there key value Installs = rebuilt is_there key value
+installing is_there key value Repeats = []
+installing is_there key value Ignored = []
+
+-- the request, if it is to be written
+abbrev pub written_if : Bool → List (List ℕ) → Requests
+written_if is_recorded words = if is_recorded then words ∷ [] else []
+
+-- a command was executed without an error
+abbrev pub is_done : Response → Bool
+is_done (Replied answer) = is_executed answer.why && not (is_error answer.reply)
+is_done Nothing = false
+is_done (Opened conn) = false
+is_done Parked = false
+
+-- the bytes as a piece of the node's stream
+abbrev pub piece_of : NodeState → List ℕ → Body
+piece_of node bytes = Piece (record { stream = node.stream.held.id; from = end_of node.stream.held; bytes = bytes; base = node.stream.former })
+
+-- one for each replica
+abbrev pub pieces_of : NodeState → List ℕ → List (ℕ × Body)
+pieces_of node bytes = to_all (replicas_of node.masters node.number) (piece_of node bytes)
+
+-- the bytes stand in the draft, and go to the replicas behind its other messages
+pub record Adds (node : NodeState) (bytes : List ℕ) (old new : Draft) : Type 0 where
+  pub response : new.response ≡ old.response
+  pub released : new.released ≡ old.released
+  pub sent : new.bodies.items ≡ old.bodies.items ++ pieces_of node bytes
+  pub epoch : new.epoch ≡ old.epoch
+  pub written : new.written ≡ bytes
+  pub plan : new.plan ≡ old.plan
+  pub change : new.change ≡ old.change

@@ -1,0 +1,88 @@
+//! A replica follows its master's stream.
+ghost use Rattle.std.specs.Prelude.{◌≡◌, OnOk, OnErr};
+ghost use Rattle.node_parts.specs.Drafts.{at_epoch};
+ghost use Rattle.node_step.specs.Replicas.{follower_of, restored_by, with_follower};
+ghost use Rattle.node_step.specs.Roles.{is_just};
+ghost use Rattle.node_step.specs.State.{own_master};
+ghost use Rattle.replica_rows.specs.Following.{Follows, TakesOrNot};
+ghost use Rattle.stream_values.specs.Snapshot.{restored};
+
+use node_parts::NodeParts;
+use repl_stream::{OfferFault, Replaces, Stream};
+use slot_store::{SlotKeys, SlotParts};
+use slot_table::{Epoch, NodeNo};
+use std::alloc::AllocError;
+use stream_values::{Piece, Snapshot};
+
+/// Takes a piece of the own master's stream, which executes the writes there. One that can't be taken changes nothing.
+pub fn take_piece<S: SlotParts + SlotKeys, T: Stream>(
+    node: &mut NodeParts<S, T>,
+    epoch: Epoch,
+    from: NodeNo,
+    piece: &Piece,
+) -> Result<(), AllocError>
+    ensures ok { OnOk result (Follows (at_epoch node.old epoch) from piece.now node.new) }
+    ensures err { OnErr result (node.new ≡ node.old) }
+{
+    if is_own_master(node, from) {
+        offer(node, piece)?;
+        node.current_epoch = epoch;
+        return Ok(());
+    }
+    node.current_epoch = epoch;
+    Ok(())
+}
+
+// Offers the piece. Only a refusal of memory counts.
+#[tactic(auto, using(crate::proofs::FollowingLemmas::piece_taken, crate::proofs::FollowingLemmas::piece_gap, crate::proofs::FollowingLemmas::piece_of_other))]
+fn offer<S: SlotParts + SlotKeys, T: Stream>(
+    node: &mut NodeParts<S, T>,
+    piece: &Piece,
+) -> Result<(), AllocError>
+    ensures ok { OnOk result (TakesOrNot node.old piece.now node.new) }
+    ensures err { OnErr result (node.new ≡ node.old) }
+{
+    if let Err(fault) = node.stream.offer(node.alloc, &mut node.store, piece) {
+        return match fault {
+            OfferFault::Gap => Ok(()),
+            OfferFault::OtherStream => Ok(()),
+            OfferFault::Memory => Err(AllocError),
+        };
+    }
+    Ok(())
+}
+
+fn is_own_master<S: SlotParts + SlotKeys, T: Stream>(node: &NodeParts<S, T>, from: NodeNo) -> bool
+    ensures { result ≡ is_just (own_master node.now) from }
+{
+    node.own_master() == Some(from)
+}
+
+/// Takes all that the own master had, in place of what is here.
+pub fn take_snapshot<S: SlotParts + SlotKeys + Replaces, T: Stream>(
+    node: &mut NodeParts<S, T>,
+    epoch: Epoch,
+    from: NodeNo,
+    snapshot: &Snapshot,
+) -> Result<(), AllocError>
+    ensures ok { OnOk result (node.new ≡ (restored_by (at_epoch node.old epoch) from snapshot.now).state) }
+    ensures err { OnErr result (node.new ≡ node.old) }
+{
+    if is_own_master(node, from) {
+        restore(node, snapshot)?;
+        node.current_epoch = epoch;
+        return Ok(());
+    }
+    node.current_epoch = epoch;
+    Ok(())
+}
+
+fn restore<S: SlotParts + SlotKeys + Replaces, T: Stream>(
+    node: &mut NodeParts<S, T>,
+    snapshot: &Snapshot,
+) -> Result<(), AllocError>
+    ensures ok { OnOk result (node.new ≡ with_follower node.old (restored snapshot.now (follower_of node.old))) }
+    ensures err { OnErr result (node.new ≡ node.old) }
+{
+    node.stream.snapshot(node.alloc, &mut node.store, snapshot)
+}

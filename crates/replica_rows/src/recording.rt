@@ -1,0 +1,53 @@
+//! What a step writes, recorded in its draft.
+ghost use Rattle.std.specs.Prelude.{◌≡◌, ◌+◌, ◌^◌, nat_lt, length, false, Err, OnOk};
+ghost use Rattle.node_parts.specs.Drafts.{Drafts, Records};
+ghost use Rattle.node_step.specs.Numbers.{has_offset};
+ghost use Rattle.node_step.specs.Outcome.{Outcome};
+ghost use Rattle.node_step.specs.Streams.{Requests};
+ghost use Rattle.resp2.specs.Stream.{stream_spelling};
+ghost use Rattle.step_fault.specs.declared.fault.StepFault.TheVariants.{Exhausted};
+ghost use Rattle.replica_rows.specs.Recording.{Adds};
+ghost use Rattle.stream_values.specs.Stream.{end_of};
+
+use crate::pieces::append_pieces;
+use byte_string::ByteString;
+use node_parts::{Draft, NodeParts};
+use repl_stream::Stream;
+use slot_store::{SlotKeys, SlotParts};
+use step_fault::StepFault;
+
+/// Records the bytes of requests, if there are any: they will stand behind the node's stream, and each replica gets them as a
+/// piece.
+#[tactic(auto, using(crate::proofs::RecordingLemmas::records_none, crate::proofs::RecordingLemmas::records_some, crate::proofs::RecordingLemmas::no_offset))]
+pub fn record<S: SlotParts + SlotKeys, T: Stream>(
+    node: &NodeParts<S, T>,
+    bytes: ByteString,
+    draft: &mut Draft,
+) -> Result<(), StepFault>
+    ensures records { OnOk result ((outcome : Outcome) (requests : Requests) → bytes ≡ stream_spelling requests
+        → Drafts node.now outcome draft.old → Records node.now outcome requests draft.new) }
+    ensures exhausted { result ≡ Err Exhausted → (requests : Requests) → bytes ≡ stream_spelling requests
+        → has_offset node.now requests ≡ false }
+{
+    if bytes.len() == 0 {
+        return Ok(());
+    }
+    add(node, bytes, draft)
+}
+
+// Records bytes behind which the stream has an offset.
+fn add<S: SlotParts + SlotKeys, T: Stream>(
+    node: &NodeParts<S, T>,
+    bytes: ByteString,
+    draft: &mut Draft,
+) -> Result<(), StepFault>
+    ensures ok { OnOk result (Adds node.now bytes draft.old draft.new) }
+    ensures exhausted { result ≡ Err Exhausted → nat_lt (end_of node.now.stream.held + length bytes) (2 ^ 64) ≡ false }
+{
+    if bytes.len() as u64 > u64::MAX - node.stream.received() {
+        return Err(StepFault::Exhausted);
+    }
+    append_pieces(node, &bytes, &mut draft.bodies)?;
+    draft.written = bytes;
+    Ok(())
+}

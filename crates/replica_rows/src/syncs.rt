@@ -1,0 +1,64 @@
+//! What a master answers to a node that tells how far it is.
+ghost use Rattle.std.specs.Prelude.{◌≡◌, IfOk, OnOk};
+ghost use Rattle.std.specs.FinMap as fin_map;
+ghost use Rattle.node_parts.specs.Drafts.{Drafts, HasNothing, at_epoch, bodies_of};
+ghost use Rattle.node_step.specs.Replicas.{sync_answer, synced};
+ghost use Rattle.stream_values.specs.Syncing.{answer_to};
+
+use bus::Body;
+use node_parts::{Change, Draft, NodeParts, listed};
+use node_step::Releases;
+use repl_stream::Stream;
+use slot_pairs::pairs;
+use slot_store::{SlotKeys, SlotParts};
+use slot_table::{Epoch, NodeNo};
+use std::alloc::AllocError;
+use stream_values::{Pairs, Snapshot, Sync, SyncAnswer};
+
+/// Answers what the sender of the sync misses. A replica answers nothing.
+pub fn answer_sync<S: SlotParts + SlotKeys, T: Stream>(
+    node: &NodeParts<S, T>,
+    epoch: Epoch,
+    from: NodeNo,
+    sync: &Sync,
+    draft: &mut Draft,
+) -> Result<(), AllocError>
+    requires { HasNothing node.now draft.old }
+    ensures { OnOk result (Drafts node.now (synced (at_epoch node.now epoch) from sync.now) draft.new) }
+{
+    if node.is_replica() {
+        node.write_change(draft, epoch, Change::Nothing);
+        return Ok(());
+    }
+    let bodies = listed(node.alloc, sync_answer(node, from, sync)?)?;
+    node.write_releases(draft, Releases::new(), bodies, epoch, Change::Nothing);
+    Ok(())
+}
+
+fn sync_answer<S: SlotParts + SlotKeys, T: Stream>(
+    node: &NodeParts<S, T>,
+    from: NodeNo,
+    sync: &Sync,
+) -> Result<Option<(NodeNo, Body)>, AllocError>
+    ensures { IfOk result (λ body. bodies_of body ≡ sync_answer node.now from (answer_to node.now.stream sync.now)) }
+{
+    match node.stream.answer(node.alloc, sync)? {
+        SyncAnswer::UpToDate => Ok(None),
+        SyncAnswer::Piece(piece) => Ok(Some((from, Body::Piece(piece)))),
+        SyncAnswer::Snapshot => Ok(Some((from, Body::Snapshot(snapshot(node)?)))),
+    }
+}
+
+// All that the node has at the end of its last whole write.
+fn snapshot<S: SlotParts + SlotKeys, T: Stream>(
+    node: &NodeParts<S, T>,
+) -> Result<Snapshot, AllocError>
+    ensures { IfOk result (λ snapshot. snapshot ≡ record { stream = node.now.stream.held.id; offset = node.now.stream.offset; pairs = fin_map.entries node.now.keyspace }) }
+{
+    let pairs = pairs(node.alloc, &node.store)?;
+    Ok(Snapshot {
+        stream: node.stream.id(),
+        offset: node.stream.offset(),
+        pairs: Pairs::new(node.alloc, pairs)?,
+    })
+}

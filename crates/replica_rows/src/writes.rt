@@ -1,0 +1,169 @@
+//! What is written by requests and messages, as the bytes of requests. Mostly that is nothing, which takes no memory.
+ghost use Rattle.std.specs.Prelude.{◌≡◌, ◌&&◌, Result, IfOk, filter, map};
+ghost use Rattle.std.specs.FinMap as fin_map;
+ghost use Rattle.command_table.specs.declared.command.Command.{Command};
+ghost use Rattle.command_table.specs.declared.fault.CommandFault.{CommandFault};
+ghost use Rattle.migrate.specs.Acknowledging.{acknowledged_key};
+ghost use Rattle.migrate.specs.Arriving.{arrival_verdict};
+ghost use Rattle.node_step.specs.Copies.{keeps_limits};
+ghost use Rattle.node_step.specs.Streams.{deletion, is_error, is_executed, is_written, written_by_ack, written_by_copy, written_by_request};
+ghost use Rattle.resp2.specs.Stream.{stream_spelling};
+ghost use Rattle.node_step.specs.declared.response.Why.TheVariants.{Decided};
+ghost use Rattle.slot_pairs.specs.Several.{is_in_one};
+ghost use Rattle.slot_state.specs.Moves.{move_of};
+ghost use Rattle.replica_rows.specs.Recording.{installing, is_done, written_if};
+
+use crate::spelling::{deletions_bytes, rebuilding_bytes, request_bytes};
+use byte_string::ByteString;
+use key_slot::Slot;
+use keyspace::{Store, Value, value_fits};
+use migrate::{ArrivalVerdict, acknowledged_key, arrival_verdict};
+use node_parts::NodeParts;
+use node_step::{Response, Why};
+use redirect::Decision;
+use repl_stream::Stream;
+use resp_values::{Reply, Words};
+use slot_pairs::keys_in_slots;
+use slot_state::MoveNo;
+use slot_store::{SlotKeys, SlotParts};
+use slot_table::NodeNo;
+use std::alloc::{AllocError, Global};
+use std::slice;
+
+/// A write that was executed without an error is written in the words of its request.
+#[tactic(auto, using(crate::proofs::WriteLemmas::request_written))]
+pub fn written_by_request(
+    alloc: Global,
+    words: &Words,
+    is_write: bool,
+    response: &Response,
+) -> Result<ByteString, AllocError>
+    ensures { IfOk result (λ bytes. (command : Result Command CommandFault) → is_write ≡ is_written command
+        → bytes ≡ stream_spelling (written_by_request words.now command response.now)) }
+{
+    request_if(alloc, words, is_recorded(is_write, response))
+}
+
+// The bytes of the request, if it is to be written.
+#[tactic(auto, using(crate::proofs::WriteLemmas::one_request))]
+fn request_if(alloc: Global, words: &Words, is_recorded: bool) -> Result<ByteString, AllocError>
+    ensures { IfOk result (λ bytes. bytes ≡ stream_spelling (written_if is_recorded words.now)) }
+{
+    if is_recorded {
+        return request_bytes(alloc, words.as_slice());
+    }
+    Ok(ByteString::new())
+}
+
+fn is_recorded(is_write: bool, response: &Response) -> bool
+    ensures { result ≡ (is_write && is_done response.now) }
+{
+    is_write && is_done(response)
+}
+
+// Whether a command was executed without an error.
+fn is_done(response: &Response) -> bool
+    ensures { result ≡ is_done response.now }
+{
+    match response {
+        Response::Replied(answer) => is_executed(&answer.why) && !is_error(&answer.reply),
+        Response::Nothing | Response::Opened(_) | Response::Parked => false,
+    }
+}
+
+fn is_executed(why: &Why) -> bool
+    ensures { result ≡ is_executed why.now }
+{
+    match why {
+        Why::Decided(decision) => is_served(decision),
+        Why::NotACommand(_)
+        | Why::Reported
+        | Why::Told
+        | Why::Imports(_)
+        | Why::Migrates(_)
+        | Why::Ends(_)
+        | Why::Copies(_) => false,
+    }
+}
+
+// The command was executed, here or in a slot that comes.
+fn is_served(decision: &Decision) -> bool
+    ensures { result ≡ is_executed (Decided decision.now) }
+{
+    match decision {
+        Decision::Serve | Decision::ServeImport { .. } => true,
+        Decision::CrossSlot
+        | Decision::Down
+        | Decision::TryAgain(_)
+        | Decision::Ask { .. }
+        | Decision::Moved { .. } => false,
+    }
+}
+
+fn is_error(reply: &Reply) -> bool
+    ensures { result ≡ is_error reply.now }
+{
+    matches!(reply, Reply::Error(_))
+}
+
+/// A copy that is installed is written as the request that makes its key.
+#[tactic(auto, using(crate::proofs::WriteLemmas::copy_written))]
+pub fn written_by_copy<S: SlotParts + SlotKeys, T: Stream>(
+    node: &NodeParts<S, T>,
+    from: NodeNo,
+    slot: Slot,
+    number: MoveNo,
+    copy: u64,
+    key: &ByteString,
+    value: &Value,
+) -> Result<ByteString, AllocError>
+    ensures { IfOk result (λ bytes. bytes ≡ stream_spelling (written_by_copy node.now.keyspace key.now value.now
+        (arrival_verdict (move_of node.now.moves slot) from number copy (keeps_limits key.now value.now)))) }
+{
+    let fits = value_fits(key, value);
+    let verdict = arrival_verdict(node.moves.get(slot), from, number, copy, fits);
+    let is_there = node.store.get(key).is_some();
+    installed_bytes(node.alloc, verdict, is_there, key, value)
+}
+
+fn installed_bytes(
+    alloc: Global,
+    verdict: ArrivalVerdict,
+    is_there: bool,
+    key: &ByteString,
+    value: &Value,
+) -> Result<ByteString, AllocError>
+    ensures { IfOk result (λ bytes. bytes ≡ stream_spelling (installing is_there key.now value.now verdict)) }
+{
+    match verdict {
+        ArrivalVerdict::Installs => rebuilding_bytes(alloc, key, value, is_there),
+        ArrivalVerdict::Repeats | ArrivalVerdict::Ignored => Ok(ByteString::new()),
+    }
+}
+
+/// A copy that is acknowledged is written as the deletion of its key.
+pub fn written_by_ack<S: SlotParts + SlotKeys, T: Stream>(
+    node: &NodeParts<S, T>,
+    from: NodeNo,
+    slot: Slot,
+    number: MoveNo,
+    copy: u64,
+) -> Result<ByteString, AllocError>
+    ensures { IfOk result (λ bytes. bytes ≡ stream_spelling (written_by_ack (acknowledged_key (move_of node.now.moves slot) from number copy))) }
+{
+    match acknowledged_key(node.moves.get(slot), from, number, copy) {
+        Some(key) => deletions_bytes(node.alloc, slice::from_ref(key)),
+        None => Ok(ByteString::new()),
+    }
+}
+
+/// Slots that are lost are written as deletions of their keys.
+pub fn written_by_loss<S: SlotParts + SlotKeys, T: Stream>(
+    node: &NodeParts<S, T>,
+    lost: &[Slot],
+) -> Result<ByteString, AllocError>
+    ensures { IfOk result (λ bytes. bytes ≡ stream_spelling (map deletion (filter (is_in_one lost.now) (fin_map.keys node.now.keyspace)))) }
+{
+    let keys = keys_in_slots(node.alloc, &node.store, lost)?;
+    deletions_bytes(node.alloc, keys.as_slice())
+}

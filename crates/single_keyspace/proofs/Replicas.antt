@@ -1,0 +1,435 @@
+-- Steps of replicas: they have no part in a slot.
+use Rattle.std.proofs.Common.{◌≡◌, ◌≢◌, ◌+◌, ◌==◌, ◌&&◌, ◌++◌, ℕ, List, [], ◌∷◌, Bool, true, false, cond, not, Option, Some, None, Contains, length, refl, sym, ap, subst, ◌∙◌, inl, inr, arith}
+use Rattle.std.proofs.lemmas.Bool.{both_ways, eqb-false, eqb-true}
+use Rattle.std.proofs.lemmas.Bool.Decides.{nat_tests}
+use Rattle.std.proofs.lemmas.List.Elements.{Contains-append_cases}
+use Rattle.std.specs.FinMap as fin_map
+use Rattle.std.specs.List.{flat_map}
+use Rattle.std.specs.Prelude.{MatchBool, Result, Ok, Err, is_some}
+use Rattle.command_table.specs.Keys.{data_keys}
+use Rattle.command_table.specs.Table.{command_of}
+use Rattle.command_table.specs.declared.command.ClusterCommand.{ClusterCommand}
+use Rattle.command_table.specs.declared.command.ClusterCommand.TheVariants as cluster
+use Rattle.command_table.specs.declared.command.Command.{Command}
+use Rattle.command_table.specs.declared.command.Command.TheVariants.{Data, Cluster}
+use Rattle.command_table.specs.declared.command.DataCommand.{DataCommand}
+use Rattle.command_table.specs.declared.command.SlotOrder.{SlotOrder}
+use Rattle.command_table.specs.declared.command.SlotOrder.TheVariants.{Importing, Migrating, Node}
+use Rattle.command_table.specs.declared.fault.CommandFault.{CommandFault}
+use Rattle.keyspace.specs.Commands.{exec, execution_of}
+use Rattle.keyspace.specs.Keyspace.{Keyspace}
+use Rattle.keyspace.specs.Locality.{CommandsAreLocal}
+use Rattle.keyspace.specs.declared.value.Value.{Value}
+use Rattle.slot_table.specs.Claims.{claimed, merged}
+use Rattle.slot_table.specs.Table.{claim_at, entry_at, owner_at, owner_in}
+use Rattle.slot_table.specs.declared.entry.SlotEntry.{SlotEntry}
+use Rattle.slot_table.specs.declared.runs.Run.{Run}
+use Rattle.slot_state.specs.Importing.{import_verdict}
+use Rattle.slot_state.specs.Migrating.{migrate_verdict}
+use Rattle.slot_state.specs.Moves.{Moves, last_move_of, move_of}
+use Rattle.slot_state.specs.declared.ending.NodeVerdict.{NodeVerdict}
+use Rattle.slot_state.specs.declared.ending.NodeVerdict.TheVariants as ending
+use Rattle.slot_state.specs.declared.importing.ImportVerdict.{ImportVerdict}
+use Rattle.slot_state.specs.declared.importing.ImportVerdict.TheVariants as import
+use Rattle.slot_state.specs.declared.migrating.MigrateVerdict.{MigrateVerdict}
+use Rattle.slot_state.specs.declared.migrating.MigrateVerdict.TheVariants as migrate
+use Rattle.slot_state.specs.declared.order.Standing.{Standing}
+use Rattle.slot_state.specs.declared.running.Move.{Move}
+use Rattle.redirect.specs.Decision.{by_keys}
+use Rattle.redirect.specs.declared.asked.Asking.{Asking}
+use Rattle.redirect.specs.declared.decision.Decision.{Decision}
+use Rattle.redirect.specs.declared.decision.Decision.TheVariants.{Serve, ServeImport, CrossSlot, Down, TryAgain, Ask, Moved}
+use Rattle.migrate.specs.Acknowledging.{acknowledged_key}
+use Rattle.migrate.specs.Arriving.{arrival_verdict}
+use Rattle.migrate.specs.Draining.{note_drained}
+use Rattle.migrate.specs.Arriving.{changed_at}
+use Rattle.migrate.specs.Losing.{is_leaving}
+use Rattle.migrate.specs.declared.arriving.ArrivalVerdict.{ArrivalVerdict}
+use Rattle.migrate.specs.declared.arriving.ArrivalVerdict.TheVariants.{Ignored, Installs, Repeats}
+use Rattle.migrate.specs.declared.sending.CopyVerdict.{CopyVerdict}
+use Rattle.migrate.specs.declared.sending.CopyVerdict.TheVariants as copies
+use Rattle.bus.specs.declared.message.Body.{Body}
+use Rattle.bus.specs.declared.message.Body.TheVariants as body
+use Rattle.bus.specs.declared.message.Message.{Message}
+use Rattle.connections.specs.Connections.{connection_at, may_ask}
+use Rattle.connections.specs.declared.conn.Conn.{Conn}
+use Rattle.connections.specs.declared.conn.Connection.{Connection}
+use Rattle.stream_values.specs.Follower.{Follower}
+use Rattle.stream_values.specs.Piece.{PieceVerdict, verdict_on}
+use Rattle.stream_values.specs.Piece.PieceVerdict.{Gap, OtherStream, Takes}
+use Rattle.stream_values.specs.Snapshot.{restored}
+use Rattle.stream_values.specs.Syncing.{answer_to}
+use Rattle.stream_values.specs.declared.sync.Sync.{Sync}
+use Rattle.one_slot.specs.Sent.{Sent}
+use Rattle.node_step.specs.Claiming.{claim, claimed_by, is_lost, with_table}
+use Rattle.node_step.specs.Commands.{command_outcome, decision_on, drained_by_command, executed, served, asked_of}
+use Rattle.node_step.specs.Copies.{acknowledged, arrived, copy_outcome, copy_verdict_on, keeps_limits, node_at, noted}
+use Rattle.node_step.specs.Messages.{Choice, delivered, knowing, taken, taken_so, written_by_message}
+use Rattle.node_step.specs.Orders.{ending_outcome, ending_verdict, import_outcome, migrate_outcome, others, to_all}
+use Rattle.node_step.specs.Outcome.{Outcome, outputs_of, silent}
+use Rattle.node_step.specs.Requests.{asking_of, by_command, cluster_outcome, is_numbered, node_with_id, order_outcome, request_outcome, using_up}
+use Rattle.node_step.specs.Roles.{is_just, replicas_of}
+use Rattle.node_step.specs.State.{NodeState, is_replica, own_master, standing}
+use Rattle.node_step.specs.Step.{IsAnswering, IsClosing, MayCome, written}
+use Rattle.node_step.specs.Replicas.{follower_of, sync_answer, sync_to, with_follower, with_piece}
+use Rattle.node_step.specs.Streams.{Requests, recorded}
+use Rattle.node_step.specs.Ticks.{sent_again, tick}
+use Rattle.node_step.specs.declared.event.Event.{Event}
+use Rattle.node_step.specs.declared.event.Event.TheVariants.{Open, Close, Request, Deliver, Tick}
+use Rattle.node_step.specs.declared.response.Response.{Response}
+use Rattle.node_step.specs.declared.response.Why.TheVariants.{Decided}
+use Rattle.world_run.specs.Executed.{Answered, Redirection, answered, answered_with, if_served, redirection_in}
+use Rattle.world_run.specs.Run.Deed.{Made}
+use Rattle.single_keyspace.specs.Slots.{values_in}
+use Rattle.single_keyspace.specs.Stands.{ReplicaStands, Says}
+use Rattle.single_keyspace.proofs.Lists.{contains_nothing, contains_one, from_flat_map, from_map}
+use Rattle.single_keyspace.proofs.Lost.{claimed_owner, length_merged, merged_cases, move_left}
+use Rattle.single_keyspace.proofs.Running.{got_from_entry}
+use Rattle.single_keyspace.proofs.Seen.{no_some, same_some}
+use Rattle.single_keyspace.proofs.Sendings.{claim_justified}
+use Rattle.single_keyspace.proofs.Served.{decided_in, one_reply}
+use Rattle.node_step.proofs.Recorded.{recorded_response}
+use Rattle.single_keyspace.proofs.Steps.{RepliesAs, next_of}
+use Rattle.single_keyspace.proofs.Values.{values_alike}
+use Rattle.single_keyspace.proofs.Verdicts.{ack_counts, asks, copy_arrives, copy_is_again, copy_is_next, copy_repeats, import_ends, serves, serves_import}
+
+-- a message says nothing of any slot
+abbrev IsMute : ℕ → ℕ → Body → Type 0
+IsMute n to said = (slot : ℕ) (sent : Sent Value) → Says slot n to said sent → ⊥
+
+abbrev pub AreMute : ℕ → List (ℕ × Body) → Type 0
+AreMute n sent = (to : ℕ) (said : Body) → Contains sent (to, said) → IsMute n to said
+
+-- what a step of a replica leaves: it is one still, it says nothing of slots, and executes only what has no keys
+pub record ReplicaStep (n : ℕ) (one : Keyspace) (answer : Option Answered) (outcome : Outcome) : Type 0 where
+  pub node : ReplicaStands n outcome.state
+  pub mute : AreMute n outcome.sent
+  pub told : (redirection : Redirection) → redirection_in answer ≡ Some redirection → ⊥
+  pub replies : RepliesAs one (if_served answer)
+  pub stays : (slot : ℕ) (key : List ℕ) → values_in (next_of one (if_served answer)) slot key ≡ values_in one slot key
+
+-- ---- what isn't said
+
+mute_nothing : (n : ℕ) → AreMute n []
+mute_nothing n to said among = absurd (contains_nothing (to, said) among)
+
+mute_both : (n : ℕ) (sent others : List (ℕ × Body)) → AreMute n sent → AreMute n others → AreMute n (sent ++ others)
+mute_both n sent others first second to said among =
+    elim (Contains-append_cases sent others (to, said) among) [
+      | inl one ↦ first to said one
+      | inr other ↦ second to said other
+    ]
+
+mute_one : (n to : ℕ) (said : Body) → IsMute n to said → AreMute n ((to, said) ∷ [])
+mute_one n to said mute other body among = subst (λ (p : ℕ × Body). IsMute n p.0 p.1) (contains_one (to, said) (other, body) among) mute
+
+mute_to_all : (n : ℕ) (numbers : List ℕ) (said : Body) → ((to : ℕ) → IsMute n to said) → AreMute n (to_all numbers said)
+mute_to_all n numbers said mute to body among =
+    let found = from_map (λ (number : ℕ). (number, said)) numbers (to, body) among in
+    subst (λ (p : ℕ × Body). IsMute n p.0 p.1) found.2 (mute found.0)
+
+-- ---- what is put round a step
+
+module _ {n : ℕ} {one : Keyspace} where
+  recorded_replica : (answer : Option Answered) (outcome : Outcome) (requests : Requests) (dropped : ℕ) → ReplicaStep n one answer outcome → ReplicaStep n one answer (recorded outcome requests dropped)
+  recorded_replica answer outcome [] dropped step = step
+  recorded_replica answer outcome (request ∷ requests) dropped step = record {
+    node = record { number_is = step.node.number_is; slots = step.node.slots; is_one = step.node.is_one; foreign = step.node.foreign; idle = step.node.idle };
+    mute = mute_both n outcome.sent (to_all (replicas_of outcome.state.masters outcome.state.number) _) step.mute
+        (mute_to_all n (replicas_of outcome.state.masters outcome.state.number) _ (λ to slot sent says. says));
+    told = step.told;
+    replies = step.replies;
+    stays = step.stays;
+  }
+
+no_import : (at : Standing) (move : Option Move) (last : ℕ) (other asked : Option ℕ) (from number : ℕ) → at.is_replica ≡ true → import_verdict at move last other asked ≡ import.Begins from number → ⊥
+no_import at move last other asked from number replica is = grind (arith, nat_tests)
+
+no_migration : (at : Standing) (move : Option Move) (last : ℕ) (other asked : Option ℕ) (to number : ℕ) → at.is_replica ≡ true → migrate_verdict at move last other asked ≡ migrate.Begins to number → ⊥
+no_migration at move last other asked to number replica is = grind (arith, nat_tests)
+
+module _ {n : ℕ} {before : NodeState} (one : Keyspace) (stands : ReplicaStands n before) where
+  same_node : (after : NodeState) → after.number ≡ before.number → after.table ≡ before.table → after.moves ≡ before.moves → is_replica after ≡ is_replica before → ReplicaStands n after
+  same_node after number table moves role = record {
+    number_is = number ∙ stands.number_is;
+    slots = ap (λ (t : List (Option SlotEntry)). length t) table ∙ stands.slots;
+    is_one = role ∙ stands.is_one;
+    foreign = λ slot is. stands.foreign slot (sym (ap (λ t. owner_at t slot) table) ∙ is);
+    idle = λ slot. ap (λ (m : Moves). move_of m slot) moves ∙ stands.idle slot;
+  }
+
+  quiet_replica : (answer : Option Answered) → if_served answer ≡ None → redirection_in answer ≡ None → (outcome : Outcome) → ReplicaStands n outcome.state → AreMute n outcome.sent → ReplicaStep n one answer outcome
+  quiet_replica answer not_served not_sent_on outcome node mute = record {
+    node = node;
+    mute = mute;
+    told = λ redirection is. no_some not_sent_on is;
+    replies = subst (RepliesAs one) (sym not_served) tt;
+    stays = λ slot key. ap (λ o. values_in (next_of one o) slot key) not_served;
+  }
+
+  -- nothing happens, or what happens says nothing
+  plain : (answer : Option Answered) → if_served answer ≡ None → redirection_in answer ≡ None → (outcome : Outcome) → outcome.sent ≡ []
+      → outcome.state.number ≡ before.number → outcome.state.table ≡ before.table → outcome.state.moves ≡ before.moves → is_replica outcome.state ≡ is_replica before → ReplicaStep n one answer outcome
+  plain answer not_served not_sent_on outcome none number table moves role =
+      quiet_replica answer not_served not_sent_on outcome (same_node outcome.state number table moves role) (subst (AreMute n) (sym none) (mute_nothing n))
+
+  -- ---- requests
+
+  module _ (local : CommandsAreLocal) (words : List (List ℕ)) where
+    abbrev Answers : Outcome → Type 0
+    Answers outcome = ReplicaStep n one (answered_with words outcome.response) outcome
+
+    import_replica : (slot : ℕ) (other asked : Option ℕ) (verdict : ImportVerdict)
+        → import_verdict (standing before slot) (move_of before.moves slot) (last_move_of before.moves slot) other asked ≡ verdict → Answers (import_outcome before slot verdict)
+    import_replica slot other asked import.UnknownNode is = plain _ refl refl (import_outcome before slot import.UnknownNode) refl refl refl refl refl
+    import_replica slot other asked import.Already is = plain _ refl refl (import_outcome before slot import.Already) refl refl refl refl refl
+    import_replica slot other asked import.Busy is = plain _ refl refl (import_outcome before slot import.Busy) refl refl refl refl refl
+    import_replica slot other asked import.AlreadyOwner is = plain _ refl refl (import_outcome before slot import.AlreadyOwner) refl refl refl refl refl
+    import_replica slot other asked import.NotOwner is = plain _ refl refl (import_outcome before slot import.NotOwner) refl refl refl refl refl
+    import_replica slot other asked import.OldMove is = plain _ refl refl (import_outcome before slot import.OldMove) refl refl refl refl refl
+    import_replica slot other asked (import.Begins from number) is =
+        absurd (no_import (standing before slot) (move_of before.moves slot) (last_move_of before.moves slot) other asked from number stands.is_one is)
+
+    migration_replica : (slot : ℕ) (other asked : Option ℕ) (verdict : MigrateVerdict)
+        → migrate_verdict (standing before slot) (move_of before.moves slot) (last_move_of before.moves slot) other asked ≡ verdict → Answers (migrate_outcome before slot verdict)
+    migration_replica slot other asked migrate.UnknownNode is = plain _ refl refl (migrate_outcome before slot migrate.UnknownNode) refl refl refl refl refl
+    migration_replica slot other asked migrate.Already is = plain _ refl refl (migrate_outcome before slot migrate.Already) refl refl refl refl refl
+    migration_replica slot other asked migrate.Busy is = plain _ refl refl (migrate_outcome before slot migrate.Busy) refl refl refl refl refl
+    migration_replica slot other asked migrate.NotOwner is = plain _ refl refl (migrate_outcome before slot migrate.NotOwner) refl refl refl refl refl
+    migration_replica slot other asked migrate.OldMove is = plain _ refl refl (migrate_outcome before slot migrate.OldMove) refl refl refl refl refl
+    migration_replica slot other asked (migrate.Begins to number) is =
+        absurd (no_migration (standing before slot) (move_of before.moves slot) (last_move_of before.moves slot) other asked to number stands.is_one is)
+
+    ending_replica : (slot : ℕ) (other asked : Option ℕ) (verdict : NodeVerdict) → ending_verdict before slot other asked ≡ verdict → Answers (ending_outcome before slot verdict)
+    ending_replica slot other asked ending.UnknownNode is = plain _ refl refl (ending_outcome before slot ending.UnknownNode) refl refl refl refl refl
+    ending_replica slot other asked ending.OldMove is = plain _ refl refl (ending_outcome before slot ending.OldMove) refl refl refl refl refl
+    ending_replica slot other asked ending.NotDrained is = plain _ refl refl (ending_outcome before slot ending.NotDrained) refl refl refl refl refl
+    ending_replica slot other asked ending.IsOwner is = plain _ refl refl (ending_outcome before slot ending.IsOwner) refl refl refl refl refl
+    ending_replica slot other asked ending.NotYetOwner is = plain _ refl refl (ending_outcome before slot ending.NotYetOwner) refl refl refl refl refl
+    ending_replica slot other asked (ending.Ends drained) is =
+        let facts = import_ends (standing before slot) (move_of before.moves slot) other asked drained is in absurd (no_some (stands.idle slot) facts.3)
+
+    copy_replica : (conn : Conn) (key : List ℕ) (ticks : ℕ) (target : Option ℕ) (verdict : CopyVerdict) → copy_verdict_on before key target ≡ verdict → Answers (copy_outcome before conn key ticks verdict)
+    copy_replica conn key ticks target copies.WrongTarget is = plain _ refl refl (copy_outcome before conn key ticks copies.WrongTarget) refl refl refl refl refl
+    copy_replica conn key ticks target copies.NoKey is = plain _ refl refl (copy_outcome before conn key ticks copies.NoKey) refl refl refl refl refl
+    copy_replica conn key ticks target copies.CopyOutstanding is = plain _ refl refl (copy_outcome before conn key ticks copies.CopyOutstanding) refl refl refl refl refl
+    copy_replica conn key ticks target copies.Exhausted is = plain _ refl refl (copy_outcome before conn key ticks copies.Exhausted) refl refl refl refl refl
+    copy_replica conn key ticks target (copies.SendAgain to number copy) is =
+        let facts = copy_is_again _ target key (is_some (fin_map.get before.keyspace key)) to number copy is in absurd (no_some (stands.idle _) facts.1)
+    copy_replica conn key ticks target (copies.Copies to number copy) is =
+        let facts = copy_is_next _ target key (is_some (fin_map.get before.keyspace key)) to number copy is in absurd (no_some (stands.idle _) facts.1)
+
+    -- ---- commands on keys
+
+    module _ (command : DataCommand) (reads : command_of words ≡ Ok (Data command)) (asking : Asking) where
+      nothing_among : data_keys command ≡ [] → (key : List ℕ) → Contains (data_keys command) key → ⊥
+      nothing_among none key among = contains_nothing key (subst (λ (keys : List (List ℕ)). Contains keys key) none among)
+
+      -- one that has no keys
+      executed_replica : (why : Decision) → data_keys command ≡ []
+          → if_served (answered_with words (served before command why).response) ≡ Some (record { words = words; answer = record { why = Decided why; reply = (exec before.keyspace command).reply } })
+          → redirection_in (answered_with words (served before command why).response) ≡ None → Answers (served before command why)
+      executed_replica why none is_served not_sent_on = record {
+        node = same_node (executed before command) refl refl refl refl;
+        mute = subst (λ (keys : List (List ℕ)). AreMute n (drained_by_command before (executed before command) keys)) (sym none) (mute_nothing n);
+        told = λ redirection is. no_some not_sent_on is;
+        replies = subst (RepliesAs one) (sym is_served)
+            (one_reply command (local command) before.keyspace one 0 (λ key among. absurd (nothing_among none key among)) (λ key among. absurd (nothing_among none key among))
+            ∙ ap (λ (r : Result Command CommandFault). (execution_of one r).reply) (sym reads));
+        stays = λ slot key.
+            ap (λ o. values_in (next_of one o) slot key) is_served
+            ∙ ap (λ (r : Result Command CommandFault). values_in (execution_of one r).after slot key) reads
+            ∙ values_alike (exec one command).after one slot key (λ here. (local command).outside one key (nothing_among none key));
+      }
+
+      not_asked : (other to number : ℕ) → decision_on before command asking ≡ Ask other to number → ⊥
+      not_asked other to number is =
+          elim (decided_in before command asking (Ask other to number) is) [
+            | inl none ↦
+                let serve : Serve ≡ Ask other to number =
+                subst (λ (keys : List (List ℕ)). by_keys before.table before.moves before.number keys (asked_of before command asking) ≡ Ask other to number) none is in
+                grind arith
+            | inr (inl cross) ↦ grind arith
+            | inr (inr found) ↦
+                let asks_so = asks found.0 (owner_at before.table found.0) (move_of before.moves found.0) before.number (asked_of before command asking) other to number found.1.decides in
+                no_some (stands.idle found.0) asks_so.2
+          ]
+
+      data_replica : (numbered : Bool) (why : Decision) → decision_on before command asking ≡ why → Answers (command_outcome before numbered command why)
+      data_replica numbered Serve is =
+          elim (decided_in before command asking Serve is) [
+            | inl none ↦ executed_replica Serve none refl refl
+            | inr (inl cross) ↦ absurd (grind arith)
+            | inr (inr found) ↦
+                elim (serves found.0 (owner_at before.table found.0) (move_of before.moves found.0) before.number (asked_of before command asking) found.1.decides) [
+                  | inl own ↦ absurd (stands.foreign found.0 (own.1 ∙ ap Some stands.number_is))
+                  | inr leaving ↦ absurd (no_some (stands.idle found.0) leaving.4)
+                ]
+          ]
+      data_replica numbered (ServeImport number) is =
+          elim (decided_in before command asking (ServeImport number) is) [
+            | inl none ↦ executed_replica (ServeImport number) none refl refl
+            | inr (inl cross) ↦ absurd (grind arith)
+            | inr (inr found) ↦
+                let facts = serves_import found.0 (owner_at before.table found.0) (move_of before.moves found.0) before.number (asked_of before command asking) number found.1.decides in
+                absurd (no_some (stands.idle found.0) facts.3)
+          ]
+      data_replica numbered CrossSlot is = plain _ refl refl (command_outcome before numbered command CrossSlot) refl refl refl refl refl
+      data_replica numbered Down is = plain _ refl refl (command_outcome before numbered command Down) refl refl refl refl refl
+      data_replica numbered (TryAgain reason) is = plain _ refl refl (command_outcome before numbered command (TryAgain reason)) refl refl refl refl refl
+      data_replica numbered (Moved slot to) is = plain _ refl refl (command_outcome before numbered command (Moved slot to)) refl refl refl refl refl
+      data_replica numbered (Ask other to number) is = absurd (not_asked other to number is)
+
+    order_replica : (slot : ℕ) (order : SlotOrder) (other number : Option ℕ) → Answers (order_outcome before slot order other number)
+    order_replica slot Importing other number = import_replica slot other number (import_verdict (standing before slot) (move_of before.moves slot) (last_move_of before.moves slot) other number) refl
+    order_replica slot Migrating other number = migration_replica slot other number (migrate_verdict (standing before slot) (move_of before.moves slot) (last_move_of before.moves slot) other number) refl
+    order_replica slot Node other number = ending_replica slot other number (ending_verdict before slot other number) refl
+
+    cluster_replica : (conn : Conn) (command : ClusterCommand) → Answers (cluster_outcome before conn command)
+    cluster_replica conn (cluster.KeySlot key) = plain _ refl refl (cluster_outcome before conn (cluster.KeySlot key)) refl refl refl refl refl
+    cluster_replica conn cluster.MyId = plain _ refl refl (cluster_outcome before conn cluster.MyId) refl refl refl refl refl
+    cluster_replica conn cluster.Slots = plain _ refl refl (cluster_outcome before conn cluster.Slots) refl refl refl refl refl
+    cluster_replica conn (cluster.CountKeysInSlot slot) = plain _ refl refl (cluster_outcome before conn (cluster.CountKeysInSlot slot)) refl refl refl refl refl
+    cluster_replica conn (cluster.GetKeysInSlot slot count) = plain _ refl refl (cluster_outcome before conn (cluster.GetKeysInSlot slot count)) refl refl refl refl refl
+    cluster_replica conn (cluster.SlotState slot) = plain _ refl refl (cluster_outcome before conn (cluster.SlotState slot)) refl refl refl refl refl
+    cluster_replica conn (cluster.SetSlot slot order id number) = order_replica slot order (node_with_id before id) number
+    cluster_replica conn cluster.Numbered = plain _ refl refl (cluster_outcome before conn cluster.Numbered) refl refl refl refl refl
+    cluster_replica conn (cluster.Asking number) = plain _ refl refl (cluster_outcome before conn (cluster.Asking number)) refl refl refl refl refl
+    cluster_replica conn (cluster.Migrate host port key timeout) = copy_replica conn key timeout (node_at before host port) (copy_verdict_on before key (node_at before host port)) refl
+
+    command_replica : (conn : Conn) (connection : Option Connection) (command : Result Command CommandFault) → command_of words ≡ command → Answers (by_command before conn connection command)
+    command_replica conn connection (Err fault) reads = plain _ refl refl (by_command before conn connection (Err fault)) refl refl refl refl refl
+    command_replica conn connection (Ok (Cluster command)) reads = cluster_replica conn command
+    command_replica conn connection (Ok (Data command)) reads =
+        data_replica command reads (asking_of connection) (is_numbered connection) (decision_on before command (asking_of connection)) refl
+
+  -- ---- messages
+
+  copy_arrives_replica : (from slot number copy : ℕ) (key : List ℕ) (value : Value) (verdict : ArrivalVerdict)
+      → arrival_verdict (move_of before.moves slot) from number copy (keeps_limits key value) ≡ verdict → ReplicaStep n one None (arrived before from slot number copy key value verdict)
+  copy_arrives_replica from slot number copy key value Ignored is = plain None refl refl (arrived before from slot number copy key value Ignored) refl refl refl refl refl
+  copy_arrives_replica from slot number copy key value Repeats is =
+      let facts = copy_repeats (move_of before.moves slot) from number copy (keeps_limits key value) is in absurd (no_some (stands.idle slot) facts.2)
+  copy_arrives_replica from slot number copy key value Installs is =
+      let facts = copy_arrives (move_of before.moves slot) from number copy (keeps_limits key value) is in absurd (no_some (stands.idle slot) facts.2)
+
+  ack_replica : (from slot number copy : ℕ) (key : Option (List ℕ)) → acknowledged_key (move_of before.moves slot) from number copy ≡ key → ReplicaStep n one None (acknowledged before slot number copy key)
+  ack_replica from slot number copy None is = plain None refl refl (silent before) refl refl refl refl refl
+  ack_replica from slot number copy (Some key) is = absurd (no_some (stands.idle slot) (ack_counts (move_of before.moves slot) from number copy key is))
+
+  drained_replica : (from slot number epoch : ℕ) → ReplicaStep n one None (noted before from slot number epoch)
+  drained_replica from slot number epoch =
+      subst (λ (move : Option Move). ReplicaStep n one None (silent (record before { moves = changed_at before.moves slot (note_drained from number epoch) move }))) (sym (stands.idle slot))
+      (plain None refl refl (silent before) refl refl refl refl refl)
+
+  no_move : (b : Bool) (move : Option Move) → move ≡ None → cond b move None ≡ None
+  no_move true move is = is
+  no_move false move is = refl
+
+  claim_replica : (from : ℕ) (runs : List (Run ℕ)) → ReplicaStep n one None (claim before from runs)
+  claim_replica from runs = by_sender (from == before.number) refl
+    where
+      by_sender : (b : Bool) → (from == before.number) ≡ b → ReplicaStep n one None (cond b (silent before) (claimed_by before (merged before.table runs from)))
+      by_sender true own = plain None refl refl (silent before) refl refl refl refl refl
+      by_sender false other =
+          let apart : from ≢ n = λ same. eqb-false from before.number other (same ∙ sym stands.number_is) in
+          quiet_replica None refl refl (claimed_by before (merged before.table runs from))
+          (record {
+            number_is = stands.number_is;
+            slots = length_merged before.table runs from;
+            is_one = stands.is_one;
+            foreign = λ slot named.
+                elim (merged_cases before.table runs from slot stands.slots) [
+                  | inl stays ↦ stands.foreign slot (ap owner_in (sym stays) ∙ named)
+                  | inr taken_now ↦ apart (sym (claimed_owner runs from slot taken_now.0 taken_now.1) ∙ same_some (ap owner_in taken_now.3) named)
+                ];
+            idle = λ slot. move_left before (merged before.table runs from) slot ∙ no_move _ (move_of before.moves slot) (stands.idle slot);
+          })
+          (mute_nothing n)
+
+  sync_replica : (from : ℕ) (sync : Sync) (b : Bool) → is_replica before ≡ b
+      → ReplicaStep n one None (cond b (silent before) (record (silent before) { sent = sync_answer before from (answer_to before.stream sync) }))
+  sync_replica from sync true is = plain None refl refl (silent before) refl refl refl refl refl
+  sync_replica from sync false is = absurd (both_ways (is_replica before) is stands.is_one)
+
+  piece_replica : (follower : Follower) (verdict : PieceVerdict) (b : Bool) → ReplicaStep n one None (silent (cond b (with_piece before follower verdict) before))
+  piece_replica follower verdict false = plain None refl refl (silent before) refl refl refl refl refl
+  piece_replica follower Gap true = plain None refl refl (silent before) refl refl refl refl refl
+  piece_replica follower OtherStream true = plain None refl refl (silent before) refl refl refl refl refl
+  piece_replica follower (Takes place) true = plain None refl refl (silent (with_follower before follower)) refl refl refl refl refl
+
+  snapshot_replica : (follower : Follower) (b : Bool) → ReplicaStep n one None (silent (cond b (with_follower before follower) before))
+  snapshot_replica follower false = plain None refl refl (silent before) refl refl refl refl refl
+  snapshot_replica follower true = plain None refl refl (silent (with_follower before follower)) refl refl refl refl refl
+
+  so_taken_replica : (from : ℕ) (choice : Choice) (said : Body) → ReplicaStep n one None (taken_so before from choice said)
+  so_taken_replica from choice (body.Copy slot number copy key value) =
+      copy_arrives_replica from slot number copy key value (arrival_verdict (move_of before.moves slot) from number copy (keeps_limits key value)) refl
+  so_taken_replica from choice (body.Ack slot number copy) = ack_replica from slot number copy (acknowledged_key (move_of before.moves slot) from number copy) refl
+  so_taken_replica from choice (body.Drained slot number epoch) = drained_replica from slot number epoch
+  so_taken_replica from choice (body.Claim runs replaced) = claim_replica from runs
+  so_taken_replica from choice (body.Report suspects) = plain None refl refl (silent before) refl refl refl refl refl
+  so_taken_replica from choice (body.Request request) = plain None refl refl (silent before) refl refl refl refl refl
+  so_taken_replica from choice (body.Grant epoch) = plain None refl refl (silent before) refl refl refl refl refl
+  so_taken_replica from choice (body.Sync sync) = sync_replica from sync (is_replica before) refl
+  so_taken_replica from choice (body.Piece piece) = piece_replica choice.follower (verdict_on before.stream piece) (is_just (own_master before) from)
+  so_taken_replica from choice (body.Snapshot snapshot) = snapshot_replica (restored snapshot (follower_of before)) (is_just (own_master before) from)
+
+  taken_replica : (from : ℕ) (choice : Choice) (said : Body) → ReplicaStep n one None (taken before from choice said)
+  taken_replica from choice said =
+      recorded_replica None (taken_so before from choice said) (written_by_message before from said) choice.dropped (so_taken_replica from choice said)
+
+module _ {n : ℕ} {before : NodeState} (one : Keyspace) (stands : ReplicaStands n before) where
+  delivered_replica : (message : Message) (choice : Choice) → ReplicaStep n one None (delivered before message choice)
+  delivered_replica message choice = by_target (message.to == before.number)
+    where
+      by_target : (b : Bool) → ReplicaStep n one None (cond b (taken (knowing before message.epoch) message.from choice message.body) (silent before))
+      by_target false = plain one stands None refl refl (silent before) refl refl refl refl refl
+      by_target true = taken_replica one (same_node one stands (knowing before message.epoch) refl refl refl refl) message.from choice message.body
+
+  -- ---- a tick
+
+  tick_replica : ReplicaStep n one None (tick before)
+  tick_replica =
+      quiet_replica one stands None refl refl (tick before) (same_node one stands (tick before).state refl refl refl refl)
+      (mute_both n (flat_map (sent_again before) (fin_map.entries before.moves.running)) (sync_to before.stream (own_master before)) no_moves (sync (own_master before)))
+    where
+      no_moves : AreMute n (flat_map (sent_again before) (fin_map.entries before.moves.running))
+      no_moves to said among =
+          let found = from_flat_map (sent_again before) (fin_map.entries before.moves.running) (to, said) among in
+          absurd (no_some (stands.idle found.0.0) (got_from_entry before.moves.running found.0.0 found.0.1 found.1))
+
+      sync : (master : Option ℕ) → AreMute n (sync_to before.stream master)
+      sync None = mute_nothing n
+      sync (Some master) = mute_one n master _ (λ slot sent says. says)
+
+  -- ---- any event
+
+  pub skipped_replica : ReplicaStep n one None (silent before)
+  skipped_replica = plain one stands None refl refl (silent before) refl refl refl refl refl
+
+  closing_replica : (conn : Conn) (is_open : Bool) (outcome : Outcome) → MatchBool is_open (IsClosing before conn outcome) (outcome ≡ silent before) → ReplicaStep n one None outcome
+  closing_replica conn false outcome may = subst (ReplicaStep n one None) (sym may) (plain one stands None refl refl (silent before) refl refl refl refl refl)
+  closing_replica conn true outcome may =
+      subst (ReplicaStep n one None) (sym may.comes_to) (plain one stands None refl refl (silent (record before { connections = outcome.state.connections })) refl refl refl refl refl)
+
+  request_replica : CommandsAreLocal → (conn : Conn) (words : List (List ℕ)) (asks_now : Bool) (outcome : Outcome) → MatchBool asks_now (IsAnswering before conn words outcome) (outcome ≡ silent before)
+      → ReplicaStep n one (answered_with words outcome.response) outcome
+  request_replica local conn words false outcome may =
+      subst (λ (o : Outcome). ReplicaStep n one (answered_with words o.response) o) (sym may) (plain one stands None refl refl (silent before) refl refl refl refl refl)
+  request_replica local conn words true outcome may =
+      let asked : Outcome = request_outcome before conn (command_of words) in
+      let requests : Requests = written before conn words in
+      let inner : ReplicaStep n one (answered_with words asked.response) asked =
+      command_replica one (same_node one stands (using_up before conn) refl refl refl refl) local words conn (connection_at before.connections conn) (command_of words) refl in
+      subst (λ (o : Outcome). ReplicaStep n one (answered_with words o.response) o) (sym may.comes_to)
+      (subst (λ (r : Response). ReplicaStep n one (answered_with words r) (recorded asked requests may.dropped)) (sym (recorded_response asked requests may.dropped))
+      (recorded_replica (answered_with words asked.response) asked requests may.dropped inner))
+
+  pub event_replica : CommandsAreLocal → (ticket : ℕ) (event : Event) (outcome : Outcome) → MayCome before event outcome → ReplicaStep n one (answered (Made event (outputs_of ticket outcome))) outcome
+  event_replica local ticket Open outcome may =
+      subst (ReplicaStep n one None) (sym may.comes_to) (plain one stands None refl refl _ refl refl refl refl refl)
+  event_replica local ticket (Close conn) outcome may = closing_replica conn (is_some (connection_at before.connections conn)) outcome may
+  event_replica local ticket (Request conn words) outcome may = request_replica local conn words (may_ask (connection_at before.connections conn)) outcome may
+  event_replica local ticket (Deliver message) outcome may = subst (ReplicaStep n one None) (sym may.comes_to) (delivered_replica message may.choice)
+  event_replica local ticket Tick outcome may = subst (ReplicaStep n one None) (sym may) tick_replica

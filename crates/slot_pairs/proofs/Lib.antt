@@ -1,0 +1,2 @@
+mod GatheringLemmas
+mod ListingLemmas

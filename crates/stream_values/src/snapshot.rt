@@ -1,0 +1,29 @@
+//! A whole keyspace, and the place in a stream that it is of.
+ghost use Rattle.std.specs.Prelude.{◌≡◌};
+
+use crate::pairs::Pairs;
+use crate::stream_id::StreamId;
+use std::alloc::AllocError;
+
+/// What a stream's writes up to an offset leave. A copy shares the pairs.
+#[derive(Debug, Drop)]
+pub struct Snapshot {
+    /// The stream.
+    pub stream: StreamId,
+    /// Where in the stream it is, which is the end of a write.
+    pub offset: u64,
+    /// All keys with their values.
+    pub pairs: Pairs,
+}
+
+impl Clone for Snapshot {
+    ghost is_clone = { λ snapshot copy. copy ≡ snapshot };
+
+    fn clone(&self) -> Result<Snapshot, AllocError> {
+        Ok(Snapshot {
+            stream: self.stream,
+            offset: self.offset,
+            pairs: self.pairs.clone()?,
+        })
+    }
+}
