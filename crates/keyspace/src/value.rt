@@ -35,14 +35,25 @@ pub fn rebuild(alloc: Global, key: &ByteString, value: &Value) -> Result<Words, 
     requires { IsRequest (rebuilding key.now value.now) }
     ensures { IfOk result (λ words. words ≡ rebuilding key.now value.now) }
 {
-    let items = match value {
+    let items = rebuilding_words(alloc, key, value)?;
+    Ok(Words::new(items).unwrap())
+}
+
+/// Its words, which may be more or longer than those of a request that a server takes.
+pub fn rebuilding_words(
+    alloc: Global,
+    key: &ByteString,
+    value: &Value,
+) -> Result<Vec<ByteString>, AllocError>
+    ensures { IfOk result (λ words. words.items ≡ rebuilding key.now value.now) }
+{
+    match value {
         Value::Str(bytes) => {
             let name = ByteString::inline(b"SET");
-            vec![in alloc; name, key.clone()?, bytes.clone()?]?
+            Ok(vec![in alloc; name, key.clone()?, bytes.clone()?]?)
         }
-        Value::Hash(hash) => setting_words(alloc, key, hash.get())?,
-    };
-    Ok(Words::new(items).unwrap())
+        Value::Hash(hash) => setting_words(alloc, key, hash.get()),
+    }
 }
 
 // HSET, the key, and the pairs.
