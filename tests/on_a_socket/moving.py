@@ -10,7 +10,7 @@ import time
 import clusters
 from clusters import node_id, ports_of
 from program import Server
-from wire import NIL, OK, array, bulk, connect, moved, number, playing, reply_of, spelled, talk
+from wire import NIL, OK, array, ask, bulk, connect, moved, number, playing, reply_of, spelled, talk
 
 # The slot of foo, which the third master has, and the nodes that it moves between.
 SLOT = 12182
@@ -136,22 +136,28 @@ def play_counters(judge):
 
 
 def count_at(ports, key, replies, ended):
-    """Increases the counter until the end, as a client does that follows the nodes."""
+    """Increases the counter until the end, as a client does that follows the nodes.
+
+    Its ASKING names the move, as `ASK` told it. A plain one may come late, when the slot comes to the node by another move, and the key is
+    counted anew there.
+    """
     request = spelled(b"INCR", b"{foo}%d" % key)
     with contextlib.ExitStack() as stack:
         clients = {port: stack.enter_context(connect(port)) for port in ports[:3]}
-        # Where the slot is as far as the client knows, and where it asks just once.
-        home, other = ports[0], None
+        for client in clients.values():
+            ask(client, spelled(b"CLUSTER", b"NUMBERED"), OK)
+        # Where the slot is as far as the client knows, and where it asks just once, by which move.
+        home, other, move = ports[0], None, None
         while not ended.is_set():
             client = clients[other or home]
-            client.sendall(spelled(b"ASKING") + request if other else request)
+            client.sendall(spelled(b"ASKING", move) + request if other else request)
             if other:
                 reply_of(client)
             answer, other = reply_of(client), None
             if answer.startswith(b"-MOVED"):
                 home = port_in(answer)
             elif answer.startswith(b"-ASK"):
-                other = port_in(answer)
+                other, move = port_in(answer), answer.split()[3]
             elif answer.startswith(b"-TRYAGAIN"):
                 time.sleep(0.001)
             else:
@@ -159,7 +165,7 @@ def count_at(ports, key, replies, ended):
 
 
 def port_in(redirection):
-    return int(redirection.rpartition(b":")[2])
+    return int(redirection.split()[2].rpartition(b":")[2])
 
 
 def move_slot(ports, source, target, number_of_move):

@@ -24,6 +24,9 @@ pub(crate) trait HasLinks<R: Wait>: HoldsCell {
     /// Whether the link from that node is half full.
     fn is_half_full(&mut self, from: usize) -> bool;
 
+    /// Whether messages wait for their links in too great numbers.
+    fn is_behind(&self) -> bool;
+
     /// Sends messages to that node as far as there is room, and says whether there was one.
     fn send_out(&mut self, rt: &R, to: usize) -> Result<bool, AllocError>;
 }
@@ -35,6 +38,10 @@ impl<K: Deployment, W: Web, L: Log + Drop, R: Wait + Drop> HasLinks<R> for Stati
 
     fn is_half_full(&mut self, from: usize) -> bool {
         Station::is_half_full(self, from)
+    }
+
+    fn is_behind(&self) -> bool {
+        Station::is_behind(self)
     }
 
     fn send_out(&mut self, rt: &R, to: usize) -> Result<bool, AllocError> {
@@ -82,12 +89,10 @@ fn exchange<C: HasLinks<R> + Drop, R: Clock + Wait>(
     for (number, other) in nodes.iter().enumerate() {
         has_received |= receive_from(rt, &mut *cell, number, &**other, departures);
     }
-    let mut are_sorted = true;
-    for (number, other) in nodes.iter().enumerate() {
-        are_sorted &= send_to(rt, &mut *cell, number, &**other);
-    }
+    let sending = send_to_all(rt, &mut *cell, nodes);
+    node.shared.note_pace(cell.is_behind(), sending.has_sent);
     node.shared.ring(&cell);
-    let rest = match are_sorted {
+    let rest = match sending.are_sorted {
         true => Duration::from_secs(LONG),
         false => Duration::from_millis(PAUSE),
     };
@@ -113,23 +118,40 @@ fn receive_from<C: HasLinks<R> + Drop, R: Clock + Wait>(
     true
 }
 
-// Sends messages to the other node, which is told of them, and says whether there was memory for all. Where there wasn't, some may
-// have been sent all the same.
-fn send_to<C: HasLinks<R> + Drop, R: Wait>(
+// What came of one look at the messages that are to be sent.
+#[derive(Clone, Copy, Drop)]
+struct Sending {
+    has_sent: bool,
+    // There was memory for those that wait for their links.
+    are_sorted: bool,
+}
+
+// Sends messages to each node, as far as there is room.
+fn send_to_all<C: HasLinks<R> + Drop, R: Wait>(
     rt: &R,
     cell: &mut C,
-    number: usize,
-    other: &Node<C>,
-) -> bool {
-    match cell.send_out(rt, number) {
-        Ok(true) => {
-            other.shared.ring_for_mail();
-            true
-        }
-        Ok(false) => true,
-        Err(_) => {
-            other.shared.ring_for_mail();
-            false
+    nodes: &[Arc<Node<C>, Global>],
+) -> Sending {
+    let mut sending = Sending {
+        has_sent: false,
+        are_sorted: true,
+    };
+    for (number, other) in nodes.iter().enumerate() {
+        match cell.send_out(rt, number) {
+            Ok(false) => {}
+            Ok(true) => {
+                sending.has_sent = true;
+                other.shared.ring_for_mail();
+            }
+            // Some may have been sent all the same.
+            Err(_) => {
+                sending = Sending {
+                    has_sent: true,
+                    are_sorted: false,
+                };
+                other.shared.ring_for_mail();
+            }
         }
     }
+    sending
 }

@@ -1,9 +1,11 @@
 //! A node's end of its link with another node, with the messages that found no room there yet.
 ghost use Rattle.std.specs.Prelude.{◌≡◌, ◌++◌, ◌∷◌, ◌⊎◌, [], true, false, IfNone, IfSome, OnErr, OnOk};
 ghost use Rattle.links.specs.Halves.{WasFull};
+ghost use Rattle.links.specs.Pace.{are_many};
 ghost use Rattle.links.specs.Ports.{HasMore, HasSent, HasSentOne, with_received};
 
 use crate::end::LinkEnd;
+use crate::pace::are_many;
 use node_cell::{Deployment, Posted, Sending};
 use std::alloc::{AllocError, Global};
 use std::collections::VecDeque;
@@ -102,6 +104,13 @@ impl<K: Deployment, R: Wait + Drop> Port<K, R> {
         ensures { self.new ≡ self.old }
     {
         self.end.is_half_full()
+    }
+
+    /// Whether more messages wait than should.
+    pub(crate) fn is_behind(&self) -> bool
+        ensures { result ≡ are_many self.now.waiting }
+    {
+        are_many(&self.waiting)
     }
 
     /// The end.

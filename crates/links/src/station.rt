@@ -1,8 +1,10 @@
 //! A node with its ends of the links to all nodes.
 ghost use Rattle.std.specs.Prelude.{◌≡◌, ◌<◌, ◌⊎◌, [], drop, false, length, map, IfNone, IfOk, IfSome, OnOk};
+ghost use Rattle.std.specs.List.{list_any};
 ghost use Rattle.bus.specs.declared.message.Message.{Message};
 ghost use Rattle.links.specs.Ends.{AreEndsOf};
 ghost use Rattle.links.specs.Halves.{WasFull};
+ghost use Rattle.links.specs.Pace.{are_many};
 ghost use Rattle.links.specs.Ports.{PortView};
 ghost use Rattle.links.specs.Stations.{IsStation, OnlySends, Receives, SendsNothing, end_of, port_at, port_of};
 
@@ -109,6 +111,14 @@ impl<K: Deployment, W: Web, L: Log + Drop, R: Wait + Drop> Station<K, W, L, R> {
         ensures { self.new ≡ self.old }
     {
         from < self.ports.len() && self.ports[from].is_half_full()
+    }
+
+    /// Whether more messages wait for a link of the node than should, or more bytes of streams: then whoever has it make more does well
+    /// to wait until some are sent.
+    pub fn is_behind(&self) -> bool
+        ensures { result ≡ list_any (λ (port : PortView). are_many port.waiting) self.now.ports }
+    {
+        self.ports.iter().any(|port| port.is_behind())
     }
 
     /// Sends as many of the messages for the node with that number as the link to it has room for, and says whether there was one. The

@@ -11,7 +11,6 @@ ghost use Rattle.resp2.specs.Stream.{stream_spelling};
 ghost use Rattle.step_fault.specs.declared.fault.StepFault.TheVariants.{Exhausted};
 
 use bus::{Body, Message};
-use byte_string::ByteString;
 use move_rows::{CopyName, lost_to, take_ack, take_claim, take_copy, take_drained};
 use node_parts::{Change, Draft, NodeParts};
 use node_step::StepFault;
@@ -119,8 +118,8 @@ fn learn<S: SlotParts + SlotKeys, T: Stream>(
 fn written_by<S: SlotParts + SlotKeys, T: Stream>(
     node: &NodeParts<S, T>,
     message: &Message,
-) -> Result<ByteString, AllocError>
-    ensures { IfOk result (λ bytes. bytes ≡ stream_spelling (written_by_message (knowing node.now message.now.epoch) message.now.from message.now.body)) }
+) -> Result<Vec<u8>, AllocError>
+    ensures { IfOk result (λ bytes. bytes.items ≡ stream_spelling (written_by_message (knowing node.now message.now.epoch) message.now.from message.now.body)) }
 {
     let from = message.from;
     match &message.body {
@@ -139,7 +138,7 @@ fn written_by<S: SlotParts + SlotKeys, T: Stream>(
         | Body::Request(_)
         | Body::Grant(_)
         | Body::Piece(_)
-        | Body::Snapshot(_) => Ok(ByteString::new()),
+        | Body::Snapshot(_) => Ok(Vec::new(node.alloc)),
     }
 }
 
@@ -149,11 +148,11 @@ fn written_by_claim<S: SlotParts + SlotKeys, T: Stream>(
     node: &NodeParts<S, T>,
     from: NodeNo,
     claim: &Claim,
-) -> Result<ByteString, AllocError>
-    ensures { IfOk result (λ bytes. bytes ≡ stream_spelling (written_by_claim node.now from claim.now)) }
+) -> Result<Vec<u8>, AllocError>
+    ensures { IfOk result (λ bytes. bytes.items ≡ stream_spelling (written_by_claim node.now from claim.now)) }
 {
     if from == node.number {
-        return Ok(ByteString::new());
+        return Ok(Vec::new(node.alloc));
     }
     let lost = lost_to(node, from, claim)?;
     written_by_loss(node, lost.as_slice())

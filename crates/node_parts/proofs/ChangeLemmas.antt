@@ -161,7 +161,7 @@ outputs_alike ticket outcome (request ∷ requests) dropped none =
 
 -- a draft that is made is a step
 pub made_is_step : (ticket : ℕ) (old : NodeState) (event : Event) (draft : Draft) (outputs : Outputs) (new : NodeState) → IsDraftOf old event draft → outputs ≡ stamped_draft old.number ticket draft
-    → IsMade (at_epoch old draft.epoch) draft.plan draft.change draft.written new → NodeStep ticket old event outputs new
+    → IsMade (at_epoch old draft.epoch) draft.plan draft.change draft.written.items new → NodeStep ticket old event outputs new
 made_is_step ticket old event draft outputs new is are made =
     let outcome = is.outcome in
     let records = is.records in
@@ -186,24 +186,7 @@ made_is_step ticket old event draft outputs new is are made =
 
 -- and it can be made
 pub draft_can_be_made : (old : NodeState) (event : Event) (draft : Draft) → IsDraftOf old event draft → CanBeMade old draft.plan draft.change
-draft_can_be_made old event draft is = in_any_epoch draft.change (can_be_made (at_epoch old draft.epoch) draft.plan draft.change is.outcome.state is.records.state)
-  where
-    in_any_epoch : (change : Change) → CanBeMade (at_epoch old draft.epoch) draft.plan change → CanBeMade old draft.plan change
-    in_any_epoch (Keys conn slot) can = can
-    in_any_epoch Nothing can = tt
-    in_any_epoch (Asks conn) can = tt
-    in_any_epoch (Allows conn asking) can = tt
-    in_any_epoch (Numbers conn) can = tt
-    in_any_epoch (Imports conn slot from number) can = can
-    in_any_epoch (Migrates conn slot to number) can = can
-    in_any_epoch (Ends conn slot epoch) can = tt
-    in_any_epoch (Parks conn wait) can = tt
-    in_any_epoch (Freezes conn key wait) can = tt
-    in_any_epoch (Installs slot copy key value) can = tt
-    in_any_epoch (Frees slot number copy) can = tt
-    in_any_epoch (Notes from slot number epoch) can = tt
-    in_any_epoch (Loses from claim lost) can = tt
-    in_any_epoch Ages can = tt
+draft_can_be_made old event draft is = can_be_made (at_epoch old draft.epoch) draft.plan draft.change is.outcome.state is.records.state
 
 -- a draft that writes nothing
 pub records_nothing : (old : NodeState) (outcome : Outcome) (draft : Draft) → Drafts old outcome draft → Records old outcome [] draft
@@ -245,7 +228,7 @@ module _ (old : NodeState) (draft replied_draft : Draft) (why : Why) (reply : Re
 
   -- the same with messages between them
   pub drafts_sending : (bodies : List (ℕ × Body)) (said new : Draft) → said.bodies.items ≡ bodies → said.response ≡ replied_draft.response → said.released ≡ replied_draft.released
-      → said.written ≡ replied_draft.written → said.plan ≡ replied_draft.plan → new ≡ record said { epoch = epoch; change = change } → Drafts old (replied_sending after why reply bodies) new
+      → said.written.items ≡ replied_draft.written.items → said.plan ≡ replied_draft.plan → new ≡ record said { epoch = epoch; change = change } → Drafts old (replied_sending after why reply bodies) new
   drafts_sending bodies said new says response released written plan changes =
       subst (λ d. Drafts old (replied_sending after why reply bodies) d) (sym changes)
       (record {
@@ -253,6 +236,6 @@ module _ (old : NodeState) (draft replied_draft : Draft) (why : Why) (reply : Re
         released = released ∙ ap (λ (d : Draft). d.released) replies ∙ nothing.released;
         sent = says;
         promoted = refl;
-        written = written ∙ ap (λ (d : Draft). d.written) replies ∙ nothing.written;
+        written = written ∙ ap (λ (d : Draft). d.written.items) replies ∙ nothing.written;
         state = subst (λ p. Becomes (at_epoch old epoch) p change after) (sym (plan ∙ ap (λ (d : Draft). d.plan) replies)) (in_own_epoch old epoch draft.plan change after own leads);
       })

@@ -2,4 +2,4 @@ mod ClearedSlots
 mod Commits
 pub mod ChangeLemmas
 pub mod NodeLemmas
-mod Writing
+mod HalfLemmas

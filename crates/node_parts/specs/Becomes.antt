@@ -7,12 +7,12 @@ use Rattle.connections.specs.declared.conn.Conn.{Conn}
 use Rattle.connections.specs.declared.conn.Connection.{Connection}
 use Rattle.connections.specs.declared.conn.Wait.{Wait}
 use Rattle.key_slot.specs.Slot.{hash_slot}
-use Rattle.keyspace.specs.Plan.{committed}
 use Rattle.keyspace.specs.declared.plans.Plan.{Plan}
 use Rattle.migrate.specs.Acknowledging.{after_ack, frozen_key}
 use Rattle.migrate.specs.Arriving.{counted}
 use Rattle.migrate.specs.Losing.{after_loss}
 use Rattle.migrate.specs.Sending.{frozen}
+use Rattle.node_parts.specs.Begins.{CanBegin}
 use Rattle.node_parts.specs.declared.change.Change.{Change}
 use Rattle.node_parts.specs.declared.change.Change.TheVariants.{Nothing, Asks, Allows, Numbers, Keys, Imports, Migrates, Ends, Parks, Freezes, Installs, Frees, Notes, Loses, Ages}
 use Rattle.node_step.specs.Copies.{noted, parked, without_key}
@@ -23,7 +23,7 @@ use Rattle.node_step.specs.Ticks.{older}
 use Rattle.slot_state.specs.Moves.{begun, ended, move_of}
 use Rattle.slot_state.specs.declared.running.Move.{Move}
 use Rattle.slot_state.specs.declared.running.Move.TheVariants.{Comes, Leaves}
-use Rattle.slot_store.specs.InSlot.{IsCommittedInSlot, LiesInSlot, in_slot}
+use Rattle.slot_store.specs.InSlot.{IsCommittedInSlot}
 use Rattle.slot_table.specs.Claims.{merged}
 use Rattle.slot_table.specs.declared.runs.Run.{Run}
 
@@ -60,27 +60,32 @@ abbrev pub freed : NodeState → ℕ → ℕ → ℕ → Option (List ℕ) → N
 freed node slot number copy None = with_moves node (after_ack node.moves slot)
 freed node slot number copy (Some key) = without_key node slot number copy key
 
--- a row a change; the plan is that of a change of keys
+-- the half of a change that takes no memory, and comes behind the other
+abbrev pub Finishes : NodeState → Change → NodeState → Type 0
+Finishes old Nothing new = new ≡ old
+Finishes old (Asks conn) new = new ≡ using_up old conn
+Finishes old (Allows conn asking) new = new ≡ at_connection (using_up old conn) conn (λ (connection : Connection). record connection { asking = asking })
+Finishes old (Numbers conn) new = new ≡ with_numbers (using_up old conn) conn
+Finishes old (Keys conn slot) new = new ≡ using_up old conn
+Finishes old (Imports conn slot from number) new = new ≡ using_up old conn
+Finishes old (Migrates conn slot to number) new = new ≡ using_up old conn
+Finishes old (Ends conn slot epoch) new = new ≡ ending old conn slot epoch
+Finishes old (Parks conn wait) new = new ≡ waiting_so (using_up old conn) conn wait
+Finishes old (Freezes conn key wait) new = new ≡ waiting_so (with_moves (using_up old conn) (frozen old.moves wait.slot wait.copy key)) conn wait
+Finishes old (Installs slot copy key value) new = new ≡ with_moves old (counted old.moves slot copy)
+Finishes old (Frees slot number copy) new = new ≡ freed old slot number copy (frozen_key (move_of old.moves slot))
+Finishes old (Notes from slot number epoch) new = new ≡ (noted old from slot number epoch).state
+Finishes old (Loses from claim lost) new = new ≡ losing old claim from lost.items
+Finishes old Ages new = new ≡ older old
+
+-- what a change makes, with both halves; the plan is that of a change of keys
 abbrev pub Becomes : NodeState → Plan → Change → NodeState → Type 0
-Becomes old plan Nothing new = new ≡ old
-Becomes old plan (Asks conn) new = new ≡ using_up old conn
-Becomes old plan (Allows conn asking) new = new ≡ at_connection (using_up old conn) conn (λ (connection : Connection). record connection { asking = asking })
-Becomes old plan (Numbers conn) new = new ≡ with_numbers (using_up old conn) conn
 Becomes old plan (Keys conn slot) new = Commits old conn slot plan new
 Becomes old plan (Imports conn slot from number) new = Starts old conn slot number (Comes from number 0 None) new
 Becomes old plan (Migrates conn slot to number) new = Starts old conn slot number (Leaves to number 0 None) new
-Becomes old plan (Ends conn slot epoch) new = new ≡ ending old conn slot epoch
-Becomes old plan (Parks conn wait) new = new ≡ waiting_so (using_up old conn) conn wait
-Becomes old plan (Freezes conn key wait) new = new ≡ waiting_so (with_moves (using_up old conn) (frozen old.moves wait.slot wait.copy key)) conn wait
 Becomes old plan (Installs slot copy key value) new = new ≡ record old { keyspace = fin_map.insert old.keyspace key value; moves = counted old.moves slot copy }
-Becomes old plan (Frees slot number copy) new = new ≡ freed old slot number copy (frozen_key (move_of old.moves slot))
-Becomes old plan (Notes from slot number epoch) new = new ≡ (noted old from slot number epoch).state
-Becomes old plan (Loses from claim lost) new = new ≡ losing old claim from lost.items
-Becomes old plan Ages new = new ≡ older old
+Becomes old plan change new = Finishes old change new
 
--- a plan has to be one on the keys of its slot, and a slot has one move at a time
+-- a change can be made where its first half can
 abbrev pub CanBeMade : NodeState → Plan → Change → Type 0
-CanBeMade old plan (Keys conn slot) = LiesInSlot slot (committed (in_slot slot old.keyspace) plan)
-CanBeMade old plan (Imports conn slot from number) = move_of old.moves slot ≡ None
-CanBeMade old plan (Migrates conn slot to number) = move_of old.moves slot ≡ None
-CanBeMade old plan change = Unit {0}
+CanBeMade old plan change = CanBegin old.keyspace old.moves plan change

@@ -25,7 +25,7 @@ pub record Drafts (old : NodeState) (outcome : Outcome) (draft : Draft) : Type 0
   pub released : draft.released ≡ outcome.released
   pub sent : draft.bodies.items ≡ outcome.sent
   pub promoted : outcome.promoted ≡ None
-  pub written : draft.written ≡ []
+  pub written : draft.written.items ≡ []
   pub state : Becomes (at_epoch old draft.epoch) draft.plan draft.change outcome.state
 
 -- nothing comes out of the draft yet, in the node's epoch
@@ -34,7 +34,7 @@ pub record HasNothing (old : NodeState) (draft : Draft) : Type 0 where
   pub released : draft.released ≡ []
   pub sent : draft.bodies.items ≡ []
   pub epoch : draft.epoch ≡ old.current_epoch
-  pub written : draft.written ≡ []
+  pub written : draft.written.items ≡ []
   pub change : draft.change ≡ Unchanged
 
 -- the draft of an outcome in which these requests are recorded
@@ -43,7 +43,7 @@ pub record Records (old : NodeState) (outcome : Outcome) (requests : Requests) (
   pub released : draft.released ≡ outcome.released
   pub sent : draft.bodies.items ≡ (recorded outcome requests 0).sent
   pub promoted : outcome.promoted ≡ None
-  pub written : draft.written ≡ stream_spelling requests
+  pub written : draft.written.items ≡ stream_spelling requests
   pub state : Becomes (at_epoch old draft.epoch) draft.plan draft.change outcome.state
 
 -- the draft of what may come of an event, however many bytes the stream gives up in front

@@ -1,3 +1,4 @@
 pub mod Becomes
+pub mod Begins
 pub mod Drafts
 pub mod Making

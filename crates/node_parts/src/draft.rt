@@ -13,7 +13,6 @@ ghost use Rattle.node_step.specs.State.{NodeState};
 use crate::change::Change;
 use crate::parts::NodeParts;
 use bus::Body;
-use byte_string::ByteString;
 use connections::{Conn, Waiting};
 use keyspace::Plan;
 use node_step::{Answer, Releases, Response, Why};
@@ -35,8 +34,8 @@ pub struct Draft {
     pub bodies: Vec<(NodeNo, Body)>,
     /// The node's epoch after the step.
     pub epoch: Epoch,
-    /// The requests that it writes behind the node's stream, as bytes.
-    pub written: ByteString,
+    /// The bytes of the requests that it writes behind the node's stream.
+    pub written: Vec<u8>,
     /// What changes of keys, where the change says that a plan is committed.
     pub plan: Plan,
     /// What else changes in the node.
@@ -90,7 +89,7 @@ impl<S: SlotParts + SlotKeys, T: Stream> NodeParts<S, T> {
             released: Releases::new(),
             bodies: Vec::new(self.alloc),
             epoch: self.current_epoch,
-            written: ByteString::new(),
+            written: Vec::new(self.alloc),
             plan: Plan::new(self.alloc),
             change: Change::Nothing,
         }

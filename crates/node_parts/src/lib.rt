@@ -2,10 +2,12 @@
 #![tactic(auto)]
 
 mod applying;
+mod beginning;
 mod change;
 mod clearing;
 mod draft;
 mod drained;
+mod finishing;
 mod making;
 mod parts;
 mod standing;

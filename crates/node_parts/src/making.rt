@@ -23,7 +23,7 @@ impl<S: SlotParts + SlotKeys, T: Stream> NodeParts<S, T> {
     ) -> Result<(Outputs, K::Record), AllocError>
         requires { CanBeMade self.old draft.old.plan draft.old.change }
         ensures outputs { IfOk result (λ made. made.0 ≡ stamped_draft self.old.number ticket draft.old) }
-        ensures state { OnOk result (IsMade (at_epoch self.old draft.old.epoch) draft.old.plan draft.old.change draft.old.written self.new) }
+        ensures state { OnOk result (IsMade (at_epoch self.old draft.old.epoch) draft.old.plan draft.old.change draft.old.written.items self.new) }
         ensures recorded { IfOk result (λ made. K.recorded made.1 ≡ made.0) }
         ensures err { OnErr result (self.new ≡ self.old) }
     {

@@ -1,4 +1,5 @@
 mod BlockLemmas
 mod PartLemmas
 mod ReadingLemmas
+mod SpellingLemmas
 mod TakingLemmas

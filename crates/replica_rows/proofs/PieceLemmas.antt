@@ -8,6 +8,7 @@ use Rattle.cluster_config.specs.declared.config.NodeConfig.{NodeConfig}
 use Rattle.node_step.specs.Orders.{to_all}
 use Rattle.node_step.specs.Roles.{is_just, replicas_of}
 use Rattle.node_step.specs.State.{NodeState, first_masters}
+use Rattle.replica_rows.specs.Recording.{piece_of, pieces_of}
 use Rattle.slot_table.proofs.MergeLemmas.{filter_more_range}
 
 -- a node is a replica of this one
@@ -49,6 +50,14 @@ module _ (masters : List (Option ℕ)) (number place : ℕ) (body : Body) where
       more ∙ so ∙ ap (λ bodies. first ++ bodies)
       (sym (one_more ∙ ap (λ b. so_far ++ cond b ((place, body) ∷ []) []) (ap (copies masters number) (sym at) ∙ is) ∙ append-nil so_far))
 
+-- one more that is none
+pub none_more : (masters : List (Option ℕ)) (number place other : ℕ) → other ≡ place → copies masters number other ≡ false
+    → replicas_below masters number place ≡ [] → replicas_below masters number (place + 1) ≡ []
+none_more masters number place other at is none =
+    filter_more_range (copies masters number) 0 place place (place + 1) (omega arith) refl
+    ∙ ap (λ replicas. replicas ++ cond (copies masters number place) (place ∷ []) []) none
+    ∙ ap (λ b. cond b (place ∷ []) []) (ap (copies masters number) (sym at) ∙ is)
+
 as_many : (nodes : List NodeConfig) → length (first_masters nodes) ≡ length nodes
 as_many [] = refl
 as_many (node ∷ nodes) = ap (λ n. suc n) (as_many nodes)
@@ -58,3 +67,7 @@ pub all_replicas : (node : NodeState) (nodes : List NodeConfig) (count : ℕ) �
     → replicas_below node.masters node.number count ≡ replicas_of node.masters node.number
 all_replicas node nodes count are is =
     ap (λ n. filter (copies node.masters node.number) (range_with_len 0 n)) (is ∙ sym (as_many nodes) ∙ ap (λ (m : List (Option ℕ)). length m) (sym are))
+
+-- who has none sends nothing
+pub none_sent : (node : NodeState) (before : List (ℕ × Body)) (bytes : List ℕ) → replicas_of node.masters node.number ≡ [] → before ≡ before ++ pieces_of node bytes
+none_sent node before bytes none = sym (ap (λ replicas. before ++ to_all replicas (piece_of node bytes)) none ∙ append-nil before)

@@ -12,13 +12,6 @@ pub deletions_spelled : (keys : List (List ℕ)) → flat_map deletion_bytes key
 deletions_spelled [] = refl
 deletions_spelled (key ∷ keys) = ap (λ bytes. deletion_bytes key ++ bytes) (deletions_spelled keys)
 
-bulks_spelled : (words : List (List ℕ)) → flat_map bulk_spelling words ≡ bulks_spelling words
-bulks_spelled [] = refl
-bulks_spelled (word ∷ words) = ap (λ bytes. bulk_spelling word ++ bytes) (bulks_spelled words)
-
-pub request_spelled : (words : List (List ℕ)) → header_spelling 42 (length words) ++ flat_map bulk_spelling words ≡ request_spelling words
-request_spelled words = ap (λ bytes. header_spelling 42 (length words) ++ bytes) (bulks_spelled words)
-
 -- what makes a key anew
 pub rebuilt_alone : (is_there : Bool) (key : List ℕ) (value : Value) (bytes : List ℕ) → not is_there ≡ true → bytes ≡ request_spelling (rebuilding key value) → bytes ≡ stream_spelling (rebuilt is_there key value)
 rebuilt_alone true key value bytes not_there is = absurd (true≢false (sym not_there))

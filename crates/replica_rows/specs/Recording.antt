@@ -55,6 +55,6 @@ pub record Adds (node : NodeState) (bytes : List ℕ) (old new : Draft) : Type 0
   pub released : new.released ≡ old.released
   pub sent : new.bodies.items ≡ old.bodies.items ++ pieces_of node bytes
   pub epoch : new.epoch ≡ old.epoch
-  pub written : new.written ≡ bytes
+  pub written : new.written.items ≡ bytes
   pub plan : new.plan ≡ old.plan
   pub change : new.change ≡ old.change

@@ -10,7 +10,6 @@ ghost use Rattle.replica_rows.specs.Recording.{Adds};
 ghost use Rattle.stream_values.specs.Stream.{end_of};
 
 use crate::pieces::append_pieces;
-use byte_string::ByteString;
 use node_parts::{Draft, NodeParts};
 use repl_stream::Stream;
 use slot_store::{SlotKeys, SlotParts};
@@ -21,15 +20,15 @@ use step_fault::StepFault;
 #[tactic(auto, using(crate::proofs::RecordingLemmas::records_none, crate::proofs::RecordingLemmas::records_some, crate::proofs::RecordingLemmas::no_offset))]
 pub fn record<S: SlotParts + SlotKeys, T: Stream>(
     node: &NodeParts<S, T>,
-    bytes: ByteString,
+    bytes: Vec<u8>,
     draft: &mut Draft,
 ) -> Result<(), StepFault>
-    ensures records { OnOk result ((outcome : Outcome) (requests : Requests) → bytes ≡ stream_spelling requests
+    ensures records { OnOk result ((outcome : Outcome) (requests : Requests) → bytes.items ≡ stream_spelling requests
         → Drafts node.now outcome draft.old → Records node.now outcome requests draft.new) }
-    ensures exhausted { result ≡ Err Exhausted → (requests : Requests) → bytes ≡ stream_spelling requests
+    ensures exhausted { result ≡ Err Exhausted → (requests : Requests) → bytes.items ≡ stream_spelling requests
         → has_offset node.now requests ≡ false }
 {
-    if bytes.len() == 0 {
+    if bytes.is_empty() {
         return Ok(());
     }
     add(node, bytes, draft)
@@ -38,16 +37,16 @@ pub fn record<S: SlotParts + SlotKeys, T: Stream>(
 // Records bytes behind which the stream has an offset.
 fn add<S: SlotParts + SlotKeys, T: Stream>(
     node: &NodeParts<S, T>,
-    bytes: ByteString,
+    bytes: Vec<u8>,
     draft: &mut Draft,
 ) -> Result<(), StepFault>
-    ensures ok { OnOk result (Adds node.now bytes draft.old draft.new) }
-    ensures exhausted { result ≡ Err Exhausted → nat_lt (end_of node.now.stream.held + length bytes) (2 ^ 64) ≡ false }
+    ensures ok { OnOk result (Adds node.now bytes.items draft.old draft.new) }
+    ensures exhausted { result ≡ Err Exhausted → nat_lt (end_of node.now.stream.held + length bytes.items) (2 ^ 64) ≡ false }
 {
     if bytes.len() as u64 > u64::MAX - node.stream.received() {
         return Err(StepFault::Exhausted);
     }
-    append_pieces(node, &bytes, &mut draft.bodies)?;
+    append_pieces(node, bytes.as_slice(), &mut draft.bodies)?;
     draft.written = bytes;
     Ok(())
 }

@@ -37,22 +37,22 @@ pub fn written_by_request(
     words: &Words,
     is_write: bool,
     response: &Response,
-) -> Result<ByteString, AllocError>
+) -> Result<Vec<u8>, AllocError>
     ensures { IfOk result (λ bytes. (command : Result Command CommandFault) → is_write ≡ is_written command
-        → bytes ≡ stream_spelling (written_by_request words.now command response.now)) }
+        → bytes.items ≡ stream_spelling (written_by_request words.now command response.now)) }
 {
     request_if(alloc, words, is_recorded(is_write, response))
 }
 
 // The bytes of the request, if it is to be written.
 #[tactic(auto, using(crate::proofs::WriteLemmas::one_request))]
-fn request_if(alloc: Global, words: &Words, is_recorded: bool) -> Result<ByteString, AllocError>
-    ensures { IfOk result (λ bytes. bytes ≡ stream_spelling (written_if is_recorded words.now)) }
+fn request_if(alloc: Global, words: &Words, is_recorded: bool) -> Result<Vec<u8>, AllocError>
+    ensures { IfOk result (λ bytes. bytes.items ≡ stream_spelling (written_if is_recorded words.now)) }
 {
     if is_recorded {
         return request_bytes(alloc, words.as_slice());
     }
-    Ok(ByteString::new())
+    Ok(Vec::new(alloc))
 }
 
 fn is_recorded(is_write: bool, response: &Response) -> bool
@@ -116,8 +116,8 @@ pub fn written_by_copy<S: SlotParts + SlotKeys, T: Stream>(
     copy: u64,
     key: &ByteString,
     value: &Value,
-) -> Result<ByteString, AllocError>
-    ensures { IfOk result (λ bytes. bytes ≡ stream_spelling (written_by_copy node.now.keyspace key.now value.now
+) -> Result<Vec<u8>, AllocError>
+    ensures { IfOk result (λ bytes. bytes.items ≡ stream_spelling (written_by_copy node.now.keyspace key.now value.now
         (arrival_verdict (move_of node.now.moves slot) from number copy (keeps_limits key.now value.now)))) }
 {
     let fits = value_fits(key, value);
@@ -132,12 +132,12 @@ fn installed_bytes(
     is_there: bool,
     key: &ByteString,
     value: &Value,
-) -> Result<ByteString, AllocError>
-    ensures { IfOk result (λ bytes. bytes ≡ stream_spelling (installing is_there key.now value.now verdict)) }
+) -> Result<Vec<u8>, AllocError>
+    ensures { IfOk result (λ bytes. bytes.items ≡ stream_spelling (installing is_there key.now value.now verdict)) }
 {
     match verdict {
         ArrivalVerdict::Installs => rebuilding_bytes(alloc, key, value, is_there),
-        ArrivalVerdict::Repeats | ArrivalVerdict::Ignored => Ok(ByteString::new()),
+        ArrivalVerdict::Repeats | ArrivalVerdict::Ignored => Ok(Vec::new(alloc)),
     }
 }
 
@@ -148,12 +148,12 @@ pub fn written_by_ack<S: SlotParts + SlotKeys, T: Stream>(
     slot: Slot,
     number: MoveNo,
     copy: u64,
-) -> Result<ByteString, AllocError>
-    ensures { IfOk result (λ bytes. bytes ≡ stream_spelling (written_by_ack (acknowledged_key (move_of node.now.moves slot) from number copy))) }
+) -> Result<Vec<u8>, AllocError>
+    ensures { IfOk result (λ bytes. bytes.items ≡ stream_spelling (written_by_ack (acknowledged_key (move_of node.now.moves slot) from number copy))) }
 {
     match acknowledged_key(node.moves.get(slot), from, number, copy) {
         Some(key) => deletions_bytes(node.alloc, slice::from_ref(key)),
-        None => Ok(ByteString::new()),
+        None => Ok(Vec::new(node.alloc)),
     }
 }
 
@@ -161,8 +161,8 @@ pub fn written_by_ack<S: SlotParts + SlotKeys, T: Stream>(
 pub fn written_by_loss<S: SlotParts + SlotKeys, T: Stream>(
     node: &NodeParts<S, T>,
     lost: &[Slot],
-) -> Result<ByteString, AllocError>
-    ensures { IfOk result (λ bytes. bytes ≡ stream_spelling (map deletion (filter (is_in_one lost.now) (fin_map.keys node.now.keyspace)))) }
+) -> Result<Vec<u8>, AllocError>
+    ensures { IfOk result (λ bytes. bytes.items ≡ stream_spelling (map deletion (filter (is_in_one lost.now) (fin_map.keys node.now.keyspace)))) }
 {
     let keys = keys_in_slots(node.alloc, &node.store, lost)?;
     deletions_bytes(node.alloc, keys.as_slice())

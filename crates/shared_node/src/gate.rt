@@ -53,7 +53,10 @@ impl<'n, C: HoldsCell + Drop, R: Wait> Gate<'n, C, R> {
     {
         match self.held.take() {
             Some(cell) => cell,
-            None => self.node.lock(&self.rt),
+            None => {
+                self.node.keep_pace(&self.rt);
+                self.node.lock(&self.rt)
+            }
         }
     }
 }

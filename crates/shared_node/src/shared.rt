@@ -6,6 +6,9 @@ use std::sync::{Condvar, Mutex, MutexGuard, Wait};
 use std::thread;
 use std::time::Duration;
 
+// How many milliseconds a client's thread waits at most before its next step, where its node's messages wait in too great numbers.
+const PACE: u64 = 10;
+
 // How often a thread lets others run before it sleeps until the node's lock is free. The lock is held for some microseconds, and
 // to sleep and to be woken takes longer than that.
 const MOST_YIELDS: u32 = 500;
@@ -18,6 +21,10 @@ pub struct SharedNode<C: HoldsCell> {
     replies: Condvar,
     // It rings where messages are to be sent, or may have come.
     mail: Condvar,
+    // It rings where messages that waited were sent.
+    sent: Condvar,
+    // Messages wait in too great numbers.
+    is_behind: AtomicBool,
     // Once it is closed, nobody waits here for a reply any more.
     is_closed: AtomicBool,
 }
@@ -29,6 +36,8 @@ impl<C: HoldsCell + Drop> SharedNode<C> {
             cell: Mutex::new(cell),
             replies: Condvar::new(),
             mail: Condvar::new(),
+            sent: Condvar::new(),
+            is_behind: AtomicBool::new(false),
             is_closed: AtomicBool::new(false),
         }
     }
@@ -56,6 +65,23 @@ impl<C: HoldsCell + Drop> SharedNode<C> {
         }
         if cell.has_sent() {
             self.mail.notify_all();
+        }
+    }
+
+    /// Tells clients' threads whether the node's messages wait in too great numbers, and whether some were sent.
+    pub fn note_pace(&self, is_behind: bool, has_sent: bool) {
+        let was_behind = self.is_behind.load(Ordering::SeqCst);
+        self.is_behind.store(is_behind, Ordering::SeqCst);
+        if was_behind && has_sent {
+            self.sent.notify_all();
+        }
+    }
+
+    /// Waits where the node's messages wait in too great numbers, until some were sent, but for some milliseconds at most.
+    pub(crate) fn keep_pace<R: Wait>(&self, rt: &R) {
+        let seen = self.sent.notifications();
+        if self.is_behind.load(Ordering::SeqCst) {
+            self.sent.sleep(rt, seen, Duration::from_millis(PACE));
         }
     }
 

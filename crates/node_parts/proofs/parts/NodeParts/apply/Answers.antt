@@ -8,5 +8,6 @@ use Rattle.node_parts.proofs.parts.NodeParts.apply.Goals as goal
 pub returns-clause-ok : goal.returns-clause-ok
 returns-clause-ok g c =
     let draft = c.args.draft.now in
-    subst (λ (node : NodeState). IsMade (at_epoch c.args.self.now draft.epoch) draft.plan draft.change draft.written (at_epoch node draft.epoch)) (sym c.self.view_is)
-    (made_at_epoch c.args.self.now c.change_and_write.new.self draft.epoch draft.plan draft.change draft.written c.in_ok-change_and_write.ensures.ok)
+    subst (λ (node : NodeState). IsMade (at_epoch c.args.self.now draft.epoch) draft.plan draft.change draft.written.items (at_epoch node draft.epoch)) (sym c.self.view_is)
+    (made_at_epoch c.args.self.now c.change_and_write.new.self draft.epoch draft.plan draft.change draft.written.items
+    (subst (λ bytes. IsMade c.args.self.now draft.plan draft.change bytes c.change_and_write.new.self) c.as_slice.ensures.value c.in_ok-change_and_write.ensures.ok))

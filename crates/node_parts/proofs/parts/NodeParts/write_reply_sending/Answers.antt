@@ -9,4 +9,4 @@ returns g c after leads =
     let said = c.put_bodies.ensures in
     drafts_sending c.args.self.now c.args.draft.now c.put_reply.new.self c.args.why c.args.reply c.self.inside.current_epoch c.args.change after c.requires c.put_reply.ensures
     (ap (λ (node : NodeState). node.current_epoch) c.self.view_is) leads c.args.bodies.items c.put_bodies.new.self c.put_change.new.self
-    (ap (λ (d : Draft). d.bodies.items) said) (ap (λ (d : Draft). d.response) said) (ap (λ (d : Draft). d.released) said) (ap (λ (d : Draft). d.written) said) (ap (λ (d : Draft). d.plan) said) c.put_change.ensures
+    (ap (λ (d : Draft). d.bodies.items) said) (ap (λ (d : Draft). d.response) said) (ap (λ (d : Draft). d.released) said) (ap (λ (d : Draft). d.written.items) said) (ap (λ (d : Draft). d.plan) said) c.put_change.ensures

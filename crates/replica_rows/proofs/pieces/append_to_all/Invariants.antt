@@ -2,7 +2,7 @@ use Rattle.std.proofs.Common.{◌≡◌, ◌++◌}
 use Rattle.node_step.specs.Orders.{to_all}
 use Rattle.replica_rows.proofs.PieceLemmas.{replicas_below}
 use Rattle.replica_rows.specs.Recording.{piece_of}
-use Rattle.replica_rows.proofs.pieces.append_pieces.Given as goal
+use Rattle.replica_rows.proofs.pieces.append_to_all.Given as goal
 
 -- the replicas so far get the piece
 abbrev pub invariant-loop-place : goal.invariant-loop-place

@@ -1,7 +1,7 @@
 use Rattle.std.proofs.Common.{◌≡◌, sym, ◌∙◌, rules}
 use Rattle.replica_rows.proofs.PieceLemmas.{piece-push, piece-skip}
-use Rattle.replica_rows.proofs.pieces.append_pieces.Goals as goal
-use Rattle.replica_rows.proofs.pieces.append_pieces.Goals.{then-has_replica+in_ok-piece_of+in_ok-push, else-has_replica}
+use Rattle.replica_rows.proofs.pieces.append_to_all.Goals as goal
+use Rattle.replica_rows.proofs.pieces.append_to_all.Goals.{then-has_replica+in_ok-piece_of+in_ok-push, else-has_replica}
 use Rattle.replica_rows.specs.Recording.{piece_of}
 
 pub loop-place-preserved : goal.loop-place-preserved

@@ -1,0 +1,16 @@
+use Rattle.std.proofs.Common.{sym, subst}
+use Rattle.node_parts.proofs.HalfLemmas.{both_halves}
+use Rattle.node_parts.proofs.parts.NodeParts.change_and_write.Goals as goal
+use Rattle.node_parts.specs.Becomes.{CanBeMade}
+use Rattle.node_parts.specs.Making.{GoesOn, IsMade}
+use Rattle.node_step.specs.State.{NodeState}
+
+pub returns-clause-ok : goal.returns-clause-ok
+returns-clause-ok g c =
+    let plan = c.args.plan.now in
+    let change = c.args.change.now in
+    let bytes = c.args.bytes.now in
+    subst (λ (node : NodeState). IsMade node plan change bytes c.finish.new.self) c.self.view_is
+    (both_halves _ c.finish.new.self plan _ c.begin.new.moves c.write.new.stream.stream change c.begin.new.change bytes
+    (subst (λ (node : NodeState). CanBeMade node plan change) (sym c.self.view_is) c.requires) c.in_ok-begin.ensures.begun c.in_ok-begin.ensures.left
+    (subst (λ stream. GoesOn bytes stream c.write.new.stream.stream) c.in_ok-make_room.ensures.stream c.write.ensures) c.finish.ensures)

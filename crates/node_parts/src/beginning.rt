@@ -1,0 +1,61 @@
+//! What of a change takes memory, which is done first.
+ghost use Rattle.std.specs.Prelude.{◌≡◌, OnOk, OnErr};
+ghost use Rattle.node_parts.specs.Begins.{Begins, CanBegin, spent};
+
+use crate::change::Change;
+use byte_string::ByteString;
+use keyspace::{Plan, Store, Value};
+use slot_state::SlotMoves;
+use slot_store::{SlotKeys, SlotParts};
+use std::alloc::{AllocError, Global};
+use std::mem;
+
+/// Changes keys, or lets a move begin, if the change says so. The plan, and a key with its value, are taken out of it.
+pub(crate) fn begin<S: SlotParts + SlotKeys>(
+    alloc: Global,
+    store: &mut S,
+    moves: &mut SlotMoves,
+    plan: &mut Plan,
+    change: &mut Change,
+) -> Result<(), AllocError>
+    requires { CanBegin (S.contents store.old) moves.old plan.old change.old }
+    ensures begun { OnOk result (Begins (S.contents store.old) moves.old plan.old change.old (S.contents store.new) moves.new) }
+    ensures left { OnOk result (change.new ≡ spent change.old) }
+    ensures keys { OnErr result (S.contents store.new ≡ S.contents store.old) }
+    ensures moves { OnErr result (moves.new ≡ moves.old) }
+{
+    match change {
+        Change::Keys { slot, .. } => {
+            let plan = mem::replace(plan, Plan::new(alloc));
+            store.commit_in_slot(alloc, *slot, plan)
+        }
+        Change::Imports {
+            slot,
+            from,
+            number,
+            ..
+        } => moves.begin_import(*slot, *from, *number),
+        Change::Migrates {
+            slot,
+            to,
+            number,
+            ..
+        } => moves.begin_migration(*slot, *to, *number),
+        Change::Installs { key, value, .. } => {
+            let key = mem::replace(key, ByteString::new());
+            let value = mem::replace(value, Value::Str(ByteString::new()));
+            store.insert(key, value)
+        }
+        Change::Nothing
+        | Change::Asks { .. }
+        | Change::Allows { .. }
+        | Change::Numbers { .. }
+        | Change::Ends { .. }
+        | Change::Parks { .. }
+        | Change::Freezes { .. }
+        | Change::Frees { .. }
+        | Change::Notes { .. }
+        | Change::Loses { .. }
+        | Change::Ages => Ok(()),
+    }
+}
