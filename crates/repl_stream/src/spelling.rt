@@ -70,7 +70,13 @@ fn append_header(bytes: &mut Vec<u8>, mark: u8, number: usize) -> Result<(), All
         return bytes.extend_from_slice(&[mark, digit(number), b'\r', b'\n']);
     }
     if number < 100 {
-        return bytes.extend_from_slice(&[mark, digit(number / 10), digit(number % 10), b'\r', b'\n']);
+        return bytes.extend_from_slice(&[
+            mark,
+            digit(number / 10),
+            digit(number % 10),
+            b'\r',
+            b'\n',
+        ]);
     }
     bytes.push(mark)?;
     bytes.extend_from_slice(Buffer::new().format(number).as_bytes())?;

@@ -2,7 +2,7 @@
 use Rattle.std.proofs.Common.{◌≡◌, ℕ, true, false, true≢false, refl, sym, ap, subst, ◌∙◌}
 use Rattle.std.proofs.lemmas.Bool.{cond-false, cond-true}
 use Rattle.node_parts.specs.Drafts.{at_epoch}
-use Rattle.node_step.specs.Replicas.{MayFollow, follower_of, pieced, restored_by, with_follower, with_piece}
+use Rattle.node_step.specs.Replicas.{follower_of, restored_by, with_follower, with_piece}
 use Rattle.node_step.specs.Roles.{is_just}
 use Rattle.node_step.specs.State.{NodeState, own_master}
 use Rattle.replica_rows.specs.Following.{Follows, TakesOrNot}

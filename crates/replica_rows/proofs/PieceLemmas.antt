@@ -2,7 +2,7 @@
 use Rattle.std.proofs.Common.{◌≡◌, ◌++◌, ◌+◌, ℕ, suc, Bool, true, false, cond, List, [], ◌∷◌, filter, length, append-nil, refl, sym, ap, ◌∙◌, arith}
 use Rattle.std.proofs.lemmas.List.{append_assoc, map-append}
 use Rattle.std.specs.List.{range_with_len}
-use Rattle.std.specs.Prelude.{None, Option, map, slice_index_or}
+use Rattle.std.specs.Prelude.{None, Option, slice_index_or}
 use Rattle.bus.specs.declared.message.Body.{Body}
 use Rattle.cluster_config.specs.declared.config.NodeConfig.{NodeConfig}
 use Rattle.node_step.specs.Orders.{to_all}

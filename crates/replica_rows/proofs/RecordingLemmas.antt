@@ -1,5 +1,5 @@
 -- A draft with what it writes.
-use Rattle.std.proofs.Common.{◌≡◌, ◌++◌, ◌==◌, ◌+◌, ◌^◌, ℕ, suc, Bool, true, false, List, [], ◌∷◌, Option, length, eq-eqb, true≢false, refl, sym, ap, subst, ◌∙◌, arith}
+use Rattle.std.proofs.Common.{◌≡◌, ◌++◌, ◌==◌, ◌+◌, ◌^◌, ℕ, true, false, List, [], ◌∷◌, Option, length, eq-eqb, true≢false, sym, ap, subst, ◌∙◌, arith}
 use Rattle.std.proofs.lemmas.Bool.{eqb-true}
 use Rattle.std.specs.Prelude.{nat_lt}
 use Rattle.bus.specs.declared.message.Body.{Body}

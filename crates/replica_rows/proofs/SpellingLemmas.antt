@@ -1,11 +1,11 @@
 -- Requests as bytes.
-use Rattle.std.proofs.Common.{◌≡◌, ◌++◌, ℕ, Bool, true, false, not, List, [], ◌∷◌, map, length, append-nil, true≢false, refl, sym, ap, ◌∙◌}
+use Rattle.std.proofs.Common.{◌≡◌, ◌++◌, ℕ, Bool, true, false, not, List, [], ◌∷◌, map, append-nil, true≢false, refl, sym, ap, ◌∙◌}
 use Rattle.std.specs.List.{flat_map}
 use Rattle.keyspace.specs.Rebuilding.{rebuilding}
 use Rattle.keyspace.specs.declared.value.Value.{Value}
 use Rattle.node_step.specs.Streams.{deletion}
 use Rattle.resp2.specs.Stream.{stream_spelling}
-use Rattle.resp_values.specs.Request.{bulk_spelling, bulks_spelling, header_spelling, request_spelling}
+use Rattle.resp_values.specs.Request.{request_spelling}
 use Rattle.replica_rows.specs.Recording.{deletion_bytes, rebuilt}
 
 pub deletions_spelled : (keys : List (List ℕ)) → flat_map deletion_bytes keys ≡ stream_spelling (map deletion keys)

@@ -1,5 +1,5 @@
 -- What a node answers to a sync, as it drafts it.
-use Rattle.std.proofs.Common.{◌≡◌, ℕ, Bool, true, false, List, [], refl, sym, ap, subst, ◌∙◌}
+use Rattle.std.proofs.Common.{◌≡◌, ℕ, true, false, List, [], refl, sym, ap, subst, ◌∙◌}
 use Rattle.std.proofs.lemmas.Bool.{cond-false, cond-true}
 use Rattle.bus.specs.declared.message.Body.{Body}
 use Rattle.node_parts.specs.Drafts.{Drafts, at_epoch}

@@ -1,5 +1,5 @@
 -- What is written, as it is decided.
-use Rattle.std.proofs.Common.{◌≡◌, ◌++◌, ◌&&◌, ℕ, Bool, true, false, not, List, [], ◌∷◌, append-nil, refl, sym, ap, ◌∙◌}
+use Rattle.std.proofs.Common.{◌≡◌, ◌&&◌, ℕ, Bool, true, false, not, List, [], ◌∷◌, append-nil, refl, sym, ap, ◌∙◌}
 use Rattle.std.specs.FinMap as fin_map
 use Rattle.std.specs.Prelude.{Result, is_some}
 use Rattle.command_table.specs.declared.command.Command.{Command}

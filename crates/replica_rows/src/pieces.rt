@@ -1,5 +1,6 @@
 //! What a step writes, as messages to the node's replicas.
-ghost use Rattle.std.specs.Prelude.{◌≡◌, ◌++◌, ◌+◌, ◌<◌, ◌^◌, [], length, IfOk, OnFalse, OnOk};
+ghost use Rattle.std.specs.Prelude.{◌≡◌, ◌++◌, ◌+◌, ◌<◌, ◌^◌, [], length, IfOk, OnOk};
+ghost use Rattle.std.specs.Bool.{OnFalse};
 ghost use Rattle.node_step.specs.Roles.{replicas_of};
 ghost use Rattle.replica_rows.specs.Recording.{piece_of, pieces_of};
 ghost use Rattle.stream_values.specs.Stream.{end_of};

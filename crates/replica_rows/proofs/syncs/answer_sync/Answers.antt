@@ -1,4 +1,4 @@
-use Rattle.std.proofs.Common.{ap, sym, ◌∙◌, rules, refl}
+use Rattle.std.proofs.Common.{sym, ◌∙◌, rules, refl}
 use Rattle.replica_rows.proofs.SyncLemmas.{master_synced, replica_synced}
 use Rattle.replica_rows.proofs.syncs.answer_sync.Goals as goal
 
