@@ -22,7 +22,7 @@ use key_slot::Slot;
 use move_rows::tick;
 use node_parts::{Draft, NodeParts, plain};
 use node_step::{Event, Outputs, Recorder, Response, StepFault};
-use repl_stream::{Backlog, Replaces, Stream};
+use repl_stream::{Backlog, Replaces, Replica, Stream};
 use slot_state::SlotMoves;
 use slot_store::{SlotKeys, SlotParts, SlotStore};
 use slot_table::{Epoch, NodeNo, SlotTable};
@@ -96,6 +96,13 @@ impl<S: SlotParts + SlotKeys + Replaces, T: Stream> NodeCore<S, T> {
         ensures { result.now ≡ self.now.moves }
     {
         &self.parts.moves
+    }
+
+    /// What the node has of a stream of writes: of its own, or of its master's.
+    pub fn stream(&self) -> &Replica<T>
+        ensures { result.now.stream ≡ self.now.stream }
+    {
+        &self.parts.stream
     }
 
     /// How many keys of the slot the node holds.

@@ -3,6 +3,7 @@
 use anyhow::{Context, Result};
 use bus::Body;
 use byte_string::ByteString;
+use itoa::Buffer;
 use node_core::{Conn, Event, Outputs, Response};
 use resp2::{Words, append_reply};
 use std::alloc::{AllocError, Global};
@@ -55,16 +56,44 @@ fn bytes_of(word: &str) -> &[u8] {
     }
 }
 
-/// Puts all that came out of a step behind the text: replies as their bytes, and a word for each message.
+/// Puts all that came out of a step behind the text: replies as their bytes, and a word for each message, behind which stands what part of
+/// a stream it brings or asks for.
 pub fn push_outputs(text: &mut Vec<u8>, outputs: &Outputs) -> Result<(), AllocError> {
     push_response(text, &outputs.response)?;
     for release in outputs.released.as_slice() {
         append_reply(&release.reply, text)?;
     }
     for message in outputs.sent.as_slice() {
-        text.extend_from_slice(name_of(&message.body))?;
+        push_body(text, &message.body)?;
     }
     Ok(())
+}
+
+fn push_body(text: &mut Vec<u8>, body: &Body) -> Result<(), AllocError> {
+    text.extend_from_slice(name_of(body))?;
+    match body {
+        Body::Sync(sync) => push_number(text, sync.received, b" "),
+        Body::Piece(piece) => {
+            push_number(text, piece.from(), b"+")?;
+            push_number(text, piece.bytes().len() as u64, b" ")
+        }
+        Body::Snapshot(snapshot) => {
+            push_number(text, snapshot.offset, b" ")?;
+            push_number(text, snapshot.pairs.as_slice().len() as u64, b" ")
+        }
+        Body::Copy { .. }
+        | Body::Ack { .. }
+        | Body::Drained { .. }
+        | Body::Claim(_, _)
+        | Body::Report(_)
+        | Body::Request(_)
+        | Body::Grant(_) => Ok(()),
+    }
+}
+
+fn push_number(text: &mut Vec<u8>, number: u64, behind: &[u8]) -> Result<(), AllocError> {
+    text.extend_from_slice(Buffer::new().format(number).as_bytes())?;
+    text.extend_from_slice(behind)
 }
 
 /// Puts what the sender of an event got back behind the text.

@@ -13,6 +13,16 @@ const THREE_MASTERS: &[u8] = b"{\"tick_ms\":10,\"node_timeout\":20,\"nodes\":[\
 {\"id\":\"0000000000000000000000000000000000000002\",\"host\":\"127.0.0.1\",\"port\":7002,\"slots\":[[10923,16383]]}],\
 \"voters\":[\"0000000000000000000000000000000000000000\"]}";
 
+// The same with a replica of each, and streams of which the last 64 bytes are kept.
+const WITH_REPLICAS: &[u8] = b"{\"tick_ms\":10,\"node_timeout\":20,\"backlog\":64,\"nodes\":[\
+{\"id\":\"0000000000000000000000000000000000000000\",\"host\":\"127.0.0.1\",\"port\":7000,\"slots\":[[0,5460]]},\
+{\"id\":\"0000000000000000000000000000000000000001\",\"host\":\"127.0.0.1\",\"port\":7001,\"slots\":[[5461,10922]]},\
+{\"id\":\"0000000000000000000000000000000000000002\",\"host\":\"127.0.0.1\",\"port\":7002,\"slots\":[[10923,16383]]},\
+{\"id\":\"0000000000000000000000000000000000000003\",\"host\":\"127.0.0.1\",\"port\":7003,\"replica_of\":\"0000000000000000000000000000000000000000\"},\
+{\"id\":\"0000000000000000000000000000000000000004\",\"host\":\"127.0.0.1\",\"port\":7004,\"replica_of\":\"0000000000000000000000000000000000000001\"},\
+{\"id\":\"0000000000000000000000000000000000000005\",\"host\":\"127.0.0.1\",\"port\":7005,\"replica_of\":\"0000000000000000000000000000000000000002\"}],\
+\"voters\":[\"0000000000000000000000000000000000000000\"]}";
+
 /// Three masters with a third of the slots each.
 pub fn three_masters(alloc: Global) -> Result<Config, ConfigFault>
     ensures { IfOk result (λ config. length config.nodes ≡ 3) }
@@ -22,6 +32,11 @@ pub fn three_masters(alloc: Global) -> Result<Config, ConfigFault>
         3 => Ok(config),
         _ => Err(ConfigFault::Syntax),
     }
+}
+
+/// The same with a replica of each. Node 5 is the replica of node 2. A node keeps the last 64 bytes of its stream.
+pub fn with_replicas(alloc: Global) -> Result<Config, ConfigFault> {
+    read_config(alloc, WITH_REPLICAS)
 }
 
 /// The node of that number as it begins.

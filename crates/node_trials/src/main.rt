@@ -7,6 +7,7 @@ mod callers;
 mod cells;
 mod clusters;
 mod conversation;
+mod following;
 mod full_link;
 mod gates;
 mod growth;
@@ -15,6 +16,7 @@ mod moves;
 mod moving;
 mod refused;
 mod replay;
+mod rows;
 mod seats;
 mod second_tries;
 mod streams;
@@ -34,6 +36,7 @@ use std::thread::Threads;
 enum Trial {
     Refused,
     Moves,
+    Following,
     Writes,
     Cells,
     Seats,
@@ -58,6 +61,7 @@ fn trial_of(word: &str) -> Option<Trial> {
     match word {
         "refused" => Some(Trial::Refused),
         "moves" => Some(Trial::Moves),
+        "following" => Some(Trial::Following),
         "writes" => Some(Trial::Writes),
         "cells" => Some(Trial::Cells),
         "seats" => Some(Trial::Seats),
@@ -86,6 +90,7 @@ where
     match trial {
         Trial::Refused => refused::try_out(rt),
         Trial::Moves => moves::try_out(&rt),
+        Trial::Following => following::try_out(&rt),
         Trial::Writes => writes::try_out(rt),
         Trial::Cells => cells::try_out(&rt),
         Trial::Seats => seats::try_out(&rt),

@@ -1,25 +1,9 @@
 //! Nodes that move slots. A node that is refused memory is as it was, so each step is made at a second try.
 
-use crate::acts::{Act, push_outputs};
-use crate::clusters::{node_of, three_masters};
+use crate::clusters::three_masters;
+use crate::rows::{Rows, other_answer};
 use crate::telling::tell;
-use anyhow::{Context, Result};
-use bus::Message;
-use cluster_config::Config;
-use node_cell::Journal;
-use node_core::{Core, Event, Outputs, StepFault};
-use slot_table::NodeNo;
-use std::alloc::{AllocError, Global};
-
-// How many nodes there are, and how many connections each has.
-const NODES: u8 = 3;
-
-const CONNECTIONS: usize = 2;
-
-// A step and what comes of it: `NODE WORD.. | ..` asks the node on its first connection, `NODE beside WORD..` on its second one, and
-// `NODE tick` is a tick. `deliver MESSAGE` lets a message reach its node, now, again or for the first time; messages are counted from 1
-// on, in the order in which they were sent.
-type Rows = &'static [&'static str];
+use anyhow::Result;
 
 const CASES: [Rows; 5] = [WHOLE_MOVE, LATE_COPY, LOST_COPY, REFUSALS, COMMANDS];
 
@@ -120,126 +104,6 @@ const COMMANDS: Rows = &[
 /// Says whether another answer came of a step than without a refusal.
 pub fn try_out<R: AllocGlobal + Print>(rt: &R) -> Result<()> {
     let config = three_masters(rt.alloc())?;
-    let other = other_answer(rt.alloc(), &config)?;
+    let other = other_answer(rt.alloc(), &config, &CASES)?;
     Ok(tell(rt, "moves", other)?)
-}
-
-// What came in place of what had to come, if something did.
-fn other_answer(alloc: Global, config: &Config) -> Result<Option<String>> {
-    for rows in CASES {
-        let other = other_answer_in(alloc, config, rows)?;
-        if other.is_some() {
-            return Ok(other);
-        }
-    }
-    Ok(None)
-}
-
-fn other_answer_in(alloc: Global, config: &Config, rows: &[&str]) -> Result<Option<String>> {
-    let mut world = World::begin(alloc, config)?;
-    for row in rows {
-        let (step, wanted) = row.split_once(" | ").context("a step without an answer")?;
-        let given = world.make(alloc, step)?;
-        if given.as_slice() != wanted.as_bytes() {
-            return Ok(Some(String::from_utf8(given)?));
-        }
-    }
-    Ok(None)
-}
-
-// Nodes, and the messages that they sent.
-#[derive(Drop)]
-struct World {
-    nodes: Vec<Core>,
-    messages: Vec<Message>,
-}
-
-impl World {
-    // Each node has its connections.
-    fn begin(alloc: Global, config: &Config) -> Result<World> {
-        let mut nodes = Vec::new(alloc);
-        for number in 0..NODES {
-            nodes.push(open_node(alloc, config, number)?)?;
-        }
-        Ok(World {
-            nodes,
-            messages: Vec::new(alloc),
-        })
-    }
-
-    // What comes out of the step.
-    fn make(&mut self, alloc: Global, step: &str) -> Result<Vec<u8>> {
-        let (place, act) = step.split_once(' ').context("a step without an act")?;
-        if place == "deliver" {
-            return self.deliver(alloc, act.parse::<usize>()?);
-        }
-        self.ask_node(alloc, place.parse::<usize>()?, act)
-    }
-
-    fn ask_node(&mut self, alloc: Global, node: usize, act: &str) -> Result<Vec<u8>> {
-        let event = act_of(act).event(alloc)?;
-        self.step(alloc, node, &event)
-    }
-
-    fn deliver(&mut self, alloc: Global, number: usize) -> Result<Vec<u8>> {
-        let place = number.checked_sub(1).context("messages count from 1 on")?;
-        let message = self
-            .messages
-            .get(place)
-            .context("there is no such message")?;
-        let node = usize::from(message.to.get());
-        let event = Event::Deliver(message.clone()?);
-        self.step(alloc, node, &event)
-    }
-
-    fn step(&mut self, alloc: Global, node: usize, event: &Event) -> Result<Vec<u8>> {
-        let node = self.nodes.get_mut(node).context("there is no such node")?;
-        let outputs = outputs_of(node, event)?;
-        Ok(self.take_outputs(alloc, &outputs)?)
-    }
-
-    // Keeps the messages, and tells the outputs.
-    fn take_outputs(&mut self, alloc: Global, outputs: &Outputs) -> Result<Vec<u8>, AllocError> {
-        for message in outputs.sent.as_slice() {
-            self.messages.push(message.clone()?)?;
-        }
-        let mut given = Vec::new(alloc);
-        push_outputs(&mut given, outputs)?;
-        Ok(given)
-    }
-}
-
-fn act_of(text: &str) -> Act<'_> {
-    if text == "tick" {
-        return Act::Tick;
-    }
-    match text.strip_prefix("beside ") {
-        Some(words) => Act::Ask(1, words),
-        None => Act::Ask(0, text),
-    }
-}
-
-// A node with its connections.
-fn open_node(alloc: Global, config: &Config, number: u8) -> Result<Core> {
-    let number = NodeNo::new(number).context("there are too many nodes")?;
-    let mut node = node_of(alloc, config, number)?;
-    open_all(&mut node)?;
-    Ok(node)
-}
-
-fn open_all(node: &mut Core) -> Result<(), StepFault> {
-    for _ in 0..CONNECTIONS {
-        let _opened = outputs_of(node, &Event::Open)?;
-    }
-    Ok(())
-}
-
-// The number of the step changes nothing.
-fn outputs_of(node: &mut Core, event: &Event) -> Result<Outputs, StepFault> {
-    let outcome = match node.step::<Journal>(0, event) {
-        Err(StepFault::Memory) => node.step::<Journal>(0, event),
-        outcome => outcome,
-    };
-    let (outputs, _recorded) = outcome?;
-    Ok(outputs)
 }

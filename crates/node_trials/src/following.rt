@@ -1,0 +1,87 @@
+//! Masters that write their streams, and replicas that follow them. A node that is refused memory is as it was, so each step is made at
+//! a second try.
+
+use crate::clusters::with_replicas;
+use crate::rows::{Rows, other_answer};
+use crate::telling::tell;
+use anyhow::Result;
+
+const CASES: [Rows; 3] = [WHOLE_MOVE, SHORT_BACKLOG, LOST_PIECE];
+
+// A key moves: its source writes its deletion, its target the request that makes it, and both replicas follow.
+const WHOLE_MOVE: Rows = &[
+    "2 HSET h b 1 a 2 | :2\r\npiece 0+49 ",
+    "2 HDEL h b | :1\r\npiece 49+28 ",
+    "2 HSET h b 3 | :1\r\npiece 77+35 ",
+    "0 CLUSTER SETSLOT 11694 IMPORTING #2 | +OK\r\n",
+    "2 CLUSTER SETSLOT 11694 MIGRATING #0 | +OK\r\n",
+    "2 MIGRATE 127.0.0.1 7000 h 0 5 | parked copy ",
+    "deliver 4 | ack piece 0+49 ",
+    "deliver 1 | ",
+    "deliver 3 | ",
+    "5 CLUSTER COUNTKEYSINSLOT 11694 | :1\r\n",
+    "5 tick | sync 49 ",
+    "deliver 7 | piece 49+63 ",
+    "deliver 5 | +OK\r\ndrained piece 112+20 ",
+    "deliver 10 | ",
+    "5 tick | sync 49 ",
+    "deliver 8 | ",
+    "5 tick | sync 112 ",
+    "deliver 10 | ",
+    "5 tick | sync 132 ",
+    "5 CLUSTER COUNTKEYSINSLOT 11694 | :0\r\n",
+    "deliver 6 | ",
+    "3 CLUSTER GETKEYSINSLOT 11694 16 | *1\r\n$1\r\nh\r\n",
+    "3 HGETALL h | -MOVED 11694 127.0.0.1:7002\r\n",
+    "deliver 9 | ",
+    "0 CLUSTER SETSLOT 11694 NODE #0 | +OK\r\nclaim claim claim claim claim ",
+    "0 HGETALL h | *4\r\n$1\r\na\r\n$1\r\n2\r\n$1\r\nb\r\n$1\r\n3\r\n",
+];
+
+// A backlog keeps the last 64 bytes. Who lacks bytes before them gets all that the master has.
+const SHORT_BACKLOG: Rows = &[
+    "5 tick | sync 0 ",
+    "2 SET a 1 | +OK\r\npiece 0+27 ",
+    "2 SET a 2 | +OK\r\npiece 27+27 ",
+    "2 SET a 3 | +OK\r\npiece 54+27 ",
+    "deliver 1 | snapshot 81 1 ",
+    "deliver 2 | ",
+    "5 tick | sync 27 ",
+    "deliver 6 | piece 27+54 ",
+    "deliver 7 | ",
+    "5 tick | sync 81 ",
+    "deliver 8 | ",
+    "2 SET {a}b 1 | +OK\r\npiece 81+30 ",
+    "deliver 5 | ",
+    "5 CLUSTER COUNTKEYSINSLOT 15495 | :1\r\n",
+    "deliver 9 | ",
+    "5 CLUSTER COUNTKEYSINSLOT 15495 | :2\r\n",
+    "5 tick | sync 111 ",
+];
+
+// Where a piece is lost, those behind it are no good, until the next tick brings what is missing. A snapshot that comes late is passed
+// over.
+const LOST_PIECE: Rows = &[
+    "5 tick | sync 0 ",
+    "2 SET a 0123456789012345678901234567890123456789 | +OK\r\npiece 0+67 ",
+    "deliver 1 | snapshot 67 1 ",
+    "2 SET a 1 | +OK\r\npiece 67+27 ",
+    "deliver 4 | ",
+    "5 CLUSTER COUNTKEYSINSLOT 15495 | :0\r\n",
+    "deliver 2 | ",
+    "deliver 4 | ",
+    "5 tick | sync 94 ",
+    "deliver 3 | ",
+    "5 tick | sync 94 ",
+    "deliver 5 | ",
+    "2 DEL a | :1\r\npiece 94+20 ",
+    "deliver 7 | ",
+    "5 CLUSTER COUNTKEYSINSLOT 15495 | :0\r\n",
+];
+
+/// Says whether another answer came of a step than without a refusal.
+pub fn try_out<R: AllocGlobal + Print>(rt: &R) -> Result<()> {
+    let config = with_replicas(rt.alloc())?;
+    let other = other_answer(rt.alloc(), &config, &CASES)?;
+    Ok(tell(rt, "following", other)?)
+}
