@@ -11,6 +11,7 @@ ghost use Rattle.node_step.specs.State.{first_state};
 ghost use Rattle.node_step.specs.Step.{NodeStep};
 ghost use Rattle.slot_store.specs.InSlot.{in_slot};
 ghost use Rattle.step_fault.specs.declared.fault.StepFault.TheVariants.{Exhausted};
+ghost use Rattle.stream_values.specs.Stream.{received};
 
 use crate::following::{is_followed, take_part};
 use crate::messages::deliver;
@@ -22,7 +23,7 @@ use key_slot::Slot;
 use move_rows::tick;
 use node_parts::{Draft, NodeParts, plain};
 use node_step::{Event, Outputs, Recorder, Response, StepFault};
-use repl_stream::{Backlog, Replaces, Replica, Stream};
+use repl_stream::{Backlog, Replaces, Stream};
 use slot_state::SlotMoves;
 use slot_store::{SlotKeys, SlotParts, SlotStore};
 use slot_table::{Epoch, NodeNo, SlotTable};
@@ -98,11 +99,11 @@ impl<S: SlotParts + SlotKeys + Replaces, T: Stream> NodeCore<S, T> {
         &self.parts.moves
     }
 
-    /// What the node has of a stream of writes: of its own, or of its master's.
-    pub fn stream(&self) -> &Replica<T>
-        ensures { result.now.stream ≡ self.now.stream }
+    /// How many bytes the node has of a stream of writes: of its own, or of its master's.
+    pub fn received(&self) -> u64
+        ensures { result ≡ received self.now.stream }
     {
-        &self.parts.stream
+        self.parts.stream.received()
     }
 
     /// How many keys of the slot the node holds.
