@@ -1,6 +1,7 @@
 -- What a node holds of the others (Redis Cluster specification, "Failure detection": PFAIL is what one node holds, FAIL what most
 -- voters do; the times, how both end, and that nodes report of all others are ours).
-use Rattle.std.specs.Prelude.{ℕ, ◌+◌, ◌*◌, ◌==◌, ◌&&◌, not, nat_le, min, Bool, false, List, map, Option, Some, None, option_map, slice_index_or, slice_set, if◌then◌else◌}
+use Rattle.std.specs.Prelude.{ℕ, ◌+◌, ◌*◌, ◌==◌, ◌&&◌, not, nat_le, nat_lt, min, Bool, false, List, length, map, Option, Some, None, option_map, slice_index_or, slice_set, if◌then◌else◌}
+use Rattle.std.specs.List.{range_with_len}
 use Rattle.election.specs.Health.{Health, Report}
 use Rattle.election.specs.Members.{Members, most_voters}
 
@@ -37,6 +38,10 @@ reported health from suspects = record (heard health from) {
 -- PFAIL: no message of the node came for so many ticks. No node suspects itself
 abbrev pub suspects : Health → Members → ℕ → Bool
 suspects health members node = not (node == members.me) && nat_le members.node_timeout (slice_index_or health.silent node 0)
+
+-- whom this node reports: those of the nodes that it suspects
+abbrev pub suspected : Health → Members → List Bool
+suspected health members = map (λ node. nat_lt node (length members.masters) && suspects health members node) (range_with_len 0 16)
 
 -- the report names the node, and is not too old
 abbrev pub names : Option Report → ℕ → ℕ → Bool

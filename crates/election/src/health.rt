@@ -1,6 +1,6 @@
 //! What a node holds of the others.
-ghost use Rattle.std.specs.Prelude.{◌≡◌, count_by};
-ghost use Rattle.election.specs.Failing.{accuses, has_failed, heard, names, reported, suspects, ticked};
+ghost use Rattle.std.specs.Prelude.{◌≡◌, ◌<◌, ◌&&◌, count_by, length, nat_lt};
+ghost use Rattle.election.specs.Failing.{accuses, has_failed, heard, names, reported, suspected, suspects, ticked};
 ghost use Rattle.election.specs.Health.{first_health};
 
 use crate::members::Members;
@@ -74,6 +74,26 @@ impl Health {
         ensures { result ≡ suspects self.now members.now node }
     {
         node != members.me() && self.silent[node.index()] >= members.node_timeout()
+    }
+
+    /// The report that this node sends: `true` for each node of the cluster that it suspects.
+    pub fn suspected(&self, members: &Members) -> [bool; 16]
+        ensures { result ≡ suspected self.now members.now }
+    {
+        let mut row = [false; 16];
+        for number in 0..16 {
+            row[number] = self.reports_of(members, number);
+        }
+        row
+    }
+
+    // Whether there is a node of that number, and it is suspected.
+    fn reports_of(&self, members: &Members, number: usize) -> bool
+        requires { number < 16 }
+        ensures { result ≡ (nat_lt number (length members.now.masters) && suspects self.now members.now number) }
+    {
+        let node = NodeNo::new(number as u8).unwrap();
+        number < members.count() && self.suspects(members, node)
     }
 
     /// Whether the node is held failed: more than half of the voters suspect it.

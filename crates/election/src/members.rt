@@ -30,8 +30,8 @@ impl<'a> Model for Members<'a> {
 impl<'a> Members<'a> {
     /// Those that the node of number `me` knows.
     ///
-    /// A node may be silent for `node_timeout` of its ticks, at most 1,000,000. `voters` are the nodes that vote, each once, and
-    /// `masters` has at the number of each replica the number of its master.
+    /// A node may be silent for fewer than `node_timeout` of its ticks, which is 1 to 1,000,000. `voters` are the nodes that vote, each
+    /// of them once. `masters` has a place for each node, with the number of its master where the node is a replica.
     pub fn new(
         me: NodeNo,
         node_timeout: u32,
@@ -72,6 +72,13 @@ impl<'a> Members<'a> {
         ensures { result.now ≡ self.now.voters }
     {
         self.voters
+    }
+
+    // How many nodes there are.
+    pub(crate) fn count(&self) -> usize
+        ensures { result ≡ length self.now.masters }
+    {
+        self.masters.len()
     }
 
     // Whether the node votes.

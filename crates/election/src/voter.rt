@@ -20,7 +20,7 @@ pub struct VoteRequest {
 }
 
 /// The last epoch in which a node voted: so it votes at most once an epoch. No call takes memory.
-#[derive(Clone, Copy, PartialEq, Eq, Debug)]
+#[derive(Clone, Copy, Debug)]
 pub struct Voter {
     last_vote: Epoch,
 }
