@@ -1,2 +1,5 @@
+mod BallotLemmas
+mod HistoryLemmas
+mod MajorityLemmas
 mod RowLemmas
 mod WorkedValues

@@ -3,3 +3,6 @@ pub mod Members
 pub mod Failing
 pub mod Voting
 pub mod Electing
+pub mod Ballots
+pub mod History
+pub mod Majorities

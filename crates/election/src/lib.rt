@@ -4,6 +4,7 @@
 mod ages;
 mod candidate;
 mod health;
+mod law;
 mod members;
 mod report;
 mod rows;
@@ -12,6 +13,10 @@ mod voter;
 
 pub use candidate::Candidate;
 pub use health::Health;
+pub use law::{
+    failures_are_held_by_most_voters, the_first_majority_elects, the_silent_are_suspected,
+    votes_once_an_epoch,
+};
 pub use members::Members;
 pub use running::Elected;
 pub use voter::{VoteRequest, Voter};
