@@ -36,14 +36,14 @@ reports_long (Told from names ∷ past) =
 
 -- ---- ages
 
-abbrev oldest : ℕ
+abbrev pub oldest : ℕ
 oldest = 2000001
 
 older_min : (ticks : ℕ) → older (min ticks oldest) ≡ min (ticks + 1) oldest
 older_min ticks = omega arith
 
 -- the greatest age is never told from a greater one by what is waited for
-le_min : (bound ticks : ℕ) → bound ≤ oldest → nat_le bound (min ticks oldest) ≡ nat_le bound ticks
+pub le_min : (bound ticks : ℕ) → bound ≤ oldest → nat_le bound (min ticks oldest) ≡ nat_le bound ticks
 le_min bound ticks below =
     elim (cases_lt ticks oldest) [
       | inl before ↦ let same : min ticks oldest ≡ ticks = omega arith in ap (nat_le bound) same
@@ -97,7 +97,7 @@ abbrev naming : Option Report → ℕ → Option ℕ
 naming None node = None
 naming (Some report) node = if slice_index_or report.suspects node false then Some report.age else None
 
-abbrev capped : Option ℕ → Option ℕ
+abbrev pub capped : Option ℕ → Option ℕ
 capped ticks = option_map (λ it. min it oldest) ticks
 
 naming_older_by : (age : ℕ) (named : Bool) → (if named then Some (older age) else None) ≡ option_map older (if named then Some age else None)
@@ -108,7 +108,7 @@ naming_older : (report : Option Report) (node : ℕ) → naming (option_map olde
 naming_older None node = refl
 naming_older (Some report) node = naming_older_by report.age (slice_index_or report.suspects node false)
 
-older_capped : (ticks : Option ℕ) → option_map older (capped ticks) ≡ capped (option_map (λ it. it + 1) ticks)
+pub older_capped : (ticks : Option ℕ) → option_map older (capped ticks) ≡ capped (option_map (λ it. it + 1) ticks)
 older_capped None = refl
 older_capped (Some ticks) = ap Some (older_min ticks)
 

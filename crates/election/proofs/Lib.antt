@@ -2,4 +2,5 @@ mod BallotLemmas
 mod HistoryLemmas
 mod MajorityLemmas
 mod RowLemmas
+mod WaitingLemmas
 mod WorkedValues

@@ -1,4 +1,4 @@
--- That a node votes once an epoch (Redis Cluster specification, "Configuration epoch handling during failover").
+-- That a node votes once an epoch (Redis Cluster specification, "Masters reply to replica vote request").
 use Rattle.std.specs.Prelude.{ℕ, ◌<◌, Bool, List, [], ◌∷◌, if◌then◌else◌}
 use Rattle.std.specs.List.{AllPairs}
 use Rattle.election.specs.Health.{Health, Voter}

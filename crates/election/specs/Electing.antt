@@ -17,7 +17,7 @@ abbrev pub lasting : Option ℕ → Option ℕ
 lasting None = Some 0
 lasting (Some age) = Some age
 
--- the own master is held failed, or is not; the end of it ends both ages, and no election
+-- once the own master is held failed no more, both ages end; an election that runs goes on
 abbrev pub judged : Candidate → Members → Health → Candidate
 judged candidate members health =
     if is_held_failed health members (own_master members)

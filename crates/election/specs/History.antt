@@ -17,7 +17,7 @@ health_after (Tick ∷ past) = ticked (health_after past)
 health_after (Message from ∷ past) = heard (health_after past) from
 health_after (Report from names ∷ past) = reported (health_after past) from names
 
--- how many ticks ago the last message of the node came, or else the first tick
+-- how many ticks ago the last message of the node came; before the first one, all ticks count
 abbrev pub ticks_since : ℕ → List Heard → ℕ
 ticks_since node [] = 0
 ticks_since node (Tick ∷ past) = ticks_since node past + 1
@@ -50,5 +50,6 @@ SuspectsTheSilent = (past : List Heard) (members : Members) (node : ℕ) → nod
 
 -- it is held failed exactly where more than half of the voters suspect it
 abbrev pub FailsByMostVoters : Type 0
-FailsByMostVoters = (past : List Heard) (members : Members) (node : ℕ) → node < 16 → members.node_timeout ≤ 1000000 → All (λ voter. voter < 16) members.voters
+FailsByMostVoters = (past : List Heard) (members : Members) (node : ℕ) → node < 16 → members.node_timeout ≤ 1000000
+    → All (λ voter. voter < 16) members.voters
     → has_failed (health_after past) members node ≡ (not (node == members.me) && most_voters members (holds_suspected past members node))

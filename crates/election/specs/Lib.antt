@@ -6,3 +6,4 @@ pub mod Electing
 pub mod Ballots
 pub mod History
 pub mod Majorities
+pub mod Waiting

@@ -1,5 +1,4 @@
--- When votes elect a replica (Redis Cluster specification, "Replica election and promotion": "once it receives the ACKs from the
--- majority of masters, it wins the election").
+-- When votes elect a replica (Redis Cluster specification, "Replica election and promotion": it wins with the votes of the majority).
 use Rattle.std.specs.Prelude.{◌≡◌, ◌<◌, ◌==◌, ◌&&◌, not, ℕ, Bool, List, [], ◌∷◌, All, Some, None, if◌then◌else◌}
 use Rattle.std.specs.List.{list_any}
 use Rattle.election.specs.Electing.{begun, counted, elected}
@@ -27,6 +26,7 @@ have_most members epoch votes = most_voters members (has_voted epoch votes)
 -- from the start of an election on, a vote elects exactly where only with it more than half of the voters have voted in its epoch,
 -- whatever other votes come, and however often
 abbrev pub ElectsTheFirstMajority : Type 0
-ElectsTheFirstMajority = (members : Members) (candidate : Candidate) (epoch : ℕ) (past : List Vote) (vote : Vote) → All (λ voter. voter < 16) members.voters
+ElectsTheFirstMajority = (members : Members) (candidate : Candidate) (epoch : ℕ) (past : List Vote) (vote : Vote)
+    → All (λ voter. voter < 16) members.voters
     → elected (candidate_after members (begun candidate (Some epoch)) past) members vote.from vote.epoch
     ≡ (if not (have_most members epoch past) && have_most members epoch (vote ∷ past) then Some (record { epoch = epoch }) else None)

@@ -1,5 +1,5 @@
--- Votes (Redis Cluster specification, "Replica election and promotion", "Configuration epoch"; that the voter itself has to hold the
--- master failed is ours).
+-- Votes (Redis Cluster specification, "Masters reply to replica vote request"; the voters are ours, and a voter has to hold the master
+-- failed itself).
 use Rattle.std.specs.Prelude.{ℕ, ◌&&◌, nat_le, nat_lt, Bool, if◌then◌else◌}
 use Rattle.election.specs.Failing.{has_failed}
 use Rattle.election.specs.Health.{Health, Voter}

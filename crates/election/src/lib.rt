@@ -14,8 +14,8 @@ mod voter;
 pub use candidate::Candidate;
 pub use health::Health;
 pub use law::{
-    failures_are_held_by_most_voters, the_first_majority_elects, the_silent_are_suspected,
-    votes_once_an_epoch,
+    an_election_begins_after_its_wait, failures_are_held_by_most_voters, the_first_majority_elects,
+    the_silent_are_suspected, votes_once_an_epoch,
 };
 pub use members::Members;
 pub use running::Elected;

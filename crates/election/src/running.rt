@@ -10,7 +10,7 @@ use std::marker::Model;
 /// That an election is won: the node takes the place of its master.
 #[derive(Clone, Copy, PartialEq, Eq, Debug)]
 pub struct Elected {
-    /// The epoch of the election. In no other epoch, and of no other node in this one, more than half of the voters vote.
+    /// The epoch of the election.
     pub epoch: Epoch,
 }
 
