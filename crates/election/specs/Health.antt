@@ -1,13 +1,9 @@
 -- What a node holds of the others, its votes, and its own election (Redis Cluster specification, "Failure detection", "Replica
 -- election and promotion"; rows for 16 nodes, and ages in ticks, are ours).
-use Rattle.std.specs.Prelude.{ℕ, Bool, List, Option, Some, None, replicate}
+use Rattle.std.specs.Prelude.{ℕ, Bool, List, Option, None, replicate}
+pub use Rattle.election.specs.declared.report.Report.{Report}
 
--- the last report of a node: for each node whether it is suspected; and how many ticks ago it came
-pub record Report : Type 0 where
-  pub suspects : List Bool
-  pub age : ℕ
-
--- for each node the ticks since it was heard of, and its last report
+-- for each node the ticks since it was heard of, and its last report: whom that names, and how many ticks ago it came
 pub record Health : Type 0 where
   pub silent : List ℕ
   pub reports : List (Option Report)

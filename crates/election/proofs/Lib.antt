@@ -1,0 +1,6 @@
+mod BallotLemmas
+mod HistoryLemmas
+mod MajorityLemmas
+mod RowLemmas
+mod WaitingLemmas
+mod WorkedValues
