@@ -19,13 +19,13 @@ pub(crate) fn are_many<K: Deployment>(waiting: &VecDeque<Posted<K>>) -> bool
     waiting.len() > MOST_WAITING || are_long(waiting)
 }
 
-#[tactic(auto, using(crate::proofs::PaceLemmas::one_too_many, crate::proofs::PaceLemmas::one_more))]
+// Whether they bring more than so many bytes of streams.
 fn are_long<K: Deployment>(waiting: &VecDeque<Posted<K>>) -> bool
     ensures { result ≡ nat_lt MOST_WAITING_BYTES (piece_lens waiting.now.items) }
 {
     let mut len = 0;
-    for posted in waiting {
-        let more = piece_len(&posted.message().body);
+    for place in 0..waiting.len() {
+        let more = piece_len(&waiting[place].message().body);
         if more > MOST_WAITING_BYTES - len {
             return true;
         }

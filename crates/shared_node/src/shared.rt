@@ -1,10 +1,13 @@
 //! A node that several threads share.
 
 use node_cell::HoldsCell;
-use std::sync::atomic::{AtomicBool, Ordering};
+use std::sync::atomic::{AtomicBool, AtomicU64, Ordering};
 use std::sync::{Condvar, Mutex, MutexGuard, Wait};
 use std::thread;
 use std::time::Duration;
+
+// So many steps may leave messages to be taken from the node before clients' threads wait.
+const MOST_STEPS: u64 = 4096;
 
 // How many milliseconds a client's thread waits at most before its next step, where its node's messages wait in too great numbers.
 const PACE: u64 = 10;
@@ -23,8 +26,10 @@ pub struct SharedNode<C: HoldsCell> {
     mail: Condvar,
     // It rings where messages that waited were sent.
     sent: Condvar,
-    // Messages wait in too great numbers.
-    is_behind: AtomicBool,
+    // How many steps have left messages since they were last taken from the node.
+    steps: AtomicU64,
+    // Those that were taken wait for their links in too great numbers.
+    are_many: AtomicBool,
     // Once it is closed, nobody waits here for a reply any more.
     is_closed: AtomicBool,
 }
@@ -37,7 +42,8 @@ impl<C: HoldsCell + Drop> SharedNode<C> {
             replies: Condvar::new(),
             mail: Condvar::new(),
             sent: Condvar::new(),
-            is_behind: AtomicBool::new(false),
+            steps: AtomicU64::new(0),
+            are_many: AtomicBool::new(false),
             is_closed: AtomicBool::new(false),
         }
     }
@@ -64,23 +70,31 @@ impl<C: HoldsCell + Drop> SharedNode<C> {
             self.replies.notify_all();
         }
         if cell.has_sent() {
+            self.steps.fetch_add(1, Ordering::SeqCst);
             self.mail.notify_all();
         }
     }
 
-    /// Tells clients' threads whether the node's messages wait in too great numbers, and whether some were sent.
-    pub fn note_pace(&self, is_behind: bool, has_sent: bool) {
-        let was_behind = self.is_behind.load(Ordering::SeqCst);
-        self.is_behind.store(is_behind, Ordering::SeqCst);
+    /// Tells clients' threads that the node's messages were taken, whether those that wait for their links are too many, and whether
+    /// some were sent.
+    pub fn note_pace(&self, are_many: bool, has_sent: bool) {
+        let was_behind = self.is_behind();
+        self.steps.store(0, Ordering::SeqCst);
+        self.are_many.store(are_many, Ordering::SeqCst);
         if was_behind && has_sent {
             self.sent.notify_all();
         }
     }
 
-    /// Waits where the node's messages wait in too great numbers, until some were sent, but for some milliseconds at most.
+    // Whether messages wait in too great numbers.
+    fn is_behind(&self) -> bool {
+        self.are_many.load(Ordering::SeqCst) || self.steps.load(Ordering::SeqCst) > MOST_STEPS
+    }
+
+    /// Waits where messages wait in too great numbers, until some were sent, but for some milliseconds at most.
     pub(crate) fn keep_pace<R: Wait>(&self, rt: &R) {
         let seen = self.sent.notifications();
-        if self.is_behind.load(Ordering::SeqCst) {
+        if self.is_behind() {
             self.sent.sleep(rt, seen, Duration::from_millis(PACE));
         }
     }
