@@ -18,11 +18,11 @@ import time
 import load
 import servers
 
-ROUNDS, KEYS, SIZE = 5, 100_000, 64
+ROUNDS, KEYS, SIZE = 3, 100_000, 64
 # Connections and requests in a pipeline, and how many requests are sent.
 LOADS = ((1, 1, 40_000), (1, 16, 400_000), (50, 1, 200_000), (50, 16, 1_000_000))
 # Of a run that ends under load: how many ticks of how many milliseconds, and how often it is made.
-TICKS, TICK_MS, ENDS = 40, 50, 5
+TICKS, TICK_MS, ENDS = 20, 50, 3
 AT_THE_END = re.compile(r"rcluster: node 1 had (\d+) of the (\d+) bytes of the stream of node 0\n")
 # Of the run that shows memory: how many SETs over how many keys, and how often it is looked at.
 MANY, FEW_KEYS, LOOKS = 10_000_000, 1_000, 10
@@ -82,7 +82,7 @@ class redis_with_replica:
 
 def lags():
     """The bytes that the replica lacks when the cluster ends under load, and when the load ended some ticks before."""
-    for quiet in (0, 1, 2, 5):
+    for quiet in (0, 2):
         missing, written = zip(*(lag_at_the_end(quiet) for _ in range(ENDS)))
         print(f"load until {quiet} ticks before the end: bytes that the replica lacks, median {statistics.median(missing):,.0f}, most {max(missing):,}; bytes written, median {statistics.median(written):,.0f}", flush=True)
 

@@ -12,6 +12,9 @@ use std::time::Duration;
 // How many seconds the thread sleeps at most before it looks for messages again. It is told of each, so they may be many.
 const LONG: u64 = 3600;
 
+// How many messages of a node it takes at most under one hold of the lock, before it lets clients in.
+const MOST_TAKEN: u32 = 64;
+
 // How many milliseconds it sleeps where memory was refused for messages that wait for their links.
 const PAUSE: u64 = 10;
 
@@ -77,7 +80,7 @@ struct Round {
     rest: Duration,
 }
 
-// Takes the next message from each node, and sends as many to each as there is room for, under one hold of the node's lock.
+// Takes the next messages from each node, and sends as many to each as there is room for, under one hold of the node's lock.
 fn exchange<C: HasLinks<R> + Drop, R: Clock + Wait>(
     rt: &R,
     node: &Node<C>,
@@ -87,7 +90,7 @@ fn exchange<C: HasLinks<R> + Drop, R: Clock + Wait>(
     let mut cell = node.shared.lock(rt);
     let mut has_received = false;
     for (number, other) in nodes.iter().enumerate() {
-        has_received |= receive_from(rt, &mut *cell, number, &**other, departures);
+        has_received |= receive_all(rt, &mut *cell, number, &**other, departures);
     }
     let sending = send_to_all(rt, &mut *cell, nodes);
     node.shared.note_pace(cell.is_behind(), sending.has_sent);
@@ -97,6 +100,24 @@ fn exchange<C: HasLinks<R> + Drop, R: Clock + Wait>(
         false => Duration::from_millis(PAUSE),
     };
     Round { has_received, rest }
+}
+
+// Takes the next messages from the other node, and says whether there was one.
+fn receive_all<C: HasLinks<R> + Drop, R: Clock + Wait>(
+    rt: &R,
+    cell: &mut C,
+    number: usize,
+    other: &Node<C>,
+    departures: &mut Departures,
+) -> bool {
+    let mut has_received = false;
+    for _ in 0..MOST_TAKEN {
+        if !receive_from(rt, cell, number, other, departures) {
+            return has_received;
+        }
+        has_received = true;
+    }
+    has_received
 }
 
 // Takes the next message from the other node, and says whether there was one. The other is told once its link has room again.
