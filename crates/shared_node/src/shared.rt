@@ -69,8 +69,8 @@ impl<C: HoldsCell + Drop> SharedNode<C> {
         if cell.has_undelivered() {
             self.replies.notify_all();
         }
-        if cell.has_sent() {
-            self.steps.fetch_add(1, Ordering::SeqCst);
+        // Who was told before, and hasn't taken the messages of that step yet, takes these with them.
+        if cell.has_sent() && self.steps.fetch_add(1, Ordering::SeqCst) == 0 {
             self.mail.notify_all();
         }
     }
