@@ -94,7 +94,7 @@ fn exchange<C: HasLinks<R> + Drop, R: Clock + Wait>(
     }
     let sending = send_to_all(rt, &mut *cell, nodes);
     node.shared.note_pace(cell.is_behind(), sending.has_sent);
-    node.shared.ring(&cell);
+    node.shared.ring_for_replies(&cell);
     let rest = match sending.are_sorted {
         true => Duration::from_secs(LONG),
         false => Duration::from_millis(PAUSE),

@@ -66,12 +66,17 @@ impl<C: HoldsCell + Drop> SharedNode<C> {
 
     /// Tells those who wait what the last step left for them in the cell.
     pub fn ring(&self, cell: &C) {
-        if cell.has_undelivered() {
-            self.replies.notify_all();
-        }
+        self.ring_for_replies(cell);
         // Who was told before, and hasn't taken the messages of that step yet, takes these with them.
         if cell.has_sent() && self.steps.fetch_add(1, Ordering::SeqCst) == 0 {
             self.mail.notify_all();
+        }
+    }
+
+    /// Tells the conversations that wait of the replies that are kept in the cell, if there are any.
+    pub fn ring_for_replies(&self, cell: &C) {
+        if cell.has_undelivered() {
+            self.replies.notify_all();
         }
     }
 
