@@ -14,6 +14,7 @@ mod growth;
 mod load;
 mod moves;
 mod moving;
+mod pace;
 mod refused;
 mod replay;
 mod rows;
@@ -44,6 +45,7 @@ enum Trial {
     Locks,
     Links,
     Load,
+    Pace,
 }
 
 fn main(rt: HostRuntime) -> Result<()> {
@@ -69,6 +71,7 @@ fn trial_of(word: &str) -> Option<Trial> {
         "locks" => Some(Trial::Locks),
         "links" => Some(Trial::Links),
         "load" => Some(Trial::Load),
+        "pace" => Some(Trial::Pace),
         _ => None,
     }
 }
@@ -98,5 +101,6 @@ where
         Trial::Locks => two_nodes::try_out(rt),
         Trial::Links => full_link::try_out(rt),
         Trial::Load => load::try_out(rt),
+        Trial::Pace => pace::measure(&rt),
     }
 }

@@ -114,8 +114,8 @@ fn act_of(text: &str) -> Act<'_> {
     }
 }
 
-// A node with its connections.
-fn open_node(alloc: Global, config: &Config, number: u8) -> Result<Core> {
+/// A node with its connections.
+pub fn open_node(alloc: Global, config: &Config, number: u8) -> Result<Core> {
     let number = NodeNo::new(number).context("there are too many nodes")?;
     let mut node = node_of(alloc, config, number)?;
     open_all(&mut node)?;
@@ -129,8 +129,8 @@ fn open_all(node: &mut Core) -> Result<(), StepFault> {
     Ok(())
 }
 
-// The number of the step changes nothing.
-fn outputs_of(node: &mut Core, event: &Event) -> Result<Outputs, StepFault> {
+/// What comes of the event. The number of the step changes nothing.
+pub fn outputs_of(node: &mut Core, event: &Event) -> Result<Outputs, StepFault> {
     let outcome = match node.step::<Journal>(0, event) {
         Err(StepFault::Memory) => node.step::<Journal>(0, event),
         outcome => outcome,
