@@ -6,6 +6,7 @@ use crate::clusters::with_replicas;
 use crate::rows::{open_node, outputs_of};
 use anyhow::Result;
 use bus::Message;
+use cluster_config::Config;
 use node_core::{Core, Event};
 use std::alloc::Global;
 use std::rt::Clock;
@@ -25,18 +26,53 @@ const LENGTH: usize = 1_000;
 pub fn measure<R: AllocGlobal + Print + Clock>(rt: &R) -> Result<()> {
     let config = with_replicas(rt.alloc())?;
     let mut master = open_node(rt.alloc(), &config, MASTER)?;
-    let pieces = write_all(rt.alloc(), &mut master)?;
-    let mut follower = open_node(rt.alloc(), &config, REPLICA)?;
+    measure_at(rt, &config, &mut master)
+}
+
+fn measure_at<R: AllocGlobal + Print + Clock>(
+    rt: &R,
+    config: &Config,
+    master: &mut Core,
+) -> Result<()> {
+    measure_pieces(rt, config, master)?;
+    measure_snapshot(rt, config, master)
+}
+
+fn measure_pieces<R: AllocGlobal + Print + Clock>(
+    rt: &R,
+    config: &Config,
+    master: &mut Core,
+) -> Result<()> {
+    let mut replica = open_node(rt.alloc(), config, REPLICA)?;
+    let taken = time_of_pieces(rt, &mut replica, master)?;
+    Ok(println!(rt; "{KEYS} pieces with values of {LENGTH} bytes: {taken} ms")?)
+}
+
+fn time_of_pieces<R: AllocGlobal + Clock>(
+    rt: &R,
+    replica: &mut Core,
+    master: &mut Core,
+) -> Result<u128> {
+    let pieces = write_all(rt.alloc(), master)?;
     let begun = Instant::now(rt)?;
-    take_all(&mut follower, pieces)?;
-    let taken = begun.elapsed(rt)?.as_millis();
-    println!(rt; "{KEYS} pieces with values of {LENGTH} bytes: {taken} ms")?;
-    let mut late = open_node(rt.alloc(), &config, REPLICA)?;
+    take_all(replica, pieces)?;
+    Ok(begun.elapsed(rt)?.as_millis())
+}
+
+fn measure_snapshot<R: AllocGlobal + Print + Clock>(
+    rt: &R,
+    config: &Config,
+    master: &mut Core,
+) -> Result<()> {
+    let mut replica = open_node(rt.alloc(), config, REPLICA)?;
+    let taken = time_of_snapshot(rt, &mut replica, master)?;
+    Ok(println!(rt; "a snapshot of them, from the sync on: {taken} ms")?)
+}
+
+fn time_of_snapshot<R: Clock>(rt: &R, replica: &mut Core, master: &mut Core) -> Result<u128> {
     let begun = Instant::now(rt)?;
-    catch_up(&mut late, &mut master)?;
-    let restored = begun.elapsed(rt)?.as_millis();
-    println!(rt; "a snapshot of them, from the sync on: {restored} ms")?;
-    Ok(())
+    catch_up(replica, master)?;
+    Ok(begun.elapsed(rt)?.as_millis())
 }
 
 // The pieces of writes at the master.
