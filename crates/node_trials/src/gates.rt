@@ -48,7 +48,6 @@ fn is_set_in_time(flag: &AtomicBool) -> bool {
 
 /// A gate that holds the answer to each request back, under the lock of its node and another one, until the other node answered
 /// a request.
-#[derive(Drop)]
 pub struct HoldingGate<'n, G, R> {
     /// The leave to wait for the other lock.
     pub rt: R,
@@ -58,6 +57,18 @@ pub struct HoldingGate<'n, G, R> {
     pub lock: &'n Mutex<()>,
     /// What is told to the other conversation, and heard from it.
     pub signals: &'n Signals,
+}
+
+// Its parts are dropped in one place.
+impl<'n, G: Drop, R: Drop> Drop for HoldingGate<'n, G, R> {
+    fn drop(self) {
+        let HoldingGate {
+            rt: _,
+            gate: _,
+            lock: _,
+            signals: _,
+        } = self;
+    }
 }
 
 impl<'n, G, R> HoldingGate<'n, G, R> {
@@ -100,12 +111,21 @@ impl<'n, G: NodeGate, R: Wait> NodeGate for HoldingGate<'n, G, R> {
 }
 
 /// A gate that asks once the other node's request is held up, and tells when it was answered.
-#[derive(Drop)]
 pub struct TellingGate<'n, G> {
     /// The way to the node.
     pub gate: G,
     /// What is told to the other conversation, and heard from it.
     pub signals: &'n Signals,
+}
+
+// Its parts are dropped in one place.
+impl<'n, G: Drop> Drop for TellingGate<'n, G> {
+    fn drop(self) {
+        let TellingGate {
+            gate: _,
+            signals: _,
+        } = self;
+    }
 }
 
 impl<'n, G: NodeGate> NodeGate for TellingGate<'n, G> {
@@ -141,7 +161,6 @@ impl<'n, G: NodeGate> NodeGate for TellingGate<'n, G> {
 }
 
 /// A gate of a cluster with one lock round all nodes.
-#[derive(Drop)]
 pub struct OneLockGate<'n, G, R> {
     /// The leave to wait for the lock.
     pub rt: R,
@@ -149,6 +168,17 @@ pub struct OneLockGate<'n, G, R> {
     pub gate: G,
     /// The lock round all nodes.
     pub lock: &'n Mutex<()>,
+}
+
+// Its parts are dropped in one place.
+impl<'n, G: Drop, R: Drop> Drop for OneLockGate<'n, G, R> {
+    fn drop(self) {
+        let OneLockGate {
+            rt: _,
+            gate: _,
+            lock: _,
+        } = self;
+    }
 }
 
 impl<'n, G: NodeGate, R: Wait> NodeGate for OneLockGate<'n, G, R> {
