@@ -21,6 +21,9 @@ use Rattle.command_table.specs.declared.fault.CommandFault.{CommandFault}
 use Rattle.connections.specs.Connections.{connection_at, may_ask}
 use Rattle.connections.specs.declared.conn.Conn.{Conn}
 use Rattle.connections.specs.declared.conn.Connection.{Connection}
+use Rattle.election.specs.Electing.{elected}
+use Rattle.election.specs.Health.{Candidate}
+use Rattle.election.specs.declared.running.Elected.{Elected}
 use Rattle.key_slot.specs.Slot.{hash_slot}
 use Rattle.migrate.specs.Acknowledging.{acknowledged_key, unfrozen}
 use Rattle.migrate.specs.Arriving.{after_arrival, changed_at, one_more}
@@ -54,13 +57,18 @@ use Rattle.node_step.specs.Claiming.{claimed_by}
 use Rattle.node_step.specs.Commands.{asked_of, command_outcome, decision_on}
 use Rattle.node_step.specs.Copies.{acknowledged, copy_outcome, copy_verdict_on, node_at}
 use Rattle.node_step.proofs.Kept.{pieced_keeps, recorded_keeps, restored_keeps, synced_is}
-use Rattle.node_step.specs.Messages.{Choice, delivered, knowing, taken, taken_so, written_by_message}
+use Rattle.node_step.proofs.Ready.{in_election_keeps, ready_keeps}
+use Rattle.node_step.specs.Failing.{a_tick_older, members_of}
+use Rattle.node_step.specs.Messages.{Choice, delivered, ready, taken, taken_so, written_by_message}
 use Rattle.node_step.specs.Orders.{ending_outcome, ending_verdict, import_outcome, migrate_outcome}
 use Rattle.node_step.specs.Outcome.{Outcome, silent}
 use Rattle.node_step.specs.Requests.{asking_of, by_command, cluster_outcome, is_numbered, node_with_id, order_outcome, request_outcome, using_up}
-use Rattle.node_step.specs.State.{NodeState}
+use Rattle.node_step.specs.Promotion.{promotion}
+use Rattle.node_step.specs.State.{NodeState, own_master}
 use Rattle.node_step.specs.Step.{IsAnswering, IsClosing, NodeStep, written}
 use Rattle.node_step.specs.Streams.{Requests, recorded}
+use Rattle.node_step.specs.Ticks.{older, tick}
+use Rattle.node_step.specs.Voting.{due_epoch, if_elected}
 use Rattle.node_step.specs.declared.event.Event.{Event}
 use Rattle.node_step.specs.declared.event.Event.TheVariants.{Open, Close, Request, Deliver, Tick}
 use Rattle.node_step.specs.declared.outputs.Outputs.{Outputs}
@@ -246,6 +254,14 @@ module _ (node : NodeState) (settled : IsSettled node.moves) where
   claim_settled true table = settled
   claim_settled false table = loss_settled node.moves _ settled
 
+  grant_settled : (candidate : Candidate) (won : Option Elected) → IsSettled (if_elected (record node { candidate = candidate }) won).state.moves
+  grant_settled candidate None = settled
+  grant_settled candidate (Some won) = by_master (own_master node)
+    where
+      by_master : (master : Option ℕ) → IsSettled (promotion (record node { candidate = candidate }) won.epoch master).state.moves
+      by_master None = settled
+      by_master (Some master) = settled
+
   taken_so_settled : (from : ℕ) (choice : Choice) (body : Body) → IsSettled (taken_so node from choice body).state.moves
   taken_so_settled from choice (Copy slot number copy key value) = arrival_settled slot _
   taken_so_settled from choice (Ack slot number copy) = ack_settled slot number copy (acknowledged_key (move_of node.moves slot) from number copy)
@@ -253,7 +269,7 @@ module _ (node : NodeState) (settled : IsSettled node.moves) where
   taken_so_settled from choice (Claim slots replaced) = claim_settled (from == node.number) _
   taken_so_settled from choice (Report suspects) = settled
   taken_so_settled from choice (Requested request) = settled
-  taken_so_settled from choice (Grant epoch) = settled
+  taken_so_settled from choice (Grant epoch) = grant_settled _ (elected node.candidate (members_of node) from epoch)
   taken_so_settled from choice (Sync sync) = synced_is (λ (o : Outcome). IsSettled o.state.moves) node from sync settled settled
   taken_so_settled from choice (Piece piece) = pieced_keeps (λ (s : NodeState). IsSettled s.moves) node (λ stream keyspace. settled) from piece choice.follower
   taken_so_settled from choice (Snapshot snapshot) = restored_keeps (λ (s : NodeState). IsSettled s.moves) node (λ stream keyspace. settled) from snapshot
@@ -265,9 +281,15 @@ module _ (node : NodeState) (settled : IsSettled node.moves) where
 delivered_settled : (node : NodeState) (message : Message) (choice : Choice) → IsSettled node.moves → IsSettled (delivered node message choice).state.moves
 delivered_settled node message choice settled = by_receiver (message.to == node.number)
   where
-    by_receiver : (own : Bool) → IsSettled (cond own (taken (knowing node message.epoch) message.from choice message.body) (silent node)).state.moves
-    by_receiver true = taken_settled (knowing node message.epoch) settled message.from choice message.body
+    by_receiver : (own : Bool) → IsSettled (cond own (taken (ready node message) message.from choice message.body) (silent node)).state.moves
+    by_receiver true =
+        ready_keeps (λ (s : NodeState). IsSettled (taken s message.from choice message.body).state.moves) node message
+        (λ epoch masters health candidate role election. taken_settled (record node { current_epoch = epoch; masters = masters; health = health; candidate = candidate }) settled message.from choice message.body)
     by_receiver false = settled
+
+tick_settled : (node : NodeState) → IsSettled node.moves → IsSettled (tick node).state.moves
+tick_settled node settled =
+    in_election_keeps (λ (s : NodeState). IsSettled s.moves) (a_tick_older (older node)) (due_epoch (a_tick_older (older node))) (λ current candidate. settled)
 
 -- ---- steps
 
@@ -299,7 +321,7 @@ step_settled past n ticket old new (Close conn) outputs settled step none =
 step_settled past n ticket old new (Deliver message) outputs settled step none =
     (subst (λ (s : NodeState). IsSettled s.moves) (sym step.state) (same_settled old settled step.outcome _ step.may_come.comes_to (delivered_settled old message step.may_come.choice settled)), tt)
 step_settled past n ticket old new Tick outputs settled step none =
-    (subst (λ (s : NodeState). IsSettled s.moves) (sym step.state) (same_settled old settled step.outcome _ step.may_come settled), tt)
+    (subst (λ (s : NodeState). IsSettled s.moves) (sym step.state) (same_settled old settled step.outcome _ step.may_come.comes_to (tick_settled old settled)), tt)
 step_settled past n ticket old new (Request conn words) outputs settled step none =
     let quiet = request_quiet old settled step.outcome conn words (may_ask (connection_at old.connections conn)) step.may_come in
     let same : outputs.response ≡ step.outcome.response = ap (λ (o : Outputs). o.response) step.outputs_are in (

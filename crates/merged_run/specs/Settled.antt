@@ -5,6 +5,7 @@ use Rattle.slot_state.specs.declared.importing.ImportVerdict.TheVariants.{Begins
 use Rattle.node_step.specs.declared.response.Why.{Why}
 use Rattle.node_step.specs.declared.response.Why.TheVariants.{Imports}
 use Rattle.world_run.specs.Executed.{Answered, AreOfOneKeyspace, KeepsAsking, answered, executed}
+use Rattle.world_run.specs.Promotions.{until_promotion}
 use Rattle.world_run.specs.Run.{Entry, IsRun}
 
 -- the order to import a slot is obeyed: it begins to come
@@ -24,6 +25,7 @@ AreSettled entries = All (λ (entry : Entry). is_import (answered entry.deed) �
 abbrev pub SettledRunsNeedNoAsking : Type 0
 SettledRunsNeedNoAsking = (config : ClusterConfig) (entries : List Entry) → IsRun config entries → AreSettled entries → KeepsAsking [] entries
 
--- and the replies are those of one keyspace
+-- where none is up to the first promotion, the replies up to there are those of one keyspace
 abbrev pub SettledRunsAreOfOneKeyspace : Type 0
-SettledRunsAreOfOneKeyspace = (config : ClusterConfig) (entries : List Entry) → IsCluster config → IsRun config entries → AreSettled entries → AreOfOneKeyspace (executed entries)
+SettledRunsAreOfOneKeyspace = (config : ClusterConfig) (entries : List Entry) → IsCluster config → IsRun config entries → AreSettled (until_promotion entries)
+    → AreOfOneKeyspace (executed (until_promotion entries))

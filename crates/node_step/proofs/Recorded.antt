@@ -11,6 +11,10 @@ pub recorded_released : (outcome : Outcome) (requests : Requests) (dropped : ℕ
 recorded_released outcome [] dropped = refl
 recorded_released outcome (request ∷ requests) dropped = refl
 
+pub recorded_promoted : (outcome : Outcome) (requests : Requests) (dropped : ℕ) → (recorded outcome requests dropped).promoted ≡ outcome.promoted
+recorded_promoted outcome [] dropped = refl
+recorded_promoted outcome (request ∷ requests) dropped = refl
+
 pub recorded_state : (outcome : Outcome) (requests : Requests) (dropped : ℕ)
     → (recorded outcome requests dropped).state ≡ record outcome.state { stream = (recorded outcome requests dropped).state.stream }
 recorded_state outcome [] dropped = refl

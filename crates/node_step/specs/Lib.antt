@@ -9,6 +9,9 @@ pub mod Claiming
 pub mod Roles
 pub mod Streams
 pub mod Replicas
+pub mod Failing
+pub mod Promotion
+pub mod Voting
 pub mod Messages
 pub mod Ticks
 pub mod Reports

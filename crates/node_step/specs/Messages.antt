@@ -9,15 +9,23 @@ use Rattle.slot_state.specs.Moves.{move_of}
 use Rattle.stream_values.specs.Follower.{Follower}
 use Rattle.node_step.specs.Claiming.{claim}
 use Rattle.node_step.specs.Copies.{arrival, acknowledgement, keeps_limits, noted}
+use Rattle.node_step.specs.Failing.{hearing, judging}
 use Rattle.node_step.specs.Outcome.{Outcome, silent}
 use Rattle.node_step.specs.Replicas.{MayFollow, pieced, restored_by, synced}
-use Rattle.node_step.specs.Roles.{is_just}
+use Rattle.node_step.specs.Roles.{following, is_just, replaced_in}
 use Rattle.node_step.specs.State.{NodeState, own_master}
 use Rattle.node_step.specs.Streams.{MayGiveUp, Requests, recorded, written_by_ack, written_by_claim, written_by_copy}
+use Rattle.node_step.specs.Voting.{asked_for_vote, request_of, voted_for}
 
 -- the greater of the node's epoch and that of the message
 abbrev pub knowing : NodeState → ℕ → NodeState
 knowing node epoch = record node { current_epoch = max node.current_epoch epoch }
+
+-- what any message tells, before it is taken: the epoch, that its sender lives, and whose place that took; and so whether the own master
+-- is held failed
+abbrev pub ready : NodeState → Message → NodeState
+ready node message =
+    judging (following (hearing (knowing node message.epoch) message.from message.body) message.from (replaced_in message.body))
 
 -- what a step may choose as it takes a message: what a piece makes of the stream and the keyspace, and how many bytes in front of the
 -- stream are kept no longer
@@ -25,15 +33,15 @@ pub record Choice : Type 0 where
   pub follower : Follower
   pub dropped : ℕ
 
--- a row a body. Votes and what is reported of other nodes change nothing yet
+-- a row a body
 abbrev pub taken_so : NodeState → ℕ → Choice → Body → Outcome
 taken_so node from choice (Copy slot number copy key value) = arrival node from slot number copy key value
 taken_so node from choice (Ack slot number copy) = acknowledgement node from slot number copy
 taken_so node from choice (Drained slot number epoch) = noted node from slot number epoch
 taken_so node from choice (Claim slots replaced) = claim node from slots
 taken_so node from choice (Report suspects) = silent node
-taken_so node from choice (Request request) = silent node
-taken_so node from choice (Grant epoch) = silent node
+taken_so node from choice (Request request) = asked_for_vote node (request_of from request)
+taken_so node from choice (Grant epoch) = voted_for node from epoch
 taken_so node from choice (Sync sync) = synced node from sync
 taken_so node from choice (Piece piece) = pieced node from piece choice.follower
 taken_so node from choice (Snapshot snapshot) = restored_by node from snapshot
@@ -67,4 +75,4 @@ pub record MayChoose (node : NodeState) (from : ℕ) (body : Body) (choice : Cho
 -- a message for another node is not taken
 abbrev pub delivered : NodeState → Message → Choice → Outcome
 delivered node message choice =
-    if message.to == node.number then taken (knowing node message.epoch) message.from choice message.body else silent node
+    if message.to == node.number then taken (ready node message) message.from choice message.body else silent node

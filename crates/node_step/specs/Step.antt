@@ -3,12 +3,14 @@ use Rattle.std.specs.Prelude.{◌≡◌, ◌==◌, ℕ, true, List, is_some, Mat
 use Rattle.command_table.specs.Table.{command_of}
 use Rattle.connections.specs.Connections.{connection_at, may_ask, Opens, Closes}
 use Rattle.bus.specs.declared.message.Message.{Message}
-use Rattle.node_step.specs.Messages.{Choice, MayChoose, delivered, knowing}
+use Rattle.node_step.specs.Failing.{a_tick_older}
+use Rattle.node_step.specs.Messages.{Choice, MayChoose, delivered, ready}
 use Rattle.node_step.specs.Outcome.{Outcome, outputs_of, silent}
 use Rattle.node_step.specs.Requests.{has_number, request_outcome, using_up}
 use Rattle.node_step.specs.State.{NodeState}
 use Rattle.node_step.specs.Streams.{MayGiveUp, Requests, recorded, written_by_request}
-use Rattle.node_step.specs.Ticks.{tick}
+use Rattle.node_step.specs.Ticks.{older, tick}
+use Rattle.node_step.specs.Voting.{has_due_epoch}
 use Rattle.connections.specs.declared.conn.Conn.{Conn}
 use Rattle.node_step.specs.declared.event.Event.{Event}
 use Rattle.node_step.specs.declared.event.Event.TheVariants.{Open, Close, Request, Deliver, Tick}
@@ -43,8 +45,13 @@ pub record IsAnswering (old : NodeState) (conn : Conn) (words : List (List ℕ))
 -- the message was taken, for which something may be chosen, or was for another node
 pub record IsTaking (old : NodeState) (message : Message) (outcome : Outcome) : Type 0 where
   pub choice : Choice
-  pub may_choose : (message.to == old.number) ≡ true → MayChoose (knowing old message.epoch) message.from message.body choice
+  pub may_choose : (message.to == old.number) ≡ true → MayChoose (ready old message) message.from message.body choice
   pub comes_to : outcome ≡ delivered old message choice
+
+-- time passed; an election that begins has an epoch
+pub record IsTicking (old : NodeState) (outcome : Outcome) : Type 0 where
+  pub number : has_due_epoch (a_tick_older (older old)) ≡ true
+  pub comes_to : outcome ≡ tick old
 
 -- what may come of an event. A connection that isn't open, or waits for a reply, is not answered
 abbrev pub MayCome : NodeState → Event → Outcome → Type 0
@@ -53,7 +60,7 @@ MayCome old (Close conn) outcome = MatchBool (is_some (connection_at old.connect
 MayCome old (Request conn words) outcome =
     MatchBool (may_ask (connection_at old.connections conn)) (IsAnswering old conn words outcome) (outcome ≡ silent old)
 MayCome old (Deliver message) outcome = IsTaking old message outcome
-MayCome old Tick outcome = outcome ≡ tick old
+MayCome old Tick outcome = IsTicking old outcome
 
 -- a step of a node: the ticket under which it is made, the node's state, what happens, what comes out, and the next state
 pub record NodeStep (ticket : ℕ) (old : NodeState) (event : Event) (outputs : Outputs) (new : NodeState) : Type 0 where

@@ -1,4 +1,5 @@
--- A tick of a node's time (ours: waits end, and what was not acknowledged is sent again).
+-- A tick of a node's time (Redis Cluster specification, "Heartbeat and gossip packets"; that waits end by ticks, and that what was not
+-- acknowledged is sent again, is ours).
 use Rattle.std.specs.Prelude.{◌++◌, ℕ, List, [], map, Some, None}
 use Rattle.std.specs.List.{flat_map}
 use Rattle.std.specs.FinMap as fin_map
@@ -6,12 +7,17 @@ use Rattle.command_table.specs.declared.error_line.ErrorLine.TheVariants as line
 use Rattle.slot_state.specs.declared.running.Move.{Move}
 use Rattle.slot_state.specs.declared.running.Move.TheVariants.{Leaves, Comes}
 use Rattle.bus.specs.declared.message.Body.{Body}
+use Rattle.bus.specs.declared.message.Body.TheVariants.{Claim, Report}
 use Rattle.connections.specs.Connections.{all_aged, all_freed, is_over, waiting}
+use Rattle.election.specs.Failing.{suspected}
 use Rattle.node_step.specs.Copies.{copy_of}
+use Rattle.node_step.specs.Failing.{a_tick_older, members_of}
+use Rattle.node_step.specs.Orders.{claim_of, others, to_all}
 use Rattle.node_step.specs.Outcome.{Outcome, error, release, silent}
 use Rattle.node_step.specs.Slots.{drained_if_empty}
 use Rattle.node_step.specs.Replicas.{sync_to}
 use Rattle.node_step.specs.State.{NodeState, own_master}
+use Rattle.node_step.specs.Voting.{due_epoch, in_election, requests_in}
 
 -- of a slot that leaves: the copy that is not acknowledged, or the word that no key is left
 -- (else: the copy of b from node 0 to node 1 is lost; b stays frozen, and each command on it gets TRYAGAIN for ever)
@@ -30,6 +36,18 @@ slots_tick node = record (silent (older node)) {
   sent = flat_map (sent_again node) (fin_map.entries node.moves.running);
 }
 
--- and a replica tells its master how much of its stream it received
+-- ---- what all nodes are told
+
+-- which slots the node has, and whom it suspects: also nothing is a sign that it lives
+abbrev pub signs : NodeState → List (ℕ × Body)
+signs node = to_all (others node) (Claim (claim_of node) node.replaced) ++ to_all (others node) (Report (suspected node.health (members_of node)))
+
+-- behind that a replica tells its master how much of its stream it received, and an election begins, if it is due
+abbrev pub with_signs : Outcome → NodeState → Outcome
+with_signs outcome node = record outcome {
+  sent = outcome.sent ++ signs node ++ sync_to node.stream (own_master node) ++ requests_in node (due_epoch node) (own_master node);
+  state = in_election node (due_epoch node);
+}
+
 abbrev pub tick : NodeState → Outcome
-tick node = record (slots_tick node) { sent = (slots_tick node).sent ++ sync_to node.stream (own_master node) }
+tick node = with_signs (slots_tick node) (a_tick_older (slots_tick node).state)

@@ -63,4 +63,4 @@ module _ {past : List Entry} {n : ℕ} {before : NodeState} {one : Keyspace} (wa
   event_stands ticket (Close conn) outcome happens may asking = closing_stands conn (is_some (connection_at before.connections conn)) outcome may
   event_stands ticket (Request conn words) outcome happens may asking = request_stands conn words (may_ask (connection_at before.connections conn)) outcome may asking
   event_stands ticket (Deliver message) outcome happens may asking = subst (StepStands was None) (sym may.comes_to) (delivered_stands was stands message may.choice happens)
-  event_stands ticket Tick outcome happens may asking = subst (StepStands was None) (sym may) (tick_stands was stands)
+  event_stands ticket Tick outcome happens may asking = subst (StepStands was None) (sym may.comes_to) (tick_stands was stands)

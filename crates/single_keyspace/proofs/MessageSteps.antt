@@ -1,16 +1,19 @@
 -- Steps that take messages, and ticks.
-use Rattle.std.proofs.Common.{◌≡◌, ◌≢◌, ◌≤◌, ◌+◌, ◌==◌, ◌&&◌, ℕ, List, [], ◌∷◌, map, Bool, true, false, cond, Option, Some, None, Contains, length, refl, sym, ap, subst, ◌∙◌, inl, inr, arith}
+use Rattle.std.proofs.Common.{◌≡◌, ◌≢◌, ◌≤◌, ◌+◌, ◌==◌, ◌&&◌, ℕ, List, [], ◌∷◌, map, Bool, true, false, cond, Option, Some, None, Contains, refl, sym, ap, subst, ◌∙◌, inl, inr, arith}
 use Rattle.std.proofs.lemmas.Bool.{and_parts, both_ways, cases_eq, eqb-true, eqb-false, ne_eqb}
 use Rattle.std.proofs.lemmas.Cmp.{nat_list_cmp_total}
 use Rattle.std.specs.FinMap as fin_map
 use Rattle.std.specs.List.{flat_map}
+use Rattle.std.specs.Prelude.{is_some}
 use Rattle.key_slot.specs.Slot.{hash_slot}
 use Rattle.keyspace.specs.Keyspace.{Keyspace}
 use Rattle.keyspace.specs.declared.value.Value.{Value}
 use Rattle.slot_store.specs.InSlot.{is_in_slot}
 use Rattle.slot_table.specs.Claims.{merged}
+use Rattle.slot_table.specs.Runs.{runs_of}
+use Rattle.slot_table.specs.Table.{claim_at}
 use Rattle.slot_table.specs.declared.runs.Run.{Run}
-use Rattle.slot_state.specs.Moves.{Moves, last_move_of, move_of}
+use Rattle.slot_state.specs.Moves.{Moves, move_of}
 use Rattle.slot_state.specs.declared.running.Move.{Move}
 use Rattle.slot_state.specs.declared.running.Move.TheVariants.{Leaves, Comes}
 use Rattle.migrate.specs.Acknowledging.{acknowledged_key, unfrozen}
@@ -33,17 +36,26 @@ use Rattle.stream_values.specs.declared.answer.SyncAnswer.{SyncAnswer}
 use Rattle.stream_values.specs.declared.answer.SyncAnswer.TheVariants as answers
 use Rattle.stream_values.specs.declared.sync.Sync.{Sync}
 use Rattle.bus.specs.declared.message.Replaced.{Replaced}
-use Rattle.node_step.specs.Messages.{Choice, delivered, knowing, taken, taken_so, written_by_message}
-use Rattle.node_step.specs.Orders.{done}
+use Rattle.election.specs.Electing.{counted, elected}
+use Rattle.election.specs.Failing.{suspected}
+use Rattle.election.specs.Health.{Candidate}
+use Rattle.election.specs.Voting.{may_grant}
+use Rattle.election.specs.declared.running.Elected.{Elected}
+use Rattle.election.specs.declared.voter.VoteRequest.{VoteRequest}
+use Rattle.node_step.proofs.Ready.{in_election_keeps, ready_keeps}
+use Rattle.node_step.specs.Failing.{a_tick_older, members_of}
+use Rattle.node_step.specs.Messages.{Choice, delivered, ready, taken, taken_so, written_by_message}
+use Rattle.node_step.specs.Orders.{claim_of, done, others, to_all}
+use Rattle.node_step.specs.Promotion.{promotion}
 use Rattle.node_step.specs.Outcome.{release, silent}
 use Rattle.node_step.specs.Roles.{is_just}
 use Rattle.node_step.specs.Replicas.{sync_answer, sync_to}
 use Rattle.node_step.specs.Slots.{drained_since}
 use Rattle.node_step.specs.State.{NodeState, is_replica, own_master}
-use Rattle.node_step.specs.Ticks.{older, sent_again, tick}
-use Rattle.world_run.specs.Executed.{Answered}
+use Rattle.node_step.specs.Ticks.{older, sent_again, slots_tick, tick}
+use Rattle.node_step.specs.Voting.{due_epoch, grant_to, if_elected, request_of, requests_in, voters_of, voting}
 use Rattle.world_run.specs.Run.{Entry, sent_by}
-use Rattle.single_keyspace.specs.Slots.{values_in, view_of}
+use Rattle.single_keyspace.specs.Slots.{view_of}
 use Rattle.single_keyspace.specs.Stands.{NodeStands, Says}
 use Rattle.single_keyspace.proofs.Lists.{contains_nothing, contains_one, from_flat_map}
 use Rattle.single_keyspace.proofs.Lost.{claims_hold, length_merged}
@@ -54,7 +66,7 @@ use Rattle.single_keyspace.proofs.OrderSteps.{copy_justified}
 use Rattle.single_keyspace.proofs.Running.{got_from_entry}
 use Rattle.single_keyspace.proofs.Seen.{SlotWas, again, holds_but, same_values, same_view}
 use Rattle.single_keyspace.proofs.Roles.{no_messages_from_master}
-use Rattle.single_keyspace.proofs.Sendings.{AreJustified, IsJustified, IsInstalled, both_justified, one_justified, drained_if_empty_justified, drained_since_justified}
+use Rattle.single_keyspace.proofs.Sendings.{AreJustified, IsJustified, IsInstalled, both_justified, claim_justified, one_justified, to_all_justified, drained_if_empty_justified, drained_since_justified}
 use Rattle.single_keyspace.proofs.Steps.{StepStands, nothing_sent, quiet, quiet_still, recorded_stands}
 use Rattle.single_keyspace.proofs.Values.{is_key, puts_here, puts_elsewhere}
 use Rattle.single_keyspace.proofs.Verdicts.{copy_arrives, copy_repeats, ack_counts}
@@ -225,6 +237,30 @@ module _ {past : List Entry} {n : ℕ} {before : NodeState} {one : Keyspace} (wa
   not_followed after false is = quiet_still was None refl refl (silent before) stands (λ slot. refl) (nothing_sent past n before)
   not_followed after true is = absurd (both_ways true is refl)
 
+  -- ---- votes
+
+  vote_stands : (request : VoteRequest) (granted : Bool) → StepStands was None (voting before request granted)
+  vote_stands request granted =
+      quiet_still was None refl refl (voting before request granted) (record { number_is = stands.number_is; slots = stands.slots; is_master = stands.is_master }) (λ slot. refl) (grant granted)
+    where
+      grant : (granted : Bool) → AreJustified past n before (grant_to request granted)
+      grant true = one_justified past n before request.candidate (body.Grant request.epoch) tt
+      grant false = nothing_sent past n before
+
+  -- a master takes nobody's place
+  counting_stands : (candidate : Candidate) → StepStands was None (silent (record before { candidate = candidate }))
+  counting_stands candidate =
+      quiet_still was None refl refl (silent (record before { candidate = candidate })) (record { number_is = stands.number_is; slots = stands.slots; is_master = stands.is_master }) (λ slot. refl)
+      (nothing_sent past n before)
+
+  grant_stands : (candidate : Candidate) (won : Option Elected) → StepStands was None (if_elected (record before { candidate = candidate }) won)
+  grant_stands candidate None = counting_stands candidate
+  grant_stands candidate (Some won) = by_master (own_master before) stands.is_master
+    where
+      by_master : (master : Option ℕ) → is_some master ≡ false → StepStands was None (promotion (record before { candidate = candidate }) won.epoch master)
+      by_master None is = counting_stands candidate
+      by_master (Some master) is = absurd (both_ways true is refl)
+
   -- ---- any message
 
   so_taken_stands : (choice : Choice) (said : Body) → message.body ≡ said → StepStands was None (taken_so before message.from choice said)
@@ -234,8 +270,9 @@ module _ {past : List Entry} {n : ℕ} {before : NodeState} {one : Keyspace} (wa
   so_taken_stands choice (body.Drained slot number epoch) is = drained_stands slot number epoch is
   so_taken_stands choice (body.Claim runs replaced) is = claims_stand runs replaced is
   so_taken_stands choice (body.Report suspects) is = quiet_still was None refl refl (silent before) stands (λ slot. refl) (nothing_sent past n before)
-  so_taken_stands choice (body.Request request) is = quiet_still was None refl refl (silent before) stands (λ slot. refl) (nothing_sent past n before)
-  so_taken_stands choice (body.Grant epoch) is = quiet_still was None refl refl (silent before) stands (λ slot. refl) (nothing_sent past n before)
+  so_taken_stands choice (body.Request request) is =
+      vote_stands (request_of message.from request) (may_grant before.voter (members_of before) before.health before.current_epoch (request_of message.from request))
+  so_taken_stands choice (body.Grant epoch) is = grant_stands (counted before.candidate (members_of before) message.from epoch) (elected before.candidate (members_of before) message.from epoch)
   so_taken_stands choice (body.Sync sync) is = synced_stands message.from sync (is_replica before)
   so_taken_stands choice (body.Piece piece) is = not_followed _ (is_just (own_master before) message.from) (no_messages_from_master (own_master before) message.from stands.is_master)
   so_taken_stands choice (body.Snapshot snapshot) is = not_followed _ (is_just (own_master before) message.from) (no_messages_from_master (own_master before) message.from stands.is_master)
@@ -248,20 +285,26 @@ module _ {past : List Entry} {n : ℕ} {before : NodeState} {one : Keyspace} (wa
   pub delivered_stands : (message : Message) (choice : Choice) → Contains (sent_by past) message → StepStands was None (delivered before message choice)
   delivered_stands message choice sent = by_target (message.to == before.number) refl
     where
-      by_target : (b : Bool) → (message.to == before.number) ≡ b → StepStands was None (cond b (taken (knowing before message.epoch) message.from choice message.body) (silent before))
+      by_target : (b : Bool) → (message.to == before.number) ≡ b → StepStands was None (cond b (taken (ready before message) message.from choice message.body) (silent before))
       by_target false other = quiet_still was None refl refl (silent before) stands (λ slot. refl) (nothing_sent past n before)
       by_target true mine =
-          let inner = taken_stands (λ slot. again (was slot) (knowing before message.epoch) refl) (record { number_is = stands.number_is; slots = stands.slots; is_master = stands.is_master }) message sent
+          ready_keeps (λ (node : NodeState). StepStands was None (taken node message.from choice message.body)) before message (λ epoch masters health candidate role election.
+          let node : NodeState = record before { current_epoch = epoch; masters = masters; health = health; candidate = candidate } in
+          let inner = taken_stands (λ slot. again (was slot) node refl) (record { number_is = stands.number_is; slots = stands.slots; is_master = role ∙ stands.is_master }) message sent
           (eqb-true message.to before.number mine ∙ stands.number_is) choice in
-          record { node = inner.node; holds = inner.holds; sent = inner.sent; told = inner.told; replies = inner.replies }
+          record { node = inner.node; holds = inner.holds; sent = inner.sent; told = inner.told; replies = inner.replies })
 
   -- ---- a tick
 
   pub tick_stands : StepStands was None (tick before)
   tick_stands =
-      quiet_still was None refl refl (tick before) (record { number_is = stands.number_is; slots = stands.slots; is_master = stands.is_master }) (λ slot. refl)
-      (both_justified past n (older before) (flat_map (sent_again before) (fin_map.entries before.moves.running)) (sync_to before.stream (own_master before)) sent_of_moves (sync (own_master before)))
+      in_election_keeps (λ (node : NodeState). StepStands was None (record (slots_tick before) { sent = (tick before).sent; state = node })) aged (due_epoch aged) (λ current candidate.
+      quiet_still was None refl refl (record (slots_tick before) { sent = (tick before).sent; state = record aged { current_epoch = current; candidate = candidate } })
+      (record { number_is = stands.number_is; slots = stands.slots; is_master = stands.is_master }) (λ slot. refl) sent)
     where
+      aged : NodeState
+      aged = a_tick_older (older before)
+
       by_move : (slot : ℕ) (move : Move) → move_of before.moves slot ≡ Some move → AreJustified past n (older before) (sent_again before (slot, move))
       by_move slot (Comes from number last drained) is = λ to said among. absurd (contains_nothing (to, said) among)
       by_move slot (Leaves to number copies None) is = drained_if_empty_justified past n (older before) slot
@@ -269,11 +312,30 @@ module _ {past : List Entry} {n : ℕ} {before : NodeState} {one : Keyspace} (wa
           let there = frozen_is_there (was slot).holds n to number copies key (ap (λ (v : View Value). v.move) (was slot).here ∙ is) in
           copy_justified past n (older before) slot to number copies key is (valued_in_slot one slot key there.0 there.1)
 
-      sent_of_moves : AreJustified past n (older before) (flat_map (sent_again before) (fin_map.entries before.moves.running))
+      sent_of_moves : AreJustified past n before (flat_map (sent_again before) (fin_map.entries before.moves.running))
       sent_of_moves to said among =
           let found = from_flat_map (sent_again before) (fin_map.entries before.moves.running) (to, said) among in
           by_move found.0.0 found.0.1 (got_from_entry before.moves.running found.0.0 found.0.1 found.1) to said found.2
 
-      sync : (master : Option ℕ) → AreJustified past n (older before) (sync_to before.stream master)
-      sync None = nothing_sent past n (older before)
-      sync (Some master) = one_justified past n (older before) master _ tt
+      claims : AreJustified past n before (to_all (others before) (body.Claim (claim_of before) before.replaced))
+      claims = to_all_justified past n before (others before) (body.Claim (claim_of before) before.replaced) (λ to.
+          subst (λ (number : ℕ). IsJustified past n before to (body.Claim (runs_of (claim_at before.table number)) before.replaced)) (sym stands.number_is)
+          (claim_justified past n before to before.replaced stands.slots))
+
+      reports : AreJustified past n before (to_all (others before) (body.Report (suspected aged.health (members_of before))))
+      reports = to_all_justified past n before (others before) (body.Report (suspected aged.health (members_of before))) (λ to. tt)
+
+      sync : (master : Option ℕ) → AreJustified past n before (sync_to before.stream master)
+      sync None = nothing_sent past n before
+      sync (Some master) = one_justified past n before master _ tt
+
+      requests : (epoch master : Option ℕ) → AreJustified past n before (requests_in aged epoch master)
+      requests None master = nothing_sent past n before
+      requests (Some epoch) None = nothing_sent past n before
+      requests (Some epoch) (Some master) = to_all_justified past n before (voters_of aged) _ (λ to. tt)
+
+      sent : AreJustified past n before (tick before).sent
+      sent =
+          both_justified past n before _ _
+          (both_justified past n before _ _ (both_justified past n before _ _ sent_of_moves (both_justified past n before _ _ claims reports)) (sync (own_master before)))
+          (requests (due_epoch aged) (own_master before))

@@ -1,6 +1,6 @@
 -- Steps of replicas: they have no part in a slot.
-use Rattle.std.proofs.Common.{◌≡◌, ◌≢◌, ◌+◌, ◌==◌, ◌&&◌, ◌++◌, ℕ, List, [], ◌∷◌, Bool, true, false, cond, not, Option, Some, None, Contains, length, refl, sym, ap, subst, ◌∙◌, inl, inr, arith}
-use Rattle.std.proofs.lemmas.Bool.{both_ways, eqb-false, eqb-true}
+use Rattle.std.proofs.Common.{◌≡◌, ◌≢◌, ◌==◌, ◌++◌, ℕ, List, [], ◌∷◌, Bool, true, false, cond, Option, Some, None, Contains, length, refl, sym, ap, subst, ◌∙◌, inl, inr, arith}
+use Rattle.std.proofs.lemmas.Bool.{both_ways, eqb-false}
 use Rattle.std.proofs.lemmas.Bool.Decides.{nat_tests}
 use Rattle.std.proofs.lemmas.List.Elements.{Contains-append_cases}
 use Rattle.std.specs.FinMap as fin_map
@@ -20,8 +20,15 @@ use Rattle.keyspace.specs.Commands.{exec, execution_of}
 use Rattle.keyspace.specs.Keyspace.{Keyspace}
 use Rattle.keyspace.specs.Locality.{CommandsAreLocal}
 use Rattle.keyspace.specs.declared.value.Value.{Value}
-use Rattle.slot_table.specs.Claims.{claimed, merged}
-use Rattle.slot_table.specs.Table.{claim_at, entry_at, owner_at, owner_in}
+use Rattle.election.specs.Electing.{counted, elected}
+use Rattle.election.specs.Failing.{suspected}
+use Rattle.election.specs.Health.{Candidate}
+use Rattle.election.specs.Voting.{may_grant}
+use Rattle.election.specs.declared.running.Elected.{Elected}
+use Rattle.election.specs.declared.voter.VoteRequest.{VoteRequest}
+use Rattle.slot_table.specs.Claims.{merged}
+use Rattle.slot_table.specs.Runs.{runs_of}
+use Rattle.slot_table.specs.Table.{claim_at, owner_at, owner_in}
 use Rattle.slot_table.specs.declared.entry.SlotEntry.{SlotEntry}
 use Rattle.slot_table.specs.declared.runs.Run.{Run}
 use Rattle.slot_state.specs.Importing.{import_verdict}
@@ -43,7 +50,6 @@ use Rattle.migrate.specs.Acknowledging.{acknowledged_key}
 use Rattle.migrate.specs.Arriving.{arrival_verdict}
 use Rattle.migrate.specs.Draining.{note_drained}
 use Rattle.migrate.specs.Arriving.{changed_at}
-use Rattle.migrate.specs.Losing.{is_leaving}
 use Rattle.migrate.specs.declared.arriving.ArrivalVerdict.{ArrivalVerdict}
 use Rattle.migrate.specs.declared.arriving.ArrivalVerdict.TheVariants.{Ignored, Installs, Repeats}
 use Rattle.migrate.specs.declared.sending.CopyVerdict.{CopyVerdict}
@@ -61,11 +67,13 @@ use Rattle.stream_values.specs.Snapshot.{restored}
 use Rattle.stream_values.specs.Syncing.{answer_to}
 use Rattle.stream_values.specs.declared.sync.Sync.{Sync}
 use Rattle.one_slot.specs.Sent.{Sent}
-use Rattle.node_step.specs.Claiming.{claim, claimed_by, is_lost, with_table}
+use Rattle.node_step.specs.Claiming.{claim, claimed_by}
 use Rattle.node_step.specs.Commands.{command_outcome, decision_on, drained_by_command, executed, served, asked_of}
 use Rattle.node_step.specs.Copies.{acknowledged, arrived, copy_outcome, copy_verdict_on, keeps_limits, node_at, noted}
-use Rattle.node_step.specs.Messages.{Choice, delivered, knowing, taken, taken_so, written_by_message}
-use Rattle.node_step.specs.Orders.{ending_outcome, ending_verdict, import_outcome, migrate_outcome, others, to_all}
+use Rattle.node_step.proofs.Ready.{in_election_keeps, ready_keeps}
+use Rattle.node_step.specs.Failing.{a_tick_older, members_of}
+use Rattle.node_step.specs.Messages.{Choice, delivered, ready, taken, taken_so, written_by_message}
+use Rattle.node_step.specs.Orders.{claim_of, ending_outcome, ending_verdict, import_outcome, migrate_outcome, others, to_all}
 use Rattle.node_step.specs.Outcome.{Outcome, outputs_of, silent}
 use Rattle.node_step.specs.Requests.{asking_of, by_command, cluster_outcome, is_numbered, node_with_id, order_outcome, request_outcome, using_up}
 use Rattle.node_step.specs.Roles.{is_just, replicas_of}
@@ -73,12 +81,15 @@ use Rattle.node_step.specs.State.{NodeState, is_replica, own_master, standing}
 use Rattle.node_step.specs.Step.{IsAnswering, IsClosing, MayCome, written}
 use Rattle.node_step.specs.Replicas.{follower_of, sync_answer, sync_to, with_follower, with_piece}
 use Rattle.node_step.specs.Streams.{Requests, recorded}
-use Rattle.node_step.specs.Ticks.{sent_again, tick}
+use Rattle.node_step.specs.Promotion.{promotion}
+use Rattle.node_step.specs.Ticks.{older, sent_again, slots_tick, tick}
+use Rattle.node_step.specs.Voting.{due_epoch, grant_to, if_elected, request_of, requests_in, voters_of, voting}
 use Rattle.node_step.specs.declared.event.Event.{Event}
 use Rattle.node_step.specs.declared.event.Event.TheVariants.{Open, Close, Request, Deliver, Tick}
 use Rattle.node_step.specs.declared.response.Response.{Response}
 use Rattle.node_step.specs.declared.response.Why.TheVariants.{Decided}
 use Rattle.world_run.specs.Executed.{Answered, Redirection, answered, answered_with, if_served, redirection_in}
+use Rattle.world_run.specs.Promotions.{ends_one_keyspace}
 use Rattle.world_run.specs.Run.Deed.{Made}
 use Rattle.single_keyspace.specs.Slots.{values_in}
 use Rattle.single_keyspace.specs.Stands.{ReplicaStands, Says}
@@ -88,10 +99,14 @@ use Rattle.single_keyspace.proofs.Running.{got_from_entry}
 use Rattle.single_keyspace.proofs.Seen.{no_some, same_some}
 use Rattle.single_keyspace.proofs.Sendings.{claim_justified}
 use Rattle.single_keyspace.proofs.Served.{decided_in, one_reply}
-use Rattle.node_step.proofs.Recorded.{recorded_response}
+use Rattle.node_step.proofs.Recorded.{recorded_promoted, recorded_response}
 use Rattle.single_keyspace.proofs.Steps.{RepliesAs, next_of}
 use Rattle.single_keyspace.proofs.Values.{values_alike}
 use Rattle.single_keyspace.proofs.Verdicts.{ack_counts, asks, copy_arrives, copy_is_again, copy_is_next, copy_repeats, import_ends, serves, serves_import}
+
+-- the step is no promotion that ends the one keyspace
+abbrev pub IsNoEnd : Outcome → Type 0
+IsNoEnd outcome = ends_one_keyspace outcome.promoted ≡ false
 
 -- a message says nothing of any slot
 abbrev IsMute : ℕ → ℕ → Body → Type 0
@@ -362,46 +377,94 @@ module _ {n : ℕ} {before : NodeState} (one : Keyspace) (stands : ReplicaStands
   snapshot_replica follower false = plain None refl refl (silent before) refl refl refl refl refl
   snapshot_replica follower true = plain None refl refl (silent (with_follower before follower)) refl refl refl refl refl
 
-  so_taken_replica : (from : ℕ) (choice : Choice) (said : Body) → ReplicaStep n one None (taken_so before from choice said)
-  so_taken_replica from choice (body.Copy slot number copy key value) =
-      copy_arrives_replica from slot number copy key value (arrival_verdict (move_of before.moves slot) from number copy (keeps_limits key value)) refl
-  so_taken_replica from choice (body.Ack slot number copy) = ack_replica from slot number copy (acknowledged_key (move_of before.moves slot) from number copy) refl
-  so_taken_replica from choice (body.Drained slot number epoch) = drained_replica from slot number epoch
-  so_taken_replica from choice (body.Claim runs replaced) = claim_replica from runs
-  so_taken_replica from choice (body.Report suspects) = plain None refl refl (silent before) refl refl refl refl refl
-  so_taken_replica from choice (body.Request request) = plain None refl refl (silent before) refl refl refl refl refl
-  so_taken_replica from choice (body.Grant epoch) = plain None refl refl (silent before) refl refl refl refl refl
-  so_taken_replica from choice (body.Sync sync) = sync_replica from sync (is_replica before) refl
-  so_taken_replica from choice (body.Piece piece) = piece_replica choice.follower (verdict_on before.stream piece) (is_just (own_master before) from)
-  so_taken_replica from choice (body.Snapshot snapshot) = snapshot_replica (restored snapshot (follower_of before)) (is_just (own_master before) from)
+  vote_replica : (request : VoteRequest) (granted : Bool) → ReplicaStep n one None (voting before request granted)
+  vote_replica request granted = quiet_replica None refl refl (voting before request granted) (same_node (voting before request granted).state refl refl refl refl) (grant granted)
+    where
+      grant : (granted : Bool) → AreMute n (grant_to request granted)
+      grant true = mute_one n request.candidate (body.Grant request.epoch) (λ slot sent says. says)
+      grant false = mute_nothing n
 
-  taken_replica : (from : ℕ) (choice : Choice) (said : Body) → ReplicaStep n one None (taken before from choice said)
-  taken_replica from choice said =
-      recorded_replica None (taken_so before from choice said) (written_by_message before from said) choice.dropped (so_taken_replica from choice said)
+  -- it isn't promoted
+  grant_replica : (candidate : Candidate) (won : Option Elected) → IsNoEnd (if_elected (record before { candidate = candidate }) won)
+      → ReplicaStep n one None (if_elected (record before { candidate = candidate }) won)
+  grant_replica candidate None not_now = plain None refl refl (silent (record before { candidate = candidate })) refl refl refl refl refl
+  grant_replica candidate (Some won) not_now = by_master (own_master before) not_now
+    where
+      by_master : (master : Option ℕ) → IsNoEnd (promotion (record before { candidate = candidate }) won.epoch master)
+          → ReplicaStep n one None (promotion (record before { candidate = candidate }) won.epoch master)
+      by_master None not_now = plain None refl refl (silent (record before { candidate = candidate })) refl refl refl refl refl
+      by_master (Some master) not_now = absurd (both_ways true not_now refl)
+
+  so_taken_replica : (from : ℕ) (choice : Choice) (said : Body) → IsNoEnd (taken_so before from choice said) → ReplicaStep n one None (taken_so before from choice said)
+  so_taken_replica from choice (body.Copy slot number copy key value) not_now =
+      copy_arrives_replica from slot number copy key value (arrival_verdict (move_of before.moves slot) from number copy (keeps_limits key value)) refl
+  so_taken_replica from choice (body.Ack slot number copy) not_now = ack_replica from slot number copy (acknowledged_key (move_of before.moves slot) from number copy) refl
+  so_taken_replica from choice (body.Drained slot number epoch) not_now = drained_replica from slot number epoch
+  so_taken_replica from choice (body.Claim runs replaced) not_now = claim_replica from runs
+  so_taken_replica from choice (body.Report suspects) not_now = plain None refl refl (silent before) refl refl refl refl refl
+  so_taken_replica from choice (body.Request request) not_now = vote_replica (request_of from request) (may_grant before.voter (members_of before) before.health before.current_epoch (request_of from request))
+  so_taken_replica from choice (body.Grant epoch) not_now =
+      grant_replica (counted before.candidate (members_of before) from epoch) (elected before.candidate (members_of before) from epoch) not_now
+  so_taken_replica from choice (body.Sync sync) not_now = sync_replica from sync (is_replica before) refl
+  so_taken_replica from choice (body.Piece piece) not_now = piece_replica choice.follower (verdict_on before.stream piece) (is_just (own_master before) from)
+  so_taken_replica from choice (body.Snapshot snapshot) not_now = snapshot_replica (restored snapshot (follower_of before)) (is_just (own_master before) from)
+
+  taken_replica : (from : ℕ) (choice : Choice) (said : Body) → IsNoEnd (taken before from choice said) → ReplicaStep n one None (taken before from choice said)
+  taken_replica from choice said not_now =
+      let outcome : Outcome = taken_so before from choice said in
+      let requests : Requests = written_by_message before from said in
+      recorded_replica None outcome requests choice.dropped
+      (so_taken_replica from choice said (ap ends_one_keyspace (sym (recorded_promoted outcome requests choice.dropped)) ∙ not_now))
 
 module _ {n : ℕ} {before : NodeState} (one : Keyspace) (stands : ReplicaStands n before) where
-  delivered_replica : (message : Message) (choice : Choice) → ReplicaStep n one None (delivered before message choice)
+  delivered_replica : (message : Message) (choice : Choice) → IsNoEnd (delivered before message choice) → ReplicaStep n one None (delivered before message choice)
   delivered_replica message choice = by_target (message.to == before.number)
     where
-      by_target : (b : Bool) → ReplicaStep n one None (cond b (taken (knowing before message.epoch) message.from choice message.body) (silent before))
-      by_target false = plain one stands None refl refl (silent before) refl refl refl refl refl
-      by_target true = taken_replica one (same_node one stands (knowing before message.epoch) refl refl refl refl) message.from choice message.body
+      by_target : (b : Bool) → IsNoEnd (cond b (taken (ready before message) message.from choice message.body) (silent before))
+          → ReplicaStep n one None (cond b (taken (ready before message) message.from choice message.body) (silent before))
+      by_target false not_now = plain one stands None refl refl (silent before) refl refl refl refl refl
+      by_target true not_now =
+          ready_keeps (λ (node : NodeState). IsNoEnd (taken node message.from choice message.body) → ReplicaStep n one None (taken node message.from choice message.body)) before message
+          (λ epoch masters health candidate role election.
+          taken_replica one (same_node one stands (record before { current_epoch = epoch; masters = masters; health = health; candidate = candidate }) refl refl refl role) message.from choice message.body)
+          not_now
 
   -- ---- a tick
 
   tick_replica : ReplicaStep n one None (tick before)
   tick_replica =
-      quiet_replica one stands None refl refl (tick before) (same_node one stands (tick before).state refl refl refl refl)
-      (mute_both n (flat_map (sent_again before) (fin_map.entries before.moves.running)) (sync_to before.stream (own_master before)) no_moves (sync (own_master before)))
+      in_election_keeps (λ (node : NodeState). ReplicaStep n one None (record (slots_tick before) { sent = (tick before).sent; state = node })) aged (due_epoch aged) (λ current candidate.
+      quiet_replica one stands None refl refl (record (slots_tick before) { sent = (tick before).sent; state = record aged { current_epoch = current; candidate = candidate } })
+      (same_node one stands (record aged { current_epoch = current; candidate = candidate }) refl refl refl refl) mute)
     where
+      aged : NodeState
+      aged = a_tick_older (older before)
+
       no_moves : AreMute n (flat_map (sent_again before) (fin_map.entries before.moves.running))
       no_moves to said among =
           let found = from_flat_map (sent_again before) (fin_map.entries before.moves.running) (to, said) among in
           absurd (no_some (stands.idle found.0.0) (got_from_entry before.moves.running found.0.0 found.0.1 found.1))
 
+      -- it claims nothing, since nothing is its own
+      claims : AreMute n (to_all (others before) (body.Claim (claim_of before) before.replaced))
+      claims = mute_to_all n (others before) (body.Claim (claim_of before) before.replaced) (λ to.
+          subst (λ (number : ℕ). IsMute n to (body.Claim (runs_of (claim_at before.table number)) before.replaced)) (sym stands.number_is)
+          (λ slot sent says. stands.foreign slot (ap owner_in (claim_justified [] n before to before.replaced stands.slots slot says.0 says.1))))
+
+      reports : AreMute n (to_all (others before) (body.Report (suspected aged.health (members_of before))))
+      reports = mute_to_all n (others before) (body.Report (suspected aged.health (members_of before))) (λ to slot sent says. says)
+
       sync : (master : Option ℕ) → AreMute n (sync_to before.stream master)
       sync None = mute_nothing n
       sync (Some master) = mute_one n master _ (λ slot sent says. says)
+
+      requests : (epoch master : Option ℕ) → AreMute n (requests_in aged epoch master)
+      requests None master = mute_nothing n
+      requests (Some epoch) None = mute_nothing n
+      requests (Some epoch) (Some master) = mute_to_all n (voters_of aged) _ (λ to slot sent says. says)
+
+      mute : AreMute n (tick before).sent
+      mute = mute_both n _ _ (mute_both n _ _ (mute_both n _ _ no_moves (mute_both n _ _ claims reports)) (sync (own_master before))) (requests (due_epoch aged) (own_master before))
 
   -- ---- any event
 
@@ -426,10 +489,12 @@ module _ {n : ℕ} {before : NodeState} (one : Keyspace) (stands : ReplicaStands
       (subst (λ (r : Response). ReplicaStep n one (answered_with words r) (recorded asked requests may.dropped)) (sym (recorded_response asked requests may.dropped))
       (recorded_replica (answered_with words asked.response) asked requests may.dropped inner))
 
-  pub event_replica : CommandsAreLocal → (ticket : ℕ) (event : Event) (outcome : Outcome) → MayCome before event outcome → ReplicaStep n one (answered (Made event (outputs_of ticket outcome))) outcome
-  event_replica local ticket Open outcome may =
+  pub event_replica : CommandsAreLocal → (ticket : ℕ) (event : Event) (outcome : Outcome) → MayCome before event outcome → IsNoEnd outcome
+      → ReplicaStep n one (answered (Made event (outputs_of ticket outcome))) outcome
+  event_replica local ticket Open outcome may not_now =
       subst (ReplicaStep n one None) (sym may.comes_to) (plain one stands None refl refl _ refl refl refl refl refl)
-  event_replica local ticket (Close conn) outcome may = closing_replica conn (is_some (connection_at before.connections conn)) outcome may
-  event_replica local ticket (Request conn words) outcome may = request_replica local conn words (may_ask (connection_at before.connections conn)) outcome may
-  event_replica local ticket (Deliver message) outcome may = subst (ReplicaStep n one None) (sym may.comes_to) (delivered_replica message may.choice)
-  event_replica local ticket Tick outcome may = subst (ReplicaStep n one None) (sym may) tick_replica
+  event_replica local ticket (Close conn) outcome may not_now = closing_replica conn (is_some (connection_at before.connections conn)) outcome may
+  event_replica local ticket (Request conn words) outcome may not_now = request_replica local conn words (may_ask (connection_at before.connections conn)) outcome may
+  event_replica local ticket (Deliver message) outcome may not_now =
+      subst (ReplicaStep n one None) (sym may.comes_to) (delivered_replica message may.choice (subst (λ (o : Outcome). IsNoEnd o) may.comes_to not_now))
+  event_replica local ticket Tick outcome may not_now = subst (ReplicaStep n one None) (sym may.comes_to) tick_replica

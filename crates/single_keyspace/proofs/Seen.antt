@@ -1,5 +1,5 @@
 -- How a slot is seen when one node changes.
-use Rattle.std.proofs.Common.{◌≡◌, ◌≢◌, ◌<◌, ℕ, zero, suc, List, [], ◌∷◌, true, false, Option, Some, None, refl, sym, ap, subst, ◌∙◌, inl, inr}
+use Rattle.std.proofs.Common.{◌≡◌, ◌≢◌, ◌<◌, ℕ, List, true, false, Option, Some, None, sym, ap, subst, ◌∙◌, inl, inr}
 use Rattle.std.proofs.lemmas.Bool.{cases_eq, cond-true, cond-false}
 use Rattle.std.specs.Prelude.{slice_get, slice_set}
 use Rattle.keyspace.specs.Keyspace.{Keyspace}
@@ -8,38 +8,19 @@ use Rattle.slot_table.specs.declared.entry.SlotEntry.{SlotEntry}
 use Rattle.one_slot.specs.View.{View, Views}
 use Rattle.one_slot.specs.Slot.{Holds}
 use Rattle.one_slot.specs.Events.{Changes, Keeps}
-use Rattle.node_step.specs.State.{NodeState, is_replica}
+use Rattle.node_step.specs.State.{NodeState}
 use Rattle.world_run.specs.Run.{Entry}
-use Rattle.single_keyspace.specs.Slots.{nowhere, values_in, view_of, view_at, views}
+use Rattle.single_keyspace.specs.Slots.{is_hidden, nowhere, values_in, view_of, view_at, views}
 use Rattle.single_keyspace.specs.Stands.{IsTrueOf}
-
-pub no_some : {A : Type 0} {o : Option A} {x : A} → o ≡ None → o ≡ Some x → ⊥
-no_some none some = cc
-
-pub same_some : {A : Type 0} {o : Option A} {x y : A} → o ≡ Some x → o ≡ Some y → x ≡ y
-same_some one two = cc
-
--- ---- nodes
-
-pub set_here : {X : Type 0} (xs : List X) (i : ℕ) (x y : X) → slice_get xs i ≡ Some x → slice_get (slice_set xs i y) i ≡ Some y
-set_here [] i x y is = absurd (no_some refl is)
-set_here (z ∷ xs) zero x y is = refl
-set_here (z ∷ xs) (suc i) x y is = set_here xs i x y is
-
-pub set_apart : {X : Type 0} (xs : List X) (i : ℕ) (y : X) (j : ℕ) → j ≢ i → slice_get (slice_set xs i y) j ≡ slice_get xs j
-set_apart [] i y j apart = refl
-set_apart (z ∷ xs) zero y zero apart = absurd (apart refl)
-set_apart (z ∷ xs) zero y (suc j) apart = refl
-set_apart (z ∷ xs) (suc i) y zero apart = refl
-set_apart (z ∷ xs) (suc i) y (suc j) apart = set_apart xs i y j (λ same. apart (ap suc same))
+pub use Rattle.world_run.proofs.Nodes.{no_some, same_some, set_here, set_apart}
 
 module _ (first : SlotEntry) (slot : ℕ) where
-  -- a master is seen, and a replica isn't
-  seen_master : (node : NodeState) → is_replica node ≡ false → view_at first slot (Some node) ≡ view_of node slot
-  seen_master node is = cond-false (is_replica node) (nowhere first) (view_of node slot) is
+  -- a node is seen, or it is hidden
+  seen_so : (node : NodeState) → is_hidden node ≡ false → view_at first slot (Some node) ≡ view_of node slot
+  seen_so node is = cond-false (is_hidden node) (nowhere first) (view_of node slot) is
 
-  seen_replica : (node : NodeState) → is_replica node ≡ true → view_at first slot (Some node) ≡ nowhere first
-  seen_replica node is = cond-true (is_replica node) (nowhere first) (view_of node slot) is
+  hidden_so : (node : NodeState) → is_hidden node ≡ true → view_at first slot (Some node) ≡ nowhere first
+  hidden_so node is = cond-true (is_hidden node) (nowhere first) (view_of node slot) is
 
   module _ (nodes : List NodeState) (n : ℕ) (before : NodeState) (was : slice_get nodes n ≡ Some before) where
     changes_to : (after : NodeState) (view : View Value) → view_at first slot (Some after) ≡ view → Changes (views first nodes slot) (views first (slice_set nodes n after) slot) n view
@@ -48,17 +29,17 @@ module _ (first : SlotEntry) (slot : ℕ) where
       there = λ other apart. ap (view_at first slot) (set_apart nodes n after other apart);
     }
 
-    pub seen_here : is_replica before ≡ false → views first nodes slot n ≡ view_of before slot
-    seen_here is = ap (view_at first slot) was ∙ seen_master before is
+    pub seen_here : is_hidden before ≡ false → views first nodes slot n ≡ view_of before slot
+    seen_here is = ap (view_at first slot) was ∙ seen_so before is
 
-    pub seen_changes : (after : NodeState) → is_replica after ≡ false → Changes (views first nodes slot) (views first (slice_set nodes n after) slot) n (view_of after slot)
-    seen_changes after is = changes_to after (view_of after slot) (seen_master after is)
+    pub seen_changes : (after : NodeState) → is_hidden after ≡ false → Changes (views first nodes slot) (views first (slice_set nodes n after) slot) n (view_of after slot)
+    seen_changes after is = changes_to after (view_of after slot) (seen_so after is)
 
-    pub hidden_here : is_replica before ≡ true → views first nodes slot n ≡ nowhere first
-    hidden_here is = ap (view_at first slot) was ∙ seen_replica before is
+    pub hidden_here : is_hidden before ≡ true → views first nodes slot n ≡ nowhere first
+    hidden_here is = ap (view_at first slot) was ∙ hidden_so before is
 
-    pub hidden_changes : (after : NodeState) → is_replica after ≡ true → Changes (views first nodes slot) (views first (slice_set nodes n after) slot) n (nowhere first)
-    hidden_changes after is = changes_to after (nowhere first) (seen_replica after is)
+    pub hidden_changes : (after : NodeState) → is_hidden after ≡ true → Changes (views first nodes slot) (views first (slice_set nodes n after) slot) n (nowhere first)
+    hidden_changes after is = changes_to after (nowhere first) (hidden_so after is)
 
 -- ---- views
 

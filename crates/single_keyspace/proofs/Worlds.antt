@@ -21,13 +21,14 @@ use Rattle.one_slot.specs.Sent.{Sent, IsSent}
 use Rattle.one_slot.specs.Sent.Sent.{Told}
 use Rattle.one_slot.specs.View.{Views}
 use Rattle.node_step.specs.Outcome.{Outcome, outputs_of, silent, stamped}
-use Rattle.node_step.specs.State.{NodeState, is_replica}
+use Rattle.node_step.specs.State.{NodeState}
 use Rattle.node_step.specs.declared.outputs.Outputs.{Outputs}
 use Rattle.world_run.specs.Executed.{Answered, KeepsAsking, MayAsk, Redirection, answered, executed, if_served, redirection_in}
 use Rattle.world_run.specs.Law.{SingleKeyspace}
+use Rattle.world_run.specs.Promotions.{ends_one_keyspace, promoted_in, until_promotion}
 use Rattle.world_run.specs.Run.{Deed, Entry, Goes, Leads, WorldStep, sent_by, sent_in}
 use Rattle.world_run.specs.Run.Deed.{Made, Skipped}
-use Rattle.single_keyspace.specs.Slots.{first_of, nowhere, values_in, view_at, view_of, views}
+use Rattle.single_keyspace.specs.Slots.{first_of, is_hidden, nowhere, values_in, view_at, view_of, views}
 use Rattle.single_keyspace.specs.Stands.{BeginsIn, NodeStands, ReplicaStands, Says, SlotStands, WorldStands, keys_in}
 use Rattle.single_keyspace.proofs.EventSteps.{event_stands}
 use Rattle.single_keyspace.proofs.Laws.{laws_at}
@@ -68,7 +69,7 @@ module _ (config : ClusterConfig) {past : List Entry} {nodes : List NodeState} {
 
       by_node : (o : Option NodeState) → slice_get nodes j ≡ o → (view_at (first_of config slot) slot o).move ≢ None → (view_at (first_of config slot) slot o).entry ≡ Some entry → slot < 16384
       by_node None none moves is = absurd (moves refl)
-      by_node (Some node) there moves is = by_role node there (is_replica node) moves is
+      by_node (Some node) there moves is = by_role node there (is_hidden node) moves is
 
   module _ (n : ℕ) (before : NodeState) (there : slice_get nodes n ≡ Some before) where
     abbrev pub slot_was : NodeStands n before → (slot : ℕ) → SlotWas past n before one slot
@@ -156,7 +157,7 @@ module _ (config : ClusterConfig) {past : List Entry} {nodes : List NodeState} {
           })
 
       -- by a replica, which is not seen
-      pub replica_after : is_replica before ≡ true → ReplicaStep n one (answered entry.deed) outcome → WorldStands config (entry ∷ past) new next
+      pub replica_after : is_hidden before ≡ true → ReplicaStep n one (answered entry.deed) outcome → WorldStands config (entry ∷ past) new next
       replica_after replica step = world_after (inr step.node) (λ slot.
           let first : SlotEntry = first_of config slot in
           let still : Keeps (stands.slots slot).top (stands.slots slot).top (views first nodes slot) (views first new slot) (values_in one slot) =
@@ -176,15 +177,17 @@ module _ (config : ClusterConfig) {past : List Entry} {nodes : List NodeState} {
     pub world : WorldStands config (entry ∷ past) new (next_of one (if_served (answered entry.deed)))
     pub replies : RepliesAs one (if_served (answered entry.deed))
 
-  pub entry_stands : CommandsAreLocal → (entry : Entry) (after : List NodeState) → WorldStep past nodes entry after → MayAsk past entry.node (answered entry.deed) → EntryStands entry after
-  entry_stands local entry after step may =
-      subst (EntryStands entry) (sym step.is) (by_deed entry.deed refl step.leads may)
+  pub entry_stands : CommandsAreLocal → (entry : Entry) (after : List NodeState) → WorldStep past nodes entry after → ends_one_keyspace (promoted_in entry.deed) ≡ false
+      → MayAsk past entry.node (answered entry.deed) → EntryStands entry after
+  entry_stands local entry after step one_still may =
+      subst (EntryStands entry) (sym step.is) (by_deed entry.deed refl step.leads one_still may)
     where
       is_at : IsAt entry.node step.before
       is_at = stands.each entry.node step.before step.was
 
-      by_deed : (deed : Deed) → entry.deed ≡ deed → Leads past entry.ticket step.before deed step.after → MayAsk past entry.node (answered deed) → EntryStands entry (slice_set nodes entry.node step.after)
-      by_deed Skipped skipped same may =
+      by_deed : (deed : Deed) → entry.deed ≡ deed → Leads past entry.ticket step.before deed step.after → ends_one_keyspace (promoted_in deed) ≡ false → MayAsk past entry.node (answered deed)
+          → EntryStands entry (slice_set nodes entry.node step.after)
+      by_deed Skipped skipped same one_still may =
           subst (λ (s : NodeState). EntryStands entry (slice_set nodes entry.node s)) (sym same) (by_role is_at)
         where
           by_role : IsAt entry.node step.before → EntryStands entry (slice_set nodes entry.node step.before)
@@ -198,7 +201,7 @@ module _ (config : ClusterConfig) {past : List Entry} {nodes : List NodeState} {
               let still : ReplicaStep entry.node one (answered entry.deed) (silent step.before) =
               subst (λ (d : Deed). ReplicaStep entry.node one (answered d) (silent step.before)) (sym skipped) (skipped_replica one replica) in
               record { world = replica_after entry.node step.before step.was entry (silent step.before) 0 (ap sent_in skipped) replica.is_one still; replies = still.replies }
-      by_deed (Made event outputs) made (happens, stepped) may =
+      by_deed (Made event outputs) made (happens, stepped) one_still may =
           subst (λ (s : NodeState). EntryStands entry (slice_set nodes entry.node s)) (sym stepped.state) (by_role is_at)
         where
           deed_is : entry.deed ≡ Made event (outputs_of entry.ticket stepped.outcome)
@@ -214,7 +217,8 @@ module _ (config : ClusterConfig) {past : List Entry} {nodes : List NodeState} {
               record { world = master_after entry.node step.before step.was entry stepped.outcome entry.ticket (ap sent_in deed_is) master stood; replies = stood.replies }
           by_role (inr replica) =
               let made_so : ReplicaStep entry.node one (answered (Made event (outputs_of entry.ticket stepped.outcome))) stepped.outcome =
-              event_replica one replica local entry.ticket event stepped.outcome stepped.may_come in
+              event_replica one replica local entry.ticket event stepped.outcome stepped.may_come
+              (ap (λ (o : Outputs). ends_one_keyspace o.promoted) (sym stepped.outputs_are) ∙ one_still) in
               let stood : ReplicaStep entry.node one (answered entry.deed) stepped.outcome = subst (λ (d : Deed). ReplicaStep entry.node one (answered d) stepped.outcome) (sym deed_is) made_so in
               record { world = replica_after entry.node step.before step.was entry stepped.outcome entry.ticket (ap sent_in deed_is) replica.is_one stood; replies = stood.replies }
 
@@ -228,13 +232,25 @@ one_more : (one : Keyspace) (answer : Option Answered) (requests : List Answered
 one_more one None requests replies rest = rest
 one_more one (Some answer) requests replies rest = ap₂ (λ r rs. r ∷ rs) replies rest
 
+-- an entry and those behind it, up to the first promotion
+entry_answers : CommandsAreLocal → (config : ClusterConfig) (past : List Entry) (nodes : List NodeState) (one : Keyspace) → WorldStands config past nodes one
+    → (entry : Entry) (entries : List Entry) (after : List NodeState) → WorldStep past nodes entry after
+    → ((later : Keyspace) → WorldStands config (entry ∷ past) after later → KeepsAsking (entry ∷ past) (until_promotion entries) → AreAnswered later (executed (until_promotion entries)))
+    → (ends : Bool) → ends_one_keyspace (promoted_in entry.deed) ≡ ends → KeepsAsking past (cond ends [] (entry ∷ until_promotion entries))
+    → AreAnswered one (executed (cond ends [] (entry ∷ until_promotion entries)))
+entry_answers local config past nodes one stands entry entries after step behind true is asking = refl
+entry_answers local config past nodes one stands entry entries after step behind false is asking =
+    let stood = entry_stands config stands local entry after step is asking.0 in
+    one_more one (if_served (answered entry.deed)) (executed (until_promotion entries)) stood.replies
+    (behind (next_of one (if_served (answered entry.deed))) stood.world asking.1)
+
 runs_answer : CommandsAreLocal → (config : ClusterConfig) (past : List Entry) (nodes : List NodeState) (one : Keyspace) → WorldStands config past nodes one
-    → (entries : List Entry) (last : List NodeState) → Goes past nodes entries last → KeepsAsking past entries → AreAnswered one (executed entries)
+    → (entries : List Entry) (last : List NodeState) → Goes past nodes entries last → KeepsAsking past (until_promotion entries) → AreAnswered one (executed (until_promotion entries))
 runs_answer local config past nodes one stands [] last goes asking = refl
 runs_answer local config past nodes one stands (entry ∷ entries) last goes asking =
-    let step = entry_stands config stands local entry goes.0 goes.1 asking.0 in
-    one_more one (if_served (answered entry.deed)) (executed entries) step.replies
-    (runs_answer local config (entry ∷ past) goes.0 (next_of one (if_served (answered entry.deed))) step.world entries last goes.2 asking.1)
+    entry_answers local config past nodes one stands entry entries goes.0 goes.1
+    (λ later stands_later asking_later. runs_answer local config (entry ∷ past) goes.0 later stands_later entries last goes.2 asking_later)
+    (ends_one_keyspace (promoted_in entry.deed)) refl asking
 
 pub law_by_locality : CommandsAreLocal → SingleKeyspace
 law_by_locality local config entries is_cluster is_run asking = runs_answer local config [] _ fin_map.empty (first_world_stands config) entries is_run.last is_run.goes asking

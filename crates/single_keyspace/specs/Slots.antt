@@ -1,5 +1,5 @@
 -- The slots of a cluster, each seen over all nodes.
-use Rattle.std.specs.Prelude.{ℕ, List, Option, Some, None, unwrap_or, length, slice_get, if◌then◌else◌}
+use Rattle.std.specs.Prelude.{ℕ, Bool, List, Option, Some, None, unwrap_or, length, slice_get, if◌then◌else◌}
 use Rattle.std.specs.FinMap as fin_map
 use Rattle.keyspace.specs.Keyspace.{Keyspace}
 use Rattle.keyspace.specs.declared.value.Value.{Value}
@@ -29,9 +29,12 @@ abbrev pub nowhere : SlotEntry → View Value
 nowhere first = record { entry = Some first; move = None; last = 0; value = λ key. None }
 
 -- a replica has no part in a slot: what it copies of its master's keys is not seen
+abbrev pub is_hidden : NodeState → Bool
+is_hidden node = is_replica node
+
 abbrev pub view_at : SlotEntry → ℕ → Option NodeState → View Value
 view_at first slot None = nowhere first
-view_at first slot (Some node) = if is_replica node then nowhere first else view_of node slot
+view_at first slot (Some node) = if is_hidden node then nowhere first else view_of node slot
 
 abbrev pub views : SlotEntry → List NodeState → ℕ → Views Value
 views first nodes slot number = view_at first slot (slice_get nodes number)

@@ -19,10 +19,10 @@ use Rattle.one_slot.specs.Sent.{Sent, IsSent}
 use Rattle.one_slot.specs.Sent.Sent.{Drained, Copy, Ack, Claimed, Told}
 use Rattle.one_slot.specs.Slot.{Holds}
 use Rattle.one_slot.specs.View.{Views}
-use Rattle.node_step.specs.State.{NodeState, is_replica}
+use Rattle.node_step.specs.State.{NodeState}
 use Rattle.world_run.specs.Executed.{Redirection, redirections}
 use Rattle.world_run.specs.Run.{Entry, sent_by}
-use Rattle.single_keyspace.specs.Slots.{values_in, views, first_of}
+use Rattle.single_keyspace.specs.Slots.{values_in, views, first_of, is_hidden}
 
 -- what a message from one node to another says of a slot
 abbrev pub Says : ℕ → ℕ → ℕ → Body → Sent Value → Type 0
@@ -54,17 +54,17 @@ pub record SlotStands (first : SlotEntry) (past : List Entry) (nodes : List Node
   pub holds : Holds top (views first nodes slot) (values_in one slot)
   pub history : IsTrueOf past top (views first nodes slot) slot
 
--- a master at its place
+-- a node at its place that is seen: a master
 pub record NodeStands (number : ℕ) (node : NodeState) : Type 0 where
   pub number_is : node.number ≡ number
   pub slots : length node.table ≡ 16384
-  pub is_master : is_replica node ≡ false
+  pub is_master : is_hidden node ≡ false
 
--- a replica at its place: no slot is its own, and none is moved by it
+-- one that is hidden, a replica: no slot is its own, and none is moved by it
 pub record ReplicaStands (number : ℕ) (node : NodeState) : Type 0 where
   pub number_is : node.number ≡ number
   pub slots : length node.table ≡ 16384
-  pub is_one : is_replica node ≡ true
+  pub is_one : is_hidden node ≡ true
   pub foreign : (slot : ℕ) → owner_at node.table slot ≢ Some number
   pub idle : (slot : ℕ) → move_of node.moves slot ≡ None
 

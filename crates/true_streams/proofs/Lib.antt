@@ -1,3 +1,3 @@
-mod Following
-mod Laws
-mod Places
+pub mod Following
+pub mod Laws
+pub mod Places

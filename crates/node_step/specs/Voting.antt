@@ -1,0 +1,66 @@
+-- Votes, and the election of a replica (Redis Cluster specification, "Replica election and promotion", "Masters reply to replica vote
+-- request").
+use Rattle.std.specs.Prelude.{ℕ, Bool, true, List, [], ◌∷◌, filter, length, is_some, Option, Some, None, if◌then◌else◌}
+use Rattle.std.specs.List.{range_with_len}
+use Rattle.bus.specs.declared.message.Body.{Body}
+use Rattle.bus.specs.declared.message.Body.TheVariants.{Grant, Request}
+use Rattle.bus.specs.declared.message.Request.{Request as Asked}
+use Rattle.election.specs.Electing.{begun, counted, elected, is_due, next_epoch}
+use Rattle.election.specs.Members.{is_voter}
+use Rattle.election.specs.Voting.{after_request, may_grant}
+use Rattle.election.specs.declared.running.Elected.{Elected}
+use Rattle.election.specs.declared.voter.VoteRequest.{VoteRequest}
+use Rattle.node_step.specs.Failing.{members_of}
+use Rattle.node_step.specs.Orders.{to_all}
+use Rattle.node_step.specs.Outcome.{Outcome, silent}
+use Rattle.node_step.specs.Promotion.{promotion}
+use Rattle.node_step.specs.State.{NodeState, own_master}
+
+-- ---- a replica asks for a vote
+
+abbrev pub request_of : ℕ → Asked → VoteRequest
+request_of from request = record { candidate = from; epoch = request.epoch; master = request.master }
+
+abbrev pub grant_to : VoteRequest → Bool → List (ℕ × Body)
+grant_to request granted = if granted then (request.candidate, Grant request.epoch) ∷ [] else []
+
+abbrev pub voting : NodeState → VoteRequest → Bool → Outcome
+voting node request granted =
+    record (silent (record node { voter = after_request node.voter request granted })) { sent = grant_to request granted }
+
+abbrev pub asked_for_vote : NodeState → VoteRequest → Outcome
+asked_for_vote node request = voting node request (may_grant node.voter (members_of node) node.health node.current_epoch request)
+
+-- ---- a node votes for this one
+
+abbrev pub if_elected : NodeState → Option Elected → Outcome
+if_elected node None = silent node
+if_elected node (Some elected) = promotion node elected.epoch (own_master node)
+
+abbrev pub voted_for : NodeState → ℕ → ℕ → Outcome
+voted_for node from epoch =
+    if_elected (record node { candidate = counted node.candidate (members_of node) from epoch }) (elected node.candidate (members_of node) from epoch)
+
+-- ---- an election begins
+
+-- its epoch, if it is due and an epoch is left
+abbrev pub due_epoch : NodeState → Option ℕ
+due_epoch node = if is_due node.candidate (members_of node) then next_epoch node.current_epoch else None
+
+-- one is left, if it is due
+abbrev pub has_due_epoch : NodeState → Bool
+has_due_epoch node = if is_due node.candidate (members_of node) then is_some (next_epoch node.current_epoch) else true
+
+abbrev pub in_election : NodeState → Option ℕ → NodeState
+in_election node None = node
+in_election node (Some epoch) = record node { current_epoch = epoch; candidate = begun node.candidate (Some epoch) }
+
+-- the voters by rising number, the node itself among them if it is one
+abbrev pub voters_of : NodeState → List ℕ
+voters_of node = filter (is_voter (members_of node)) (range_with_len 0 (length node.config.nodes))
+
+-- all of them are asked
+abbrev pub requests_in : NodeState → Option ℕ → Option ℕ → List (ℕ × Body)
+requests_in node None master = []
+requests_in node (Some epoch) None = []
+requests_in node (Some epoch) (Some master) = to_all (voters_of node) (Request (record { epoch = epoch; master = master }))

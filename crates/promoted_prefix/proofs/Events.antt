@@ -1,0 +1,389 @@
+-- What each step of a node leaves of all streams.
+use Rattle.std.proofs.Common.{◌≡◌, ◌≢◌, ◌⊎◌, ◌==◌, ℕ, Bool, true, false, cond, List, [], ◌∷◌, Option, Some, None, refl, sym, ap, subst, ◌∙◌, inl, inr, append-nil}
+use Rattle.std.proofs.lemmas.Bool.{both_ways}
+use Rattle.std.specs.Prelude.{All, is_some, ⊤}
+use Rattle.bus.specs.declared.message.Body.{Body}
+use Rattle.bus.specs.declared.message.Body.TheVariants as body
+use Rattle.bus.specs.declared.message.Message.{Message}
+use Rattle.command_table.specs.Table.{command_of}
+use Rattle.connections.specs.Connections.{connection_at}
+use Rattle.connections.specs.declared.conn.Conn.{Conn}
+use Rattle.election.specs.Electing.{counted, elected}
+use Rattle.election.specs.Failing.{suspected}
+use Rattle.election.specs.Health.{Candidate}
+use Rattle.election.specs.Voting.{may_grant}
+use Rattle.election.specs.declared.running.Elected.{Elected}
+use Rattle.election.specs.declared.voter.VoteRequest.{VoteRequest}
+use Rattle.resp2.specs.Stream.{stream_spelling}
+use Rattle.resp_values.specs.Request.{IsRequest}
+use Rattle.stream_values.specs.Follower.{Follower}
+use Rattle.stream_values.specs.Piece.{PieceVerdict, PieceView, TakesBy, verdict_on}
+use Rattle.stream_values.specs.Piece.PieceVerdict.{Gap, OtherStream, Takes}
+use Rattle.stream_values.specs.Snapshot.{restored}
+use Rattle.stream_values.specs.Stream.{StreamView, end_of, promoted as going_on, written}
+use Rattle.stream_values.specs.Syncing.{answer_to}
+use Rattle.stream_values.specs.declared.snapshot.Snapshot.{Snapshot as Whole}
+use Rattle.stream_values.specs.declared.stream_id.StreamId.{StreamId}
+use Rattle.stream_values.specs.declared.sync.Sync.{Sync}
+use Rattle.true_streams.proofs.Following.{IsOn, follows, is_on}
+use Rattle.true_streams.proofs.Laws.{stay_on}
+use Rattle.true_streams.specs.Full.{FullStreams, IsTruePiece, IsTrueSnapshot}
+use Rattle.true_streams.specs.Meeting.Arrival.{Offered, Restoring}
+use Rattle.node_step.proofs.OfSlots.{AreAll, IsOfSlots, acknowledgement_is_of_slots, all_of_both, all_of_none, all_of_one, all_to_all, arrival_is_of_slots, claim_is_of_slots, request_is_of_slots, sent_again_are}
+use Rattle.node_step.proofs.Ready.{in_election_keeps, ready_keeps, succeeded_ends}
+use Rattle.node_step.specs.Failing.{a_tick_older, members_of}
+use Rattle.node_step.specs.Messages.{Choice, MayChoose, delivered, ready, taken, written_by_message}
+use Rattle.node_step.specs.Orders.{claim_of, others}
+use Rattle.node_step.specs.Outcome.{Outcome, silent}
+use Rattle.node_step.specs.Promotion.{promotion}
+use Rattle.node_step.specs.Replicas.{MayFollow, follower_of, sync_answer, sync_to, with_follower, with_piece}
+use Rattle.node_step.specs.Requests.{request_outcome, using_up}
+use Rattle.node_step.specs.Roles.{is_just, replicas_of}
+use Rattle.node_step.specs.State.{NodeState, is_replica, own_master}
+use Rattle.node_step.specs.Step.{IsAnswering, written as written_at}
+use Rattle.node_step.specs.Streams.{MayGiveUp, Requests, recorded}
+use Rattle.node_step.specs.Ticks.{older, slots_tick, tick}
+use Rattle.node_step.specs.Voting.{due_epoch, grant_to, if_elected, request_of, requests_in, voters_of, voting}
+use Rattle.node_step.specs.declared.promotion.Promotion.{Promotion}
+use Rattle.promoted_prefix.proofs.Growing.{Grows, IsTrueSaid, longer_apart, longer_grows, longer_nothing, said_more}
+use Rattle.promoted_prefix.proofs.Rows.{Leaves, acknowledgement_leaves, arrival_leaves, claim_leaves, request_leaves}
+use Rattle.promoted_prefix.proofs.Slotless.{IsSlotless, Stays, acknowledgement_stays, arrival_stays, claim_stays, noted_stays, request_stays, same_node}
+use Rattle.promoted_prefix.proofs.Whole.{HasWhole, answer_true, promotion_apart, promotion_goes_on, promotion_grows, promotion_whole, written_piece, written_whole}
+use Rattle.promoted_prefix.specs.Law.{BeginsSo}
+use Rattle.promoted_prefix.specs.Written.{CarriesStored, begun_from, longer}
+
+-- ---- nodes
+
+-- a master has the whole of a stream of its own
+pub record IsMaster (full : FullStreams) (n : ℕ) (node : NodeState) : Type 0 where
+  pub number : node.number ≡ n
+  pub role : is_replica node ≡ false
+  pub has : HasWhole full n (follower_of node)
+
+-- a replica follows the stream that it names, and nobody has written to one of its own
+pub record IsReplica (full : FullStreams) (n : ℕ) (node : NodeState) : Type 0 where
+  pub slotless : IsSlotless n node
+  pub on : IsOn (full node.stream.held.id) (follower_of node)
+  pub fresh : (epoch : ℕ) → full (record { node = n; epoch = epoch }) ≡ []
+
+abbrev pub NodeStands : FullStreams → ℕ → NodeState → Type 0
+NodeStands full n node = IsMaster full n node ⊎ IsReplica full n node
+
+-- ---- a step
+
+-- the streams after a step that writes these requests to that stream, or promotes the node
+abbrev pub streams_by : FullStreams → StreamId → ℕ → Requests → Option Promotion → FullStreams
+streams_by full id number requests None = longer full id (stream_spelling requests)
+streams_by full id number requests (Some promotion) = begun_from full promotion (record { node = number; epoch = promotion.epoch })
+
+-- they grow, at streams of the node alone; the node has or follows one of them; what it says is true; and what a promotion begins from
+pub record StepStands (full more : FullStreams) (n : ℕ) (outcome : Outcome) : Type 0 where
+  pub grows : Grows full more
+  pub apart : (id : StreamId) → id.node ≢ n → more id ≡ full id
+  pub node : NodeStands more n outcome.state
+  pub sent : AreAll (IsTrueSaid more) outcome.sent
+  pub begins : BeginsSo full outcome.state outcome.promoted
+
+slots_true : (full : FullStreams) (said : Body) → IsOfSlots said → IsTrueSaid full said
+slots_true full (body.Copy slot number copy key value) of = tt
+slots_true full (body.Ack slot number copy) of = tt
+slots_true full (body.Drained slot number epoch) of = tt
+slots_true full (body.Claim slots replaced) of = tt
+slots_true full (body.Report suspects) of = absurd of
+slots_true full (body.Request request) of = absurd of
+slots_true full (body.Grant epoch) of = absurd of
+slots_true full (body.Sync sync) of = absurd of
+slots_true full (body.Piece piece) of = absurd of
+slots_true full (body.Snapshot snapshot) of = absurd of
+
+all_true : (full : FullStreams) (sent : List (ℕ × Body)) → AreAll IsOfSlots sent → AreAll (IsTrueSaid full) sent
+all_true full sent are to said among = slots_true full said (are to said among)
+
+same_streams : (full : FullStreams) → Grows full full
+same_streams full = record { rest = λ id. []; is = λ id. sym (append-nil (full id)) }
+
+module _ (full : FullStreams) (n : ℕ) (node : NodeState) where
+  abbrev id : StreamId
+  id = node.stream.held.id
+
+  abbrev pub StandsBy : Requests → Outcome → Type 0
+  StandsBy requests outcome = StepStands full (streams_by full id node.number requests outcome.promoted) n outcome
+
+  by_none : (requests : Requests) (outcome : Outcome) → outcome.promoted ≡ None → StepStands full (longer full id (stream_spelling requests)) n outcome → StandsBy requests outcome
+  by_none requests outcome none step = subst (λ (o : Option Promotion). StepStands full (streams_by full id node.number requests o) n outcome) (sym none) step
+
+  begins_nothing : (outcome : Outcome) → outcome.promoted ≡ None → BeginsSo full outcome.state outcome.promoted
+  begins_nothing outcome none = subst (BeginsSo full outcome.state) (sym none) tt
+
+  -- nothing is written
+  unwritten : (outcome : Outcome) → outcome.promoted ≡ None → NodeStands full n outcome.state → AreAll (IsTrueSaid full) outcome.sent → StandsBy [] outcome
+  unwritten outcome none stands sent =
+      by_none [] outcome none
+      (subst (λ (more : FullStreams). StepStands full more n outcome) (sym (longer_nothing full id))
+      (record { grows = same_streams full; apart = λ other apart. refl; node = stands; sent = sent; begins = begins_nothing outcome none }))
+
+  -- a master writes
+  master_writes : IsMaster full n node → (requests : Requests) (outcome : Outcome) → outcome.promoted ≡ None → Leaves node requests outcome → AreAll (IsTrueSaid full) outcome.sent → All IsRequest requests
+      → (dropped : ℕ) → MayGiveUp node requests dropped → StandsBy requests (recorded outcome requests dropped)
+  master_writes master [] outcome none leaves sent are dropped within =
+      unwritten outcome none
+      (inl (record {
+        number = leaves.number ∙ master.number;
+        role = leaves.role ∙ master.role;
+        has = subst (HasWhole full n) (λ i. record { stream = sym leaves.stream i; keyspace = sym leaves.keyspace i }) master.has;
+      })) sent
+  master_writes master (request ∷ requests) outcome none leaves sent are dropped within =
+      let all : Requests = request ∷ requests in
+      let bytes : List ℕ = stream_spelling all in
+      let more : FullStreams = longer full id bytes in
+      by_none all (recorded outcome all dropped) none
+      (record {
+        grows = longer_grows full id bytes;
+        apart = λ other apart. longer_apart full id bytes other (λ same. apart (same ∙ master.has.own));
+        node = inl (record {
+          number = leaves.number ∙ master.number;
+          role = leaves.role ∙ master.role;
+          has = subst (HasWhole more n) (λ i. record { stream = written dropped bytes (sym leaves.stream i); keyspace = sym leaves.keyspace i })
+              (written_whole full n (follower_of node) master.has all are dropped within);
+        });
+        sent = all_of_both (IsTrueSaid more) outcome.sent _ (λ to said among. said_more full more (longer_grows full id bytes) said (sent to said among))
+            (all_to_all (IsTrueSaid more) (replicas_of outcome.state.masters outcome.state.number) _
+            (subst (λ (stream : StreamView). IsTruePiece more (record { stream = stream.held.id; from = end_of stream.held; bytes = bytes; base = stream.former })) (sym leaves.stream)
+            (written_piece full n (follower_of node) master.has all are dropped within)));
+        begins = begins_nothing (recorded outcome all dropped) none;
+      })
+
+  replica_after : IsReplica full n node → (outcome : Outcome) → Leaves node [] outcome → IsSlotless n outcome.state → NodeStands full n outcome.state
+  replica_after replica outcome leaves slotless =
+      let same : follower_of outcome.state ≡ follower_of node = λ i. record { stream = leaves.stream i; keyspace = leaves.keyspace i } in
+      inr (record {
+        slotless = slotless;
+        on = subst (λ (f : Follower). IsOn (full f.stream.held.id) f) (sym same) replica.on;
+        fresh = replica.fresh;
+      })
+
+  -- a replica doesn't
+  replica_writes : IsReplica full n node → (requests : Requests) (outcome : Outcome) → outcome.promoted ≡ None → Leaves node requests outcome → Stays n requests outcome → AreAll (IsTrueSaid full) outcome.sent
+      → (dropped : ℕ) → StandsBy requests (recorded outcome requests dropped)
+  replica_writes replica requests outcome none leaves stays sent dropped =
+      subst (λ (r : Requests). StandsBy r (recorded outcome r dropped)) (sym stays.nothing)
+      (unwritten outcome none (replica_after replica outcome (subst (λ (r : Requests). Leaves node r outcome) stays.nothing leaves) stays.node) sent)
+
+  -- either of them
+  node_writes : NodeStands full n node → (requests : Requests) (outcome : Outcome) → outcome.promoted ≡ None → Leaves node requests outcome → (IsSlotless n node → Stays n requests outcome) → AreAll (IsTrueSaid full) outcome.sent
+      → All IsRequest requests → (dropped : ℕ) → MayGiveUp node requests dropped → StandsBy requests (recorded outcome requests dropped)
+  node_writes (inl master) requests outcome none leaves stays sent are dropped within = master_writes master requests outcome none leaves sent are dropped within
+  node_writes (inr replica) requests outcome none leaves stays sent are dropped within = replica_writes replica requests outcome none leaves (stays replica.slotless) sent dropped
+
+  -- and nothing is written
+  node_stays : NodeStands full n node → (outcome : Outcome) → outcome.promoted ≡ None → Leaves node [] outcome → (IsSlotless n node → IsSlotless n outcome.state) → AreAll (IsTrueSaid full) outcome.sent → StandsBy [] outcome
+  node_stays (inl master) outcome none leaves stays sent =
+      unwritten outcome none
+      (inl (record {
+        number = leaves.number ∙ master.number;
+        role = leaves.role ∙ master.role;
+        has = subst (HasWhole full n) (λ i. record { stream = sym leaves.stream i; keyspace = sym leaves.keyspace i }) master.has;
+      })) sent
+  node_stays (inr replica) outcome none leaves stays sent = unwritten outcome none (replica_after replica outcome leaves (stays replica.slotless)) sent
+
+  -- ---- votes
+
+  grant_said : (request : VoteRequest) (granted : Bool) → AreAll (IsTrueSaid full) (grant_to request granted)
+  grant_said request true = all_of_one (IsTrueSaid full) request.candidate (body.Grant request.epoch) tt
+  grant_said request false = all_of_none (IsTrueSaid full)
+
+  vote_stands : NodeStands full n node → (request : VoteRequest) (granted : Bool) → StandsBy [] (voting node request granted)
+  vote_stands stands request granted =
+      node_stays stands (voting node request granted) refl (record { number = refl; role = refl; stream = refl; keyspace = refl }) (λ slotless. same_node n node slotless _ refl refl refl refl) (grant_said request granted)
+
+  counting_stands : NodeStands full n node → (candidate : Candidate) → StandsBy [] (silent (record node { candidate = candidate }))
+  counting_stands stands candidate =
+      node_stays stands (silent (record node { candidate = candidate })) refl (record { number = refl; role = refl; stream = refl; keyspace = refl }) (λ slotless. same_node n node slotless _ refl refl refl refl) (all_of_none (IsTrueSaid full))
+
+  -- a replica is promoted, and a master never
+  promoted_stands : NodeStands full n node → (candidate : Candidate) (won : Elected) (master : Option ℕ) → own_master node ≡ master → StandsBy [] (promotion (record node { candidate = candidate }) won.epoch master)
+  promoted_stands stands candidate won None own = counting_stands stands candidate
+  promoted_stands (inl is_master) candidate won (Some master) own = absurd (both_ways (is_replica node) is_master.role (ap is_some own))
+  promoted_stands (inr replica) candidate won (Some master) own =
+      let counting : NodeState = record node { candidate = candidate } in
+      let outcome : Outcome = promotion counting won.epoch (Some master) in
+      let more : FullStreams = begun_from full (record { stream = id; offset = node.stream.offset; epoch = won.epoch }) (record { node = n; epoch = won.epoch }) in
+      subst (λ (number : ℕ). StepStands full (begun_from full (record { stream = id; offset = node.stream.offset; epoch = won.epoch }) (record { node = number; epoch = won.epoch })) n outcome) (sym replica.slotless.number)
+      (record {
+        grows = promotion_grows full (follower_of node) replica.on n won.epoch (replica.fresh won.epoch);
+        apart = promotion_apart full (follower_of node) replica.on n won.epoch (replica.fresh won.epoch);
+        node = inl (record {
+          number = replica.slotless.number;
+          role = ap is_some (succeeded_ends node.masters master node.number);
+          has = subst (λ (number : ℕ). HasWhole more n (record { stream = going_on (record { node = number; epoch = won.epoch }) node.stream; keyspace = node.keyspace })) (sym replica.slotless.number)
+              (promotion_whole full (follower_of node) replica.on n won.epoch (replica.fresh won.epoch));
+        });
+        sent = all_to_all (IsTrueSaid more) (others counting) _ tt;
+        begins = subst (λ (number : ℕ). BeginsSo full (record outcome.state { stream = going_on (record { node = number; epoch = won.epoch }) node.stream }) outcome.promoted) (sym replica.slotless.number)
+            (promotion_goes_on full (follower_of node) replica.on n won.epoch (replica.fresh won.epoch) _ refl refl);
+      })
+
+  voted_stands : NodeStands full n node → (candidate : Candidate) (won : Option Elected) → StandsBy [] (if_elected (record node { candidate = candidate }) won)
+  voted_stands stands candidate None = counting_stands stands candidate
+  voted_stands stands candidate (Some won) = promoted_stands stands candidate won (own_master node) refl
+
+  -- ---- streams
+
+  follower_after : IsReplica full n node → (follower : Follower) → IsOn (full follower.stream.held.id) follower → NodeStands full n (with_follower node follower)
+  follower_after replica follower on = inr (record { slotless = same_node n node replica.slotless _ refl refl refl refl; on = on; fresh = replica.fresh })
+
+  -- a replica takes a piece, if it takes it
+  piece_taken : IsReplica full n node → (piece : PieceView) → IsTruePiece full piece → (follower : Follower) → MayFollow node piece follower → (verdict : PieceVerdict) → verdict_on node.stream piece ≡ verdict
+      → NodeStands full n (with_piece node follower verdict)
+  piece_taken replica piece is_true follower may Gap is = inr replica
+  piece_taken replica piece is_true follower may OtherStream is = inr replica
+  piece_taken replica piece is_true follower may (Takes place) is =
+      follower_after replica follower
+      (is_on (full follower.stream.held.id) follower
+      (stay_on full (follower_of node) (Offered piece) follower (follows (full id) (follower_of node) replica.on) is_true
+      (inl (subst (λ (v : PieceVerdict). TakesBy v (follower_of node) piece follower) (sym is) (may place is)))))
+
+  snapshot_taken : IsReplica full n node → (snapshot : Whole) → IsTrueSnapshot full snapshot → NodeStands full n (with_follower node (restored snapshot (follower_of node)))
+  snapshot_taken replica snapshot is_true =
+      follower_after replica (restored snapshot (follower_of node))
+      (is_on _ (restored snapshot (follower_of node))
+      (stay_on full (follower_of node) (Restoring snapshot) (restored snapshot (follower_of node)) (follows (full id) (follower_of node) replica.on) is_true (inl refl)))
+
+  -- a master has no master
+  from_nobody : (master : Option ℕ) (from : ℕ) → is_some master ≡ false → is_just master from ≡ true → ⊥
+  from_nobody None from none is = both_ways false refl is
+  from_nobody (Some m) from none is = both_ways true none refl
+
+  if_followed : NodeStands full n node → (after : NodeState) (from : ℕ) (own : Bool) → is_just (own_master node) from ≡ own → (IsReplica full n node → is_just (own_master node) from ≡ true → NodeStands full n after)
+      → NodeStands full n (cond own after node)
+  if_followed stands after from false is taken = stands
+  if_followed (inl master) after from true is taken = absurd (from_nobody (own_master node) from master.role is)
+  if_followed (inr replica) after from true is taken = taken replica is
+
+  silent_stands : (after : NodeState) → NodeStands full n after → StandsBy [] (silent after)
+  silent_stands after stands = unwritten (silent after) refl stands (all_of_none (IsTrueSaid full))
+
+  synced_stands : NodeStands full n node → (from : ℕ) (sync : Sync) → StandsBy [] (cond (is_replica node) (silent node) (record (silent node) { sent = sync_answer node from (answer_to node.stream sync) }))
+  synced_stands (inl master) from sync =
+      subst (λ (b : Bool). StandsBy [] (cond b (silent node) (record (silent node) { sent = sync_answer node from (answer_to node.stream sync) }))) (sym master.role)
+      (unwritten (record (silent node) { sent = sync_answer node from (answer_to node.stream sync) }) refl (inl master) (answer_true full n node master.has from sync))
+  synced_stands (inr replica) from sync =
+      subst (λ (b : Bool). StandsBy [] (cond b (silent node) (record (silent node) { sent = sync_answer node from (answer_to node.stream sync) }))) (sym replica.slotless.role) (silent_stands node (inr replica))
+
+  -- ---- messages
+
+  taken_stands : NodeStands full n node → (from : ℕ) (choice : Choice) (said : Body) → IsTrueSaid full said → CarriesStored said → MayChoose node from said choice → All IsRequest (written_by_message node from said)
+      → StandsBy (written_by_message node from said) (taken node from choice said)
+  taken_stands stands from choice (body.Copy slot number copy key value) is_true stored may are =
+      let does = arrival_is_of_slots (λ s. ⊤) node (λ keyspace table moves current connections. tt) from slot number copy key value in
+      node_writes stands _ _ does.promoted (arrival_leaves node from slot number copy key value stored are) (λ slotless. arrival_stays n node slotless from slot number copy key value) (all_true full _ does.sent) are choice.dropped may.dropped
+  taken_stands stands from choice (body.Ack slot number copy) is_true stored may are =
+      let does = acknowledgement_is_of_slots (λ s. ⊤) node (λ keyspace table moves current connections. tt) from slot number copy in
+      node_writes stands _ _ does.promoted (acknowledgement_leaves node from slot number copy) (λ slotless. acknowledgement_stays n node slotless from slot number copy) (all_true full _ does.sent) are choice.dropped may.dropped
+  taken_stands stands from choice (body.Drained slot number epoch) is_true stored may are =
+      node_stays stands _ refl (record { number = refl; role = refl; stream = refl; keyspace = refl }) (λ slotless. noted_stays n node slotless from slot number epoch) (all_of_none (IsTrueSaid full))
+  taken_stands stands from choice (body.Claim slots replaced) is_true stored may are =
+      let does = claim_is_of_slots (λ s. ⊤) node (λ keyspace table moves current connections. tt) from slots in
+      node_writes stands _ _ does.promoted (claim_leaves node from slots) (λ slotless. claim_stays n node slotless from slots) (all_true full _ does.sent) are choice.dropped may.dropped
+  taken_stands stands from choice (body.Report suspects) is_true stored may are = silent_stands node stands
+  taken_stands stands from choice (body.Request request) is_true stored may are =
+      vote_stands stands (request_of from request) (may_grant node.voter (members_of node) node.health node.current_epoch (request_of from request))
+  taken_stands stands from choice (body.Grant epoch) is_true stored may are =
+      voted_stands stands (counted node.candidate (members_of node) from epoch) (elected node.candidate (members_of node) from epoch)
+  taken_stands stands from choice (body.Sync sync) is_true stored may are = synced_stands stands from sync
+  taken_stands stands from choice (body.Piece piece) is_true stored may are =
+      silent_stands _ (if_followed stands _ from (is_just (own_master node) from) refl (λ replica own. piece_taken replica piece is_true choice.follower (may.follower own) (verdict_on node.stream piece) refl))
+  taken_stands stands from choice (body.Snapshot snapshot) is_true stored may are =
+      silent_stands _ (if_followed stands _ from (is_just (own_master node) from) refl (λ replica own. snapshot_taken replica snapshot is_true))
+
+-- ---- events
+
+module _ (full : FullStreams) (n : ℕ) (node : NodeState) (stands : NodeStands full n node) where
+  abbrev By : Requests → Outcome → Type 0
+  By requests outcome = StandsBy full n node requests outcome
+
+  -- the node as a message is taken
+  heard_stands : (after : NodeState) → after.number ≡ node.number → after.table ≡ node.table → after.moves ≡ node.moves → is_replica after ≡ is_replica node → after.stream ≡ node.stream → after.keyspace ≡ node.keyspace → NodeStands full n after
+  heard_stands after number table moves role stream keyspace = by_role stands
+    where
+      by_role : NodeStands full n node → NodeStands full n after
+      by_role (inl master) = inl (record {
+        number = number ∙ master.number;
+        role = role ∙ master.role;
+        has = subst (HasWhole full n) (λ i. record { stream = sym stream i; keyspace = sym keyspace i }) master.has;
+      })
+      by_role (inr replica) =
+          let same : follower_of node ≡ follower_of after = λ i. record { stream = sym stream i; keyspace = sym keyspace i } in
+          inr (record {
+            slotless = same_node n node replica.slotless after number table moves role;
+            on = subst (λ (f : Follower). IsOn (full f.stream.held.id) f) same replica.on;
+            fresh = replica.fresh;
+          })
+
+  pub nothing_stands : By [] (silent node)
+  nothing_stands = silent_stands full n node node stands
+
+  -- a message that is for the node
+  pub delivered_stands : (message : Message) (choice : Choice) → IsTrueSaid full message.body → CarriesStored message.body
+      → ((message.to == node.number) ≡ true → MayChoose (ready node message) message.from message.body choice)
+      → All IsRequest (cond (message.to == node.number) (written_by_message (ready node message) message.from message.body) [])
+      → By (cond (message.to == node.number) (written_by_message (ready node message) message.from message.body) []) (delivered node message choice)
+  delivered_stands message choice is_true stored may = by_target (message.to == node.number) refl
+    where
+      by_target : (b : Bool) → (message.to == node.number) ≡ b → All IsRequest (cond b (written_by_message (ready node message) message.from message.body) [])
+          → By (cond b (written_by_message (ready node message) message.from message.body) []) (cond b (taken (ready node message) message.from choice message.body) (silent node))
+      by_target false other are = nothing_stands
+      by_target true mine are =
+          ready_keeps (λ (heard : NodeState). MayChoose heard message.from message.body choice → All IsRequest (written_by_message heard message.from message.body)
+          → By (written_by_message heard message.from message.body) (taken heard message.from choice message.body)) node message
+          (λ epoch masters health candidate role election may_choose keep.
+          let heard : NodeState = record node { current_epoch = epoch; masters = masters; health = health; candidate = candidate } in
+          taken_stands full n heard (heard_stands heard refl refl refl role refl refl) message.from choice message.body is_true stored may_choose keep)
+          (may mine) are
+
+  -- a tick
+  pub tick_stands : By [] (tick node)
+  tick_stands =
+      in_election_keeps (λ (s : NodeState). By [] (record (slots_tick node) { sent = (tick node).sent; state = s })) aged (due_epoch aged) (λ current candidate.
+      let after : NodeState = record aged { current_epoch = current; candidate = candidate } in
+      unwritten full n node (record (slots_tick node) { sent = (tick node).sent; state = after }) refl (heard_stands after refl refl refl refl refl refl) said)
+    where
+      aged : NodeState
+      aged = a_tick_older (older node)
+
+      sync : (master : Option ℕ) → AreAll (IsTrueSaid full) (sync_to node.stream master)
+      sync None = all_of_none (IsTrueSaid full)
+      sync (Some master) = all_of_one (IsTrueSaid full) master _ tt
+
+      requests : (epoch master : Option ℕ) → AreAll (IsTrueSaid full) (requests_in aged epoch master)
+      requests None master = all_of_none (IsTrueSaid full)
+      requests (Some epoch) None = all_of_none (IsTrueSaid full)
+      requests (Some epoch) (Some master) = all_to_all (IsTrueSaid full) (voters_of aged) _ tt
+
+      said : AreAll (IsTrueSaid full) (tick node).sent
+      said =
+          all_of_both (IsTrueSaid full) _ _
+          (all_of_both (IsTrueSaid full) _ _
+          (all_of_both (IsTrueSaid full) _ _ (all_true full _ (sent_again_are node))
+          (all_of_both (IsTrueSaid full) _ _ (all_to_all (IsTrueSaid full) (others node) (body.Claim (claim_of node) node.replaced) tt)
+          (all_to_all (IsTrueSaid full) (others node) (body.Report (suspected aged.health (members_of node))) tt)))
+          (sync (own_master node)))
+          (requests (due_epoch aged) (own_master node))
+
+  -- a request
+  pub answering_stands : (conn : Conn) (words : List (List ℕ)) (outcome : Outcome) → IsAnswering node conn words outcome → All IsRequest (written_at node conn words) → By (written_at node conn words) outcome
+  answering_stands conn words outcome answering are =
+      let asked : Outcome = request_outcome node conn (command_of words) in
+      let leaves = request_leaves words (using_up node conn) conn (connection_at node.connections conn) (command_of words) refl in
+      let does = request_is_of_slots (λ s. ⊤) (using_up node conn) (λ keyspace table moves current connections. tt) conn (connection_at node.connections conn) (command_of words) in
+      subst (By (written_at node conn words)) (sym answering.comes_to)
+      (node_writes full n node stands (written_at node conn words) asked does.promoted
+      (record { number = leaves.number; role = leaves.role; stream = leaves.stream; keyspace = leaves.keyspace })
+      (λ slotless. request_stays n (using_up node conn) (same_node n node slotless (using_up node conn) refl refl refl refl) words conn (connection_at node.connections conn) (command_of words) refl)
+      (all_true full asked.sent does.sent) are answering.dropped answering.may_drop)
+
+  pub with_connections : (outcome : Outcome) → outcome.promoted ≡ None → outcome.sent ≡ [] → outcome.state ≡ record node { connections = outcome.state.connections } → By [] outcome
+  with_connections outcome none said state =
+      unwritten full n node outcome none
+      (subst (NodeStands full n) (sym state) (heard_stands (record node { connections = outcome.state.connections }) refl refl refl refl refl refl))
+      (subst (AreAll (IsTrueSaid full)) (sym said) (all_of_none (IsTrueSaid full)))

@@ -1,0 +1,9 @@
+pub mod Growing
+pub mod Whole
+pub mod Writes
+pub mod Deletions
+pub mod Rows
+pub mod Keyed
+pub mod Slotless
+pub mod Events
+pub mod Worlds

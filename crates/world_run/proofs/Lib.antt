@@ -1,0 +1,4 @@
+pub mod Lists
+pub mod Nodes
+pub mod Owners
+pub mod Behind
