@@ -35,6 +35,13 @@ impl Suspects {
         self.suspected.as_slice()
     }
 
+    /// The same row, with a place for each node that there may be.
+    pub fn row(&self) -> [bool; 16]
+        ensures { result ≡ self.now }
+    {
+        self.suspected
+    }
+
     /// Whether the node is suspected.
     pub fn has(&self, node: NodeNo) -> bool
         ensures { result ≡ slice_index_or self.now node false }
