@@ -22,7 +22,7 @@ use Rattle.resp_values.specs.declared.reply.Reply.{Reply}
 use Rattle.connections.specs.Connections.{waiting}
 use Rattle.connections.specs.Waiting.{is_for}
 use Rattle.node_parts.specs.Becomes.{freed}
-use Rattle.node_parts.specs.Drafts.{Drafts, at_epoch}
+use Rattle.node_parts.specs.Drafts.{Drafts}
 use Rattle.move_rows.specs.LastKeys.{drained_by_ack, is_last}
 use Rattle.node_parts.specs.declared.draft.Draft.{Draft}
 use Rattle.node_step.specs.Copies.{acknowledged, acknowledgement, without_key}
@@ -104,34 +104,33 @@ said_of_last slot m key words =
     ∙ ap (λ b. cond b words []) (there_in_slot (count_in m slot == 1) (is_in_slot slot key) (fin_map.get m key))
 
 -- what an acknowledgement says of the slot
-said : (epoch slot number copy : ℕ) (old : NodeState) (key : List ℕ)
-    → drained_since old.keyspace (without_key (at_epoch old epoch) slot number copy key) slot ≡ drained_by_ack old slot key
-said epoch slot number copy old key =
+said : (slot number copy : ℕ) (old : NodeState) (key : List ℕ)
+    → drained_since old.keyspace (without_key old slot number copy key) slot ≡ drained_by_ack old slot key
+said slot number copy old key =
     ap (λ words. cond (has_keys old.keyspace slot) (cond (has_keys (fin_map.remove old.keyspace key) slot) [] words) []) (drained-after_ack slot (slot_epoch old slot) old.moves)
     ∙ said_of_last slot old.keyspace key (drained old slot)
 
 -- ---- drafts
 
 -- where no copy is outstanding
-pub nothing_acknowledged : (old : NodeState) (epoch from slot number copy : ℕ) (draft : Draft) (lent : Option (Bor (List ℕ))) → lent ≡ None
-    → option_copied lent ≡ acknowledged_key (move_of old.moves slot) from number copy → Drafts old (silent (at_epoch old epoch)) draft
-    → Drafts old (acknowledgement (at_epoch old epoch) from slot number copy) draft
-nothing_acknowledged old epoch from slot number copy draft lent none is drafts =
-    subst (λ found. Drafts old (acknowledged (at_epoch old epoch) slot number copy found) draft) (ap option_copied (sym none) ∙ is) drafts
+pub nothing_acknowledged : (old : NodeState) (from slot number copy : ℕ) (draft : Draft) (lent : Option (Bor (List ℕ))) → lent ≡ None
+    → option_copied lent ≡ acknowledged_key (move_of old.moves slot) from number copy → Drafts old (silent old) draft
+    → Drafts old (acknowledgement old from slot number copy) draft
+nothing_acknowledged old from slot number copy draft lent none is drafts =
+    subst (λ found. Drafts old (acknowledged old slot number copy found) draft) (ap option_copied (sym none) ∙ is) drafts
 
 -- and where one is
-pub acknowledges : (old : NodeState) (epoch from slot number copy : ℕ) (draft : Draft) (lent : Option (Bor (List ℕ))) (key : Bor (List ℕ)) (reply : Reply) (released : List Release) (bodies : List (ℕ × Body))
+pub acknowledges : (old : NodeState) (from slot number copy : ℕ) (draft : Draft) (lent : Option (Bor (List ℕ))) (key : Bor (List ℕ)) (reply : Reply) (released : List Release) (bodies : List (ℕ × Body))
     → lent ≡ Some key → option_copied lent ≡ acknowledged_key (move_of old.moves slot) from number copy → bodies ≡ drained_by_ack old slot key.now
     → released ≡ map (release reply) (waiting old.connections (is_for slot number copy)) → reply ≡ done
-    → ((after : NodeState) → after ≡ freed (at_epoch old epoch) slot number copy (frozen_key (move_of old.moves slot)) → Drafts old (record (silent after) { released = released; sent = bodies }) draft)
-    → Drafts old (acknowledgement (at_epoch old epoch) from slot number copy) draft
-acknowledges old epoch from slot number copy draft lent key reply released bodies some is words gives replies drafts =
-    let node = at_epoch old epoch in
+    → ((after : NodeState) → after ≡ freed old slot number copy (frozen_key (move_of old.moves slot)) → Drafts old (record (silent after) { released = released; sent = bodies }) draft)
+    → Drafts old (acknowledgement old from slot number copy) draft
+acknowledges old from slot number copy draft lent key reply released bodies some is words gives replies drafts =
     let found : Some key.now ≡ acknowledged_key (move_of old.moves slot) from number copy = ap option_copied (sym some) ∙ is in
     let named : released ≡ map (release done) (waiting old.connections (is_for slot number copy)) = gives ∙ ap (λ r. map (release r) (waiting old.connections (is_for slot number copy))) replies in
-    let after = without_key node slot number copy key.now in
-    subst (λ key. Drafts old (acknowledged node slot number copy key) draft) found
+    let after = without_key old slot number copy key.now in
+    subst (λ key. Drafts old (acknowledged old slot number copy key) draft) found
     (subst (λ (sent : List (ℕ × Body)). Drafts old (record (silent after) { released = map (release done) (waiting old.connections (is_for slot number copy)); sent = sent }) draft)
-    (words ∙ sym (said epoch slot number copy old key.now))
+    (words ∙ sym (said slot number copy old key.now))
     (subst (λ (r : List Release). Drafts old (record (silent after) { released = r; sent = bodies }) draft) named
-    (drafts after (ap (freed node slot number copy) (sym (acknowledged_is_frozen (move_of old.moves slot) from number copy key.now (sym found)))))))
+    (drafts after (ap (freed old slot number copy) (sym (acknowledged_is_frozen (move_of old.moves slot) from number copy key.now (sym found)))))))

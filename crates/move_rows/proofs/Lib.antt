@@ -2,7 +2,6 @@ mod Acknowledging
 mod ArrivalLemmas
 mod OrderLemmas
 mod TakenSlots
-mod TickLemmas
 pub mod Obeying
 pub mod Positions
 pub mod SendingLemmas

@@ -40,22 +40,6 @@ use Rattle.node_step.specs.Slots.{drained_by, has_keys, slot_epoch}
 use Rattle.node_step.specs.State.{NodeState, standing}
 use Rattle.node_step.specs.declared.response.Why.TheVariants.{Ends, Imports, Migrates}
 
--- the nodes below a bound, without this one
-abbrev pub others_below : ℕ → ℕ → List ℕ
-others_below number bound = filter (λ other. not (other == number)) (range_with_len 0 bound)
-
-both_kept : (b : Bool) (place : ℕ) (body : Body) → to_all (cond b (place ∷ []) []) body ≡ cond b ((place, body) ∷ []) []
-both_kept true place body = refl
-both_kept false place body = refl
-
--- one more node gets the message, if it is another one
-pub to_all-more : (number place : ℕ) (body : Body)
-    → to_all (others_below number (place + 1)) body ≡ to_all (others_below number place) body ++ cond (not (place == number)) ((place, body) ∷ []) []
-to_all-more number place body =
-    ap (λ numbers. to_all numbers body) (filter_more_range (λ other. not (other == number)) 0 place place (place + 1) (omega arith) refl)
-    ∙ map-append (λ (other : ℕ). (other, body)) (others_below number place) (cond (not (place == number)) (place ∷ []) [])
-    ∙ ap (λ bodies. to_all (others_below number place) body ++ bodies) (both_kept (not (place == number)) place body)
-
 -- a slot that begins to leave goes to the node of the order
 pub begins_drained : (node : NodeState) (slot to number : ℕ)
     → drained_at_start (with_moves node (after_migrate node.moves slot (migrate.Begins to number))) slot (migrate.Begins to number)
@@ -64,25 +48,6 @@ begins_drained node slot to number =
     ap (λ (move : Option Move). cond (has_keys node.keyspace slot) [] (drained_by slot (slot_epoch node slot) move))
     (map.get-insert nat_cmp_total node.moves.running slot (Leaves to number 0 None) slot
     ∙ ap (λ b. cond b (Some (Leaves to number 0 None)) (map.get node.moves.running slot)) (unsigned_tied slot slot ∙ eq-eqb slot slot refl))
-
--- the message goes to a node that is another one
-pub to_all-push : (number mine place to : ℕ) (body sent : Body) (before after : List (ℕ × Body)) → to ≡ place → mine ≡ number → sent ≡ body → not (to == mine) ≡ true
-    → before ≡ to_all (others_below number place) body → after ≡ before ++ ((to, sent) ∷ []) → after ≡ to_all (others_below number (place + 1)) body
-to_all-push number mine place to body sent before after at own same other so_far more =
-    let test : not (place == number) ≡ true = ap (λ t. not (t == number)) (sym at) ∙ ap (λ m. not (to == m)) (sym own) ∙ other in
-    more ∙ ap (λ bodies. bodies ++ ((to, sent) ∷ [])) so_far
-    ∙ ap (λ (b : Body). to_all (others_below number place) body ++ ((to, b) ∷ [])) same
-    ∙ ap (λ t. to_all (others_below number place) body ++ ((t, body) ∷ [])) at
-    ∙ sym (to_all-more number place body ∙ ap (λ b. to_all (others_below number place) body ++ cond b ((place, body) ∷ []) []) test)
-
--- and not to this one
-pub to_all-skip : (number mine place to : ℕ) (body : Body) (before after : List (ℕ × Body)) → to ≡ place → mine ≡ number → not (to == mine) ≡ false
-    → before ≡ to_all (others_below number place) body → after ≡ before → after ≡ to_all (others_below number (place + 1)) body
-to_all-skip number mine place to body before after at own same so_far more =
-    let test : not (place == number) ≡ false = ap (λ t. not (t == number)) (sym at) ∙ ap (λ m. not (to == m)) (sym own) ∙ same in
-    more ∙ so_far
-    ∙ sym (to_all-more number place body ∙ ap (λ b. to_all (others_below number place) body ++ cond b ((place, body) ∷ []) []) test
-    ∙ append-nil (to_all (others_below number place) body))
 
 -- ---- a move begins where the slot has none
 

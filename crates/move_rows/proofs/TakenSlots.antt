@@ -20,7 +20,7 @@ use Rattle.slot_table.specs.declared.entry.SlotEntry.{SlotEntry}
 use Rattle.slot_table.specs.declared.runs.Run.{Run}
 use Rattle.bus.specs.declared.message.Body.{Body}
 use Rattle.node_parts.specs.Becomes.{losing}
-use Rattle.node_parts.specs.Drafts.{Drafts, at_epoch}
+use Rattle.node_parts.specs.Drafts.{Drafts}
 use Rattle.node_parts.specs.declared.draft.Draft.{Draft}
 use Rattle.node_step.specs.Claiming.{claim, claimed_by, is_lost, is_owner}
 use Rattle.node_step.specs.Outcome.{Outcome, error, release, silent}
@@ -118,28 +118,26 @@ losing_by node table reply lost = record (silent (record node {
 }
 
 -- a claim of another node is taken by a draft that loses the slots that it takes
-pub claim_drafted : (old : NodeState) (epoch from : ℕ) (runs : List (Run ℕ)) (claimed : List (Run ℕ)) (lost first : List ℕ) (reply : Reply) (released : List Release) (bodies : List (ℕ × Body)) (draft : Draft) → (from == old.number) ≡ false
+pub claim_drafted : (old : NodeState) (from : ℕ) (runs : List (Run ℕ)) (claimed : List (Run ℕ)) (lost first : List ℕ) (reply : Reply) (released : List Release) (bodies : List (ℕ × Body)) (draft : Draft) → (from == old.number) ≡ false
     → ((slot : ℕ) → list_any (λ other. other == slot) lost ≡ is_lost old (merged old.table runs from) slot) → first ≡ lost → reply ≡ error line.NotAcknowledged
     → released ≡ map (release reply) (waiting old.connections (λ wait. list_any (λ other. other == wait.slot) first))
-    → claimed ≡ runs → bodies ≡ [] → Drafts old (record (silent (losing (at_epoch old epoch) claimed from lost)) { released = released; sent = bodies }) draft
-    → Drafts old (claim (at_epoch old epoch) from runs) draft
-claim_drafted old epoch from runs claimed lost first reply released bodies draft other are same replies gives copied none drafts =
-    let node = at_epoch old epoch in
+    → claimed ≡ runs → bodies ≡ [] → Drafts old (record (silent (losing old claimed from lost)) { released = released; sent = bodies }) draft
+    → Drafts old (claim old from runs) draft
+claim_drafted old from runs claimed lost first reply released bodies draft other are same replies gives copied none drafts =
     let table = merged old.table runs from in
     let named : released ≡ map (release (error line.NotAcknowledged)) (waiting old.connections (λ wait. list_any (λ s. s == wait.slot) lost)) =
     gives ∙ ap (λ slots. map (release reply) (waiting old.connections (λ wait. list_any (λ s. s == wait.slot) slots))) same
     ∙ ap (λ r. map (release r) (waiting old.connections (λ wait. list_any (λ s. s == wait.slot) lost))) replies in
-    let outcome : losing_by node table (error line.NotAcknowledged) (λ slot. list_any (λ s. s == slot) lost) ≡ claim node from runs =
-    ap (losing_by node table (error line.NotAcknowledged)) (λ j slot. are slot j)
-    ∙ sym (cond-false (from == node.number) (silent node) (claimed_by node table) other) in
+    let outcome : losing_by old table (error line.NotAcknowledged) (λ slot. list_any (λ s. s == slot) lost) ≡ claim old from runs =
+    ap (losing_by old table (error line.NotAcknowledged)) (λ j slot. are slot j)
+    ∙ sym (cond-false (from == old.number) (silent old) (claimed_by old table) other) in
     subst (λ (o : Outcome). Drafts old o draft) outcome
-    (subst (λ (r : List Release). Drafts old (record (silent (losing node runs from lost)) { released = r; sent = [] }) draft) named
-    (subst (λ (b : List (ℕ × Body)). Drafts old (record (silent (losing node runs from lost)) { released = released; sent = b }) draft) none
-    (subst (λ (c : List (Run ℕ)). Drafts old (record (silent (losing node c from lost)) { released = released; sent = bodies }) draft) copied drafts)))
+    (subst (λ (r : List Release). Drafts old (record (silent (losing old runs from lost)) { released = r; sent = [] }) draft) named
+    (subst (λ (b : List (ℕ × Body)). Drafts old (record (silent (losing old runs from lost)) { released = released; sent = b }) draft) none
+    (subst (λ (c : List (Run ℕ)). Drafts old (record (silent (losing old c from lost)) { released = released; sent = bodies }) draft) copied drafts)))
 
 -- a node's own claim tells it nothing
-pub own_claim_drafted : (old : NodeState) (epoch from : ℕ) (runs : List (Run ℕ)) (draft : Draft) → (from == old.number) ≡ true → Drafts old (silent (at_epoch old epoch)) draft
-    → Drafts old (claim (at_epoch old epoch) from runs) draft
-own_claim_drafted old epoch from runs draft own drafts =
-    let node = at_epoch old epoch in
-    subst (λ (o : Outcome). Drafts old o draft) (sym (cond-true (from == node.number) (silent node) (claimed_by node (merged node.table runs from)) own)) drafts
+pub own_claim_drafted : (old : NodeState) (from : ℕ) (runs : List (Run ℕ)) (draft : Draft) → (from == old.number) ≡ true → Drafts old (silent old) draft
+    → Drafts old (claim old from runs) draft
+own_claim_drafted old from runs draft own drafts =
+    subst (λ (o : Outcome). Drafts old o draft) (sym (cond-true (from == old.number) (silent old) (claimed_by old (merged old.table runs from)) own)) drafts

@@ -2,7 +2,7 @@
 ghost use Rattle.std.specs.Prelude.{◌≡◌, ◌≢◌, ◌==◌, ℕ, IfOk, OnOk};
 ghost use Rattle.std.specs.List.{list_any};
 ghost use Rattle.slot_table.specs.Claims.{merged};
-ghost use Rattle.node_parts.specs.Drafts.{Drafts, HasNothing, at_epoch};
+ghost use Rattle.node_parts.specs.Drafts.{Drafts, HasNothing};
 ghost use Rattle.node_step.specs.Claiming.{claim, is_lost};
 
 use command_table::ErrorLine;
@@ -11,23 +11,22 @@ use key_slot::Slot;
 use node_parts::{Change, Draft, NodeParts};
 use repl_stream::Stream;
 use slot_store::{SlotKeys, SlotParts};
-use slot_table::{Claim, Epoch, NodeNo};
+use slot_table::{Claim, NodeNo};
 use std::alloc::AllocError;
 
 /// Learns the slots of another node. Those that it takes from this one leave with their keys.
 #[inline(never)]
 pub fn take_claim<S: SlotParts + SlotKeys, T: Stream>(
     node: &NodeParts<S, T>,
-    epoch: Epoch,
     from: NodeNo,
     taken: &Claim,
     draft: &mut Draft,
 ) -> Result<(), AllocError>
     requires { HasNothing node.now draft.old }
-    ensures { OnOk result (Drafts node.now (claim (at_epoch node.now epoch) from taken.now) draft.new) }
+    ensures { OnOk result (Drafts node.now (claim node.now from taken.now) draft.new) }
 {
     if from == node.number {
-        node.write_change(draft, epoch, Change::Nothing);
+        node.write_change(draft, Change::Nothing);
         return Ok(());
     }
     let lost = lost_to(node, from, taken)?;
@@ -36,7 +35,7 @@ pub fn take_claim<S: SlotParts + SlotKeys, T: Stream>(
     let claim = taken.clone()?;
     let bodies = Vec::new(node.alloc);
     let change = Change::Loses { from, claim, lost };
-    node.write_releases(draft, released, bodies, epoch, change);
+    node.write_releases(draft, released, bodies, change);
     Ok(())
 }
 

@@ -1,6 +1,6 @@
 //! Copies of keys and their acknowledgements, as they arrive.
 ghost use Rattle.std.specs.Prelude.{◌≡◌, IfOk, OnOk};
-ghost use Rattle.node_parts.specs.Drafts.{Drafts, HasNothing, at_epoch, bodies_of};
+ghost use Rattle.node_parts.specs.Drafts.{Drafts, HasNothing, bodies_of};
 ghost use Rattle.move_rows.specs.LastKeys.{drained_by_ack, is_last};
 ghost use Rattle.node_step.specs.Copies.{ack_by, acknowledgement, arrival, noted};
 
@@ -33,7 +33,6 @@ pub struct CopyName {
 /// Installs a copy that arrives, or only acknowledges it again.
 pub fn take_copy<S: SlotParts + SlotKeys, T: Stream>(
     node: &NodeParts<S, T>,
-    epoch: Epoch,
     from: NodeNo,
     name: CopyName,
     key: &ByteString,
@@ -41,7 +40,7 @@ pub fn take_copy<S: SlotParts + SlotKeys, T: Stream>(
     draft: &mut Draft,
 ) -> Result<(), AllocError>
     requires { HasNothing node.now draft.old }
-    ensures { OnOk result (Drafts node.now (arrival (at_epoch node.now epoch) from name.slot name.number name.copy key.now value.now) draft.new) }
+    ensures { OnOk result (Drafts node.now (arrival node.now from name.slot name.number name.copy key.now value.now) draft.new) }
 {
     let CopyName { slot, number, copy } = name;
     let fits = value_fits(key, value);
@@ -51,15 +50,15 @@ pub fn take_copy<S: SlotParts + SlotKeys, T: Stream>(
     match verdict {
         ArrivalVerdict::Installs => {
             let change = installation(slot, copy, key, value)?;
-            node.write_releases(draft, Releases::new(), bodies, epoch, change);
+            node.write_releases(draft, Releases::new(), bodies, change);
             Ok(())
         }
         ArrivalVerdict::Repeats => {
-            node.write_releases(draft, Releases::new(), bodies, epoch, Change::Nothing);
+            node.write_releases(draft, Releases::new(), bodies, Change::Nothing);
             Ok(())
         }
         ArrivalVerdict::Ignored => {
-            node.write_releases(draft, Releases::new(), bodies, epoch, Change::Nothing);
+            node.write_releases(draft, Releases::new(), bodies, Change::Nothing);
             Ok(())
         }
     }
@@ -68,23 +67,22 @@ pub fn take_copy<S: SlotParts + SlotKeys, T: Stream>(
 /// Deletes the key whose copy was installed, and answers those who wait for that.
 pub fn take_ack<S: SlotParts + SlotKeys, T: Stream>(
     node: &NodeParts<S, T>,
-    epoch: Epoch,
     from: NodeNo,
     name: CopyName,
     draft: &mut Draft,
 ) -> Result<(), AllocError>
     requires { HasNothing node.now draft.old }
-    ensures { OnOk result (Drafts node.now (acknowledgement (at_epoch node.now epoch) from name.slot name.number name.copy) draft.new) }
+    ensures { OnOk result (Drafts node.now (acknowledgement node.now from name.slot name.number name.copy) draft.new) }
 {
     let CopyName { slot, number, copy } = name;
     let Some(key) = acknowledged_key(node.moves.get(slot), from, number, copy) else {
-        node.write_change(draft, epoch, Change::Nothing);
+        node.write_change(draft, Change::Nothing);
         return Ok(());
     };
     let bodies = listed(node.alloc, drained_by_ack(node, slot, key))?;
     let released = node.releases(&Waiting::For { slot, number, copy }, &done())?;
     let change = Change::Frees { slot, number, copy };
-    node.write_releases(draft, released, bodies, epoch, change);
+    node.write_releases(draft, released, bodies, change);
     Ok(())
 }
 
@@ -118,7 +116,6 @@ fn is_last<S: SlotParts + SlotKeys, T: Stream>(
 /// Notes that a slot is drained that comes to this node.
 pub fn take_drained<S: SlotParts + SlotKeys, T: Stream>(
     node: &NodeParts<S, T>,
-    epoch: Epoch,
     from: NodeNo,
     slot: Slot,
     number: MoveNo,
@@ -126,7 +123,7 @@ pub fn take_drained<S: SlotParts + SlotKeys, T: Stream>(
     draft: &mut Draft,
 )
     requires { HasNothing node.now draft.old }
-    ensures { Drafts node.now (noted (at_epoch node.now epoch) from slot number drained) draft.new }
+    ensures { Drafts node.now (noted node.now from slot number drained) draft.new }
 {
     let change = Change::Notes {
         from,
@@ -134,7 +131,7 @@ pub fn take_drained<S: SlotParts + SlotKeys, T: Stream>(
         number,
         drained,
     };
-    node.write_change(draft, epoch, change);
+    node.write_change(draft, change);
 }
 
 // The change that installs a copy.

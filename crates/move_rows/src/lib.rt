@@ -13,4 +13,4 @@ pub use copies::{CopyName, take_ack, take_copy, take_drained};
 pub use migrations::migrate_key;
 pub use nodes::{node_at, node_with_id};
 pub use orders::{done, obey};
-pub use ticks::tick;
+pub use ticks::sent_again;

@@ -3,7 +3,7 @@ ghost use Rattle.std.specs.Prelude.{◌≡◌, ◌<◌, ◌^◌, ◌∷◌, [], 
 ghost use Rattle.node_parts.specs.Drafts.{Drafts, HasNothing, bodies_of};
 ghost use Rattle.move_rows.specs.Orders.{Gives, Obeys, import_change, migrate_change};
 ghost use Rattle.step_fault.specs.declared.fault.StepFault.TheVariants.{Exhausted};
-ghost use Rattle.node_step.specs.Orders.{done, drained_at_start, ending_reply, ending_verdict, import_reply, importing, migrate_reply, migrating, new_epoch, others, to_all, with_moves};
+ghost use Rattle.node_step.specs.Orders.{done, drained_at_start, ending_reply, ending_verdict, import_reply, importing, migrate_reply, migrating, new_epoch, with_moves};
 ghost use Rattle.node_step.specs.Requests.{has_epoch, has_order_number, using_up};
 ghost use Rattle.node_step.specs.Slots.{has_keys, slot_epoch};
 ghost use Rattle.node_step.specs.State.{standing};
@@ -206,7 +206,7 @@ fn next_epoch<S: SlotParts + SlotKeys, T: Stream>(
 ) -> Option<Epoch>
     ensures { SomeIff result (new_epoch node.now slot drained < 2 ^ 64) (new_epoch node.now slot drained) }
 {
-    epoch_after_import(node.current_epoch, drained, node.slot_epoch(slot))
+    epoch_after_import(node.election.current_epoch, drained, node.slot_epoch(slot))
 }
 
 // The slot is the node's own in the new epoch, and claimed.
@@ -222,8 +222,9 @@ fn end_of_import<S: SlotParts + SlotKeys, T: Stream>(
     requires nothing { HasNothing node.now draft.old }
     ensures { OnOk result (Gives node.now conn slot (NodeVerdict.Ends drained) draft.new) }
 {
-    let claim = claim_with(node, slot, epoch)?;
-    let bodies = to_all(node, &claim)?;
+    let claim = Body::Claim(claim_with(node, slot, epoch)?, node.election.replaced);
+    let mut bodies = Vec::new(node.alloc);
+    node.append_to_others(&claim, &mut bodies)?;
     let why = Why::Ends(NodeVerdict::Ends { drained });
     let change = Change::Ends { conn, slot, epoch };
     node.write_reply_in(draft, why, done(), bodies, epoch, change);
@@ -242,23 +243,6 @@ fn claim_with<S: SlotParts + SlotKeys, T: Stream>(
     let mut table = node.table.clone()?;
     table.set(slot, Some(SlotEntry { epoch, owner }));
     table.claim_of(node.alloc, owner)
-}
-
-// The claim for each other node, by rising number.
-fn to_all<S: SlotParts + SlotKeys, T: Stream>(
-    node: &NodeParts<S, T>,
-    claim: &Claim,
-) -> Result<Vec<(NodeNo, Body)>, AllocError>
-    ensures { IfOk result (λ bodies. bodies.items ≡ to_all (others node.now) (Body.Claim claim.now node.now.replaced)) }
-{
-    let mut bodies = Vec::new(node.alloc);
-    for place in 0..node.config.nodes().len() {
-        let to = NodeNo::new(place as u8).unwrap();
-        if to != node.number {
-            bodies.push((to, Body::Claim(claim.clone()?, None)))?;
-        }
-    }
-    Ok(bodies)
 }
 
 // What an order to import a slot changes.

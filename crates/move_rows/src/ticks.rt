@@ -1,67 +1,23 @@
-//! Ticks of a node's time: waits end, and what is not acknowledged is sent again.
-ghost use Rattle.std.specs.Prelude.{◌≡◌, ◌++◌, Err, IfOk, OnOk};
+//! What is sent again at a tick, since it isn't acknowledged.
+ghost use Rattle.std.specs.Prelude.{◌≡◌, IfOk};
 ghost use Rattle.std.specs.List.{flat_map};
-ghost use Rattle.node_parts.specs.Drafts.{Drafts, HasNothing, bodies_of};
-ghost use Rattle.node_step.specs.Numbers.{NoNumberLeft};
-ghost use Rattle.node_step.specs.Replicas.{sync_to};
-ghost use Rattle.node_step.specs.State.{own_master};
-ghost use Rattle.node_step.specs.Ticks.{sent_again, tick};
-ghost use Rattle.node_step.specs.declared.event.Event.TheVariants.{Tick};
+ghost use Rattle.node_parts.specs.Drafts.{bodies_of};
+ghost use Rattle.node_step.specs.Ticks.{sent_again};
 ghost use Rattle.slot_state.specs.Moves.{running_moves};
-ghost use Rattle.step_fault.specs.declared.fault.StepFault.TheVariants.{Exhausted};
 
 use crate::migrations::copy_of;
 use bus::Body;
-use command_table::ErrorLine;
-use connections::Waiting;
 use key_slot::Slot;
 use migrate::{Resend, resent};
-use node_parts::{Change, Draft, NodeParts};
-use node_step::StepFault;
+use node_parts::NodeParts;
 use repl_stream::Stream;
 use slot_state::Move;
 use slot_store::{SlotKeys, SlotParts};
 use slot_table::NodeNo;
 use std::alloc::AllocError;
-use stream_values::Sync;
 
-/// A tick: connections that waited as long as they wanted get their reply, copies are sent again, and a replica tells its
-/// master how far it is.
-pub fn tick<S: SlotParts + SlotKeys, T: Stream>(
-    node: &NodeParts<S, T>,
-    draft: &mut Draft,
-) -> Result<(), StepFault>
-    requires { HasNothing node.now draft.old }
-    ensures draft { OnOk result (Drafts node.now (tick node.now) draft.new) }
-    ensures exhausted { result ≡ Err Exhausted → NoNumberLeft node.now Tick }
-{
-    let reply = ErrorLine::NotAcknowledged.reply();
-    let released = node.releases(&Waiting::Over, &reply)?;
-    let mut bodies = sent_again(node)?;
-    append_sync(node, &mut bodies)?;
-    node.write_releases(draft, released, bodies, node.current_epoch, Change::Ages);
-    Ok(())
-}
-
-// A replica tells its master how much of its stream it received.
-fn append_sync<S: SlotParts + SlotKeys, T: Stream>(
-    node: &NodeParts<S, T>,
-    bodies: &mut Vec<(NodeNo, Body)>,
-) -> Result<(), AllocError>
-    ensures { OnOk result (bodies.new.items ≡ bodies.old.items ++ sync_to node.now.stream (own_master node.now)) }
-{
-    if let Some(master) = node.own_master() {
-        let sync = Sync {
-            stream: node.stream.id(),
-            received: node.stream.received(),
-        };
-        bodies.push((master, Body::Sync(sync)))?;
-    }
-    Ok(())
-}
-
-// What is sent again, by rising slot.
-fn sent_again<S: SlotParts + SlotKeys, T: Stream>(
+/// What is sent again at a tick, by rising slot.
+pub fn sent_again<S: SlotParts + SlotKeys, T: Stream>(
     node: &NodeParts<S, T>,
 ) -> Result<Vec<(NodeNo, Body)>, AllocError>
     ensures { IfOk result (λ bodies. bodies.items ≡ flat_map (sent_again node.now) (running_moves node.now.moves)) }

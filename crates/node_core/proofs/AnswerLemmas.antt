@@ -3,7 +3,7 @@ use Rattle.std.proofs.Common.{◌≡◌, ℕ, true, false, ◌&&◌, List, [], O
 use Rattle.std.specs.List.{position}
 use Rattle.std.specs.Str.{bytes_eq}
 use Rattle.cluster_config.specs.declared.config.NodeConfig.{NodeConfig}
-use Rattle.std.specs.Prelude.{MatchBool, OnOk, Result, Ok, Err, is_none, is_some}
+use Rattle.std.specs.Prelude.{MatchBool, Ok, Err, is_none, is_some}
 use Rattle.resp_values.specs.declared.reply.Reply.{Reply}
 use Rattle.command_table.specs.Keys.{is_data_write}
 use Rattle.command_table.specs.Table.{command_of}
@@ -28,16 +28,14 @@ use Rattle.node_step.specs.Copies.{copy_outcome, copy_verdict_on, is_at}
 use Rattle.node_step.specs.Orders.{done}
 use Rattle.node_step.specs.Outcome.{error}
 use Rattle.node_step.specs.Requests.{asking_for, asking_of, at_connection, has_copy_number, has_number, has_order_number, is_numbered, node_with_id, request_outcome, using_up, with_numbers}
-use Rattle.node_step.specs.Ticks.{tick}
 use Rattle.node_step.specs.State.{NodeState}
-use Rattle.node_step.specs.Step.{NodeStep, written}
+use Rattle.node_step.specs.Step.{MayCome, NodeStep, written}
 use Rattle.node_step.specs.Streams.{Requests, is_written, written_by_request}
-use Rattle.node_step.specs.declared.event.Event.TheVariants.{Close, Open, Request, Tick}
+use Rattle.node_step.specs.declared.event.Event.TheVariants.{Close, Open, Request}
 use Rattle.node_step.specs.declared.outputs.Outputs.{Outputs}
 use Rattle.node_step.specs.declared.response.Response.{Response}
 use Rattle.node_step.specs.declared.response.Response.TheVariants.{Opened}
 use Rattle.node_step.specs.declared.response.Why.TheVariants.{NotACommand, Reported, Told}
-use Rattle.step_fault.specs.declared.fault.StepFault.{StepFault}
 use Rattle.node_core.specs.Comes.{AnswersAndWrites, AnswersSo}
 use Rattle.node_parts.proofs.ChangeLemmas.{records_nothing}
 use Rattle.node_parts.specs.Drafts.{Drafts, IsDraftOf, Records}
@@ -122,15 +120,6 @@ pub fault_answered : (old : NodeState) (conn : Conn) (fault : CommandFault) (rep
     → Drafts old (replied (using_up old conn) (NotACommand fault) reply) draft → AnswersSo old conn (Err fault) draft
 fault_answered old conn fault reply draft is drafts = record { number = refl; drafts = rw (sym is) drafts }
 
--- what comes of a tick is drafted
-pub tick_is_drafted : (old : NodeState) (draft : Draft) → Drafts old (tick old) draft → IsDraftOf old Tick draft
-tick_is_drafted old draft drafts = record { outcome = tick old; requests = []; may_come = λ dropped within. refl; records = records_nothing old (tick old) draft drafts }
-
--- wherever it is made
-pub tick_drafted : (old : NodeState) (draft : Draft) (result : Result Unit StepFault) → OnOk result (Drafts old (tick old) draft) → OnOk result (IsDraftOf old Tick draft)
-tick_drafted old draft (Ok done) drafts = tick_is_drafted old draft drafts
-tick_drafted old draft (Err fault) drafts = tt
-
 pub same_spelling : (old : NodeState) (conn : Conn) (words : List (List ℕ)) (before : Draft) → AnswersSo old conn (command_of words) before
     → stream_spelling (written_by_request words (command_of words) before.response) ≡ stream_spelling (written old conn words)
 same_spelling old conn words before answers = ap (λ (response : Response). stream_spelling (written_by_request words (command_of words) response)) answers.drafts.response
@@ -167,7 +156,7 @@ no_offset false offset is = refl
 
 -- both are drafted
 pub answer_is_drafted : (old : NodeState) (conn : Conn) (words : List (List ℕ)) (draft : Draft)
-    → may_ask (connection_at old.connections conn) ≡ true → AnswersAndWrites old conn words draft → IsDraftOf old (Request conn words) draft
+    → may_ask (connection_at old.connections conn) ≡ true → AnswersAndWrites old conn words draft → IsDraftOf old (MayCome old (Request conn words)) draft
 answer_is_drafted old conn words draft asks answers = record {
   outcome = request_outcome old conn (command_of words);
   requests = written old conn words;
@@ -177,7 +166,7 @@ answer_is_drafted old conn words draft asks answers = record {
 
 -- a request that is not taken changes nothing
 pub untaken_is_drafted : (old : NodeState) (conn : Conn) (words : List (List ℕ)) (draft : Draft)
-    → may_ask (connection_at old.connections conn) ≡ false → Drafts old (silent old) draft → IsDraftOf old (Request conn words) draft
+    → may_ask (connection_at old.connections conn) ≡ false → Drafts old (silent old) draft → IsDraftOf old (MayCome old (Request conn words)) draft
 untaken_is_drafted old conn words draft asks drafts = record {
   outcome = silent old;
   requests = [];
@@ -187,12 +176,12 @@ untaken_is_drafted old conn words draft asks drafts = record {
 
 -- since its connection isn't open
 pub unopened_is_drafted : (old : NodeState) (conn : Conn) (words : List (List ℕ)) (draft : Draft)
-    → connection_at old.connections conn ≡ None → Drafts old (silent old) draft → IsDraftOf old (Request conn words) draft
+    → connection_at old.connections conn ≡ None → Drafts old (silent old) draft → IsDraftOf old (MayCome old (Request conn words)) draft
 unopened_is_drafted old conn words draft unopened drafts = untaken_is_drafted old conn words draft (ap may_ask unopened) drafts
 
 -- or waits for a reply
 pub parked_is_drafted : (old : NodeState) (conn : Conn) (connection : Connection) (wait : Wait) (words : List (List ℕ)) (draft : Draft)
-    → connection_at old.connections conn ≡ Some connection → connection.waits ≡ Some wait → Drafts old (silent old) draft → IsDraftOf old (Request conn words) draft
+    → connection_at old.connections conn ≡ Some connection → connection.waits ≡ Some wait → Drafts old (silent old) draft → IsDraftOf old (MayCome old (Request conn words)) draft
 parked_is_drafted old conn connection wait words draft open_there waits drafts =
     untaken_is_drafted old conn words draft (ap may_ask open_there ∙ ap is_none waits) drafts
 

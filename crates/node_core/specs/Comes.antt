@@ -1,5 +1,5 @@
 -- What comes of an event, as the parts of a node say it of themselves.
-use Rattle.std.specs.Prelude.{◌≡◌, ℕ, Bool, true, false, not, List, Result}
+use Rattle.std.specs.Prelude.{◌≡◌, ℕ, Bool, true, false, List, Result}
 use Rattle.bus.specs.declared.message.Body.{Body}
 use Rattle.bus.specs.declared.message.Body.TheVariants.{Copy, Ack, Drained, Claim, Report, Request, Grant, Sync, Piece, Snapshot}
 use Rattle.command_table.specs.Table.{command_of}
@@ -11,12 +11,11 @@ use Rattle.node_parts.specs.declared.draft.Draft.{Draft}
 use Rattle.node_step.specs.Requests.{has_number, request_outcome, using_up}
 use Rattle.node_step.specs.Claiming.{claim}
 use Rattle.node_step.specs.Copies.{acknowledgement, arrival, noted}
+use Rattle.node_step.specs.Messages.{Choice, MayChoose, taken}
 use Rattle.node_step.specs.Outcome.{Outcome, silent}
 use Rattle.node_step.specs.Replicas.{synced}
 use Rattle.node_step.specs.State.{NodeState}
 use Rattle.node_step.specs.Step.{written}
-use Rattle.node_step.specs.declared.event.Event.{Event}
-use Rattle.node_step.specs.declared.event.Event.TheVariants.{Open, Close, Request as Asked, Deliver, Tick}
 
 -- a replica follows a stream by these
 abbrev pub is_followed : Body → Bool
@@ -31,9 +30,18 @@ is_followed (Request request) = false
 is_followed (Grant epoch) = false
 is_followed (Sync sync) = false
 
--- a message is taken by a draft: all but those
+-- a message is taken by a draft: all but those, and those of elections
 abbrev pub is_drafted_body : Body → Bool
-is_drafted_body body = not (is_followed body)
+is_drafted_body (Copy slot number copy key value) = true
+is_drafted_body (Ack slot number copy) = true
+is_drafted_body (Drained slot number epoch) = true
+is_drafted_body (Claim slots replaced) = true
+is_drafted_body (Report suspects) = true
+is_drafted_body (Sync sync) = true
+is_drafted_body (Request request) = false
+is_drafted_body (Grant epoch) = false
+is_drafted_body (Piece piece) = false
+is_drafted_body (Snapshot snapshot) = false
 
 -- what comes of such a message but for what is written
 abbrev pub taken_by_draft : NodeState → ℕ → Body → Outcome
@@ -48,13 +56,15 @@ taken_by_draft node from (Sync sync) = synced node from sync
 taken_by_draft node from (Piece piece) = silent node
 taken_by_draft node from (Snapshot snapshot) = silent node
 
--- the step is drafted first, and then made
-abbrev pub is_drafted : Event → Bool
-is_drafted Open = false
-is_drafted (Close conn) = false
-is_drafted (Asked conn words) = true
-is_drafted (Deliver message) = is_drafted_body message.body
-is_drafted Tick = true
+-- what may come of a message of that node that was heard
+pub record MayBeTaken (node : NodeState) (from : ℕ) (body : Body) (outcome : Outcome) : Type 0 where
+  pub choice : Choice
+  pub may_choose : MayChoose node from body choice
+  pub comes_to : outcome ≡ taken node from choice body
+
+-- nothing else may come
+abbrev pub IsJust : Outcome → Outcome → Type 0
+IsJust expected outcome = outcome ≡ expected
 
 -- the draft of the answer to a request that was read so
 pub record AnswersSo (old : NodeState) (conn : Conn) (read : Result Command CommandFault) (draft : Draft) : Type 0 where

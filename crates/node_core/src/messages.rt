@@ -1,58 +1,97 @@
 //! Messages of other nodes.
-ghost use Rattle.std.specs.Prelude.{◌≡◌, Err, IfOk, IsTrue, OnOk};
-ghost use Rattle.node_core.specs.Comes.{is_drafted_body, taken_by_draft};
-ghost use Rattle.node_parts.specs.Drafts.{Drafts, HasNothing, IsDraftOf, at_epoch};
-ghost use Rattle.node_step.specs.Messages.{knowing, written_by_message};
-ghost use Rattle.node_step.specs.Numbers.{NoNumberLeft};
+ghost use Rattle.std.specs.Prelude.{◌≡◌, ◌≢◌, Err, IfOk, IsTrue, OnErr, OnOk, false};
+ghost use Rattle.node_core.specs.Comes.{MayBeTaken, is_drafted_body, taken_by_draft};
+ghost use Rattle.node_parts.specs.Drafts.{Comes, Drafts, HasNothing, IsDraftOf};
+ghost use Rattle.node_parts.specs.Electing.{KeepsRest};
+ghost use Rattle.node_step.specs.Messages.{written_by_message};
+ghost use Rattle.node_step.specs.Numbers.{has_offset};
 ghost use Rattle.node_step.specs.Outcome.{silent};
 ghost use Rattle.node_step.specs.Streams.{written_by_claim};
-ghost use Rattle.node_step.specs.declared.event.Event.TheVariants.{Deliver};
 ghost use Rattle.resp2.specs.Stream.{stream_spelling};
 ghost use Rattle.step_fault.specs.declared.fault.StepFault.TheVariants.{Exhausted};
 
+use crate::following::follow;
+use crate::votes::{ask_for_vote, count_vote};
 use bus::{Body, Message};
 use move_rows::{CopyName, lost_to, take_ack, take_claim, take_copy, take_drained};
-use node_parts::{Change, Draft, NodeParts};
-use node_step::StepFault;
-use repl_stream::Stream;
+use node_parts::{Draft, NodeParts};
+use node_step::{Outputs, Recorder, StepFault};
+use repl_stream::{Replaces, Stream};
 use replica_rows::{answer_sync, record, written_by_ack, written_by_copy, written_by_loss};
 use slot_store::{SlotKeys, SlotParts};
-use slot_table::{Claim, Epoch, NodeNo};
+use slot_table::{Claim, NodeNo};
 use std::alloc::AllocError;
 
-/// Takes a message that a draft can take, if it is for this node, and records what is written by it.
-pub(crate) fn deliver<S: SlotParts + SlotKeys, T: Stream>(
+/// Takes a message for this node, of which the node took note before.
+pub(crate) fn take<S: SlotParts + SlotKeys + Replaces, T: Stream, K: Recorder>(
+    node: &mut NodeParts<S, T>,
+    ticket: u64,
+    message: &Message,
+) -> Result<(Outputs, K::Record), StepFault>
+    ensures taken { IfOk result (λ made. Comes ticket (MayBeTaken node.old message.now.from message.now.body) made.0 node.new) }
+    ensures recorded { IfOk result (λ made. K.recorded made.1 ≡ made.0) }
+    ensures err { OnErr result (KeepsRest node.old node.new) }
+    ensures exhausted { result ≡ Err Exhausted → has_offset node.old (written_by_message node.old message.now.from message.now.body) ≡ false }
+{
+    match &message.body {
+        Body::Piece(_) | Body::Snapshot(_) => follow::<S, T, K>(node, ticket, message),
+        Body::Request(request) => { ask_for_vote::<S, T, K>(node, ticket, message.from, request) }
+        Body::Grant(epoch) => count_vote::<S, T, K>(node, ticket, message.from, *epoch),
+        Body::Copy { .. }
+        | Body::Ack { .. }
+        | Body::Drained { .. }
+        | Body::Claim(_, _)
+        | Body::Report(_)
+        | Body::Sync(_) => by_draft::<S, T, K>(node, ticket, message),
+    }
+}
+
+// Takes a message that a draft can take.
+#[tactic(auto, using(crate::proofs::MessageLemmas::drafted_taken, node_parts::proofs::ChangeLemmas::draft_can_be_made))]
+fn by_draft<S: SlotParts + SlotKeys, T: Stream, K: Recorder>(
+    node: &mut NodeParts<S, T>,
+    ticket: u64,
+    message: &Message,
+) -> Result<(Outputs, K::Record), StepFault>
+    requires { IsTrue (is_drafted_body message.now.body) }
+    ensures taken { IfOk result (λ made. Comes ticket (MayBeTaken node.old message.now.from message.now.body) made.0 node.new) }
+    ensures recorded { IfOk result (λ made. K.recorded made.1 ≡ made.0) }
+    ensures err { OnErr result (node.new ≡ node.old) }
+    ensures exhausted { result ≡ Err Exhausted → has_offset node.old (written_by_message node.old message.now.from message.now.body) ≡ false }
+{
+    let mut draft = node.blank();
+    draft_taking(node, message, &mut draft)?;
+    Ok(node.make::<K>(ticket, &mut draft)?)
+}
+
+// Drafts what comes of it, and records what is written by it.
+fn draft_taking<S: SlotParts + SlotKeys, T: Stream>(
     node: &NodeParts<S, T>,
     message: &Message,
     draft: &mut Draft,
 ) -> Result<(), StepFault>
     requires body { IsTrue (is_drafted_body message.now.body) }
     requires nothing { HasNothing node.now draft.old }
-    ensures draft { OnOk result (IsDraftOf node.now (Deliver message.now) draft.new) }
-    ensures exhausted { result ≡ Err Exhausted → NoNumberLeft node.now (Deliver message.now) }
+    ensures draft { OnOk result (IsDraftOf node.now (MayBeTaken node.now message.now.from message.now.body) draft.new) }
+    ensures exhausted { result ≡ Err Exhausted → has_offset node.now (written_by_message node.now message.now.from message.now.body) ≡ false }
 {
-    if message.to != node.number {
-        return Ok(());
-    }
-    take(node, message, draft)?;
+    take_by_row(node, message, draft)?;
     let bytes = written_by(node, message)?;
     record(node, bytes, draft)?;
     Ok(())
 }
 
-// Takes the message. A greater epoch of its sender is taken over.
-#[tactic(auto, using(crate::proofs::MessageLemmas::takes_word, crate::proofs::MessageLemmas::takes_copy, crate::proofs::MessageLemmas::takes_ack, crate::proofs::MessageLemmas::takes_report, crate::proofs::MessageLemmas::takes_request, crate::proofs::MessageLemmas::takes_grant))]
-fn take<S: SlotParts + SlotKeys, T: Stream>(
+// Each body by its row.
+fn take_by_row<S: SlotParts + SlotKeys, T: Stream>(
     node: &NodeParts<S, T>,
     message: &Message,
     draft: &mut Draft,
 ) -> Result<(), AllocError>
     requires body { IsTrue (is_drafted_body message.now.body) }
     requires nothing { HasNothing node.now draft.old }
-    ensures { OnOk result (Drafts node.now (taken_by_draft (knowing node.now message.now.epoch) message.now.from message.now.body) draft.new) }
+    ensures { OnOk result (Drafts node.now (taken_by_draft node.now message.now.from message.now.body) draft.new) }
 {
     let from = message.from;
-    let epoch = node.current_epoch.max(message.epoch);
     match &message.body {
         Body::Copy {
             slot,
@@ -66,7 +105,7 @@ fn take<S: SlotParts + SlotKeys, T: Stream>(
                 number: *number,
                 copy: *copy,
             };
-            Ok(take_copy(node, epoch, from, name, key, value, draft)?)
+            Ok(take_copy(node, from, name, key, value, draft)?)
         }
         Body::Ack { slot, number, copy } => {
             let name = CopyName {
@@ -74,44 +113,22 @@ fn take<S: SlotParts + SlotKeys, T: Stream>(
                 number: *number,
                 copy: *copy,
             };
-            Ok(take_ack(node, epoch, from, name, draft)?)
+            Ok(take_ack(node, from, name, draft)?)
         }
         Body::Drained {
             slot,
             number,
-            epoch: drained,
+            epoch,
         } => {
-            take_drained(node, epoch, from, *slot, *number, *drained, draft);
+            take_drained(node, from, *slot, *number, *epoch, draft);
             Ok(())
         }
-        Body::Claim(claim, _replaced) => Ok(take_claim(node, epoch, from, claim, draft)?),
-        Body::Sync(sync) => Ok(answer_sync(node, epoch, from, sync, draft)?),
-        Body::Report(_) => {
-            learn(node, epoch, draft);
-            Ok(())
-        }
-        Body::Request(_) => {
-            learn(node, epoch, draft);
-            Ok(())
-        }
-        Body::Grant(_) => {
-            learn(node, epoch, draft);
-            Ok(())
-        }
-        Body::Piece(_) | Body::Snapshot(_) => unreachable!(),
+        Body::Claim(claim, _replaced) => Ok(take_claim(node, from, claim, draft)?),
+        Body::Sync(sync) => Ok(answer_sync(node, from, sync, draft)?),
+        // All that a report tells was noted before.
+        Body::Report(_) => Ok(()),
+        Body::Request(_) | Body::Grant(_) | Body::Piece(_) | Body::Snapshot(_) => unreachable!(),
     }
-}
-
-// Nothing of the message counts but the epoch.
-fn learn<S: SlotParts + SlotKeys, T: Stream>(
-    node: &NodeParts<S, T>,
-    epoch: Epoch,
-    draft: &mut Draft,
-)
-    requires { HasNothing node.now draft.old }
-    ensures { Drafts node.now (silent (at_epoch node.now epoch)) draft.new }
-{
-    node.write_change(draft, epoch, Change::Nothing);
 }
 
 // What is written by the message, as the bytes of requests.
@@ -119,7 +136,7 @@ fn written_by<S: SlotParts + SlotKeys, T: Stream>(
     node: &NodeParts<S, T>,
     message: &Message,
 ) -> Result<Vec<u8>, AllocError>
-    ensures { IfOk result (λ bytes. bytes.items ≡ stream_spelling (written_by_message (knowing node.now message.now.epoch) message.now.from message.now.body)) }
+    ensures { IfOk result (λ bytes. bytes.items ≡ stream_spelling (written_by_message node.now message.now.from message.now.body)) }
 {
     let from = message.from;
     match &message.body {

@@ -1,11 +1,7 @@
 //! A node, and its steps.
-ghost use Rattle.std.specs.Prelude.{◌≡◌, ◌≢◌, IfOk, IsTrue, OnOk, OnErr, Err};
+ghost use Rattle.std.specs.Prelude.{◌≡◌, IfOk, OnErr, Err};
 ghost use Rattle.std.specs.FinMap as fin_map;
 ghost use Rattle.connections.specs.Connections.{IsUsedUp};
-ghost use Rattle.keyspace.specs.Keyspace.{Keyspace};
-ghost use Rattle.keyspace.specs.Plan.{committed};
-ghost use Rattle.node_core.specs.Comes.{is_drafted, is_followed};
-ghost use Rattle.node_parts.specs.Drafts.{HasNothing, IsDraftOf};
 ghost use Rattle.node_step.specs.Numbers.{NoNumberLeft};
 ghost use Rattle.node_step.specs.State.{first_state};
 ghost use Rattle.node_step.specs.Step.{NodeStep};
@@ -13,17 +9,17 @@ ghost use Rattle.slot_store.specs.InSlot.{in_slot};
 ghost use Rattle.step_fault.specs.declared.fault.StepFault.TheVariants.{Exhausted};
 ghost use Rattle.stream_values.specs.Stream.{received};
 
-use crate::following::{is_followed, take_part};
-use crate::messages::deliver;
+use crate::messages::take;
 use crate::requests::request;
+use crate::ticks::pass_tick;
 use bus::Message;
 use cluster_config::Config;
 use connections::Conn;
 use key_slot::Slot;
-use move_rows::tick;
-use node_parts::{Draft, NodeParts, plain};
+use node_parts::{NodeParts, plain};
 use node_step::{Event, Outputs, Recorder, Response, StepFault};
 use repl_stream::{Backlog, Replaces, Stream};
+use resp_values::Words;
 use slot_state::SlotMoves;
 use slot_store::{SlotKeys, SlotParts, SlotStore};
 use slot_table::{Epoch, NodeNo, SlotTable};
@@ -131,81 +127,66 @@ impl<S: SlotParts + SlotKeys + Replaces, T: Stream> NodeCore<S, T> {
         match event {
             Event::Open => self.open::<K>(ticket),
             Event::Close(conn) => Ok(self.close::<K>(ticket, *conn)),
-            Event::Deliver(message) => self.deliver::<K>(ticket, event, message),
-            Event::Request(_, _) | Event::Tick => self.draft::<K>(ticket, event),
+            Event::Request(conn, words) => self.answer::<K>(ticket, *conn, words),
+            Event::Deliver(message) => self.deliver::<K>(ticket, message),
+            Event::Tick => self.tick::<K>(ticket),
         }
     }
 
-    // Takes a message.
+    // Answers a request.
+    #[tactic(auto, using(crate::proofs::StepLemmas::answer_is_step, node_parts::proofs::ChangeLemmas::draft_can_be_made))]
+    fn answer<K: Recorder>(
+        &mut self,
+        ticket: u64,
+        conn: Conn,
+        words: &Words,
+    ) -> Result<(Outputs, K::Record), StepFault>
+        ensures step { IfOk result (λ made. NodeStep ticket self.old (Event.Request conn words.now) made.0 self.new) }
+        ensures recorded { IfOk result (λ made. K.recorded made.1 ≡ made.0) }
+        ensures err { OnErr result (self.new ≡ self.old) }
+        ensures exhausted { result ≡ Err Exhausted → NoNumberLeft self.old (Event.Request conn words.now) }
+    {
+        let mut draft = self.parts.blank();
+        request(&self.parts, conn, words, &mut draft)?;
+        Ok(self.parts.make::<K>(ticket, &mut draft)?)
+    }
+
+    // Takes a message, if it is for this node. What it tells of the others is put back where it is refused.
     fn deliver<K: Recorder>(
         &mut self,
         ticket: u64,
-        event: &Event,
         message: &Message,
     ) -> Result<(Outputs, K::Record), StepFault>
-        requires { event.now ≡ Event.Deliver message.now }
         ensures step { IfOk result (λ made. NodeStep ticket self.old (Event.Deliver message.now) made.0 self.new) }
         ensures recorded { IfOk result (λ made. K.recorded made.1 ≡ made.0) }
         ensures err { OnErr result (self.new ≡ self.old) }
         ensures exhausted { result ≡ Err Exhausted → NoNumberLeft self.old (Event.Deliver message.now) }
     {
-        if is_followed(&message.body) {
-            return self.follow::<K>(ticket, message);
+        if message.to != self.parts.number {
+            return Ok(plain::<K>(ticket, Response::Nothing));
         }
-        self.draft::<K>(ticket, event)
+        let before = self.parts.election;
+        self.parts.hear(message);
+        let taken = take::<S, T, K>(&mut self.parts, ticket, message);
+        if taken.is_err() {
+            self.parts.put_back(before);
+        }
+        taken
     }
 
-    // Makes a step that is drafted first.
-    fn draft<K: Recorder>(
-        &mut self,
-        ticket: u64,
-        event: &Event,
-    ) -> Result<(Outputs, K::Record), StepFault>
-        requires { IsTrue (is_drafted event.now) }
-        ensures step { IfOk result (λ made. NodeStep ticket self.old event.now made.0 self.new) }
+    // Lets a tick pass. What it counts is put back where it is refused.
+    fn tick<K: Recorder>(&mut self, ticket: u64) -> Result<(Outputs, K::Record), StepFault>
+        ensures step { IfOk result (λ made. NodeStep ticket self.old Event.Tick made.0 self.new) }
         ensures recorded { IfOk result (λ made. K.recorded made.1 ≡ made.0) }
         ensures err { OnErr result (self.new ≡ self.old) }
-        ensures exhausted { result ≡ Err Exhausted → NoNumberLeft self.old event.now }
+        ensures exhausted { result ≡ Err Exhausted → NoNumberLeft self.old Event.Tick }
     {
-        let mut draft = self.parts.blank();
-        self.make::<K>(ticket, event, &mut draft)
-    }
-
-    // Takes what a replica gets of its master's stream. It sends nothing.
-    #[inline(never)]
-    fn follow<K: Recorder>(
-        &mut self,
-        ticket: u64,
-        message: &Message,
-    ) -> Result<(Outputs, K::Record), StepFault>
-        requires { IsTrue (is_followed message.now.body) }
-        ensures step { IfOk result (λ made. NodeStep ticket self.old (Event.Deliver message.now) made.0 self.new) }
-        ensures recorded { IfOk result (λ made. K.recorded made.1 ≡ made.0) }
-        ensures err { OnErr result (self.new ≡ self.old) }
-        ensures exhausted { result ≢ Err Exhausted }
-    {
-        take_part(&mut self.parts, message)?;
-        Ok(plain::<K>(ticket, Response::Nothing))
-    }
-
-    // Drafts the step for a request, a message or a tick, and makes it.
-    #[tactic(auto, using(node_parts::proofs::ChangeLemmas::draft_can_be_made))]
-    fn make<K: Recorder>(
-        &mut self,
-        ticket: u64,
-        event: &Event,
-        draft: &mut Draft,
-    ) -> Result<(Outputs, K::Record), StepFault>
-        requires event { IsTrue (is_drafted event.now) }
-        requires nothing { HasNothing self.old draft.old }
-        requires plan { (keyspace : Keyspace) → committed keyspace draft.old.plan ≡ keyspace }
-        ensures step { IfOk result (λ made. NodeStep ticket self.old event.now made.0 self.new) }
-        ensures recorded { IfOk result (λ made. K.recorded made.1 ≡ made.0) }
-        ensures err { OnErr result (self.new ≡ self.old) }
-        ensures exhausted { result ≡ Err Exhausted → NoNumberLeft self.old event.now }
-    {
-        write_draft(&self.parts, event, draft)?;
-        Ok(self.parts.make::<K>(ticket, draft)?)
+        let before = self.parts.election;
+        let passed = pass_tick::<S, T, K>(&mut self.parts, ticket);
+        if passed.is_err() {
+            self.parts.put_back(before);
+        }
+        passed
     }
 
     #[inline(never)]
@@ -226,25 +207,5 @@ impl<S: SlotParts + SlotKeys + Replaces, T: Stream> NodeCore<S, T> {
     {
         let _was_open = self.parts.connections.close(conn);
         plain::<K>(ticket, Response::Nothing)
-    }
-}
-
-// Drafts what comes of a request, a message or a tick. The draft is written where it lies, since it is large.
-fn write_draft<S: SlotParts + SlotKeys, T: Stream>(
-    node: &NodeParts<S, T>,
-    event: &Event,
-    draft: &mut Draft,
-) -> Result<(), StepFault>
-    requires event { IsTrue (is_drafted event.now) }
-    requires nothing { HasNothing node.now draft.old }
-    requires plan { (keyspace : Keyspace) → committed keyspace draft.old.plan ≡ keyspace }
-    ensures draft { OnOk result (IsDraftOf node.now event.now draft.new) }
-    ensures exhausted { result ≡ Err Exhausted → NoNumberLeft node.now event.now }
-{
-    match event {
-        Event::Request(conn, words) => request(node, *conn, words, draft),
-        Event::Deliver(message) => deliver(node, message, draft),
-        Event::Tick => tick(node, draft),
-        Event::Open | Event::Close(_) => unreachable!(),
     }
 }

@@ -9,6 +9,7 @@ ghost use Rattle.node_parts.specs.Drafts.{HasNothing, IsDraftOf};
 ghost use Rattle.step_fault.specs.declared.fault.StepFault.TheVariants.{Exhausted};
 ghost use Rattle.node_step.specs.Numbers.{NoNumberLeft};
 ghost use Rattle.node_step.specs.Requests.{has_number, using_up};
+ghost use Rattle.node_step.specs.Step.{MayCome};
 ghost use Rattle.node_step.specs.Streams.{is_written};
 
 use crate::cluster_commands::answer_about_cluster;
@@ -34,7 +35,7 @@ pub(crate) fn request<S: SlotParts + SlotKeys, T: Stream>(
 ) -> Result<(), StepFault>
     requires nothing { HasNothing node.now draft.old }
     requires plan { (keyspace : Keyspace) → committed keyspace draft.old.plan ≡ keyspace }
-    ensures draft { OnOk result (IsDraftOf node.now (Event.Request conn words.now) draft.new) }
+    ensures draft { OnOk result (IsDraftOf node.now (MayCome node.now (Event.Request conn words.now)) draft.new) }
     ensures exhausted { result ≡ Err Exhausted → NoNumberLeft node.now (Event.Request conn words.now) }
 {
     let Some(connection) = node.connections.get(conn) else {
@@ -47,7 +48,6 @@ pub(crate) fn request<S: SlotParts + SlotKeys, T: Stream>(
 }
 
 // Answers a connection that may ask, and records what the words write.
-
 fn answer<S: SlotParts + SlotKeys, T: Stream>(
     node: &NodeParts<S, T>,
     conn: Conn,

@@ -6,8 +6,10 @@ use Rattle.slot_state.specs.Moves.{move_of}
 use Rattle.keyspace.specs.Keyspace.{Keyspace}
 use Rattle.keyspace.specs.declared.plans.Plan.{Plan}
 use Rattle.node_parts.specs.Becomes.{Becomes, CanBeMade, freed}
-use Rattle.node_parts.specs.Drafts.{Drafts, HasNothing, IsDraftOf, Records, at_epoch, sends, stamped_draft}
-use Rattle.node_parts.specs.Making.{GoesOn, IsMade}
+use Rattle.node_parts.specs.Drafts.{Comes, Drafts, HasNothing, IsDraftOf, Promotes, Records, at_epoch, sends, stamped_draft}
+use Rattle.node_parts.specs.Making.{GoesOn, IsApplied, IsMade}
+use Rattle.node_parts.specs.Succession.{promoted_by, succeeded_by}
+use Rattle.node_parts.specs.declared.succession.Succession.{Succession}
 use Rattle.node_parts.specs.declared.change.Change.{Change}
 use Rattle.node_parts.specs.declared.change.Change.TheVariants.{Nothing, Asks, Allows, Numbers, Keys, Imports, Migrates, Ends, Parks, Freezes, Installs, Frees, Notes, Loses, Ages}
 use Rattle.node_parts.specs.declared.draft.Draft.{Draft}
@@ -18,11 +20,9 @@ use Rattle.node_step.specs.declared.response.Why.{Why}
 use Rattle.resp_values.specs.declared.reply.Reply.{Reply}
 use Rattle.node_step.specs.Requests.{using_up}
 use Rattle.node_step.specs.State.{NodeState}
-use Rattle.node_step.specs.Step.{NodeStep}
 use Rattle.node_step.specs.Streams.{MayGiveUp, Requests, recorded}
 use Rattle.resp2.specs.Stream.{stream_spelling}
 use Rattle.stream_values.specs.Stream.{StreamView, written}
-use Rattle.node_step.specs.declared.event.Event.{Event}
 use Rattle.node_step.specs.declared.outputs.Outputs.{Outputs}
 
 -- a change that leads somewhere can be made
@@ -152,41 +152,77 @@ sent_alike : (outcome : Outcome) (requests : Requests) (dropped : ℕ) → (reco
 sent_alike outcome [] dropped = refl
 sent_alike outcome (request ∷ requests) dropped = refl
 
-outputs_alike : (ticket : ℕ) (outcome : Outcome) (requests : Requests) (dropped : ℕ) → outcome.promoted ≡ None
-    → sends outcome.state.number ticket outcome.state.current_epoch outcome.response outcome.released (recorded outcome requests dropped).sent ≡ outputs_of ticket (recorded outcome requests dropped)
-outputs_alike ticket outcome [] dropped none =
-    ap (λ p. record (sends outcome.state.number ticket outcome.state.current_epoch outcome.response outcome.released outcome.sent) { promoted = p }) (sym none)
-outputs_alike ticket outcome (request ∷ requests) dropped none =
-    ap (λ p. record (sends outcome.state.number ticket outcome.state.current_epoch outcome.response outcome.released (recorded outcome (request ∷ requests) dropped).sent) { promoted = p }) (sym none)
+outputs_alike : (ticket : ℕ) (outcome : Outcome) (requests : Requests) (dropped : ℕ)
+    → sends outcome.state.number ticket outcome.state.current_epoch outcome.response outcome.released (recorded outcome requests dropped).sent outcome.promoted ≡ outputs_of ticket (recorded outcome requests dropped)
+outputs_alike ticket outcome [] dropped = refl
+outputs_alike ticket outcome (request ∷ requests) dropped = refl
 
--- a draft that is made is a step
-pub made_is_step : (ticket : ℕ) (old : NodeState) (event : Event) (draft : Draft) (outputs : Outputs) (new : NodeState) → IsDraftOf old event draft → outputs ≡ stamped_draft old.number ticket draft
-    → IsMade (at_epoch old draft.epoch) draft.plan draft.change draft.written.items new → NodeStep ticket old event outputs new
-made_is_step ticket old event draft outputs new is are made =
+-- a draft that is made comes to what may come
+pub made_comes : (ticket : ℕ) (old : NodeState) (May : Outcome → Type 0) (draft : Draft) (outputs : Outputs) (new : NodeState) → IsDraftOf old May draft → outputs ≡ stamped_draft old ticket draft
+    → IsApplied old draft new → Comes ticket May outputs new
+made_comes ticket old May draft outputs new is are applied =
     let outcome = is.outcome in
     let records = is.records in
+    let made = applied.makes in
+    let same : new ≡ applied.made = applied.state ∙ ap (λ (s : Option Succession). succeeded_by s applied.made) records.stays in
     let own = keeps_own (at_epoch old draft.epoch) draft.plan draft.change outcome.state records.state in
     let bodies : List (ℕ × Body) = draft.bodies.items in
-    let given : GivesUp old outcome is.requests new =
-    gives_up old made.after new outcome is.requests (leads_to_one (at_epoch old draft.epoch) draft.plan draft.change made.after outcome.state made.changes records.state)
+    let none : promoted_by old draft.succession ≡ outcome.promoted = ap (promoted_by old) records.stays ∙ sym records.promoted in
+    let given : GivesUp old outcome is.requests applied.made =
+    gives_up old made.after applied.made outcome is.requests (leads_to_one (at_epoch old draft.epoch) draft.plan draft.change made.after outcome.state made.changes records.state)
     ((keeps_own (at_epoch old draft.epoch) draft.plan draft.change made.after made.changes).stream)
-    (subst (λ bytes. GoesOn bytes made.after.stream new.stream) records.written made.goes_on) made.state in
+    (subst (λ bytes. GoesOn bytes made.after.stream applied.made.stream) records.written made.goes_on) made.state in
     record {
       outcome = recorded outcome is.requests given.dropped;
-      may_come = is.may_come given.dropped given.within;
+      may = is.may_come given.dropped given.within;
       outputs_are =
-          are ∙ ap (λ r. sends old.number ticket draft.epoch r draft.released bodies) records.response
-          ∙ ap (λ r. sends old.number ticket draft.epoch outcome.response r bodies) records.released
-          ∙ ap (sends old.number ticket draft.epoch outcome.response outcome.released) (records.sent ∙ sent_alike outcome is.requests given.dropped)
-          ∙ ap (λ n. sends n ticket draft.epoch outcome.response outcome.released (recorded outcome is.requests given.dropped).sent) (sym own.number)
-          ∙ ap (λ e. sends outcome.state.number ticket e outcome.response outcome.released (recorded outcome is.requests given.dropped).sent) (sym own.epoch)
-          ∙ outputs_alike ticket outcome is.requests given.dropped records.promoted;
-      state = given.state;
+          are ∙ ap (λ r. sends old.number ticket draft.epoch r draft.released bodies (promoted_by old draft.succession)) records.response
+          ∙ ap (λ r. sends old.number ticket draft.epoch outcome.response r bodies (promoted_by old draft.succession)) records.released
+          ∙ ap (λ b. sends old.number ticket draft.epoch outcome.response outcome.released b (promoted_by old draft.succession)) (records.sent ∙ sent_alike outcome is.requests given.dropped)
+          ∙ ap (sends old.number ticket draft.epoch outcome.response outcome.released (recorded outcome is.requests given.dropped).sent) none
+          ∙ ap (λ n. sends n ticket draft.epoch outcome.response outcome.released (recorded outcome is.requests given.dropped).sent outcome.promoted) (sym own.number)
+          ∙ ap (λ e. sends outcome.state.number ticket e outcome.response outcome.released (recorded outcome is.requests given.dropped).sent outcome.promoted) (sym own.epoch)
+          ∙ outputs_alike ticket outcome is.requests given.dropped;
+      state = same ∙ given.state;
+    }
+
+-- so does the draft of a promotion
+after_promotion : (old : NodeState) (succession : Option Succession) → ((succeeded_by succession old).number ≡ old.number) × ((succeeded_by succession old).current_epoch ≡ old.current_epoch)
+after_promotion old None = (refl, refl)
+after_promotion old (Some succession) = (refl, refl)
+
+nothing_made : (old new : NodeState) (draft : Draft) → draft.epoch ≡ old.current_epoch → draft.change ≡ Nothing → draft.written.items ≡ []
+    → IsMade (at_epoch old draft.epoch) draft.plan draft.change draft.written.items new → new ≡ old
+nothing_made old new draft own none empty made =
+    let same : made.after ≡ old = subst (λ (c : Change). Becomes (at_epoch old draft.epoch) draft.plan c made.after) none made.changes ∙ ap (at_epoch old) own in
+    let stays : new.stream ≡ made.after.stream = subst (λ bytes. GoesOn bytes made.after.stream new.stream) empty made.goes_on in
+    made.state ∙ ap (λ (s : StreamView). record made.after { stream = s }) stays ∙ same
+
+pub promotion_comes : (ticket : ℕ) (old : NodeState) (May : Outcome → Type 0) (outcome : Outcome) (draft : Draft) (outputs : Outputs) (new : NodeState) → May outcome → Promotes old outcome draft
+    → outputs ≡ stamped_draft old ticket draft → IsApplied old draft new → Comes ticket May outputs new
+promotion_comes ticket old May outcome draft outputs new may is are applied =
+    let bodies : List (ℕ × Body) = draft.bodies.items in
+    let made : applied.made ≡ old = nothing_made old applied.made draft is.epoch is.change is.written applied.makes in
+    let own = after_promotion old draft.succession in
+    record {
+      outcome = outcome;
+      may = may;
+      outputs_are =
+          are ∙ ap (λ r. sends old.number ticket draft.epoch r draft.released bodies (promoted_by old draft.succession)) is.response
+          ∙ ap (λ r. sends old.number ticket draft.epoch outcome.response r bodies (promoted_by old draft.succession)) is.released
+          ∙ ap (λ b. sends old.number ticket draft.epoch outcome.response outcome.released b (promoted_by old draft.succession)) is.sent
+          ∙ ap (sends old.number ticket draft.epoch outcome.response outcome.released outcome.sent) is.promoted
+          ∙ ap (λ n. sends n ticket draft.epoch outcome.response outcome.released outcome.sent outcome.promoted) (sym own.0 ∙ ap (λ (n : NodeState). n.number) (sym is.state))
+          ∙ ap (λ e. sends outcome.state.number ticket e outcome.response outcome.released outcome.sent outcome.promoted) (is.epoch ∙ sym own.1 ∙ ap (λ (n : NodeState). n.current_epoch) (sym is.state));
+      state = applied.state ∙ ap (λ (n : NodeState). succeeded_by draft.succession n) made ∙ sym is.state;
     }
 
 -- and it can be made
-pub draft_can_be_made : (old : NodeState) (event : Event) (draft : Draft) → IsDraftOf old event draft → CanBeMade old draft.plan draft.change
-draft_can_be_made old event draft is = can_be_made (at_epoch old draft.epoch) draft.plan draft.change is.outcome.state is.records.state
+pub draft_can_be_made : (old : NodeState) (May : Outcome → Type 0) (draft : Draft) → IsDraftOf old May draft → CanBeMade old draft.plan draft.change
+draft_can_be_made old May draft is = can_be_made (at_epoch old draft.epoch) draft.plan draft.change is.outcome.state is.records.state
+
+pub promotion_can_be_made : (old : NodeState) (outcome : Outcome) (draft : Draft) → Promotes old outcome draft → CanBeMade old draft.plan draft.change
+promotion_can_be_made old outcome draft is = subst (λ (c : Change). CanBeMade old draft.plan c) (sym is.change) tt
 
 -- a draft that writes nothing
 pub records_nothing : (old : NodeState) (outcome : Outcome) (draft : Draft) → Drafts old outcome draft → Records old outcome [] draft
@@ -196,6 +232,7 @@ records_nothing old outcome draft drafts = record {
   sent = drafts.sent;
   promoted = drafts.promoted;
   written = drafts.written;
+  stays = drafts.stays;
   state = drafts.state;
 }
 
@@ -208,6 +245,7 @@ drafts_nothing old draft is =
       sent = is.sent;
       promoted = refl;
       written = is.written;
+      stays = is.succession;
       state =
           subst (λ change. Becomes (at_epoch old draft.epoch) draft.plan change old) (sym is.change)
           (subst (λ epoch. old ≡ at_epoch old epoch) (sym is.epoch) refl);
@@ -217,19 +255,28 @@ drafts_nothing old draft is =
 pub in_own_epoch : (old : NodeState) (epoch : ℕ) (plan : Plan) (change : Change) (after : NodeState) → epoch ≡ old.current_epoch → Becomes old plan change after → Becomes (at_epoch old epoch) plan change after
 in_own_epoch old epoch plan change after own leads = subst (λ e. Becomes (at_epoch old e) plan change after) (sym own) leads
 
-module _ (old : NodeState) (draft replied_draft : Draft) (why : Why) (reply : Reply) (epoch : ℕ) (change : Change) (after : NodeState)
+module _ (old : NodeState) (draft replied_draft : Draft) (why : Why) (reply : Reply) (change : Change) (after : NodeState)
     (nothing : HasNothing old draft) (replies : replied_draft ≡ record draft { response = Replied (record { why = why; reply = reply }) })
-    (own : epoch ≡ old.current_epoch) (leads : Becomes old draft.plan change after) where
+    (leads : Becomes old draft.plan change after) where
   -- a reply and a change, written one after the other
-  pub drafts_reply : (new : Draft) → new ≡ record replied_draft { epoch = epoch; change = change } → Drafts old (replied after why reply) new
+  pub drafts_reply : (new : Draft) → new ≡ record replied_draft { change = change } → Drafts old (replied after why reply) new
   drafts_reply new changes =
-      subst (λ d. Drafts old (replied after why reply) d) (sym (changes ∙ ap (λ (d : Draft). record d { epoch = epoch; change = change }) replies))
-      (record { response = refl; released = nothing.released; sent = nothing.sent; promoted = refl; written = nothing.written; state = in_own_epoch old epoch draft.plan change after own leads })
+      subst (λ d. Drafts old (replied after why reply) d) (sym (changes ∙ ap (λ (d : Draft). record d { change = change }) replies))
+      (record {
+        response = refl;
+        released = nothing.released;
+        sent = nothing.sent;
+        promoted = refl;
+        written = nothing.written;
+        stays = nothing.succession;
+        state = in_own_epoch old draft.epoch draft.plan change after nothing.epoch leads;
+      })
 
   -- the same with messages between them
   pub drafts_sending : (bodies : List (ℕ × Body)) (said new : Draft) → said.bodies.items ≡ bodies → said.response ≡ replied_draft.response → said.released ≡ replied_draft.released
-      → said.written.items ≡ replied_draft.written.items → said.plan ≡ replied_draft.plan → new ≡ record said { epoch = epoch; change = change } → Drafts old (replied_sending after why reply bodies) new
-  drafts_sending bodies said new says response released written plan changes =
+      → said.epoch ≡ replied_draft.epoch → said.written.items ≡ replied_draft.written.items → said.plan ≡ replied_draft.plan → said.succession ≡ replied_draft.succession
+      → new ≡ record said { change = change } → Drafts old (replied_sending after why reply bodies) new
+  drafts_sending bodies said new says response released epoch written plan succession changes =
       subst (λ d. Drafts old (replied_sending after why reply bodies) d) (sym changes)
       (record {
         response = response ∙ ap (λ (d : Draft). d.response) replies;
@@ -237,5 +284,7 @@ module _ (old : NodeState) (draft replied_draft : Draft) (why : Why) (reply : Re
         sent = says;
         promoted = refl;
         written = written ∙ ap (λ (d : Draft). d.written.items) replies ∙ nothing.written;
-        state = subst (λ p. Becomes (at_epoch old epoch) p change after) (sym (plan ∙ ap (λ (d : Draft). d.plan) replies)) (in_own_epoch old epoch draft.plan change after own leads);
+        stays = succession ∙ ap (λ (d : Draft). d.succession) replies ∙ nothing.succession;
+        state = subst (λ p. Becomes (at_epoch old said.epoch) p change after) (sym (plan ∙ ap (λ (d : Draft). d.plan) replies))
+            (in_own_epoch old said.epoch draft.plan change after (epoch ∙ ap (λ (d : Draft). d.epoch) replies ∙ nothing.epoch) leads);
       })

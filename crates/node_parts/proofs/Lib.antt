@@ -1,5 +1,7 @@
 mod ClearedSlots
 mod Commits
 pub mod ChangeLemmas
-pub mod NodeLemmas
+pub mod ElectionLemmas
+mod MasterLemmas
 mod HalfLemmas
+pub mod ToAll

@@ -5,12 +5,12 @@ use Rattle.bus.specs.declared.message.Body.{Body}
 use Rattle.node_parts.specs.Becomes.{Becomes}
 use Rattle.node_parts.specs.declared.change.Change.TheVariants.{Nothing as Unchanged}
 use Rattle.node_parts.specs.declared.draft.Draft.{Draft}
-use Rattle.node_step.specs.Outcome.{Outcome, no_outputs, silent, stamped}
+use Rattle.node_parts.specs.Succession.{promoted_by, succeeded_by}
+use Rattle.node_step.specs.Outcome.{Outcome, no_outputs, outputs_of, silent, stamped}
 use Rattle.node_step.specs.State.{NodeState}
-use Rattle.node_step.specs.Step.{MayCome}
 use Rattle.node_step.specs.Streams.{MayGiveUp, Requests, recorded}
-use Rattle.node_step.specs.declared.event.Event.{Event}
 use Rattle.node_step.specs.declared.outputs.Outputs.{Outputs}
+use Rattle.node_step.specs.declared.promotion.Promotion.{Promotion}
 use Rattle.node_step.specs.declared.outputs.Release.{Release}
 use Rattle.node_step.specs.declared.response.Response.{Response}
 use Rattle.node_step.specs.declared.response.Response.TheVariants.{Nothing, Parked}
@@ -26,6 +26,7 @@ pub record Drafts (old : NodeState) (outcome : Outcome) (draft : Draft) : Type 0
   pub sent : draft.bodies.items ≡ outcome.sent
   pub promoted : outcome.promoted ≡ None
   pub written : draft.written.items ≡ []
+  pub stays : draft.succession ≡ None
   pub state : Becomes (at_epoch old draft.epoch) draft.plan draft.change outcome.state
 
 -- nothing comes out of the draft yet, in the node's epoch
@@ -36,6 +37,18 @@ pub record HasNothing (old : NodeState) (draft : Draft) : Type 0 where
   pub epoch : draft.epoch ≡ old.current_epoch
   pub written : draft.written.items ≡ []
   pub change : draft.change ≡ Unchanged
+  pub succession : draft.succession ≡ None
+
+-- the draft of an outcome in which the node is promoted
+pub record Promotes (old : NodeState) (outcome : Outcome) (draft : Draft) : Type 0 where
+  pub response : draft.response ≡ outcome.response
+  pub released : draft.released ≡ outcome.released
+  pub sent : draft.bodies.items ≡ outcome.sent
+  pub promoted : promoted_by old draft.succession ≡ outcome.promoted
+  pub epoch : draft.epoch ≡ old.current_epoch
+  pub written : draft.written.items ≡ []
+  pub change : draft.change ≡ Unchanged
+  pub state : outcome.state ≡ succeeded_by draft.succession old
 
 -- the draft of an outcome in which these requests are recorded
 pub record Records (old : NodeState) (outcome : Outcome) (requests : Requests) (draft : Draft) : Type 0 where
@@ -44,23 +57,32 @@ pub record Records (old : NodeState) (outcome : Outcome) (requests : Requests) (
   pub sent : draft.bodies.items ≡ (recorded outcome requests 0).sent
   pub promoted : outcome.promoted ≡ None
   pub written : draft.written.items ≡ stream_spelling requests
+  pub stays : draft.succession ≡ None
   pub state : Becomes (at_epoch old draft.epoch) draft.plan draft.change outcome.state
 
--- the draft of what may come of an event, however many bytes the stream gives up in front
-pub record IsDraftOf (old : NodeState) (event : Event) (draft : Draft) : Type 0 where
+-- the draft of what may come, however many bytes the stream gives up in front
+pub record IsDraftOf (old : NodeState) (May : Outcome → Type 0) (draft : Draft) : Type 0 where
   pub outcome : Outcome
   pub requests : Requests
-  pub may_come : (dropped : ℕ) → MayGiveUp old requests dropped → MayCome old event (recorded outcome requests dropped)
+  pub may_come : (dropped : ℕ) → MayGiveUp old requests dropped → May (recorded outcome requests dropped)
   pub records : Records old outcome requests draft
 
+-- what a step comes to: something that may come, with its outputs under the ticket
+pub record Comes (ticket : ℕ) (May : Outcome → Type 0) (outputs : Outputs) (new : NodeState) : Type 0 where
+  pub outcome : Outcome
+  pub may : May outcome
+  pub outputs_are : outputs ≡ outputs_of ticket outcome
+  pub state : new ≡ outcome.state
+
 -- what comes out of a step at the node of that number
-abbrev pub sends : ℕ → ℕ → ℕ → Response → List Release → List (ℕ × Body) → Outputs
-sends from ticket epoch response released bodies =
-    record (no_outputs ticket) { response = response; released = released; sent = map (stamped from ticket epoch) bodies }
+abbrev pub sends : ℕ → ℕ → ℕ → Response → List Release → List (ℕ × Body) → Option Promotion → Outputs
+sends from ticket epoch response released bodies promoted =
+    record (no_outputs ticket) { response = response; released = released; sent = map (stamped from ticket epoch) bodies; promoted = promoted }
 
 -- and out of a draft
-abbrev pub stamped_draft : ℕ → ℕ → Draft → Outputs
-stamped_draft from ticket draft = sends from ticket draft.epoch draft.response draft.released draft.bodies.items
+abbrev pub stamped_draft : NodeState → ℕ → Draft → Outputs
+stamped_draft node ticket draft =
+    sends node.number ticket draft.epoch draft.response draft.released draft.bodies.items (promoted_by node draft.succession)
 
 -- a body for a node, if there is one
 abbrev pub bodies_of : Option (ℕ × Body) → List (ℕ × Body)

@@ -1,4 +1,6 @@
 pub mod Becomes
 pub mod Begins
+pub mod Electing
+pub mod Succession
 pub mod Drafts
 pub mod Making

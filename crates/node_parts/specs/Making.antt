@@ -2,6 +2,9 @@
 use Rattle.std.specs.Prelude.{◌≡◌, ℕ, List, [], ◌∷◌}
 use Rattle.keyspace.specs.declared.plans.Plan.{Plan}
 use Rattle.node_parts.specs.Becomes.{Becomes}
+use Rattle.node_parts.specs.Drafts.{at_epoch}
+use Rattle.node_parts.specs.Succession.{succeeded_by}
+use Rattle.node_parts.specs.declared.draft.Draft.{Draft}
 use Rattle.node_parts.specs.declared.change.Change.{Change}
 use Rattle.node_step.specs.State.{NodeState}
 use Rattle.stream_values.specs.Stream.{StreamView, Writes}
@@ -24,3 +27,9 @@ pub record IsWritten (old : NodeState) (plan : Plan) (change : Change) (bytes : 
   pub changes : Becomes old plan change after
   pub writes : Writes bytes after.stream new.stream
   pub state : new ≡ record after { stream = new.stream }
+
+-- a draft is made: its change, what it writes, and a promotion, if there is one
+pub record IsApplied (old : NodeState) (draft : Draft) (new : NodeState) : Type 0 where
+  pub made : NodeState
+  pub makes : IsMade (at_epoch old draft.epoch) draft.plan draft.change draft.written.items made
+  pub state : new ≡ succeeded_by draft.succession made

@@ -1,29 +1,40 @@
 //! How a draft is made: its change, and behind the stream what it writes.
 ghost use Rattle.std.specs.Prelude.{◌≡◌, ◌+◌, ◌<◌, ◌≤◌, ◌^◌, length, OnOk, OnErr};
 ghost use Rattle.node_parts.specs.Becomes.{CanBeMade};
-ghost use Rattle.node_parts.specs.Drafts.{at_epoch};
-ghost use Rattle.node_parts.specs.Making.{GoesOn, IsMade};
+ghost use Rattle.node_parts.specs.Making.{GoesOn, IsApplied, IsMade};
+ghost use Rattle.node_parts.specs.Succession.{succeeded_by};
 ghost use Rattle.stream_values.specs.Stream.{received};
 
 use crate::beginning::begin;
 use crate::change::Change;
 use crate::draft::Draft;
 use crate::parts::NodeParts;
+use crate::succession::Succession;
 use keyspace::Plan;
 use repl_stream::{Replica, Stream};
 use slot_store::{SlotKeys, SlotParts};
 use std::alloc::AllocError;
 
 impl<S: SlotParts + SlotKeys, T: Stream> NodeParts<S, T> {
-    /// Makes the change of a draft, puts what it writes behind the stream, and sets the epoch.
+    /// Makes the change of a draft, puts what it writes behind the stream, sets the epoch, and promotes the node, if the draft says so.
     pub fn apply(&mut self, draft: &mut Draft) -> Result<(), AllocError>
         requires { CanBeMade self.old draft.old.plan draft.old.change }
-        ensures ok { OnOk result (IsMade (at_epoch self.old draft.old.epoch) draft.old.plan draft.old.change draft.old.written.items self.new) }
+        ensures ok { OnOk result (IsApplied self.old draft.old self.new) }
         ensures err { OnErr result (self.new ≡ self.old) }
     {
         self.change_and_write(draft.written.as_slice(), &mut draft.plan, &mut draft.change)?;
-        self.current_epoch = draft.epoch;
+        self.election.current_epoch = draft.epoch;
+        self.succeed_by(draft.succession.take());
         Ok(())
+    }
+
+    // Promotes the node, if there is a succession.
+    fn succeed_by(&mut self, succession: Option<Succession>)
+        ensures { self.new ≡ succeeded_by succession self.old }
+    {
+        if let Some(succession) = succession {
+            self.succeed(succession);
+        }
     }
 
     // Makes a change, and puts the bytes behind the stream. All memory that this takes is there before anything can't be undone.

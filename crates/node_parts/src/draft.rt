@@ -5,13 +5,15 @@ ghost use Rattle.connections.specs.Waiting.{test_of};
 ghost use Rattle.node_parts.specs.Becomes.{Becomes};
 ghost use Rattle.keyspace.specs.Keyspace.{Keyspace};
 ghost use Rattle.keyspace.specs.Plan.{committed};
-ghost use Rattle.node_parts.specs.Drafts.{Drafts, HasNothing, at_epoch, bodies_of, parking};
+ghost use Rattle.node_parts.specs.Drafts.{Drafts, HasNothing, Promotes, at_epoch, bodies_of, parking};
+ghost use Rattle.node_parts.specs.Succession.{promoting};
 ghost use Rattle.node_step.specs.Outcome.{release, replied, replied_sending, silent};
 ghost use Rattle.node_step.specs.Requests.{using_up};
 ghost use Rattle.node_step.specs.State.{NodeState};
 
 use crate::change::Change;
 use crate::parts::NodeParts;
+use crate::succession::Succession;
 use bus::Body;
 use connections::{Conn, Waiting};
 use keyspace::Plan;
@@ -40,6 +42,8 @@ pub struct Draft {
     pub plan: Plan,
     /// What else changes in the node.
     pub change: Change,
+    /// Whose place the node takes, if it is promoted.
+    pub succession: Option<Succession>,
 }
 
 // Its parts are dropped in one place.
@@ -53,6 +57,7 @@ impl Drop for Draft {
             written: _,
             plan: _,
             change: _,
+            succession: _,
         } = self;
     }
 }
@@ -70,10 +75,9 @@ impl Draft {
         self.bodies = bodies;
     }
 
-    fn put_change(&mut self, epoch: Epoch, change: Change)
-        ensures { self.new ≡ record self.old { epoch = epoch; change = change } }
+    fn put_change(&mut self, change: Change)
+        ensures { self.new ≡ record self.old { change = change } }
     {
-        self.epoch = epoch;
         self.change = change;
     }
 }
@@ -88,19 +92,20 @@ impl<S: SlotParts + SlotKeys, T: Stream> NodeParts<S, T> {
             response: Response::Nothing,
             released: Releases::new(),
             bodies: Vec::new(self.alloc),
-            epoch: self.current_epoch,
+            epoch: self.election.current_epoch,
             written: Vec::new(self.alloc),
             plan: Plan::new(self.alloc),
             change: Change::Nothing,
+            succession: None,
         }
     }
 
-    /// Nothing comes out but the change, in that epoch.
-    pub fn write_change(&self, draft: &mut Draft, epoch: Epoch, change: Change)
+    /// Nothing comes out but the change.
+    pub fn write_change(&self, draft: &mut Draft, change: Change)
         requires { HasNothing self.now draft.old }
-        ensures { (after : NodeState) → Becomes (at_epoch self.now epoch) draft.old.plan change after → Drafts self.now (silent after) draft.new }
+        ensures { (after : NodeState) → Becomes self.now draft.old.plan change after → Drafts self.now (silent after) draft.new }
     {
-        draft.put_change(epoch, change);
+        draft.put_change(change);
     }
 
     /// A reply comes out, and nothing changes but the asking of the connection.
@@ -117,7 +122,7 @@ impl<S: SlotParts + SlotKeys, T: Stream> NodeParts<S, T> {
         ensures { (after : NodeState) → Becomes self.now draft.old.plan change after → Drafts self.now (replied after why reply) draft.new }
     {
         draft.put_reply(why, reply);
-        draft.put_change(self.current_epoch, change);
+        draft.put_change(change);
     }
 
     /// The connection gets no reply before a copy is acknowledged, and these messages go out.
@@ -127,7 +132,7 @@ impl<S: SlotParts + SlotKeys, T: Stream> NodeParts<S, T> {
     {
         draft.response = Response::Parked;
         draft.put_bodies(bodies);
-        draft.put_change(self.current_epoch, change);
+        draft.put_change(change);
     }
 
     /// The same with messages.
@@ -144,7 +149,7 @@ impl<S: SlotParts + SlotKeys, T: Stream> NodeParts<S, T> {
     {
         draft.put_reply(why, reply);
         draft.put_bodies(bodies);
-        draft.put_change(self.current_epoch, change);
+        draft.put_change(change);
     }
 
     /// The same in that epoch.
@@ -162,7 +167,8 @@ impl<S: SlotParts + SlotKeys, T: Stream> NodeParts<S, T> {
     {
         draft.put_reply(why, reply);
         draft.put_bodies(bodies);
-        draft.put_change(epoch, change);
+        draft.epoch = epoch;
+        draft.put_change(change);
     }
 
     /// Connections that waited get replies, and other nodes messages.
@@ -171,15 +177,28 @@ impl<S: SlotParts + SlotKeys, T: Stream> NodeParts<S, T> {
         draft: &mut Draft,
         released: Releases,
         bodies: Vec<(NodeNo, Body)>,
-        epoch: Epoch,
         change: Change,
     )
         requires { HasNothing self.now draft.old }
-        ensures { (after : NodeState) → Becomes (at_epoch self.now epoch) draft.old.plan change after → Drafts self.now (record (silent after) { released = released; sent = bodies.items }) draft.new }
+        ensures { (after : NodeState) → Becomes self.now draft.old.plan change after → Drafts self.now (record (silent after) { released = released; sent = bodies.items }) draft.new }
     {
         draft.released = released;
         draft.put_bodies(bodies);
-        draft.put_change(epoch, change);
+        draft.put_change(change);
+    }
+
+    /// The node takes the place of its master, and these messages go out.
+    pub fn write_promotion(
+        &self,
+        draft: &mut Draft,
+        bodies: Vec<(NodeNo, Body)>,
+        succession: Succession,
+    )
+        requires { HasNothing self.now draft.old }
+        ensures { Promotes self.now (promoting self.now bodies.items succession) draft.new }
+    {
+        draft.put_bodies(bodies);
+        draft.succession = Some(succession);
     }
 
     /// The reply to each connection that waits so.

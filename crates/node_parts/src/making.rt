@@ -1,8 +1,8 @@
 //! A step that is made: its outputs and what is recorded of them first, then the change of the node.
 ghost use Rattle.std.specs.Prelude.{◌≡◌, [], None, IfOk, OnOk, OnErr};
 ghost use Rattle.node_parts.specs.Becomes.{CanBeMade};
-ghost use Rattle.node_parts.specs.Drafts.{at_epoch, stamped_draft};
-ghost use Rattle.node_parts.specs.Making.{IsMade};
+ghost use Rattle.node_parts.specs.Drafts.{stamped_draft};
+ghost use Rattle.node_parts.specs.Making.{IsApplied};
 ghost use Rattle.node_step.specs.Plain.{HasNoReply};
 
 use crate::draft::Draft;
@@ -22,8 +22,8 @@ impl<S: SlotParts + SlotKeys, T: Stream> NodeParts<S, T> {
         draft: &mut Draft,
     ) -> Result<(Outputs, K::Record), AllocError>
         requires { CanBeMade self.old draft.old.plan draft.old.change }
-        ensures outputs { IfOk result (λ made. made.0 ≡ stamped_draft self.old.number ticket draft.old) }
-        ensures state { OnOk result (IsMade (at_epoch self.old draft.old.epoch) draft.old.plan draft.old.change draft.old.written.items self.new) }
+        ensures outputs { IfOk result (λ made. made.0 ≡ stamped_draft self.old ticket draft.old) }
+        ensures state { OnOk result (IsApplied self.old draft.old self.new) }
         ensures recorded { IfOk result (λ made. K.recorded made.1 ≡ made.0) }
         ensures err { OnErr result (self.new ≡ self.old) }
     {
@@ -38,13 +38,15 @@ impl<S: SlotParts + SlotKeys, T: Stream> NodeParts<S, T> {
         ticket: u64,
         draft: &mut Draft,
     ) -> Result<(Outputs, K::Record), AllocError>
-        ensures outputs { IfOk result (λ made. made.0 ≡ stamped_draft self.now.number ticket draft.old) }
+        ensures outputs { IfOk result (λ made. made.0 ≡ stamped_draft self.now ticket draft.old) }
         ensures recorded { IfOk result (λ made. K.recorded made.1 ≡ made.0) }
         ensures epoch { draft.new.epoch ≡ draft.old.epoch }
         ensures written { draft.new.written ≡ draft.old.written }
         ensures plan { draft.new.plan ≡ draft.old.plan }
         ensures change { draft.new.change ≡ draft.old.change }
+        ensures succession { draft.new.succession ≡ draft.old.succession }
     {
+        let promoted = self.promoted(&draft.succession)?;
         let bodies = mem::replace(&mut draft.bodies, Vec::new(self.alloc));
         let sent = Messages::stamped(self.alloc, self.number, ticket, draft.epoch, bodies)?;
         recorded::<K>(Outputs {
@@ -52,7 +54,7 @@ impl<S: SlotParts + SlotKeys, T: Stream> NodeParts<S, T> {
             response: mem::replace(&mut draft.response, Response::Nothing),
             released: mem::replace(&mut draft.released, Releases::new()),
             sent,
-            promoted: Promoted::none(),
+            promoted,
         })
     }
 }

@@ -1,9 +1,10 @@
 //! The parts of a node.
 ghost use Rattle.std.specs.Prelude.{◌≡◌, IfOk, None, slice_index_or};
 ghost use Rattle.std.specs.FinMap as fin_map;
-ghost use Rattle.node_step.specs.State.{first_id, first_masters, first_state};
+ghost use Rattle.node_step.specs.State.{first_id, first_state};
 
-use crate::standing::master_of;
+use crate::electing::ElectionState;
+use crate::masters::Masters;
 use cluster_config::Config;
 use connections::Connections;
 use repl_stream::{Replica, Stream};
@@ -29,8 +30,8 @@ pub struct NodeParts<S: SlotParts + SlotKeys, T: Stream> {
     pub table: SlotTable,
     /// The moves of slots that it takes part in.
     pub moves: SlotMoves,
-    /// The greatest epoch that it knows of.
-    pub current_epoch: Epoch,
+    /// What it knows of epochs and of the other nodes, and its part in elections.
+    pub election: ElectionState,
     /// The stream of its writes, or what it has of its master's.
     pub stream: Replica<T>,
     /// The connections of its clients.
@@ -40,18 +41,25 @@ pub struct NodeParts<S: SlotParts + SlotKeys, T: Stream> {
 impl<S: SlotParts + SlotKeys, T: Stream> Model for NodeParts<S, T> {
     ghost use Rattle.std.specs.Prelude.{◌≡◌, ℕ, length};
     ghost use Rattle.node_step.specs.CodedState.{coded_state};
-    ghost use Rattle.node_step.specs.State.{NodeState, first_state};
+    ghost use Rattle.node_step.specs.State.{NodeState};
 
     ghost Value = { NodeState };
 
     ghost coded = { coded_state };
 
-    ghost view = { λ parts. record (first_state parts.config parts.number) {
+    ghost view = { λ parts. record {
+      config = parts.config;
+      number = parts.number;
       keyspace = S.contents parts.store;
       table = parts.table;
       moves = parts.moves;
-      current_epoch = parts.current_epoch;
+      current_epoch = parts.election.current_epoch;
+      masters = parts.election.masters;
+      health = parts.election.health;
+      voter = parts.election.voter;
+      candidate = parts.election.candidate;
       stream = parts.stream.stream;
+      replaced = parts.election.replaced;
       connections = parts.connections;
     } };
 
@@ -75,7 +83,8 @@ impl<S: SlotParts + SlotKeys, T: Stream> NodeParts<S, T> {
     {
         let owners = config.first_owners(alloc)?;
         let table = SlotTable::new(alloc, owners.as_slice())?;
-        let id = first_id(&config, number);
+        let masters = Masters::first(&config);
+        let id = first_id(&masters, number);
         Ok(NodeParts {
             alloc,
             config,
@@ -83,7 +92,7 @@ impl<S: SlotParts + SlotKeys, T: Stream> NodeParts<S, T> {
             store,
             table,
             moves: SlotMoves::new(alloc),
-            current_epoch: Epoch::FIRST,
+            election: ElectionState::first(masters),
             stream: Replica::new(alloc, stream, id),
             connections: Connections::new(alloc),
         })
@@ -91,11 +100,11 @@ impl<S: SlotParts + SlotKeys, T: Stream> NodeParts<S, T> {
 }
 
 // The stream with which the node of that number begins: its master's, or its own.
-fn first_id(config: &Config, number: NodeNo) -> StreamId
-    ensures { result ≡ first_id (slice_index_or (first_masters config.now.nodes) number None) number }
+fn first_id(masters: &Masters, number: NodeNo) -> StreamId
+    ensures { result ≡ first_id (slice_index_or masters.now number None) number }
 {
     StreamId {
-        node: master_of(config, number).unwrap_or(number),
+        node: masters.of(number).unwrap_or(number),
         epoch: Epoch::new(0),
     }
 }

@@ -1,27 +1,14 @@
 //! What a node knows of itself, of a slot, and of who copies whom.
 ghost use Rattle.std.specs.Prelude.{◌≡◌, None, is_some, slice_index_or};
 ghost use Rattle.node_step.specs.Roles.{is_just};
-ghost use Rattle.node_step.specs.State.{first_masters, own_master, standing};
+ghost use Rattle.node_step.specs.State.{own_master, standing};
 
 use crate::parts::NodeParts;
-use cluster_config::{Config, Role};
 use key_slot::Slot;
 use repl_stream::Stream;
 use slot_state::Standing;
 use slot_store::{SlotKeys, SlotParts};
 use slot_table::NodeNo;
-
-/// The master of the node of that number, if it begins as a replica.
-#[tactic(auto, using(crate::proofs::NodeLemmas::replica_has_master, crate::proofs::NodeLemmas::master_has_none, crate::proofs::NodeLemmas::unknown_has_no_master))]
-pub(crate) fn master_of(config: &Config, number: NodeNo) -> Option<NodeNo>
-    ensures { result ≡ slice_index_or (first_masters config.now.nodes) number None }
-{
-    let node = config.node(number)?;
-    match &node.role {
-        Role::Replica { of } => Some(*of),
-        Role::Master { .. } => None,
-    }
-}
 
 impl<S: SlotParts + SlotKeys, T: Stream> NodeParts<S, T> {
     /// What bears on an order to move the slot.
@@ -39,7 +26,7 @@ impl<S: SlotParts + SlotKeys, T: Stream> NodeParts<S, T> {
     pub fn own_master(&self) -> Option<NodeNo>
         ensures { result ≡ own_master self.now }
     {
-        master_of(&self.config, self.number)
+        self.election.masters.of(self.number)
     }
 
     /// Whether it is one.
@@ -53,6 +40,6 @@ impl<S: SlotParts + SlotKeys, T: Stream> NodeParts<S, T> {
     pub fn has_replica(&self, number: NodeNo) -> bool
         ensures { result ≡ is_just (slice_index_or self.now.masters number None) self.now.number }
     {
-        master_of(&self.config, number) == Some(self.number)
+        self.election.masters.of(number) == Some(self.number)
     }
 }

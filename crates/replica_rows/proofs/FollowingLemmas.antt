@@ -1,7 +1,6 @@
 -- A replica that follows its master.
-use Rattle.std.proofs.Common.{◌≡◌, ℕ, true, false, true≢false, refl, sym, ap, subst, ◌∙◌}
-use Rattle.std.proofs.lemmas.Bool.{cond-false, cond-true}
-use Rattle.node_parts.specs.Drafts.{at_epoch}
+use Rattle.std.proofs.Common.{◌≡◌, ℕ, true, false, not, true≢false, refl, sym, ap, subst, ◌∙◌}
+use Rattle.std.proofs.lemmas.Bool.{cond-false, cond-true, not-false, not-true}
 use Rattle.node_step.specs.Replicas.{follower_of, restored_by, with_follower, with_piece}
 use Rattle.node_step.specs.Roles.{is_just}
 use Rattle.node_step.specs.State.{NodeState, own_master}
@@ -41,36 +40,33 @@ module _ (old new : NodeState) (piece : PieceView) (same : new ≡ old) where
       other_is_none place never = cc
 
 -- a piece of the own master
-module _ (old new : NodeState) (epoch from : ℕ) (piece : PieceView) where
-  pub own_piece : is_just (own_master old) from ≡ true → TakesOrNot old piece new → Follows (at_epoch old epoch) from piece (at_epoch new epoch)
-  own_piece is takes = record {
-    follower = takes.follower;
-    may_follow = λ own. takes.may_follow;
-    state =
-        ap (λ (node : NodeState). at_epoch node epoch) takes.state ∙ behind_verdict (verdict_on old.stream piece)
-        ∙ sym (cond-true (is_just (own_master old) from) (with_piece (at_epoch old epoch) takes.follower (verdict_on old.stream piece)) (at_epoch old epoch) is);
-  }
-    where
-      behind_verdict : (verdict : PieceVerdict) → at_epoch (with_piece old takes.follower verdict) epoch ≡ with_piece (at_epoch old epoch) takes.follower verdict
-      behind_verdict Gap = refl
-      behind_verdict OtherStream = refl
-      behind_verdict (Takes place) = refl
+module _ (old new : NodeState) (from : ℕ) (piece : PieceView) where
+  pub own_piece : not (is_just (own_master old) from) ≡ false → TakesOrNot old piece new → Follows old from piece new
+  own_piece own takes =
+      let is : is_just (own_master old) from ≡ true = not-false (is_just (own_master old) from) own in
+      record {
+        follower = takes.follower;
+        may_follow = λ same. takes.may_follow;
+        state = takes.state ∙ sym (cond-true (is_just (own_master old) from) (with_piece old takes.follower (verdict_on old.stream piece)) old is);
+      }
 
   -- one of another node
-  pub other_piece : is_just (own_master old) from ≡ false → Follows (at_epoch old epoch) from piece (at_epoch old epoch)
-  other_piece is = record {
-    follower = follower_of old;
-    may_follow = λ own. absurd (true≢false (sym own ∙ is));
-    state = sym (cond-false (is_just (own_master old) from) (with_piece (at_epoch old epoch) (follower_of old) (verdict_on old.stream piece)) (at_epoch old epoch) is);
-  }
+  pub other_piece : not (is_just (own_master old) from) ≡ true → new ≡ old → Follows old from piece new
+  other_piece other same =
+      let is : is_just (own_master old) from ≡ false = not-true (is_just (own_master old) from) other in
+      record {
+        follower = follower_of old;
+        may_follow = λ own. absurd (true≢false (sym own ∙ is));
+        state = same ∙ sym (cond-false (is_just (own_master old) from) (with_piece old (follower_of old) (verdict_on old.stream piece)) old is);
+      }
 
 -- a snapshot of the own master
-module _ (old : NodeState) (epoch from : ℕ) (snapshot : Whole) where
-  pub own_snapshot : (new : NodeState) → is_just (own_master old) from ≡ true → new ≡ with_follower old (restored snapshot (follower_of old))
-      → at_epoch new epoch ≡ (restored_by (at_epoch old epoch) from snapshot).state
-  own_snapshot new is restores =
-      ap (λ (node : NodeState). at_epoch node epoch) restores
-      ∙ sym (cond-true (is_just (own_master old) from) (with_follower (at_epoch old epoch) (restored snapshot (follower_of old))) (at_epoch old epoch) is)
+module _ (old new : NodeState) (from : ℕ) (snapshot : Whole) where
+  pub own_snapshot : not (is_just (own_master old) from) ≡ false → new ≡ with_follower old (restored snapshot (follower_of old)) → new ≡ (restored_by old from snapshot).state
+  own_snapshot own restores =
+      restores
+      ∙ sym (cond-true (is_just (own_master old) from) (with_follower old (restored snapshot (follower_of old))) old (not-false (is_just (own_master old) from) own))
 
-  pub other_snapshot : is_just (own_master old) from ≡ false → at_epoch old epoch ≡ (restored_by (at_epoch old epoch) from snapshot).state
-  other_snapshot is = sym (cond-false (is_just (own_master old) from) (with_follower (at_epoch old epoch) (restored snapshot (follower_of old))) (at_epoch old epoch) is)
+  pub other_snapshot : not (is_just (own_master old) from) ≡ true → new ≡ old → new ≡ (restored_by old from snapshot).state
+  other_snapshot other same =
+      same ∙ sym (cond-false (is_just (own_master old) from) (with_follower old (restored snapshot (follower_of old))) old (not-true (is_just (own_master old) from) other))

@@ -58,3 +58,4 @@ pub record Adds (node : NodeState) (bytes : List ℕ) (old new : Draft) : Type 0
   pub written : new.written.items ≡ bytes
   pub plan : new.plan ≡ old.plan
   pub change : new.change ≡ old.change
+  pub succession : new.succession ≡ old.succession

@@ -1,6 +1,5 @@
 //! A replica follows its master's stream.
 ghost use Rattle.std.specs.Prelude.{◌≡◌, OnOk, OnErr};
-ghost use Rattle.node_parts.specs.Drafts.{at_epoch};
 ghost use Rattle.node_step.specs.Replicas.{follower_of, restored_by, with_follower};
 ghost use Rattle.node_step.specs.Roles.{is_just};
 ghost use Rattle.node_step.specs.State.{own_master};
@@ -10,26 +9,24 @@ ghost use Rattle.stream_values.specs.Snapshot.{restored};
 use node_parts::NodeParts;
 use repl_stream::{OfferFault, Replaces, Stream};
 use slot_store::{SlotKeys, SlotParts};
-use slot_table::{Epoch, NodeNo};
+use slot_table::NodeNo;
 use std::alloc::AllocError;
 use stream_values::{Piece, Snapshot};
 
 /// Takes a piece of the own master's stream, which executes the writes there. One that can't be taken changes nothing.
+#[tactic(auto, using(crate::proofs::FollowingLemmas::own_piece, crate::proofs::FollowingLemmas::other_piece))]
 pub fn take_piece<S: SlotParts + SlotKeys, T: Stream>(
     node: &mut NodeParts<S, T>,
-    epoch: Epoch,
     from: NodeNo,
     piece: &Piece,
 ) -> Result<(), AllocError>
-    ensures ok { OnOk result (Follows (at_epoch node.old epoch) from piece.now node.new) }
+    ensures ok { OnOk result (Follows node.old from piece.now node.new) }
     ensures err { OnErr result (node.new ≡ node.old) }
 {
-    if is_own_master(node, from) {
-        offer(node, piece)?;
-        node.current_epoch = epoch;
+    if !is_own_master(node, from) {
         return Ok(());
     }
-    node.current_epoch = epoch;
+    offer(node, piece)?;
     Ok(())
 }
 
@@ -59,21 +56,19 @@ fn is_own_master<S: SlotParts + SlotKeys, T: Stream>(node: &NodeParts<S, T>, fro
 }
 
 /// Takes all that the own master had, in place of what is here.
+#[tactic(auto, using(crate::proofs::FollowingLemmas::own_snapshot, crate::proofs::FollowingLemmas::other_snapshot))]
 pub fn take_snapshot<S: SlotParts + SlotKeys + Replaces, T: Stream>(
     node: &mut NodeParts<S, T>,
-    epoch: Epoch,
     from: NodeNo,
     snapshot: &Snapshot,
 ) -> Result<(), AllocError>
-    ensures ok { OnOk result (node.new ≡ (restored_by (at_epoch node.old epoch) from snapshot.now).state) }
+    ensures ok { OnOk result (node.new ≡ (restored_by node.old from snapshot.now).state) }
     ensures err { OnErr result (node.new ≡ node.old) }
 {
-    if is_own_master(node, from) {
-        restore(node, snapshot)?;
-        node.current_epoch = epoch;
+    if !is_own_master(node, from) {
         return Ok(());
     }
-    node.current_epoch = epoch;
+    restore(node, snapshot)?;
     Ok(())
 }
 

@@ -10,5 +10,5 @@ mod writes;
 
 pub use following::{take_piece, take_snapshot};
 pub use recording::record;
-pub use syncs::answer_sync;
+pub use syncs::{answer_sync, append_sync};
 pub use writes::{written_by_ack, written_by_copy, written_by_loss, written_by_request};

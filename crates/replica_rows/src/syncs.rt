@@ -1,8 +1,9 @@
-//! What a master answers to a node that tells how far it is.
-ghost use Rattle.std.specs.Prelude.{◌≡◌, IfOk, OnOk};
+//! A replica tells its master how far it is, and what a master answers.
+ghost use Rattle.std.specs.Prelude.{◌≡◌, ◌++◌, IfOk, OnOk};
 ghost use Rattle.std.specs.FinMap as fin_map;
-ghost use Rattle.node_parts.specs.Drafts.{Drafts, HasNothing, at_epoch, bodies_of};
-ghost use Rattle.node_step.specs.Replicas.{sync_answer, synced};
+ghost use Rattle.node_parts.specs.Drafts.{Drafts, HasNothing, bodies_of};
+ghost use Rattle.node_step.specs.Replicas.{sync_answer, sync_to, synced};
+ghost use Rattle.node_step.specs.State.{own_master};
 ghost use Rattle.stream_values.specs.Syncing.{answer_to};
 
 use bus::Body;
@@ -11,27 +12,43 @@ use node_step::Releases;
 use repl_stream::Stream;
 use slot_pairs::pairs;
 use slot_store::{SlotKeys, SlotParts};
-use slot_table::{Epoch, NodeNo};
+use slot_table::NodeNo;
 use std::alloc::AllocError;
 use stream_values::{Pairs, Snapshot, Sync, SyncAnswer};
+
+/// A replica tells its master how much of its stream it received, behind these messages.
+pub fn append_sync<S: SlotParts + SlotKeys, T: Stream>(
+    node: &NodeParts<S, T>,
+    bodies: &mut Vec<(NodeNo, Body)>,
+) -> Result<(), AllocError>
+    ensures { OnOk result (bodies.new.items ≡ bodies.old.items ++ sync_to node.now.stream (own_master node.now)) }
+{
+    if let Some(master) = node.own_master() {
+        let sync = Sync {
+            stream: node.stream.id(),
+            received: node.stream.received(),
+        };
+        bodies.push((master, Body::Sync(sync)))?;
+    }
+    Ok(())
+}
 
 /// Answers what the sender of the sync misses. A replica answers nothing.
 pub fn answer_sync<S: SlotParts + SlotKeys, T: Stream>(
     node: &NodeParts<S, T>,
-    epoch: Epoch,
     from: NodeNo,
     sync: &Sync,
     draft: &mut Draft,
 ) -> Result<(), AllocError>
     requires { HasNothing node.now draft.old }
-    ensures { OnOk result (Drafts node.now (synced (at_epoch node.now epoch) from sync.now) draft.new) }
+    ensures { OnOk result (Drafts node.now (synced node.now from sync.now) draft.new) }
 {
     if node.is_replica() {
-        node.write_change(draft, epoch, Change::Nothing);
+        node.write_change(draft, Change::Nothing);
         return Ok(());
     }
     let bodies = listed(node.alloc, sync_answer(node, from, sync)?)?;
-    node.write_releases(draft, Releases::new(), bodies, epoch, Change::Nothing);
+    node.write_releases(draft, Releases::new(), bodies, Change::Nothing);
     Ok(())
 }
 

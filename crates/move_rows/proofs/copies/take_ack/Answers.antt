@@ -8,7 +8,7 @@ use Rattle.move_rows.proofs.copies.take_ack.Goals as goal
 pub returns-in_default : goal.returns-in_default
 returns-in_default g c =
     let slot = c.args.name.slot in
-    nothing_acknowledged c.args.node.now c.args.epoch c.args.from slot c.args.name.number c.args.name.copy c.write_change.new.draft c.acknowledged_key.result c.in_default.is
+    nothing_acknowledged c.args.node.now c.args.from slot c.args.name.number c.args.name.copy c.write_change.new.draft c.acknowledged_key.result c.in_default.is
     (c.acknowledged_key.ensures
     ∙ ap (λ move. acknowledged_key move c.args.from c.args.name.number c.args.name.copy) (c.get.ensures ∙ ap (λ (node : NodeState). move_of node.moves slot) c.node.view_is))
     (c.write_change.ensures _ refl)
@@ -16,7 +16,7 @@ returns-in_default g c =
 pub returns : goal.returns
 returns g c =
     let slot = c.args.name.slot in
-    acknowledges c.args.node.now c.args.epoch c.args.from slot c.args.name.number c.args.name.copy c.write_releases.new.draft c.acknowledged_key.result c.in-Some.key c.done.result _ _ c.in-Some.is
+    acknowledges c.args.node.now c.args.from slot c.args.name.number c.args.name.copy c.write_releases.new.draft c.acknowledged_key.result c.in-Some.key c.done.result _ _ c.in-Some.is
     (c.acknowledged_key.ensures
     ∙ ap (λ move. acknowledged_key move c.args.from c.args.name.number c.args.name.copy) (c.get.ensures ∙ ap (λ (node : NodeState). move_of node.moves slot) c.node.view_is))
     (c.in_ok-bodies.ensures ∙ c.drained_by_ack.ensures) c.in_ok-released.ensures c.done.ensures c.write_releases.ensures

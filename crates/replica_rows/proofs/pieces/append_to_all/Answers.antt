@@ -1,5 +1,6 @@
 use Rattle.std.proofs.Common.{◌≡◌, sym, ◌∙◌, rules}
-use Rattle.replica_rows.proofs.PieceLemmas.{piece-push, piece-skip}
+use Rattle.node_parts.proofs.ToAll.{left_out, sent_on}
+use Rattle.replica_rows.proofs.PieceLemmas.{copies}
 use Rattle.replica_rows.proofs.pieces.append_to_all.Goals as goal
 use Rattle.replica_rows.proofs.pieces.append_to_all.Goals.{then-has_replica+in_ok-piece_of+in_ok-push, else-has_replica}
 use Rattle.replica_rows.specs.Recording.{piece_of}
@@ -11,9 +12,9 @@ loop-place-preserved g c =
     let at : c.unwrap-to.result ≡ c.loop-place.place = search rules in
     elim c.if-has_replica.branch [
       | then-has_replica+in_ok-piece_of+in_ok-push w ↦
-          piece-push node.masters node.number c.loop-place.place body c.unwrap-to.result w.in_ok-piece_of.field-0 c.args.bodies.now.items c.loop-place.bodies.items c.if-has_replica.bodies.items
+          sent_on (copies node.masters node.number) c.loop-place.place body c.unwrap-to.result w.in_ok-piece_of.field-0 c.args.bodies.now.items c.loop-place.bodies.items c.if-has_replica.bodies.items
           at w.in_ok-piece_of.ensures (sym c.has_replica.ensures ∙ w.if-has_replica.true) c.loop-place.invariant (rw w.bodies-is w.in_ok-push.ensures.items)
       | else-has_replica w ↦
-          piece-skip node.masters node.number c.loop-place.place body c.unwrap-to.result c.args.bodies.now.items c.loop-place.bodies.items c.if-has_replica.bodies.items
+          left_out (copies node.masters node.number) c.loop-place.place body c.unwrap-to.result c.args.bodies.now.items c.loop-place.bodies.items c.if-has_replica.bodies.items
           at (sym c.has_replica.ensures ∙ w.if-has_replica.false) c.loop-place.invariant (rw w.bodies-is)
     ]

@@ -1,0 +1,99 @@
+//! A replica takes the place of its master.
+ghost use Rattle.std.specs.Prelude.{◌≡◌, ◌<◌, IfOk, OnOk, Some, map};
+ghost use Rattle.node_parts.specs.Drafts.{HasNothing, Promotes};
+ghost use Rattle.node_step.specs.Promotion.{entry_after, promotion};
+ghost use Rattle.slot_table.specs.Claims.{is_above};
+
+use bus::{Body, Replaced};
+use key_slot::Slot;
+use node_parts::{Draft, NodeParts, Succession};
+use repl_stream::Stream;
+use slot_store::{SlotKeys, SlotParts};
+use slot_table::{Epoch, NodeNo, SlotEntry, SlotTable};
+use std::alloc::AllocError;
+use stream_values::StreamId;
+
+/// Promotes the node in the place of its master, by an election of that epoch: all other nodes get its claim.
+pub fn promote<S: SlotParts + SlotKeys, T: Stream>(
+    node: &NodeParts<S, T>,
+    master: NodeNo,
+    epoch: Epoch,
+    draft: &mut Draft,
+) -> Result<(), AllocError>
+    requires { HasNothing node.now draft.old }
+    ensures { OnOk result (Promotes node.now (promotion node.now epoch (Some master)) draft.new) }
+{
+    let table = table_after(node, master, epoch)?;
+    let claim = table.claim_of(node.alloc, node.number)?;
+    let claim = Body::Claim(claim, Some(replaced(node, master, epoch)));
+    let mut bodies = Vec::new(node.alloc);
+    node.append_to_others(&claim, &mut bodies)?;
+    let succession = Succession {
+        table,
+        master,
+        epoch,
+    };
+    node.write_promotion(draft, bodies, succession);
+    Ok(())
+}
+
+// Whose place the node takes, and where its stream begins.
+fn replaced<S: SlotParts + SlotKeys, T: Stream>(
+    node: &NodeParts<S, T>,
+    master: NodeNo,
+    epoch: Epoch,
+) -> Replaced
+    ensures { result ≡ record { master = master; stream = record { node = node.now.number; epoch = epoch }; offset = node.now.stream.offset } }
+{
+    let stream = StreamId {
+        node: node.number,
+        epoch,
+    };
+    Replaced {
+        master,
+        stream,
+        offset: node.stream.offset(),
+    }
+}
+
+// The slots of the master are the node's own, each in the epoch of its election.
+fn table_after<S: SlotParts + SlotKeys, T: Stream>(
+    node: &NodeParts<S, T>,
+    master: NodeNo,
+    epoch: Epoch,
+) -> Result<SlotTable, AllocError>
+    ensures { IfOk result (λ table. table ≡ map (entry_after master (record { epoch = epoch; owner = node.now.number })) node.now.table) }
+{
+    let owner = node.number;
+    let mut table = node.table.clone()?;
+    claim_all(&mut table, &node.table, master, SlotEntry { epoch, owner });
+    Ok(table)
+}
+
+// Each slot of the master gets the claim, if that counts above what was there.
+fn claim_all(table: &mut SlotTable, before: &SlotTable, master: NodeNo, claim: SlotEntry)
+    requires { table.old ≡ before.now }
+    ensures { table.new ≡ map (entry_after master claim) before.now }
+{
+    for place in 0..Slot::COUNT {
+        let slot = Slot::new(place as u16).unwrap();
+        table.set(slot, entry_after(master, claim, before.entry(slot)));
+    }
+}
+
+// What a slot has then.
+fn entry_after(master: NodeNo, claim: SlotEntry, entry: Option<SlotEntry>) -> Option<SlotEntry>
+    ensures { result ≡ entry_after master claim entry }
+{
+    match entry {
+        Some(known) if known.owner == master && is_above(claim, known) => Some(claim),
+        other => other,
+    }
+}
+
+// Whether the claim to a slot counts above what is known of it.
+fn is_above(claim: SlotEntry, known: SlotEntry) -> bool
+    ensures { result ≡ is_above claim (Some known) }
+{
+    known.epoch < claim.epoch || known.epoch == claim.epoch && known.owner < claim.owner
+}

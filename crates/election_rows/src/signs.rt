@@ -1,0 +1,42 @@
+//! What all other nodes are told at a tick.
+ghost use Rattle.std.specs.Prelude.{◌≡◌, ◌++◌, IfOk, OnOk};
+ghost use Rattle.election.specs.Failing.{suspected};
+ghost use Rattle.node_step.specs.Failing.{members_of};
+ghost use Rattle.node_step.specs.Orders.{claim_of};
+ghost use Rattle.node_step.specs.Ticks.{signs};
+
+use bus::{Body, Suspects};
+use node_parts::NodeParts;
+use repl_stream::Stream;
+use slot_store::{SlotKeys, SlotParts};
+use slot_table::NodeNo;
+use std::alloc::AllocError;
+
+/// Puts the slots that the node has, and whom it suspects, for all other nodes behind these messages. They are a sign that it
+/// lives, also where there are none.
+pub fn append_signs<S: SlotParts + SlotKeys, T: Stream>(
+    node: &NodeParts<S, T>,
+    bodies: &mut Vec<(NodeNo, Body)>,
+) -> Result<(), AllocError>
+    ensures { OnOk result (bodies.new.items ≡ bodies.old.items ++ signs node.now) }
+{
+    node.append_to_others(&claim(node)?, bodies)?;
+    node.append_to_others(&report(node), bodies)?;
+    Ok(())
+}
+
+// The slots of the node, and whose place it took.
+fn claim<S: SlotParts + SlotKeys, T: Stream>(node: &NodeParts<S, T>) -> Result<Body, AllocError>
+    ensures { IfOk result (λ body. body ≡ Body.Claim (claim_of node.now) node.now.replaced) }
+{
+    let claim = node.table.claim_of(node.alloc, node.number)?;
+    Ok(Body::Claim(claim, node.election.replaced))
+}
+
+// Whom it suspects.
+fn report<S: SlotParts + SlotKeys, T: Stream>(node: &NodeParts<S, T>) -> Body
+    ensures { result ≡ Body.Report (suspected node.now.health (members_of node.now)) }
+{
+    let suspected = node.election.health.suspected(&node.members());
+    Body::Report(Suspects::new(suspected))
+}

@@ -1,0 +1,73 @@
+-- A tick, as a node drafts it.
+use Rattle.std.proofs.Common.{◌≡◌, ◌++◌, ℕ, List, [], map, true, Option, Some, None, refl, sym, ap, subst, ◌∙◌}
+use Rattle.std.specs.List.{flat_map}
+use Rattle.bus.specs.declared.message.Body.{Body}
+use Rattle.command_table.specs.declared.error_line.ErrorLine.TheVariants as line
+use Rattle.connections.specs.Connections.{is_over, waiting}
+use Rattle.node_core.proofs.VoteLemmas.{just_drafted}
+use Rattle.node_core.specs.Comes.{IsJust}
+use Rattle.node_core.specs.Ticking.{ticked_in}
+use Rattle.node_parts.proofs.ChangeLemmas.{can_be_made, made_comes}
+use Rattle.node_parts.specs.Becomes.{CanBeMade}
+use Rattle.node_parts.specs.Drafts.{Comes, Drafts, at_epoch, stamped_draft}
+use Rattle.node_parts.specs.Making.{IsApplied}
+use Rattle.node_parts.specs.declared.draft.Draft.{Draft}
+use Rattle.node_step.specs.Failing.{a_tick_older}
+use Rattle.node_step.specs.Outcome.{Outcome, error, release, silent}
+use Rattle.node_step.specs.Replicas.{sync_to}
+use Rattle.node_step.specs.State.{NodeState, own_master}
+use Rattle.node_step.specs.Step.{NodeStep}
+use Rattle.node_step.specs.Ticks.{older, sent_again, signs, slots_tick, tick}
+use Rattle.node_step.specs.Voting.{due_epoch, has_due_epoch, in_election, requests_in}
+use Rattle.node_step.specs.declared.event.Event.TheVariants.{Tick}
+use Rattle.node_step.specs.declared.outputs.Outputs.{Outputs}
+use Rattle.node_step.specs.declared.outputs.Release.{Release}
+use Rattle.resp_values.specs.declared.reply.Reply.{Reply}
+use Rattle.slot_state.specs.Moves.{running_moves}
+
+-- who waited as long as wanted is told, copies are sent again, and others are told what a tick tells them
+pub tick_drafted : (node : NodeState) (epoch : Option ℕ) (reply : Reply) (released : List Release) (again told synced bodies : List (ℕ × Body)) (draft : Draft) → reply ≡ error line.NotAcknowledged
+    → released ≡ map (release reply) (waiting node.connections is_over) → again ≡ flat_map (sent_again node) (running_moves node.moves) → told ≡ again ++ signs node
+    → synced ≡ told ++ sync_to node.stream (own_master node) → bodies ≡ synced ++ requests_in node epoch (own_master node)
+    → ((after : NodeState) → after ≡ older node → Drafts node (record (silent after) { released = released; sent = bodies }) draft) → Drafts node (ticked_in node epoch) draft
+tick_drafted node epoch reply released again told synced bodies draft replies gives first tells syncs asks drafts =
+    let sent : bodies ≡ (ticked_in node epoch).sent =
+    asks ∙ ap (λ (b : List (ℕ × Body)). b ++ requests_in node epoch (own_master node))
+    (syncs ∙ ap (λ (b : List (ℕ × Body)). b ++ sync_to node.stream (own_master node)) (tells ∙ ap (λ (b : List (ℕ × Body)). b ++ signs node) first)) in
+    subst (λ (b : List (ℕ × Body)). Drafts node (record (silent (older node)) { released = map (release (error line.NotAcknowledged)) (waiting node.connections is_over); sent = b }) draft) sent
+    (subst (λ (r : List Release). Drafts node (record (silent (older node)) { released = r; sent = bodies }) draft)
+    (gives ∙ ap (λ r. map (release r) (waiting node.connections is_over)) replies) (drafts (older node) refl))
+
+-- a node that grew older before drafts the tick of the node that it was
+abbrev ticked_so : NodeState → Option ℕ → Outcome
+ticked_so old epoch = let node = a_tick_older (older old) in record (slots_tick old) {
+  sent = (slots_tick old).sent ++ signs node ++ sync_to node.stream (own_master node) ++ requests_in node epoch (own_master node);
+  state = in_election node epoch;
+}
+
+begun_before : (old : NodeState) (epoch : Option ℕ) → due_epoch (a_tick_older old) ≡ epoch → ticked_in (in_election (a_tick_older old) epoch) epoch ≡ tick old
+begun_before old None is = ap (λ (epoch : Option ℕ). ticked_so old epoch) (sym is)
+begun_before old (Some epoch) is = ap (λ (epoch : Option ℕ). ticked_so old epoch) (sym is)
+
+module _ (ticket : ℕ) (old aged begun : NodeState) (epoch : Option ℕ) (draft : Draft)
+    (ages : aged ≡ a_tick_older old) (due : epoch ≡ due_epoch aged) (begins : begun ≡ in_election aged (due_epoch aged)) where
+  as_tick : ticked_in begun epoch ≡ tick old
+  as_tick =
+      ap (λ (node : NodeState). ticked_in node epoch) (begins ∙ ap (in_election aged) (sym due) ∙ ap (λ (node : NodeState). in_election node epoch) ages)
+      ∙ begun_before old epoch (ap due_epoch (sym ages) ∙ sym due)
+
+  pub tick_can_be_made : Drafts begun (ticked_in begun epoch) draft → CanBeMade begun draft.plan draft.change
+  tick_can_be_made drafts = can_be_made (at_epoch begun draft.epoch) draft.plan draft.change (ticked_in begun epoch).state drafts.state
+
+  -- a tick that is drafted so and made is a step
+  pub tick_is_step : (outputs : Outputs) (new : NodeState) → has_due_epoch aged ≡ true → Drafts begun (ticked_in begun epoch) draft → outputs ≡ stamped_draft begun ticket draft → IsApplied begun draft new
+      → NodeStep ticket old Tick outputs new
+  tick_is_step outputs new has drafts are applied =
+      let comes : Comes ticket (IsJust (ticked_in begun epoch)) outputs new =
+      made_comes ticket begun (IsJust (ticked_in begun epoch)) draft outputs new (just_drafted begun (IsJust (ticked_in begun epoch)) (ticked_in begun epoch) draft refl drafts) are applied in
+      record {
+        outcome = comes.outcome;
+        may_come = record { number = ap has_due_epoch (sym ages) ∙ has; comes_to = comes.may ∙ as_tick };
+        outputs_are = comes.outputs_are;
+        state = comes.state;
+      }

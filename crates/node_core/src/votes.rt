@@ -1,0 +1,79 @@
+//! Messages of elections.
+ghost use Rattle.std.specs.Prelude.{◌≡◌, ◌≢◌, Err, IfOk, OnErr};
+ghost use Rattle.node_core.specs.Comes.{MayBeTaken, IsJust};
+ghost use Rattle.node_parts.specs.Drafts.{Comes};
+ghost use Rattle.node_parts.specs.Electing.{KeepsRest};
+ghost use Rattle.node_step.specs.Promotion.{promotion};
+ghost use Rattle.node_step.specs.State.{own_master};
+ghost use Rattle.step_fault.specs.declared.fault.StepFault.TheVariants.{Exhausted};
+
+use bus::Request;
+use election::VoteRequest;
+use election_rows::{promote, write_vote};
+use node_parts::{NodeParts, plain};
+use node_step::{Outputs, Recorder, Response, StepFault};
+use repl_stream::Stream;
+use slot_store::{SlotKeys, SlotParts};
+use slot_table::{Epoch, NodeNo};
+
+/// Takes the request of a node for this one's vote.
+#[tactic(auto, using(crate::proofs::VoteLemmas::vote_taken, crate::proofs::VoteLemmas::vote_drafted, node_parts::proofs::ChangeLemmas::draft_can_be_made))]
+pub(crate) fn ask_for_vote<S: SlotParts + SlotKeys, T: Stream, K: Recorder>(
+    node: &mut NodeParts<S, T>,
+    ticket: u64,
+    from: NodeNo,
+    request: &Request,
+) -> Result<(Outputs, K::Record), StepFault>
+    ensures taken { IfOk result (λ made. Comes ticket (MayBeTaken node.old from (Body.Request request.now)) made.0 node.new) }
+    ensures recorded { IfOk result (λ made. K.recorded made.1 ≡ made.0) }
+    ensures err { OnErr result (KeepsRest node.old node.new) }
+    ensures exhausted { result ≢ Err Exhausted }
+{
+    let request = VoteRequest {
+        candidate: from,
+        epoch: request.epoch,
+        master: request.master,
+    };
+    let granted = node.vote(request);
+    let mut draft = node.blank();
+    write_vote(node, request, granted, &mut draft)?;
+    Ok(node.make::<K>(ticket, &mut draft)?)
+}
+
+/// Counts the vote of a node for this one, which may elect it.
+pub(crate) fn count_vote<S: SlotParts + SlotKeys, T: Stream, K: Recorder>(
+    node: &mut NodeParts<S, T>,
+    ticket: u64,
+    from: NodeNo,
+    epoch: Epoch,
+) -> Result<(Outputs, K::Record), StepFault>
+    ensures taken { IfOk result (λ made. Comes ticket (MayBeTaken node.old from (Body.Grant epoch)) made.0 node.new) }
+    ensures recorded { IfOk result (λ made. K.recorded made.1 ≡ made.0) }
+    ensures err { OnErr result (KeepsRest node.old node.new) }
+    ensures exhausted { result ≢ Err Exhausted }
+{
+    let Some(elected) = node.count_vote(from, epoch) else {
+        return Ok(plain::<K>(ticket, Response::Nothing));
+    };
+    promoted::<S, T, K>(node, ticket, elected.epoch)
+}
+
+// The node is elected, and takes the place of its master, if it has one.
+#[tactic(auto, using(crate::proofs::VoteLemmas::promotion_made, node_parts::proofs::ChangeLemmas::promotion_can_be_made))]
+fn promoted<S: SlotParts + SlotKeys, T: Stream, K: Recorder>(
+    node: &mut NodeParts<S, T>,
+    ticket: u64,
+    epoch: Epoch,
+) -> Result<(Outputs, K::Record), StepFault>
+    ensures promoted { IfOk result (λ made. Comes ticket (IsJust (promotion node.old epoch (own_master node.old))) made.0 node.new) }
+    ensures recorded { IfOk result (λ made. K.recorded made.1 ≡ made.0) }
+    ensures err { OnErr result (node.new ≡ node.old) }
+    ensures exhausted { result ≢ Err Exhausted }
+{
+    let Some(master) = node.own_master() else {
+        return Ok(plain::<K>(ticket, Response::Nothing));
+    };
+    let mut draft = node.blank();
+    promote(node, master, epoch, &mut draft)?;
+    Ok(node.make::<K>(ticket, &mut draft)?)
+}

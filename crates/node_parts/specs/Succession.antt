@@ -1,0 +1,29 @@
+-- A replica takes the place of its master, as it is drafted.
+use Rattle.std.specs.Prelude.{ℕ, List, Option, Some, None}
+use Rattle.bus.specs.declared.message.Body.{Body}
+use Rattle.node_parts.specs.declared.succession.Succession.{Succession}
+use Rattle.node_step.specs.Outcome.{Outcome, silent}
+use Rattle.node_step.specs.Promotion.{in_place_of}
+use Rattle.node_step.specs.State.{NodeState}
+use Rattle.node_step.specs.declared.promotion.Promotion.{Promotion}
+
+-- the node in the place of its master, with the table that was made for that
+abbrev pub succeeding : NodeState → Succession → NodeState
+succeeding node succession = record (in_place_of node succession.master succession.epoch) { table = succession.table }
+
+abbrev pub succeeded_by : Option Succession → NodeState → NodeState
+succeeded_by None node = node
+succeeded_by (Some succession) node = succeeding node succession
+
+-- what comes out: the stream that the node followed, and how much of it in whole writes
+abbrev pub promotion_in : NodeState → ℕ → Promotion
+promotion_in node epoch = record { stream = node.stream.held.id; offset = node.stream.offset; epoch = epoch }
+
+abbrev pub promoted_by : NodeState → Option Succession → Option Promotion
+promoted_by node None = None
+promoted_by node (Some succession) = Some (promotion_in node succession.epoch)
+
+-- the outcome, with these messages
+abbrev pub promoting : NodeState → List (ℕ × Body) → Succession → Outcome
+promoting node bodies succession =
+    record (silent (succeeding node succession)) { sent = bodies; promoted = Some (promotion_in node succession.epoch) }

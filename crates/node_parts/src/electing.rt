@@ -1,0 +1,224 @@
+//! What a node knows of epochs, of who copies whom, and of who lives, and its part in elections.
+ghost use Rattle.std.specs.Prelude.{◌≡◌, false, true, IfErr, IfOk, OnErr, OnOk};
+ghost use Rattle.election.specs.Electing.{counted, elected};
+ghost use Rattle.election.specs.Voting.{after_request, may_grant};
+ghost use Rattle.node_parts.specs.Electing.{first_election, with_election};
+ghost use Rattle.node_step.specs.Failing.{a_tick_older, hearing, judging, members_of};
+ghost use Rattle.node_step.specs.Messages.{knowing, ready};
+ghost use Rattle.node_step.specs.Roles.{following, replaced_in, with_master};
+ghost use Rattle.node_step.specs.Voting.{due_epoch, has_due_epoch, in_election};
+ghost use Rattle.step_fault.specs.declared.fault.StepFault.TheVariants.{Exhausted};
+
+use crate::masters::Masters;
+use crate::parts::NodeParts;
+use bus::{Body, Message, Replaced};
+use election::{Candidate, Elected, Health, Members, VoteRequest, Voter};
+use repl_stream::Stream;
+use slot_store::{SlotKeys, SlotParts};
+use slot_table::{Epoch, NodeNo};
+use step_fault::StepFault;
+
+/// What a node knows of epochs, of who copies whom, and of who lives, and its part in elections.
+///
+/// It takes no memory, so a step that is refused puts back what was.
+#[derive(Clone, Copy, Debug)]
+pub struct ElectionState {
+    /// The greatest epoch that the node knows of.
+    pub current_epoch: Epoch,
+    /// For each node the master that it is a replica of, if it is one.
+    pub masters: Masters,
+    /// What it heard of the others.
+    pub health: Health,
+    /// Its votes.
+    pub voter: Voter,
+    /// Its own election.
+    pub candidate: Candidate,
+    /// Whose place it took, if it was promoted.
+    pub replaced: Option<Replaced>,
+}
+
+impl ElectionState {
+    // That of a node as it begins, where these are replicas of these masters.
+    pub(crate) fn first(masters: Masters) -> ElectionState
+        ensures { result ≡ first_election masters }
+    {
+        ElectionState {
+            current_epoch: Epoch::FIRST,
+            masters,
+            health: Health::new(),
+            voter: Voter::new(),
+            candidate: Candidate::new(),
+            replaced: None,
+        }
+    }
+}
+
+impl<S: SlotParts + SlotKeys, T: Stream> NodeParts<S, T> {
+    /// Who votes, and who copies whom, as the node knows it.
+    pub fn members(&self) -> Members<'_>
+        ensures { result ≡ members_of self.now }
+    {
+        Members::new(
+            self.number,
+            self.config.node_timeout(),
+            self.config.voters(),
+            self.election.masters.as_slice(),
+        )
+    }
+
+    /// Puts back what the node knew of the others, and its part in elections.
+    pub fn put_back(&mut self, before: ElectionState)
+        ensures { self.new ≡ with_election self.old before }
+    {
+        self.election = before;
+    }
+
+    /// Takes note of what any message tells, before it is taken: its epoch, that its sender lives, and whose place that took.
+    pub fn hear(&mut self, message: &Message)
+        ensures { self.new ≡ ready self.old message.now }
+    {
+        self.know(message.epoch);
+        self.note(message.from, &message.body);
+        self.follow(message.from, replaced_in(&message.body));
+        self.judge();
+    }
+
+    // Takes over a greater epoch.
+    fn know(&mut self, epoch: Epoch)
+        ensures { self.new ≡ knowing self.old epoch }
+    {
+        self.election.current_epoch = self.election.current_epoch.max(epoch);
+    }
+
+    // The sender of that lives, and a report says whom it suspects.
+    fn note(&mut self, from: NodeNo, body: &Body)
+        ensures { self.new ≡ hearing self.old from body.now }
+    {
+        match body {
+            Body::Report(suspects) => self.election.health.on_report(from, suspects.row()),
+            Body::Copy { .. }
+            | Body::Ack { .. }
+            | Body::Drained { .. }
+            | Body::Claim(_, _)
+            | Body::Request(_)
+            | Body::Grant(_)
+            | Body::Sync(_)
+            | Body::Piece(_)
+            | Body::Snapshot(_) => self.election.health.on_message(from),
+        }
+    }
+
+    // Whoever followed a master that was replaced follows the node that took its place.
+    fn follow(&mut self, from: NodeNo, replaced: Option<Replaced>)
+        ensures { self.new ≡ following self.old from replaced }
+    {
+        let Some(replaced) = replaced else {
+            return;
+        };
+        if from != self.number {
+            self.replace(replaced.master, from);
+        }
+    }
+
+    // The master has a successor. An own election is over where that was the own master.
+    fn replace(&mut self, former: NodeNo, next: NodeNo)
+        ensures { self.new ≡ with_master self.old former next }
+    {
+        if self.own_master() == Some(former) {
+            self.election.candidate.forget();
+        }
+        self.election.masters.succeed(former, next);
+    }
+
+    // Takes note of whether the own master is held failed.
+    fn judge(&mut self)
+        ensures { self.new ≡ judging self.old }
+    {
+        let masters = self.election.masters;
+        let members = Members::new(
+            self.number,
+            self.config.node_timeout(),
+            self.config.voters(),
+            masters.as_slice(),
+        );
+        self.election
+            .candidate
+            .judge(&members, &self.election.health);
+    }
+
+    /// A tick passes, which counts before anything is judged by it.
+    pub fn grow_older(&mut self)
+        ensures { self.new ≡ a_tick_older self.old }
+    {
+        self.election.health.tick();
+        self.election.candidate.tick();
+        self.judge();
+    }
+
+    /// Begins an election of this node, if it is due, and tells its epoch.
+    ///
+    /// Exhausted is the only fault: no epoch is left behind the current one. Then nothing changes.
+    pub fn begin_election(&mut self) -> Result<Option<Epoch>, StepFault>
+        ensures epoch { IfOk result (λ epoch. epoch ≡ due_epoch self.old) }
+        ensures begun { OnOk result (self.new ≡ in_election self.old (due_epoch self.old)) }
+        ensures left { OnOk result (has_due_epoch self.old ≡ true) }
+        ensures fault { IfErr result (λ fault. fault ≡ Exhausted) }
+        ensures none { OnErr result (has_due_epoch self.old ≡ false) }
+        ensures err { OnErr result (self.new ≡ self.old) }
+    {
+        if !self.election.candidate.is_due(&self.members()) {
+            return Ok(None);
+        }
+        let Some(epoch) = self.election.candidate.start(self.election.current_epoch) else {
+            return Err(StepFault::Exhausted);
+        };
+        self.election.current_epoch = epoch;
+        Ok(Some(epoch))
+    }
+
+    /// Whether the node votes for the candidate, and then that is remembered.
+    pub fn vote(&mut self, request: VoteRequest) -> bool
+        ensures granted { result ≡ may_grant self.old.voter (members_of self.old) self.old.health self.old.current_epoch request }
+        ensures state { self.new ≡ record self.old { voter = after_request self.old.voter request result } }
+    {
+        let mut voter = self.election.voter;
+        let health = &self.election.health;
+        let granted = voter.on_request(
+            &self.members(),
+            health,
+            self.election.current_epoch,
+            request,
+        );
+        self.election.voter = voter;
+        granted
+    }
+
+    /// Counts the vote of a node for this one, and tells whether that elects it.
+    pub fn count_vote(&mut self, from: NodeNo, epoch: Epoch) -> Option<Elected>
+        ensures elected { result ≡ elected self.old.candidate (members_of self.old) from epoch }
+        ensures state { self.new ≡ record self.old { candidate = counted self.old.candidate (members_of self.old) from epoch } }
+    {
+        let mut candidate = self.election.candidate;
+        let elected = candidate.on_grant(&self.members(), from, epoch);
+        self.election.candidate = candidate;
+        elected
+    }
+}
+
+// Whose place the sender of a claim took.
+fn replaced_in(body: &Body) -> Option<Replaced>
+    ensures { result ≡ replaced_in body.now }
+{
+    match body {
+        Body::Claim(_, replaced) => *replaced,
+        Body::Copy { .. }
+        | Body::Ack { .. }
+        | Body::Drained { .. }
+        | Body::Report(_)
+        | Body::Request(_)
+        | Body::Grant(_)
+        | Body::Sync(_)
+        | Body::Piece(_)
+        | Body::Snapshot(_) => None,
+    }
+}

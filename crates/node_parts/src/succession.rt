@@ -1,0 +1,65 @@
+//! A replica takes the place of its master.
+ghost use Rattle.std.specs.Prelude.{◌≡◌, IfOk};
+ghost use Rattle.node_parts.specs.Succession.{promoted_by, succeeding};
+
+use crate::parts::NodeParts;
+use bus::Replaced;
+use node_step::{Promoted, Promotion};
+use repl_stream::Stream;
+use slot_store::{SlotKeys, SlotParts};
+use slot_table::{Epoch, NodeNo, SlotTable};
+use std::alloc::AllocError;
+use stream_values::StreamId;
+
+/// That a node takes the place of its master, decided and not done yet.
+#[derive(Drop)]
+pub struct Succession {
+    /// Who owns which slot from then on.
+    pub table: SlotTable,
+    /// The master.
+    pub master: NodeNo,
+    /// The epoch of the election.
+    pub epoch: Epoch,
+}
+
+impl<S: SlotParts + SlotKeys, T: Stream> NodeParts<S, T> {
+    // The promotion, as it comes out of the step, if there is one.
+    pub(crate) fn promoted(&self, succession: &Option<Succession>) -> Result<Promoted, AllocError>
+        ensures { IfOk result (λ promoted. promoted ≡ promoted_by self.now succession.now) }
+    {
+        let Some(succession) = succession else {
+            return Ok(Promoted::none());
+        };
+        let promotion = Promotion {
+            stream: self.stream.id(),
+            offset: self.stream.offset(),
+            epoch: succession.epoch,
+        };
+        Promoted::new(self.alloc, promotion)
+    }
+
+    // The node is a master from now on, with a stream of its own that goes on from the last whole write.
+    pub(crate) fn succeed(&mut self, succession: Succession)
+        ensures { self.new ≡ succeeding self.old succession }
+    {
+        let Succession {
+            table,
+            master,
+            epoch,
+        } = succession;
+        let stream = StreamId {
+            node: self.number,
+            epoch,
+        };
+        let offset = self.stream.offset();
+        self.table = table;
+        self.election.masters.succeed(master, self.number);
+        self.election.candidate.forget();
+        self.election.replaced = Some(Replaced {
+            master,
+            stream,
+            offset,
+        });
+        self.stream.promote(stream);
+    }
+}

@@ -1,0 +1,29 @@
+//! What all other nodes are told.
+ghost use Rattle.std.specs.Prelude.{◌≡◌, ◌++◌, OnOk};
+ghost use Rattle.node_step.specs.Orders.{others, to_all};
+
+use crate::parts::NodeParts;
+use bus::Body;
+use repl_stream::Stream;
+use slot_store::{SlotKeys, SlotParts};
+use slot_table::NodeNo;
+use std::alloc::AllocError;
+
+impl<S: SlotParts + SlotKeys, T: Stream> NodeParts<S, T> {
+    /// Puts this body for each other node behind these messages, by rising number.
+    pub fn append_to_others(
+        &self,
+        body: &Body,
+        bodies: &mut Vec<(NodeNo, Body)>,
+    ) -> Result<(), AllocError>
+        ensures { OnOk result (bodies.new.items ≡ bodies.old.items ++ to_all (others self.now) body.now) }
+    {
+        for place in 0..self.config.nodes().len() {
+            let to = NodeNo::new(place as u8).unwrap();
+            if to != self.number {
+                bodies.push((to, body.clone()?))?;
+            }
+        }
+        Ok(())
+    }
+}
