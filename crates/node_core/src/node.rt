@@ -165,7 +165,7 @@ impl<S: SlotParts + SlotKeys + Replaces, T: Stream> NodeCore<S, T> {
         if message.to != self.parts.number {
             return Ok(plain::<K>(ticket, Response::Nothing));
         }
-        let before = self.parts.election;
+        let before = self.parts.election();
         self.parts.hear(message);
         let taken = take::<S, T, K>(&mut self.parts, ticket, message);
         if taken.is_err() {
@@ -181,7 +181,7 @@ impl<S: SlotParts + SlotKeys + Replaces, T: Stream> NodeCore<S, T> {
         ensures err { OnErr result (self.new ≡ self.old) }
         ensures exhausted { result ≡ Err Exhausted → NoNumberLeft self.old Event.Tick }
     {
-        let before = self.parts.election;
+        let before = self.parts.election();
         let passed = pass_tick::<S, T, K>(&mut self.parts, ticket);
         if passed.is_err() {
             self.parts.put_back(before);

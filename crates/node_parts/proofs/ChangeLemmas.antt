@@ -126,6 +126,19 @@ made_at_epoch old new epoch plan change bytes is = record {
   state = ap (λ node. at_epoch node epoch) is.state;
 }
 
+-- what was taken out of a draft before doesn't bear on it
+pub applied_alike : (old : NodeState) (draft other : Draft) (new : NodeState) → other.epoch ≡ draft.epoch → other.written ≡ draft.written → other.plan ≡ draft.plan → other.change ≡ draft.change
+    → other.succession ≡ draft.succession → IsApplied old other new → IsApplied old draft new
+applied_alike old draft other new epoch written plan change succession is = record {
+  made = is.made;
+  makes =
+      subst (λ e. IsMade (at_epoch old e) draft.plan draft.change draft.written.items is.made) epoch
+      (subst (λ (w : List ℕ). IsMade (at_epoch old other.epoch) draft.plan draft.change w is.made) (ap (λ w. w.items) written)
+      (subst (λ (p : Plan). IsMade (at_epoch old other.epoch) p draft.change other.written.items is.made) plan
+      (subst (λ (c : Change). IsMade (at_epoch old other.epoch) other.plan c other.written.items is.made) change is.makes)));
+  state = is.state ∙ ap (λ (s : Option Succession). succeeded_by s is.made) succession;
+}
+
 -- how many bytes the stream gives up in front
 pub record GivesUp (old : NodeState) (outcome : Outcome) (requests : Requests) (new : NodeState) : Type 0 where
   pub dropped : ℕ

@@ -1,11 +1,20 @@
 -- What elections are about in a node, apart from the rest.
-use Rattle.std.specs.Prelude.{◌≡◌, ℕ, List, Option, None}
-use Rattle.election.specs.Health.{first_health, first_voter, no_candidate}
+use Rattle.std.specs.Prelude.{◌≡◌, ℕ, List, Option, None, length, take}
+use Rattle.bus.specs.declared.message.Replaced.{Replaced}
+use Rattle.election.specs.Health.{Candidate, Health, Voter, first_health, first_voter, no_candidate}
 use Rattle.node_parts.specs.declared.electing.ElectionState.{ElectionState}
 use Rattle.node_step.specs.State.{NodeState}
 
+pub record ElectionView : Type 0 where
+  pub current_epoch : ℕ
+  pub masters : List (Option ℕ)
+  pub health : Health
+  pub voter : Voter
+  pub candidate : Candidate
+  pub replaced : Option Replaced
+
 -- that part of the node
-abbrev pub election_of : NodeState → ElectionState
+abbrev pub election_of : NodeState → ElectionView
 election_of node = record {
   current_epoch = node.current_epoch;
   masters = node.masters;
@@ -16,7 +25,7 @@ election_of node = record {
 }
 
 -- the node with another one
-abbrev pub with_election : NodeState → ElectionState → NodeState
+abbrev pub with_election : NodeState → ElectionView → NodeState
 with_election node election = record node {
   current_epoch = election.current_epoch;
   masters = election.masters;
@@ -29,6 +38,17 @@ with_election node election = record node {
 -- all else of the node is as it was
 abbrev pub KeepsRest : NodeState → NodeState → Type 0
 KeepsRest old new = with_election new (election_of old) ≡ old
+
+-- of a row with a place for each node that there may be, those places count that have a node
+abbrev pub seen_by : NodeState → ElectionState → ElectionView
+seen_by node election = record {
+  current_epoch = election.current_epoch;
+  masters = take (length node.config.nodes) election.masters;
+  health = election.health;
+  voter = election.voter;
+  candidate = election.candidate;
+  replaced = election.replaced;
+}
 
 -- as a node begins
 abbrev pub first_election : List (Option ℕ) → ElectionState

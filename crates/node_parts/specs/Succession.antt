@@ -1,9 +1,10 @@
 -- A replica takes the place of its master, as it is drafted.
 use Rattle.std.specs.Prelude.{ℕ, List, Option, Some, None}
 use Rattle.bus.specs.declared.message.Body.{Body}
+use Rattle.bus.specs.declared.message.Replaced.{Replaced}
 use Rattle.node_parts.specs.declared.succession.Succession.{Succession}
 use Rattle.node_step.specs.Outcome.{Outcome, silent}
-use Rattle.node_step.specs.Promotion.{in_place_of}
+use Rattle.node_step.specs.Promotion.{in_place_of, own_stream}
 use Rattle.node_step.specs.State.{NodeState}
 use Rattle.node_step.specs.declared.promotion.Promotion.{Promotion}
 
@@ -14,6 +15,10 @@ succeeding node succession = record (in_place_of node succession.master successi
 abbrev pub succeeded_by : Option Succession → NodeState → NodeState
 succeeded_by None node = node
 succeeded_by (Some succession) node = succeeding node succession
+
+-- whose place the node takes, and where its own stream begins
+abbrev pub replacement : NodeState → ℕ → ℕ → Replaced
+replacement node master epoch = record { master = master; stream = own_stream node epoch; offset = node.stream.offset }
 
 -- what comes out: the stream that the node followed, and how much of it in whole writes
 abbrev pub promotion_in : NodeState → ℕ → Promotion

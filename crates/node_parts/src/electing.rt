@@ -1,15 +1,17 @@
 //! What a node knows of epochs, of who copies whom, and of who lives, and its part in elections.
-ghost use Rattle.std.specs.Prelude.{◌≡◌, false, true, IfErr, IfOk, OnErr, OnOk};
-ghost use Rattle.election.specs.Electing.{counted, elected};
+ghost use Rattle.std.specs.Prelude.{◌≡◌, false, true, IfErr, IfOk, OnErr, OnOk, if◌then◌else◌};
+ghost use Rattle.election.specs.Electing.{counted, elected, judged};
+ghost use Rattle.election.specs.Health.{no_candidate};
 ghost use Rattle.election.specs.Voting.{after_request, may_grant};
-ghost use Rattle.node_parts.specs.Electing.{first_election, with_election};
+ghost use Rattle.node_parts.specs.Electing.{election_of, first_election, seen_by, with_election};
 ghost use Rattle.node_step.specs.Failing.{a_tick_older, hearing, judging, members_of};
 ghost use Rattle.node_step.specs.Messages.{knowing, ready};
-ghost use Rattle.node_step.specs.Roles.{following, replaced_in, with_master};
+ghost use Rattle.node_step.specs.Roles.{following, is_just, replaced_in, with_master};
+ghost use Rattle.node_step.specs.State.{own_master};
 ghost use Rattle.node_step.specs.Voting.{due_epoch, has_due_epoch, in_election};
 ghost use Rattle.step_fault.specs.declared.fault.StepFault.TheVariants.{Exhausted};
 
-use crate::masters::Masters;
+use crate::masters::succeed;
 use crate::parts::NodeParts;
 use bus::{Body, Message, Replaced};
 use election::{Candidate, Elected, Health, Members, VoteRequest, Voter};
@@ -26,7 +28,7 @@ pub struct ElectionState {
     /// The greatest epoch that the node knows of.
     pub current_epoch: Epoch,
     /// For each node the master that it is a replica of, if it is one.
-    pub masters: Masters,
+    pub masters: [Option<NodeNo>; 16],
     /// What it heard of the others.
     pub health: Health,
     /// Its votes.
@@ -38,8 +40,8 @@ pub struct ElectionState {
 }
 
 impl ElectionState {
-    // That of a node as it begins, where these are replicas of these masters.
-    pub(crate) fn first(masters: Masters) -> ElectionState
+    // That of a node as it begins, in a cluster with these masters.
+    pub(crate) fn first(masters: [Option<NodeNo>; 16]) -> ElectionState
         ensures { result ≡ first_election masters }
     {
         ElectionState {
@@ -62,13 +64,20 @@ impl<S: SlotParts + SlotKeys, T: Stream> NodeParts<S, T> {
             self.number,
             self.config.node_timeout(),
             self.config.voters(),
-            self.election.masters.as_slice(),
+            self.masters(),
         )
     }
 
-    /// Puts back what the node knew of the others, and its part in elections.
+    /// What the node knows of the others, and its part in elections.
+    pub fn election(&self) -> ElectionState
+        ensures { seen_by self.now result ≡ election_of self.now }
+    {
+        self.election
+    }
+
+    /// Puts that back.
     pub fn put_back(&mut self, before: ElectionState)
-        ensures { self.new ≡ with_election self.old before }
+        ensures { self.new ≡ with_election self.old (seen_by self.old before) }
     {
         self.election = before;
     }
@@ -124,26 +133,37 @@ impl<S: SlotParts + SlotKeys, T: Stream> NodeParts<S, T> {
     fn replace(&mut self, former: NodeNo, next: NodeNo)
         ensures { self.new ≡ with_master self.old former next }
     {
+        self.election.candidate = self.candidate_without(former);
+        let masters = &mut self.election.masters;
+        succeed(&mut masters[..], former, next);
+    }
+
+    // The own election, which is over where that was the own master.
+    fn candidate_without(&self, former: NodeNo) -> Candidate
+        ensures { result ≡ if is_just (own_master self.now) former then no_candidate else self.now.candidate }
+    {
         if self.own_master() == Some(former) {
-            self.election.candidate.forget();
+            return Candidate::new();
         }
-        self.election.masters.succeed(former, next);
+        self.election.candidate
     }
 
     // Takes note of whether the own master is held failed.
     fn judge(&mut self)
         ensures { self.new ≡ judging self.old }
     {
-        let masters = self.election.masters;
-        let members = Members::new(
-            self.number,
-            self.config.node_timeout(),
-            self.config.voters(),
-            masters.as_slice(),
-        );
-        self.election
-            .candidate
-            .judge(&members, &self.election.health);
+        let candidate = self.judged();
+        self.election.candidate = candidate;
+    }
+
+    // The own election, with that noted.
+    fn judged(&self) -> Candidate
+        ensures { result ≡ judged self.now.candidate (members_of self.now) self.now.health }
+    {
+        let members = self.members();
+        let mut candidate = self.election.candidate;
+        candidate.judge(&members, &self.election.health);
+        candidate
     }
 
     /// A tick passes, which counts before anything is judged by it.
@@ -166,7 +186,8 @@ impl<S: SlotParts + SlotKeys, T: Stream> NodeParts<S, T> {
         ensures none { OnErr result (has_due_epoch self.old ≡ false) }
         ensures err { OnErr result (self.new ≡ self.old) }
     {
-        if !self.election.candidate.is_due(&self.members()) {
+        let members = self.members();
+        if !self.election.candidate.is_due(&members) {
             return Ok(None);
         }
         let Some(epoch) = self.election.candidate.start(self.election.current_epoch) else {
@@ -181,11 +202,11 @@ impl<S: SlotParts + SlotKeys, T: Stream> NodeParts<S, T> {
         ensures granted { result ≡ may_grant self.old.voter (members_of self.old) self.old.health self.old.current_epoch request }
         ensures state { self.new ≡ record self.old { voter = after_request self.old.voter request result } }
     {
+        let members = self.members();
         let mut voter = self.election.voter;
-        let health = &self.election.health;
         let granted = voter.on_request(
-            &self.members(),
-            health,
+            &members,
+            &self.election.health,
             self.election.current_epoch,
             request,
         );
@@ -198,8 +219,9 @@ impl<S: SlotParts + SlotKeys, T: Stream> NodeParts<S, T> {
         ensures elected { result ≡ elected self.old.candidate (members_of self.old) from epoch }
         ensures state { self.new ≡ record self.old { candidate = counted self.old.candidate (members_of self.old) from epoch } }
     {
+        let members = self.members();
         let mut candidate = self.election.candidate;
-        let elected = candidate.on_grant(&self.members(), from, epoch);
+        let elected = candidate.on_grant(&members, from, epoch);
         self.election.candidate = candidate;
         elected
     }

@@ -20,6 +20,5 @@ pub use change::Change;
 pub use draft::{Draft, listed};
 pub use electing::ElectionState;
 pub use making::plain;
-pub use masters::Masters;
 pub use parts::NodeParts;
 pub use succession::Succession;

@@ -1,103 +1,65 @@
 //! Who copies whom.
-ghost use Rattle.std.specs.Prelude.{◌≡◌, ◌<◌, ◌≤◌, ℕ, length, map, slice_index_or, None};
+ghost use Rattle.std.specs.Prelude.{◌≡◌, ◌<◌, ℕ, length, map, slice_index_or, take, None};
 ghost use Rattle.node_step.specs.Roles.{instead, succeeded};
-ghost use Rattle.node_step.specs.State.{first_masters, master_in};
+ghost use Rattle.node_step.specs.State.{first_masters};
 
-use cluster_config::{Config, Role};
+use crate::parts::NodeParts;
+use cluster_config::{Config, NodeConfig, Role};
+use repl_stream::Stream;
+use slot_store::{SlotKeys, SlotParts};
 use slot_table::NodeNo;
-use std::marker::Model;
 
-/// For each node of a cluster the master that it is a replica of, if it is one. It takes no memory.
-#[derive(Clone, Copy, Debug)]
-pub struct Masters {
-    row: [Option<NodeNo>; 16],
-    count: u8,
+// With which masters the cluster begins: that of each node in its place, and nothing in the places behind.
+#[tactic(auto, using(crate::proofs::MasterLemmas::all_first))]
+pub(crate) fn first_masters(config: &Config) -> [Option<NodeNo>; 16]
+    ensures { take (length config.now.nodes) result ≡ first_masters config.now.nodes }
+{
+    let nodes = config.nodes();
+    first_row(nodes)
 }
 
-impl Model for Masters {
-    ghost use Rattle.std.specs.Prelude.{ℕ, ◌≤◌, List, Option, take};
-
-    ghost Value = { List (Option ℕ) };
-
-    ghost view = { λ masters. take masters.count masters.row };
-
-    ghost invariant = { λ masters. masters.count ≤ 16 };
-}
-
-impl Masters {
-    /// Those with which the cluster begins.
-    pub(crate) fn first(config: &Config) -> Masters
-        ensures { result ≡ first_masters config.now.nodes }
-    {
-        Masters {
-            row: first_row(config),
-            count: config.nodes().len() as u8,
-        }
-    }
-
-    /// How many nodes there are.
-    pub fn count(&self) -> usize
-        ensures same { result ≡ length self.now }
-        ensures most { result ≤ 16 }
-    {
-        self.count as usize
-    }
-
-    /// The masters, by the numbers of the nodes.
-    pub fn as_slice(&self) -> &[Option<NodeNo>]
-        ensures { result.now ≡ self.now }
-    {
-        &self.row[..self.count as usize]
-    }
-
-    /// The master of that node, if it is a replica.
-    pub fn of(&self, node: NodeNo) -> Option<NodeNo>
-        ensures { result ≡ slice_index_or self.now node None }
-    {
-        *self.as_slice().get(node.index())?
-    }
-
-    /// The node `next` takes the place of the master `former`.
-    pub fn succeed(&mut self, former: NodeNo, next: NodeNo)
-        ensures { self.new ≡ succeeded self.old former next }
-    {
-        let mut row = all_instead(self.row, former, next);
-        row[next.index()] = None;
-        self.row = row;
-    }
-}
-
-// The masters in the places of the nodes of the configuration, and nothing in the places behind.
-fn first_row(config: &Config) -> [Option<NodeNo>; 16]
-    ensures { (place : ℕ) → place < 16 → slice_index_or result place None ≡ slice_index_or (first_masters config.now.nodes) place None }
+// The same, place by place.
+fn first_row(nodes: &[NodeConfig]) -> [Option<NodeNo>; 16]
+    ensures whole { length result ≡ 16 }
+    ensures each { (place : ℕ) → place < 16 → slice_index_or result place None ≡ slice_index_or (first_masters nodes.now) place None }
 {
     let mut row = [None; 16];
     for place in 0..16 {
-        row[place] = first_at(config, place);
+        row[place] = first_at(nodes, place);
     }
     row
 }
 
-// The first master in a place.
-fn first_at(config: &Config, place: usize) -> Option<NodeNo>
-    ensures { result ≡ slice_index_or (first_masters config.now.nodes) place None }
+// The first master of the node in a place.
+#[tactic(auto, using(crate::proofs::MasterLemmas::replica_has_master, crate::proofs::MasterLemmas::master_has_none, crate::proofs::MasterLemmas::unknown_has_no_master))]
+pub(crate) fn first_at(nodes: &[NodeConfig], place: usize) -> Option<NodeNo>
+    ensures { result ≡ slice_index_or (first_masters nodes.now) place None }
 {
-    let node = config.nodes().get(place)?;
-    match &node.role {
+    match &nodes.get(place)?.role {
         Role::Replica { of } => Some(*of),
         Role::Master { .. } => None,
     }
 }
 
-// In each place the next master instead of the former one.
-fn all_instead(row: [Option<NodeNo>; 16], former: NodeNo, next: NodeNo) -> [Option<NodeNo>; 16]
-    ensures { result ≡ map (instead former next) row }
+// A node takes the place of another one: it is a master, and whoever followed the other one follows it.
+#[tactic(auto, using(crate::proofs::MasterLemmas::succeeds_there, crate::proofs::MasterLemmas::succeeds_past))]
+pub(crate) fn succeed(masters: &mut [Option<NodeNo>], former: NodeNo, next: NodeNo)
+    ensures { masters.new ≡ succeeded masters.old former next }
 {
-    let mut later = row;
-    for at in 0..16 {
-        later[at] = instead(former, next, row[at]);
+    follow_instead(masters, former, next);
+    let place = next.index();
+    if place < masters.len() {
+        masters[place] = None;
     }
-    later
+}
+
+// In each place the next master instead of the former one.
+fn follow_instead(masters: &mut [Option<NodeNo>], former: NodeNo, next: NodeNo)
+    ensures { masters.new ≡ map (instead former next) masters.old }
+{
+    for at in 0..masters.len() {
+        masters[at] = instead(former, next, masters[at]);
+    }
 }
 
 fn instead(former: NodeNo, next: NodeNo, master: Option<NodeNo>) -> Option<NodeNo>
@@ -106,5 +68,21 @@ fn instead(former: NodeNo, next: NodeNo, master: Option<NodeNo>) -> Option<NodeN
     match master {
         Some(master) if master == former => Some(next),
         other => other,
+    }
+}
+
+impl<S: SlotParts + SlotKeys, T: Stream> NodeParts<S, T> {
+    /// For each node the master that it is a replica of, if it is one.
+    pub fn masters(&self) -> &[Option<NodeNo>]
+        ensures { result.now ≡ self.now.masters }
+    {
+        &self.election.masters[..self.config.nodes().len()]
+    }
+
+    /// The master of that node, if it is a replica.
+    pub fn master_of(&self, node: NodeNo) -> Option<NodeNo>
+        ensures { result ≡ slice_index_or self.now.masters node None }
+    {
+        *self.masters().get(node.index())?
     }
 }

@@ -1,10 +1,10 @@
 //! The parts of a node.
 ghost use Rattle.std.specs.Prelude.{◌≡◌, IfOk, None, slice_index_or};
 ghost use Rattle.std.specs.FinMap as fin_map;
-ghost use Rattle.node_step.specs.State.{first_id, first_state};
+ghost use Rattle.node_step.specs.State.{first_id, first_masters, first_state};
 
 use crate::electing::ElectionState;
-use crate::masters::Masters;
+use crate::masters::{first_at, first_masters};
 use cluster_config::Config;
 use connections::Connections;
 use repl_stream::{Replica, Stream};
@@ -39,7 +39,7 @@ pub struct NodeParts<S: SlotParts + SlotKeys, T: Stream> {
 }
 
 impl<S: SlotParts + SlotKeys, T: Stream> Model for NodeParts<S, T> {
-    ghost use Rattle.std.specs.Prelude.{◌≡◌, ℕ, length};
+    ghost use Rattle.std.specs.Prelude.{◌≡◌, ℕ, length, take};
     ghost use Rattle.node_step.specs.CodedState.{coded_state};
     ghost use Rattle.node_step.specs.State.{NodeState};
 
@@ -54,7 +54,7 @@ impl<S: SlotParts + SlotKeys, T: Stream> Model for NodeParts<S, T> {
       table = parts.table;
       moves = parts.moves;
       current_epoch = parts.election.current_epoch;
-      masters = parts.election.masters;
+      masters = take (length parts.config.nodes) parts.election.masters;
       health = parts.election.health;
       voter = parts.election.voter;
       candidate = parts.election.candidate;
@@ -83,8 +83,8 @@ impl<S: SlotParts + SlotKeys, T: Stream> NodeParts<S, T> {
     {
         let owners = config.first_owners(alloc)?;
         let table = SlotTable::new(alloc, owners.as_slice())?;
-        let masters = Masters::first(&config);
-        let id = first_id(&masters, number);
+        let masters = first_masters(&config);
+        let id = first_id(&config, number);
         Ok(NodeParts {
             alloc,
             config,
@@ -100,11 +100,11 @@ impl<S: SlotParts + SlotKeys, T: Stream> NodeParts<S, T> {
 }
 
 // The stream with which the node of that number begins: its master's, or its own.
-fn first_id(masters: &Masters, number: NodeNo) -> StreamId
-    ensures { result ≡ first_id (slice_index_or masters.now number None) number }
+fn first_id(config: &Config, number: NodeNo) -> StreamId
+    ensures { result ≡ first_id (slice_index_or (first_masters config.now.nodes) number None) number }
 {
     StreamId {
-        node: masters.of(number).unwrap_or(number),
+        node: first_at(config.nodes(), number.index()).unwrap_or(number),
         epoch: Epoch::new(0),
     }
 }

@@ -26,7 +26,7 @@ impl<S: SlotParts + SlotKeys, T: Stream> NodeParts<S, T> {
     pub fn own_master(&self) -> Option<NodeNo>
         ensures { result ≡ own_master self.now }
     {
-        self.election.masters.of(self.number)
+        self.master_of(self.number)
     }
 
     /// Whether it is one.
@@ -40,6 +40,6 @@ impl<S: SlotParts + SlotKeys, T: Stream> NodeParts<S, T> {
     pub fn has_replica(&self, number: NodeNo) -> bool
         ensures { result ≡ is_just (slice_index_or self.now.masters number None) self.now.number }
     {
-        self.election.masters.of(number) == Some(self.number)
+        self.master_of(number) == Some(self.number)
     }
 }

@@ -1,7 +1,8 @@
 //! A replica takes the place of its master.
 ghost use Rattle.std.specs.Prelude.{◌≡◌, IfOk};
-ghost use Rattle.node_parts.specs.Succession.{promoted_by, succeeding};
+ghost use Rattle.node_parts.specs.Succession.{promoted_by, replacement, succeeding};
 
+use crate::masters::succeed;
 use crate::parts::NodeParts;
 use bus::Replaced;
 use node_step::{Promoted, Promotion};
@@ -47,19 +48,29 @@ impl<S: SlotParts + SlotKeys, T: Stream> NodeParts<S, T> {
             master,
             epoch,
         } = succession;
-        let stream = StreamId {
-            node: self.number,
-            epoch,
-        };
-        let offset = self.stream.offset();
         self.table = table;
-        self.election.masters.succeed(master, self.number);
+        let masters = &mut self.election.masters;
+        succeed(&mut masters[..], master, self.number);
         self.election.candidate.forget();
-        self.election.replaced = Some(Replaced {
-            master,
-            stream,
-            offset,
-        });
-        self.stream.promote(stream);
+        self.election.replaced = Some(self.in_place_of(master, epoch));
+        self.stream.promote(own_stream(self.number, epoch));
     }
+
+    // Whose place it takes, and where its stream begins.
+    fn in_place_of(&self, master: NodeNo, epoch: Epoch) -> Replaced
+        ensures { result ≡ replacement self.now master epoch }
+    {
+        Replaced {
+            master,
+            stream: own_stream(self.number, epoch),
+            offset: self.stream.offset(),
+        }
+    }
+}
+
+// The stream that a node begins in an epoch.
+fn own_stream(node: NodeNo, epoch: Epoch) -> StreamId
+    ensures { result ≡ record { node = node; epoch = epoch } }
+{
+    StreamId { node, epoch }
 }

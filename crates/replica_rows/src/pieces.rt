@@ -36,7 +36,7 @@ pub(crate) fn append_pieces<S: SlotParts + SlotKeys, T: Stream>(
 fn has_replicas<S: SlotParts + SlotKeys, T: Stream>(node: &NodeParts<S, T>) -> bool
     ensures { OnFalse result (replicas_of node.now.masters node.now.number ≡ []) }
 {
-    for place in 0..node.election.masters.count() {
+    for place in 0..node.masters().len() {
         let other = NodeNo::new(place as u8).unwrap();
         if node.has_replica(other) {
             return true;
@@ -53,7 +53,7 @@ fn append_to_all<S: SlotParts + SlotKeys, T: Stream>(
     requires { end_of node.now.stream.held + length bytes.now < 2 ^ 64 }
     ensures { OnOk result (bodies.new.items ≡ bodies.old.items ++ pieces_of node.now bytes.now) }
 {
-    for place in 0..node.election.masters.count() {
+    for place in 0..node.masters().len() {
         let to = NodeNo::new(place as u8).unwrap();
         if node.has_replica(to) {
             bodies.push((to, piece_of(node, bytes)?))?;

@@ -1,13 +1,20 @@
-use Rattle.std.proofs.Common.{subst, sym}
+use Rattle.std.proofs.Common.{◌≡◌, rules, subst, sym}
 use Rattle.node_parts.specs.Drafts.{at_epoch}
 use Rattle.node_parts.specs.Making.{IsMade}
 use Rattle.node_step.specs.State.{NodeState}
 use Rattle.node_parts.proofs.ChangeLemmas.{made_at_epoch}
+use Rattle.node_parts.proofs.ElectionLemmas.{by_the_taken}
 use Rattle.node_parts.proofs.parts.NodeParts.apply.Goals as goal
 
 pub returns-clause-ok : goal.returns-clause-ok
 returns-clause-ok g c =
     let draft = c.args.draft.now in
-    subst (λ (node : NodeState). IsMade (at_epoch c.args.self.now draft.epoch) draft.plan draft.change draft.written.items (at_epoch node draft.epoch)) (sym c.self.view_is)
-    (made_at_epoch c.args.self.now c.change_and_write.new.self draft.epoch draft.plan draft.change draft.written.items
-    (subst (λ bytes. IsMade c.args.self.now draft.plan draft.change bytes c.change_and_write.new.self) c.as_slice.ensures.value c.in_ok-change_and_write.ensures.ok))
+    let takes : c.take.result ≡ draft.succession = search rules in
+    record {
+      made = _;
+      makes =
+          subst (λ (node : NodeState). IsMade (at_epoch c.args.self.now draft.epoch) draft.plan draft.change draft.written.items (at_epoch node draft.epoch)) (sym c.self.view_is)
+          (made_at_epoch c.args.self.now c.change_and_write.new.self draft.epoch draft.plan draft.change draft.written.items
+          (subst (λ bytes. IsMade c.args.self.now draft.plan draft.change bytes c.change_and_write.new.self) c.as_slice.ensures.value c.in_ok-change_and_write.ensures.ok));
+      state = by_the_taken c.succeed_by.new.self _ c.take.result draft.succession takes c.succeed_by.ensures;
+    }
