@@ -1,1 +1,2 @@
-mod PromotionLemmas
+mod TableLemmas
+mod VoteLemmas

@@ -1,6 +1,7 @@
 //! A replica takes the place of its master.
-ghost use Rattle.std.specs.Prelude.{◌≡◌, ◌<◌, IfOk, OnOk, Some, map};
+ghost use Rattle.std.specs.Prelude.{◌≡◌, IfOk, OnOk, Some, length, map};
 ghost use Rattle.node_parts.specs.Drafts.{HasNothing, Promotes};
+ghost use Rattle.node_parts.specs.Succession.{replacement};
 ghost use Rattle.node_step.specs.Promotion.{entry_after, promotion};
 ghost use Rattle.slot_table.specs.Claims.{is_above};
 
@@ -43,7 +44,7 @@ fn replaced<S: SlotParts + SlotKeys, T: Stream>(
     master: NodeNo,
     epoch: Epoch,
 ) -> Replaced
-    ensures { result ≡ record { master = master; stream = record { node = node.now.number; epoch = epoch }; offset = node.now.stream.offset } }
+    ensures { result ≡ replacement node.now master epoch }
 {
     let stream = StreamId {
         node: node.number,
@@ -66,34 +67,36 @@ fn table_after<S: SlotParts + SlotKeys, T: Stream>(
 {
     let owner = node.number;
     let mut table = node.table.clone()?;
-    claim_all(&mut table, &node.table, master, SlotEntry { epoch, owner });
+    claim_all(&mut table, master, &SlotEntry { epoch, owner });
     Ok(table)
 }
 
 // Each slot of the master gets the claim, if that counts above what was there.
-fn claim_all(table: &mut SlotTable, before: &SlotTable, master: NodeNo, claim: SlotEntry)
-    requires { table.old ≡ before.now }
-    ensures { table.new ≡ map (entry_after master claim) before.now }
+fn claim_all(table: &mut SlotTable, master: NodeNo, claim: &SlotEntry)
+    requires { length table.old ≡ 16384 }
+    ensures { table.new ≡ map (entry_after master claim.now) table.old }
 {
     for place in 0..Slot::COUNT {
         let slot = Slot::new(place as u16).unwrap();
-        table.set(slot, entry_after(master, claim, before.entry(slot)));
+        let entry = entry_after(master, claim, table.entry(slot));
+        table.set(slot, entry);
     }
 }
 
 // What a slot has then.
-fn entry_after(master: NodeNo, claim: SlotEntry, entry: Option<SlotEntry>) -> Option<SlotEntry>
-    ensures { result ≡ entry_after master claim entry }
+fn entry_after(master: NodeNo, claim: &SlotEntry, entry: Option<SlotEntry>) -> Option<SlotEntry>
+    ensures { result ≡ entry_after master claim.now entry }
 {
-    match entry {
-        Some(known) if known.owner == master && is_above(claim, known) => Some(claim),
-        other => other,
+    let known = entry?;
+    if known.owner == master && is_above(claim, &known) {
+        return Some(*claim);
     }
+    Some(known)
 }
 
 // Whether the claim to a slot counts above what is known of it.
-fn is_above(claim: SlotEntry, known: SlotEntry) -> bool
-    ensures { result ≡ is_above claim (Some known) }
+fn is_above(claim: &SlotEntry, known: &SlotEntry) -> bool
+    ensures { result ≡ is_above claim.now (Some known.now) }
 {
     known.epoch < claim.epoch || known.epoch == claim.epoch && known.owner < claim.owner
 }

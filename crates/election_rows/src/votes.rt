@@ -31,22 +31,23 @@ pub fn append_requests<S: SlotParts + SlotKeys, T: Stream>(
     let Some(master) = node.own_master() else {
         return Ok(());
     };
-    append_to_voters(node, Request { epoch, master }, bodies)?;
+    let request = Body::Request(Request { epoch, master });
+    append_to_voters(node, &request, bodies)?;
     Ok(())
 }
 
-// The request goes to each voter, by rising number, to this node too if it is one.
+// The body goes to each voter, by rising number, to this node too if it is one.
 fn append_to_voters<S: SlotParts + SlotKeys, T: Stream>(
     node: &NodeParts<S, T>,
-    request: Request,
+    body: &Body,
     bodies: &mut Vec<(NodeNo, Body)>,
 ) -> Result<(), AllocError>
-    ensures { OnOk result (bodies.new.items ≡ bodies.old.items ++ to_all (voters_of node.now) (Body.Request request)) }
+    ensures { OnOk result (bodies.new.items ≡ bodies.old.items ++ to_all (voters_of node.now) body.now) }
 {
     for place in 0..node.config.nodes().len() {
         let to = NodeNo::new(place as u8).unwrap();
         if is_voter(node, to) {
-            bodies.push((to, Body::Request(request)))?;
+            bodies.push((to, body.clone()?))?;
         }
     }
     Ok(())

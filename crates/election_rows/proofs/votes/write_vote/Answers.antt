@@ -1,0 +1,7 @@
+use Rattle.std.proofs.Common.{rules, refl}
+use Rattle.election_rows.proofs.VoteLemmas.{vote_drafted}
+use Rattle.election_rows.proofs.votes.write_vote.Goals as goal
+
+pub returns : goal.returns
+returns g c =
+    vote_drafted c.args.node.now c.args.request c.args.granted _ _ c.write_releases.new.draft (search rules) c.in_ok-bodies.ensures (c.write_releases.ensures _ refl)
