@@ -222,7 +222,8 @@ fn end_of_import<S: SlotParts + SlotKeys, T: Stream>(
     requires nothing { HasNothing node.now draft.old }
     ensures { OnOk result (Gives node.now conn slot (NodeVerdict.Ends drained) draft.new) }
 {
-    let claim = Body::Claim(claim_with(node, slot, epoch)?, node.election.replaced);
+    let claim = claim_with(node, slot, epoch)?;
+    let claim = Body::Claim(claim, node.election.replaced);
     let mut bodies = Vec::new(node.alloc);
     node.append_to_others(&claim, &mut bodies)?;
     let why = Why::Ends(NodeVerdict::Ends { drained });

@@ -1,5 +1,5 @@
 //! Who copies whom.
-ghost use Rattle.std.specs.Prelude.{◌≡◌, ◌<◌, ℕ, length, map, slice_index_or, take, None};
+ghost use Rattle.std.specs.Prelude.{◌≡◌, ◌<◌, ◌≤◌, ℕ, length, map, slice_index_or, take, None};
 ghost use Rattle.node_step.specs.Roles.{instead, succeeded};
 ghost use Rattle.node_step.specs.State.{first_masters};
 
@@ -74,7 +74,8 @@ fn instead(former: NodeNo, next: NodeNo, master: Option<NodeNo>) -> Option<NodeN
 impl<S: SlotParts + SlotKeys, T: Stream> NodeParts<S, T> {
     /// For each node the master that it is a replica of, if it is one.
     pub fn masters(&self) -> &[Option<NodeNo>]
-        ensures { result.now ≡ self.now.masters }
+        ensures same { result.now ≡ self.now.masters }
+        ensures most { length self.now.masters ≤ 16 }
     {
         &self.election.masters[..self.config.nodes().len()]
     }
