@@ -3,7 +3,7 @@ use Rattle.std.proofs.Common.{◌≡◌, ℕ, true, false, ◌&&◌, List, [], O
 use Rattle.std.specs.List.{position}
 use Rattle.std.specs.Str.{bytes_eq}
 use Rattle.cluster_config.specs.declared.config.NodeConfig.{NodeConfig}
-use Rattle.std.specs.Prelude.{MatchBool, Ok, Err, is_none, is_some}
+use Rattle.std.specs.Prelude.{MatchBool, Result, Ok, Err, is_none, is_some}
 use Rattle.resp_values.specs.declared.reply.Reply.{Reply}
 use Rattle.command_table.specs.Keys.{is_data_write}
 use Rattle.command_table.specs.Table.{command_of}

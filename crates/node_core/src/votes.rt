@@ -1,5 +1,6 @@
 //! Messages of elections.
 ghost use Rattle.std.specs.Prelude.{◌≡◌, ◌≢◌, Err, IfOk, OnErr};
+ghost use Rattle.bus.specs.declared.message.Body.TheVariants.{Grant, Request as Asks};
 ghost use Rattle.node_core.specs.Comes.{MayBeTaken, IsJust};
 ghost use Rattle.node_parts.specs.Drafts.{Comes};
 ghost use Rattle.node_parts.specs.Electing.{KeepsRest};
@@ -24,7 +25,7 @@ pub(crate) fn ask_for_vote<S: SlotParts + SlotKeys, T: Stream, K: Recorder>(
     from: NodeNo,
     request: &Request,
 ) -> Result<(Outputs, K::Record), StepFault>
-    ensures taken { IfOk result (λ made. Comes ticket (MayBeTaken node.old from (Body.Request request.now)) made.0 node.new) }
+    ensures taken { IfOk result (λ made. Comes ticket (MayBeTaken node.old from (Asks request.now)) made.0 node.new) }
     ensures recorded { IfOk result (λ made. K.recorded made.1 ≡ made.0) }
     ensures err { OnErr result (KeepsRest node.old node.new) }
     ensures exhausted { result ≢ Err Exhausted }
@@ -47,7 +48,7 @@ pub(crate) fn count_vote<S: SlotParts + SlotKeys, T: Stream, K: Recorder>(
     from: NodeNo,
     epoch: Epoch,
 ) -> Result<(Outputs, K::Record), StepFault>
-    ensures taken { IfOk result (λ made. Comes ticket (MayBeTaken node.old from (Body.Grant epoch)) made.0 node.new) }
+    ensures taken { IfOk result (λ made. Comes ticket (MayBeTaken node.old from (Grant epoch)) made.0 node.new) }
     ensures recorded { IfOk result (λ made. K.recorded made.1 ≡ made.0) }
     ensures err { OnErr result (KeepsRest node.old node.new) }
     ensures exhausted { result ≢ Err Exhausted }
