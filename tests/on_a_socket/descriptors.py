@@ -11,7 +11,7 @@ import time
 import clusters
 from clusters import ports_of
 from program import PATIENCE, Server
-from wire import PING, PONG, ask, connect, playing, rest_of
+from wire import PING, PONG, ask, connect, playing, refuses_in_time, rest_of
 
 # How many descriptors the server may have, how many clients come one after another, and how many of them leave.
 LIMIT, COMING, LEAVING = 64, 70, 5
@@ -42,6 +42,7 @@ def play(judge):
         for port in ports:
             judge.true("all left: a client is served at each node", served_in_time(stack, port), str(port))
     play_the_end(judge)
+    play_a_stop(judge)
 
 
 def play_the_end(judge):
@@ -53,6 +54,17 @@ def play_the_end(judge):
         status, output, error = server.outcome(PATIENCE)
         judge.equal("no descriptors at the end: status, what is printed, standard error", (status, output[:9], error), (0, b"audit ok ", b""))
         judge.equal("no descriptors at the end: what clients read", [it for it in served if rest_of(it)], [])
+
+
+def play_a_stop(judge):
+    """A node of a server that has no descriptors left is stopped, and the others go on."""
+    cluster = clusters.six_nodes(tick_ms=TICK_MS, node_timeout=1000000)
+    stopped, *others = ports_of(cluster)
+    with Server(cluster, "--stop", f"0@{TICKS}") as server, contextlib.ExitStack() as stack:
+        limit(server)
+        served = come(judge, stack, others)
+        judge.true("no descriptors as a node is stopped: it refuses clients", refuses_in_time(stopped), "it doesn't")
+        stay(judge, "no descriptors as a node is stopped", served, others)
 
 
 def limit(server):

@@ -57,6 +57,7 @@ def play_faulty_files(judge):
         judge.equal(f"{what}: checked alone", program.run(*SERVE, "--check", text=text), (status, output, error))
     sound = json.dumps(clusters.six_nodes())
     judge.equal("a sound file, checked alone", program.run(*SERVE, "--check", text=sound), (0, b"", b""))
+    judge.equal("nodes that are to be stopped, checked alone", program.run(*SERVE, "--stop", "5@1", "--stop", "0@1000000", "--check", text=sound), (0, b"", b""))
 
 
 def play_scripts(judge):
@@ -158,6 +159,13 @@ def faulty_words():
         yield (*SERVE, "--ticks", ticks), f"invalid value '{ticks}' for '--ticks <N>'"
     yield (*SERVE, "--ticks", "-1"), "unexpected argument '-1'"
     yield (*SERVE, "--ticks"), "a value is required for '--ticks <N>'"
+    for stop in ("", "1", "1@", "@1", "x@1", "1@x", "1@0", "1@1000001", "01@1", "1@01", "+1@1", "1@1@1", "1@1.5", "18446744073709551616@1"):
+        yield (*SERVE, "--stop", "0@1", "--stop", stop), f'"{stop}" is no stop: --stop takes N@TICKS'
+    yield (*SERVE, "--stop"), "a value is required for '--stop <N@TICKS>'"
+    yield (*SERVE, "--stop", "-1@1"), "unexpected argument '-1'"
+    yield (*SERVE, "--stop", "0@1", "--stop", "1@1"), "error: --stop names node 1, and the last node of the cluster is node 0"
+    yield (*SERVE, "--check", "--stop", "16@1000000"), "error: --stop names node 16, and the last node of the cluster is node 0"
+    yield ("serve", "--masters", "2", "--replicas", "1", "--stop", "4@1"), "error: --stop names node 4, and the last node of the cluster is node 3"
     yield (), "Usage: "
     yield ("serve",), "error: one of --config FILE and --masters M is required\n"
     yield ("serve", "--check"), "error: one of --config FILE and --masters M is required\n"
@@ -192,7 +200,7 @@ def play_words(judge):
     judge.equal("--version", program.run("--version"), (0, b"rcluster 0.1.0\n", b""))
     status, output, error = program.run("serve", "--help")
     judge.equal("serve --help: status, and nothing on standard error", (status, error), (0, b""))
-    for option in (b"--config <FILE>", b"--masters <M>", b"--replicas <R>", b"--port <P>", b"--check", b"--ticks <N>", b"--journal", b"--log"):
+    for option in (b"--config <FILE>", b"--masters <M>", b"--replicas <R>", b"--port <P>", b"--check", b"--ticks <N>", b"--stop <N@TICKS>", b"--journal", b"--log"):
         judge.within(f"serve --help tells {option.decode()}", option, output)
     for verb, codes in [
         ("serve", ["F1", "F2", "F3", *(f"K{it}" for it in range(1, 9))]),

@@ -54,6 +54,20 @@ def connect(port):
     return client
 
 
+def refuses_in_time(port):
+    """Whether nobody can connect there, at the latest once the patience has ended."""
+    last = time.monotonic() + PATIENCE
+    while time.monotonic() < last:
+        try:
+            connect(port).close()
+        except ConnectionRefusedError:
+            return True
+        except OSError:
+            pass
+        time.sleep(0.01)
+    return False
+
+
 def talk(port, *pieces):
     """All that is answered to these pieces, sent one by one, up to the end of the connection."""
     with connect(port) as client:

@@ -7,7 +7,7 @@ use std::alloc::{AllocError, Global};
 use std::net::{Shutdown, TcpStream};
 use std::sync::{Arc, Condvar, Mutex, Wait};
 
-/// The connections that are open, at all nodes, so that they can be shut down at the end.
+/// The connections that are open, at all nodes, so that they can be shut down at the end, and those to a node as it is stopped.
 #[derive(Drop)]
 pub(crate) struct Clients {
     /// The descriptors that are kept back.
@@ -21,9 +21,16 @@ pub(crate) struct Clients {
 
 #[derive(Drop)]
 struct Streams {
-    open: Slab<Arc<TcpStream, Global>, Global>,
-    // Once they are shut down, none is added any more.
-    are_shut: bool,
+    open: Slab<Client, Global>,
+    // By the number of a node: once its connections are shut down, none is added there any more.
+    are_shut: Vec<bool>,
+}
+
+// A connection to the node of that number.
+#[derive(Drop)]
+struct Client {
+    node: usize,
+    stream: Arc<TcpStream, Global>,
 }
 
 /// Why a client can't be served.
@@ -31,7 +38,7 @@ struct Streams {
 pub(crate) enum Refused {
     /// There is none of this for it.
     Short(Shortage),
-    /// The cluster ends.
+    /// The node is stopped, or the cluster ends.
     Ended,
 }
 
@@ -50,7 +57,7 @@ impl Clients {
     ) -> Result<Clients, AllocError> {
         let streams = Streams {
             open: Slab::new(alloc),
-            are_shut: false,
+            are_shut: vec![in alloc; false; nodes]?,
         };
         Ok(Clients {
             spares: Spares::new(alloc, nodes)?,
@@ -60,18 +67,19 @@ impl Clients {
         })
     }
 
-    /// Adds the connection, and gives the key by which it is removed.
+    /// Adds the connection to the node of that number, and gives the key by which it is removed.
     pub(crate) fn add<R: Wait>(
         &self,
         rt: &R,
+        node: usize,
         stream: &Arc<TcpStream, Global>,
     ) -> Result<usize, Refused> {
         let stream = Arc::try_clone(stream)?;
         let mut streams = self.streams.lock(rt);
-        if streams.are_shut {
+        if streams.is_shut(node) {
             return Err(Refused::Ended);
         }
-        match streams.open.insert(stream) {
+        match streams.open.insert(Client { node, stream }) {
             Ok(key) => Ok(key),
             Err(_) => Err(Refused::Short(Shortage::Memory)),
         }
@@ -89,12 +97,36 @@ impl Clients {
     pub(crate) fn shut_down<R: Wait>(&self, rt: &R) {
         self.spares.give_all(rt);
         let mut streams = self.streams.lock(rt);
-        streams.are_shut = true;
-        for (_, stream) in streams.open.iter() {
-            let _shut = stream.shutdown(Shutdown::Both);
+        for node in 0..streams.are_shut.len() {
+            streams.shut_down_at(node);
         }
         let _none = self
             .bell
             .wait_while(rt, streams, |streams| !streams.open.is_empty());
+    }
+
+    /// Shuts the connections to the node of that number down for good. The threads that serve them may still be at work.
+    pub(crate) fn shut_down_at<R: Wait>(&self, rt: &R, node: usize) {
+        let mut streams = self.streams.lock(rt);
+        streams.shut_down_at(node);
+    }
+}
+
+impl Streams {
+    // Whether the connections to the node of that number are shut down.
+    fn is_shut(&self, node: usize) -> bool {
+        self.are_shut.get(node).copied().unwrap_or(true)
+    }
+
+    // Shuts them down.
+    fn shut_down_at(&mut self, node: usize) {
+        if let Some(is_shut) = self.are_shut.get_mut(node) {
+            *is_shut = true;
+        }
+        for (_, client) in self.open.iter() {
+            if client.node == node {
+                let _shut = client.stream.shutdown(Shutdown::Both);
+            }
+        }
     }
 }

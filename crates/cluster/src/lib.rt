@@ -15,4 +15,5 @@ mod witness;
 pub use runtime::Runtime;
 pub use server::{Place, ServeFault, serve_nodes};
 pub use shared_node::{Gate, SharedNode};
+pub use stop::NodeStop;
 pub use witness::{Heard, Incident, Shortage, Witness};

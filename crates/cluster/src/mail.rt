@@ -2,6 +2,7 @@
 
 use crate::departures::Departures;
 use crate::node::Node;
+use crate::stop::Stop;
 use links::{Station, Web};
 use node_cell::{Deployment, HoldsCell, Log};
 use std::alloc::{AllocError, Global};
@@ -24,6 +25,9 @@ pub(crate) trait HasLinks<R: Wait>: HoldsCell {
     /// as it may be on any network.
     fn take_from(&mut self, from: usize) -> bool;
 
+    /// Takes the next message from that node off its link and loses it, and says whether there was one.
+    fn lose_from(&mut self, from: usize) -> bool;
+
     /// Whether the link from that node is half full.
     fn is_half_full(&mut self, from: usize) -> bool;
 
@@ -39,6 +43,10 @@ impl<K: Deployment, W: Web, L: Log + Drop, R: Wait + Drop> HasLinks<R> for Stati
         self.receive(from).is_some()
     }
 
+    fn lose_from(&mut self, from: usize) -> bool {
+        self.lose(from).is_some()
+    }
+
     fn is_half_full(&mut self, from: usize) -> bool {
         Station::is_half_full(self, from)
     }
@@ -52,17 +60,18 @@ impl<K: Deployment, W: Web, L: Log + Drop, R: Wait + Drop> HasLinks<R> for Stati
     }
 }
 
-/// Carries the messages of the node, one of these, until it is closed: delivers those that come to it, and sends its own. Which slots
-/// leave the node meanwhile is told.
+/// Carries the messages of the node, one of these, until the end: delivers those that come to it, and sends its own. Which slots
+/// leave the node meanwhile is told. Once the node is closed, what comes to it is lost, and its own stay with it.
 pub(crate) fn carry<C: HasLinks<R> + Drop, R: Clock + Wait>(
     rt: &R,
     node: &Node<C>,
     nodes: &[Arc<Node<C>, Global>],
+    stop: &Stop,
     departures: &mut Departures,
 ) {
     for _ in rt.forever() {
         let seen = node.shared.mail_rings();
-        if node.shared.is_closed() {
+        if stop.has_ended() {
             return;
         }
         let round = exchange(rt, node, nodes, departures);
@@ -80,7 +89,8 @@ struct Round {
     rest: Duration,
 }
 
-// Takes the next messages from each node, and sends as many to each as there is room for, under one hold of the node's lock.
+// Takes the next messages from each node, and sends as many to each as there is room for, under one hold of the node's lock. Whether
+// the node is closed is asked under this hold, too: so nothing is delivered or sent any more once `close` has returned.
 fn exchange<C: HasLinks<R> + Drop, R: Clock + Wait>(
     rt: &R,
     node: &Node<C>,
@@ -88,6 +98,9 @@ fn exchange<C: HasLinks<R> + Drop, R: Clock + Wait>(
     departures: &mut Departures,
 ) -> Round {
     let mut cell = node.shared.lock(rt);
+    if node.shared.is_closed() {
+        return lose_each::<C, R>(&mut *cell, nodes);
+    }
     let mut has_received = false;
     for (number, other) in nodes.iter().enumerate() {
         has_received |= receive_all(rt, &mut *cell, number, &**other, departures);
@@ -100,6 +113,25 @@ fn exchange<C: HasLinks<R> + Drop, R: Clock + Wait>(
         false => Duration::from_millis(PAUSE),
     };
     Round { has_received, rest }
+}
+
+// Takes the next message from each node off its link to one that is closed, and loses it. If the links were left to fill up, the
+// others would keep all that they send there, and their clients would wait.
+fn lose_each<C: HasLinks<R> + Drop, R: Wait>(
+    cell: &mut C,
+    nodes: &[Arc<Node<C>, Global>],
+) -> Round {
+    let mut has_received = false;
+    for (number, other) in nodes.iter().enumerate() {
+        if cell.lose_from(number) {
+            has_received = true;
+            tell_of_room(cell, number, &**other);
+        }
+    }
+    Round {
+        has_received,
+        rest: Duration::from_secs(LONG),
+    }
 }
 
 // Takes the next messages from the other node, and says whether there was one.
@@ -120,7 +152,7 @@ fn receive_all<C: HasLinks<R> + Drop, R: Clock + Wait>(
     has_received
 }
 
-// Takes the next message from the other node, and says whether there was one. The other is told once its link has room again.
+// Takes the next message from the other node, and says whether there was one.
 fn receive_from<C: HasLinks<R> + Drop, R: Clock + Wait>(
     rt: &R,
     cell: &mut C,
@@ -133,10 +165,15 @@ fn receive_from<C: HasLinks<R> + Drop, R: Clock + Wait>(
         return false;
     }
     departures.tell(rt, &*cell);
+    tell_of_room(cell, number, other);
+    true
+}
+
+// Tells the other node of a message that was taken off its link, if the link has room again for many by that.
+fn tell_of_room<C: HasLinks<R> + Drop, R: Wait>(cell: &mut C, number: usize, other: &Node<C>) {
     if cell.is_half_full(number) {
         other.shared.ring_for_mail();
     }
-    true
 }
 
 // What came of one look at the messages that are to be sent.

@@ -10,11 +10,12 @@ use node_step::Event;
 use resp2::Counting;
 use shared_node::{Gate, SharedNode};
 use std::alloc::{AllocError, Global};
-use std::net::{Net, TcpListener, TcpStream};
+use std::net::{Net, Shutdown, TcpListener, TcpStream};
+use std::os::fd::OwnedFd;
 use std::rt::Clock;
 use std::sync::{Arc, Wait};
-use std::thread;
 use std::time::Duration;
+use std::{io, thread};
 
 // How many milliseconds no client is accepted after one could not be, and no descriptor was kept back for that.
 const PAUSE: u64 = 10;
@@ -52,9 +53,15 @@ impl<C: HoldsCell + Drop> Node<C> {
             let _woken = TcpStream::connect_timeout(rt, &address, Duration::from_millis(WAKING));
         }
     }
+
+    // A further handle of the socket that listens, by which it can be shut down. It is one descriptor more.
+    fn listening(&self) -> io::Result<TcpStream> {
+        let listener = self.listener.try_clone()?;
+        Ok(TcpStream::from(OwnedFd::from(listener)))
+    }
 }
 
-/// Accepts the clients of the node of that number until the end. Each is served by a thread of its own.
+/// Accepts the clients of the node of that number until it is closed. Each is served by a thread of its own.
 pub(crate) fn accept_clients<C: HoldsCell + Drop + Send + 'static, R: Runtime>(
     rt: R,
     alloc: Global,
@@ -69,7 +76,7 @@ where
     // They are kept before the first client comes, as far as the system has them.
     let _all = clients.spares.are_kept(&rt, &node.listener);
     for stream in node.listener.incoming() {
-        if stop.has_ended() {
+        if node.shared.is_closed() {
             return;
         }
         match stream {
@@ -105,7 +112,7 @@ where
         return Err(Refused::Short(Shortage::Descriptor));
     }
     let stream = Arc::new(alloc, stream).map_err(AllocError::from)?;
-    let client = clients.add(&rt, &stream)?;
+    let client = clients.add(&rt, number, &stream)?;
     if let Err(refused) = start_client(rt, alloc, number, node, clients, stream, client) {
         clients.remove(&rt, client);
         return Err(refused);
@@ -155,16 +162,76 @@ fn serve_client<C: HoldsCell + Drop, R: Clock + Wait + Copy + Drop>(
     let _ended = serve_conn(alloc, &mut gate, &mut reader, &mut writer);
 }
 
-/// Lets the time of the node pass: a tick after each `interval`, until the end or until there were `most`.
+/// The ticks of a node.
+#[derive(Clone, Copy)]
+pub(crate) struct Timing {
+    /// How long one takes.
+    pub(crate) interval: Duration,
+    /// How many are counted at most.
+    pub(crate) most: u64,
+    /// How many of them the node makes. Then it is stopped, and the others are counted alone.
+    pub(crate) own: u64,
+}
+
+/// Lets the time of the node of that number pass, until the end or until all of its ticks are counted.
 pub(crate) fn pass_time<C: HoldsCell + Drop, R: Wait + Copy + Drop>(
     rt: R,
+    number: usize,
     node: &Node<C>,
+    clients: &Clients,
     stop: &Stop,
-    interval: Duration,
-    most: u64,
+    timing: Timing,
 ) {
+    let Timing {
+        interval,
+        most,
+        own,
+    } = timing;
     let mut gate = Gate::new(rt, &node.shared, node.admission.begin());
-    tick_at(&rt, &mut gate, stop, interval, most);
+    tick_at(&rt, &mut gate, stop, interval, own.min(most));
+    if own < most {
+        stop_node(&rt, number, node, clients, stop);
+        wait_for(&rt, stop, interval, most - own);
+    }
+}
+
+// Stops the node of that number, while the others are served on: it takes and sends no message any more, its connections are shut
+// down, and whoever connects to it is refused.
+fn stop_node<C: HoldsCell + Drop, R: Wait>(
+    rt: &R,
+    number: usize,
+    node: &Node<C>,
+    clients: &Clients,
+    stop: &Stop,
+) {
+    // The node is closed first: the thread that accepts looks for that as its socket is shut down.
+    node.shared.close(rt);
+    clients.shut_down_at(rt, number);
+    for _ in rt.forever() {
+        if stop.has_ended() {
+            return;
+        }
+        match node.listening() {
+            Ok(socket) => {
+                // A socket that listened is closed by this, whoever has another handle of it.
+                let _shut = socket.shutdown(Shutdown::Both);
+                return;
+            }
+            // No descriptor is left, so one that is kept back is given for it.
+            Err(_) if clients.spares.give_one(rt) => {}
+            Err(_) => stop.sleep(rt, Duration::from_millis(PAUSE)),
+        }
+    }
+}
+
+// Waits for so many intervals, or until the end.
+fn wait_for<R: Wait>(rt: &R, stop: &Stop, interval: Duration, count: u64) {
+    for _ in 0..count {
+        stop.sleep(rt, interval);
+        if stop.has_ended() {
+            return;
+        }
+    }
 }
 
 fn tick_at<G: NodeGate, R: Wait>(rt: &R, gate: &mut G, stop: &Stop, interval: Duration, most: u64) {

@@ -7,9 +7,9 @@ ghost use Rattle.tickets.specs.Tickets.{IsFresh};
 use crate::clients::Clients;
 use crate::departures::Departures;
 use crate::mail::{HasLinks, carry};
-use crate::node::{Node, accept_clients, pass_time};
+use crate::node::{Node, Timing, accept_clients, pass_time};
 use crate::runtime::Runtime;
-use crate::stop::Stop;
+use crate::stop::{NodeStop, Stop, most_ticks};
 use crate::witness::{Incident, Shortage, Witness};
 use cluster_config::Config;
 use links::{NodeEnds, Station, Web};
@@ -61,9 +61,13 @@ pub struct Place<K: Deployment, R: Wait> {
     pub listener: TcpListener,
 }
 
-/// Serves the nodes of the cluster, each at its place, with an `L` as its journal and the links `W` between them, until the first of them
-/// has made `ticks` ticks, or for ever. It returns the stations, in the order of the nodes' numbers, once all threads are done with them.
-/// The witness sees which clients can't be served, and which thread can't be started.
+/// Serves the nodes of the cluster, each at its place, with an `L` as its journal and the links `W` between them, until `ticks`
+/// ticks of the first of them have passed, or for ever. It returns the stations, in the order of the nodes' numbers, once all threads are
+/// done with them. The witness sees which clients can't be served, and which thread can't be started.
+///
+/// A node that has one of the `stops` is stopped meanwhile: from then on it makes no tick, takes no message and sends none, its
+/// connections are shut down, and whoever connects to it is refused. Steps that its clients asked for before, and those that close their
+/// connections, may come behind that.
 ///
 /// Each node has a thread that accepts clients, one that lets its time pass and one that carries its messages, and each
 /// client has one.
@@ -78,6 +82,7 @@ pub fn serve_nodes<
     config: &Config,
     places: Vec<Place<K, R>>,
     ticks: Option<u64>,
+    stops: &[NodeStop],
     witness: &Arc<Witness, Global>,
 ) -> Result<Vec<Station<K, W, L, R>>, ServeFault>
 where
@@ -90,18 +95,47 @@ where
     ensures nodes { IfOk result (λ stations. map (λ station. station.cell.node) stations.items ≡ range_with_len 0 (length config.now.nodes)) }
 {
     let nodes = nodes_at::<K, W, L, R>(alloc, config, places)?;
-    let interval = Duration::from_millis(u64::from(config.tick_ms()));
-    run_all(rt, alloc, nodes.as_slice(), interval, ticks, witness)?;
+    let times = Times {
+        interval: Duration::from_millis(u64::from(config.tick_ms())),
+        ticks,
+        stops,
+    };
+    run_all(rt, alloc, nodes.as_slice(), times, witness)?;
     stations_of(alloc, nodes)
 }
 
-// Runs the nodes until the first of them has made `ticks` ticks, or for ever.
+// The ticks of the nodes.
+#[derive(Clone, Copy)]
+struct Times<'a> {
+    // How long one takes.
+    interval: Duration,
+    // After how many of the first node the cluster ends, or None where it goes on for ever.
+    ticks: Option<u64>,
+    // After how many of their own some nodes are stopped.
+    stops: &'a [NodeStop],
+}
+
+impl Times<'_> {
+    // Those of the node of that number.
+    fn of(&self, node: usize) -> Timing {
+        let most = match self.ticks {
+            Some(ticks) if node == 0 => ticks,
+            _ => u64::MAX,
+        };
+        Timing {
+            interval: self.interval,
+            most,
+            own: most_ticks(self.stops, node),
+        }
+    }
+}
+
+// Runs the nodes until the end.
 fn run_all<C: HasLinks<R> + Drop + Send + 'static, R: Runtime>(
     rt: R,
     alloc: Global,
     nodes: &[Arc<Node<C>, Global>],
-    interval: Duration,
-    ticks: Option<u64>,
+    times: Times,
     witness: &Arc<Witness, Global>,
 ) -> Result<(), ServeFault>
 where
@@ -110,7 +144,7 @@ where
     let clients = Clients::new(alloc, nodes.len(), witness)?;
     let clients = Arc::new(alloc, clients).map_err(AllocError::from)?;
     let stop = Arc::new(alloc, Stop::new()).map_err(AllocError::from)?;
-    run_with(rt, alloc, nodes, &clients, &stop, interval, ticks)
+    run_with(rt, alloc, nodes, &clients, &stop, times)
 }
 
 fn run_with<C: HasLinks<R> + Drop + Send + 'static, R: Runtime>(
@@ -119,23 +153,13 @@ fn run_with<C: HasLinks<R> + Drop + Send + 'static, R: Runtime>(
     nodes: &[Arc<Node<C>, Global>],
     clients: &Arc<Clients, Global>,
     stop: &Arc<Stop, Global>,
-    interval: Duration,
-    ticks: Option<u64>,
+    times: Times,
 ) -> Result<(), ServeFault>
 where
     C::Cluster: Send + Sync + 'static,
 {
     let mut threads = Vec::with_capacity(alloc, 3 * nodes.len())?;
-    let started = start_all(
-        rt,
-        alloc,
-        nodes,
-        clients,
-        stop,
-        interval,
-        ticks,
-        &mut threads,
-    );
+    let started = start_all(rt, alloc, nodes, clients, stop, times, &mut threads);
     match started {
         Ok(()) => stop.wait(&rt),
         Err(_) => stop.end(),
@@ -268,29 +292,26 @@ fn share<C: HoldsCell + Drop>(
     Arc::new(alloc, node).map_err(AllocError::from)
 }
 
-// Starts the threads of all nodes. The ticks of the first node alone are counted.
+// Starts the threads of all nodes.
 fn start_all<C: HasLinks<R> + Drop + Send + 'static, R: Runtime>(
     rt: R,
     alloc: Global,
     nodes: &[Arc<Node<C>, Global>],
     clients: &Arc<Clients, Global>,
     stop: &Arc<Stop, Global>,
-    interval: Duration,
-    ticks: Option<u64>,
+    times: Times,
     threads: &mut Vec<JoinHandle<()>>,
 ) -> Result<(), ServeFault>
 where
     C::Cluster: Send + Sync + 'static,
 {
-    let mut most = ticks.unwrap_or(u64::MAX);
     for (number, node) in nodes.iter().enumerate() {
-        let clock = start_clock(rt, node, stop, interval, most);
+        let clock = start_clock(rt, number, node, clients, stop, times.of(number));
         add_thread(rt, threads, clients, number, clock)?;
         let accepting = start_accepting(rt, alloc, number, node, clients, stop);
         add_thread(rt, threads, clients, number, accepting)?;
-        let carrying = start_carrying(rt, alloc, number, node, nodes, clients);
+        let carrying = start_carrying(rt, alloc, number, node, nodes, clients, stop);
         add_thread(rt, threads, clients, number, carrying)?;
-        most = u64::MAX;
     }
     Ok(())
 }
@@ -316,13 +337,14 @@ fn add_thread<R: Runtime>(
     Ok(())
 }
 
-// Starts the thread that lets the time of the node pass. Once there were so many ticks, the cluster ends.
+// Starts the thread that lets the time of the node of that number pass. Once all ticks are counted, the cluster ends.
 fn start_clock<C: HasLinks<R> + Drop + Send + 'static, R: Runtime>(
     rt: R,
+    number: usize,
     node: &Arc<Node<C>, Global>,
+    clients: &Arc<Clients, Global>,
     stop: &Arc<Stop, Global>,
-    interval: Duration,
-    most: u64,
+    timing: Timing,
 ) -> Result<JoinHandle<()>, ServeFault>
 where
     C::Cluster: Send + Sync + 'static,
@@ -330,11 +352,14 @@ where
     let Ok(node) = Arc::try_clone(node) else {
         return Err(ServeFault::Memory);
     };
+    let Ok(clients) = Arc::try_clone(clients) else {
+        return Err(ServeFault::Memory);
+    };
     let Ok(stop) = Arc::try_clone(stop) else {
         return Err(ServeFault::Memory);
     };
     let started = thread::spawn(&rt, move || {
-        pass_time(rt, &*node, &*stop, interval, most);
+        pass_time(rt, number, &*node, &*clients, &*stop, timing);
         stop.end();
     });
     started.map_err(|_| ServeFault::Thread)
@@ -375,6 +400,7 @@ fn start_carrying<C: HasLinks<R> + Drop + Send + 'static, R: Runtime>(
     node: &Arc<Node<C>, Global>,
     nodes: &[Arc<Node<C>, Global>],
     clients: &Clients,
+    stop: &Arc<Stop, Global>,
 ) -> Result<JoinHandle<()>, ServeFault>
 where
     C::Cluster: Send + Sync + 'static,
@@ -382,11 +408,14 @@ where
     let Ok(node) = Arc::try_clone(node) else {
         return Err(ServeFault::Memory);
     };
+    let Ok(stop) = Arc::try_clone(stop) else {
+        return Err(ServeFault::Memory);
+    };
     let witness = Arc::try_clone(&clients.witness)?;
     let mut departures = Departures::new(alloc, witness, number);
     let nodes = all_of(alloc, nodes)?;
     let started = thread::spawn(&rt, move || {
-        carry(&rt, &*node, nodes.as_slice(), &mut departures);
+        carry(&rt, &*node, nodes.as_slice(), &*stop, &mut departures);
     });
     started.map_err(|_| ServeFault::Thread)
 }

@@ -6,7 +6,7 @@ use Rattle.std.proofs.lemmas.List.{get_or_default, set-get_or}
 use Rattle.atomic_table.specs.Seated.{TableId}
 use Rattle.bus.specs.declared.message.Message.{Message}
 use Rattle.links.specs.Ports.{HasMore, PortView, with_received}
-use Rattle.links.specs.Stations.{IsStation, OnlySends, Receives, SendsNothing, StationView, port_at}
+use Rattle.links.specs.Stations.{IsStation, Loses, OnlySends, Receives, SendsNothing, StationView, port_at}
 use Rattle.links.proofs.StationLemmas.{with_one_sorted}
 use Rattle.node_cell.specs.Journal.{CellView, EnteredView, Enters, IsNotTaken}
 use Rattle.node_cell.specs.declared.delivery.DeliveryFault.{DeliveryFault}
@@ -53,6 +53,13 @@ module _ {A B : Type 0} (station : StationView) (to : ℕ) (none port : PortView
       rw (same.1) (subst (λ (ports : List PortView). IsStation links (record station { ports = ports })) (sym (ap (λ (port : PortView). set station.ports to port) same.0 ∙ set-get_or station.ports to none)) is)
 
 -- ---- a message was received
+
+pub loses_so : (old : StationView) (from : ℕ) (there port : PortView) (message : Message) → from < length old.ports → there ≡ port_at old.ports from there
+    → port ≡ with_received there message → Loses old from message (record old { ports = set old.ports from port })
+loses_so old from there port message within is received = record {
+  ports = λ none. ap (λ (port : PortView). set old.ports from port) (received ∙ ap (λ (port : PortView). with_received port message) (is ∙ get_or_default old.ports from there none within));
+  rest = refl;
+}
 
 pub receives_so : (old : StationView) (from : ℕ) (there port : PortView) (message : Message) (delivered : Result EnteredView DeliveryFault) (cell : CellView) → from < length old.ports
     → there ≡ port_at old.ports from there → port ≡ with_received there message → IfOk delivered (λ entered. Enters old.cell (Deliver message) entered cell)

@@ -82,6 +82,11 @@ pub record OnlySends (old new : StationView) : Type 0 where
 abbrev pub SendsNothing : StationView → StationView → Type 0
 SendsNothing old new = map (λ (port : PortView). port.sent) new.ports ≡ map (λ (port : PortView). port.sent) old.ports
 
+-- a message was received from the node, and delivered to nobody
+pub record Loses (old : StationView) (from : ℕ) (message : Message) (new : StationView) : Type 0 where
+  pub ports : (none : PortView) → new.ports ≡ slice_set old.ports from (with_received (port_at old.ports from none) message)
+  pub rest : new ≡ record old { ports = new.ports }
+
 -- a message was received from the node, and delivered to the cell
 pub record Receives (old : StationView) (from : ℕ) (message : Message) (delivered : Result EnteredView DeliveryFault) (new : StationView) : Type 0 where
   pub ports : (none : PortView) → new.ports ≡ slice_set old.ports from (with_received (port_at old.ports from none) message)

@@ -6,7 +6,7 @@ ghost use Rattle.links.specs.Ends.{AreEndsOf};
 ghost use Rattle.links.specs.Halves.{WasFull};
 ghost use Rattle.links.specs.Pace.{are_many};
 ghost use Rattle.links.specs.Ports.{PortView};
-ghost use Rattle.links.specs.Stations.{IsStation, OnlySends, Receives, SendsNothing, end_of, port_at, port_of};
+ghost use Rattle.links.specs.Stations.{IsStation, Loses, OnlySends, Receives, SendsNothing, end_of, port_at, port_of};
 
 use crate::end::LinkEnd;
 use crate::port::Port;
@@ -103,6 +103,16 @@ impl<K: Deployment, W: Web, L: Log + Drop, R: Wait + Drop> Station<K, W, L, R> {
     {
         let posted = self.ports.get_mut(from)?.try_receive()?;
         Some(self.cell.deliver(posted))
+    }
+
+    /// Receives the next message from the node with that number, if one has come, and delivers it to nobody: the node loses it, as
+    /// it may on any network.
+    pub fn lose(&mut self, from: usize) -> Option<Posted<K>>
+        ensures some { IfSome result (λ posted. Loses self.old from posted self.new) }
+        ensures none { IfNone result (self.new ≡ self.old) }
+    {
+        let posted = self.ports.get_mut(from)?.try_receive()?;
+        Some(posted)
     }
 
     /// Whether the link from the node with that number is half full. A node that has messages which found no room there waits until it

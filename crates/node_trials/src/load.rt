@@ -136,7 +136,15 @@ where
     let places = places::<K, R>(&rt, seats, ends)?;
     let clients = start_all(rt, places.as_slice())?;
     let nobody = Arc::new(alloc, Witness::unheard(alloc)).map_err(AllocError::from)?;
-    let served = serve_nodes::<K, W, Journal, R>(rt, alloc, config, places, Some(TICKS), &nobody);
+    let served = serve_nodes::<K, W, Journal, R>(
+        rt,
+        alloc,
+        config,
+        places,
+        Some(TICKS),
+        &[],
+        &nobody,
+    );
     let Ok(stations) = served else {
         bail!("the nodes can't be served");
     };

@@ -22,6 +22,8 @@ pub enum Call<'a> {
         only_checks: bool,
         /// After how many ticks of the first node the program ends, or None where it goes on.
         ticks: Option<u64>,
+        /// Which nodes are stopped meanwhile, each as the node and its ticks.
+        stops: Vec<&'a str>,
         /// Whether each node keeps its journal in memory.
         records_journal: bool,
         /// Whether standard error is told what no client is.
@@ -116,6 +118,7 @@ fn arg_of<'a>(alloc: Global, argument: &Argument) -> Result<Arg<'a>, AllocError>
         Kind::Text => Ok(option_of(alloc, argument).required(true)),
         // That one of both is there is looked at behind the parse, which would ask for both.
         Kind::TextOr(other) => option_of(alloc, argument).conflicts_with(*other),
+        Kind::Texts => Ok(option_of(alloc, argument).action(ArgAction::Append)),
         Kind::Number { least, most } => Ok(number_of(alloc, argument, *least, *most)),
         Kind::NumberBeside {
             one,
@@ -166,26 +169,28 @@ fn call_of<'a>(alloc: Global, matches: &ArgMatches<'a>) -> Result<Call<'a>, Erro
     if let Some(reshard) = matches.subcommand_matches("reshard") {
         return Ok(reshard_call(reshard));
     }
-    Ok(serve_call(matches.subcommand_matches("serve")))
+    Ok(serve_call(alloc, matches.subcommand_matches("serve"))?)
 }
 
-fn serve_call<'a>(serve: Option<&ArgMatches<'a>>) -> Call<'a> {
+fn serve_call<'a>(alloc: Global, serve: Option<&ArgMatches<'a>>) -> Result<Call<'a>, AllocError> {
     match serve {
-        Some(serve) => Call::Serve {
+        Some(serve) => Ok(Call::Serve {
             source: source_of(serve),
             only_checks: serve.get_flag("check"),
             ticks: serve.get_one::<u64>("ticks"),
+            stops: texts(alloc, serve, "stop")?,
             records_journal: serve.get_flag("journal"),
             is_logged: serve.get_flag("log"),
-        },
+        }),
         // The command line has a verb, and it is none of the others.
-        None => Call::Serve {
+        None => Ok(Call::Serve {
             source: None,
             only_checks: false,
             ticks: None,
+            stops: Vec::new(alloc),
             records_journal: false,
             is_logged: false,
-        },
+        }),
     }
 }
 
@@ -209,12 +214,10 @@ fn simulate_call<'a>(simulate: &ArgMatches<'a>) -> Call<'a> {
 }
 
 fn cli_call<'a>(alloc: Global, cli: &ArgMatches<'a>) -> Result<Call<'a>, AllocError> {
-    let mut words = Vec::new(alloc);
-    words.extend_from_slice(cli.get_strs("words").unwrap_or(&[]))?;
     Ok(Call::Cli {
         address: text(cli, "addr"),
         tries: cli.get_one::<u64>("try").unwrap_or(FEW_TRIES),
-        words,
+        words: texts(alloc, cli, "words")?,
     })
 }
 
@@ -226,6 +229,17 @@ fn reshard_call<'a>(reshard: &ArgMatches<'a>) -> Call<'a> {
         slots: text(reshard, "slots"),
         limit: reshard.get_one::<u64>("limit").unwrap_or(FEW_REPETITIONS),
     }
+}
+
+// All texts of an option, or of the words behind the options.
+fn texts<'a>(
+    alloc: Global,
+    matches: &ArgMatches<'a>,
+    name: &str,
+) -> Result<Vec<&'a str>, AllocError> {
+    let mut texts = Vec::new(alloc);
+    texts.extend_from_slice(matches.get_strs(name).unwrap_or(&[]))?;
+    Ok(texts)
 }
 
 // The text of an option that has to be there.

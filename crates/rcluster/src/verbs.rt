@@ -12,8 +12,8 @@ pub const FEW_REPETITIONS: u64 = 1000;
 
 const MOST_REPETITIONS: u64 = 1_000_000;
 
-// After how many ticks the program may be asked to end.
-const MOST_TICKS: u64 = 1_000_000;
+/// After how many ticks at most the program may be asked to end, and a node to stop.
+pub const MOST_TICKS: u64 = 1_000_000;
 
 /// The port of the first master where nothing is said.
 pub const FIRST_PORT: u64 = 7000;
@@ -52,6 +52,8 @@ pub enum Kind {
     Text,
     /// A text, beside which the option of this name can't be. One of both has to be there.
     TextOr(&'static str),
+    /// A text. The option may be there several times, or not at all.
+    Texts,
     /// A number from `least` to `most`.
     Number {
         least: u64,
@@ -82,6 +84,7 @@ pub static VERBS: [Verb; 4] = [
             PORT,
             CHECK,
             TICKS,
+            STOP,
             JOURNAL,
             LOG,
         ],
@@ -170,6 +173,13 @@ const TICKS: Argument = Argument {
         least: 1,
         most: MOST_TICKS,
     },
+};
+
+const STOP: Argument = Argument {
+    name: "stop",
+    value_name: "N@TICKS",
+    help: "Stops node N, counted from 0, after TICKS ticks of its own, 1 to 1000000, as if it were gone, while the others are served on; may be there several times",
+    kind: Kind::Texts,
 };
 
 const JOURNAL: Argument = Argument {
