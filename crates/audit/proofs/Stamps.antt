@@ -17,6 +17,7 @@ use Rattle.command_table.specs.declared.fault.CommandFault.{CommandFault}
 use Rattle.connections.specs.Connections.{connection_at, may_ask}
 use Rattle.connections.specs.declared.conn.Conn.{Conn}
 use Rattle.connections.specs.declared.conn.Connection.{Connection}
+use Rattle.key_slot.specs.Slot.{hash_slot}
 use Rattle.migrate.specs.Acknowledging.{acknowledged_key}
 use Rattle.migrate.specs.declared.sending.CopyVerdict.{CopyVerdict}
 use Rattle.migrate.specs.declared.sending.CopyVerdict.TheVariants as copies
@@ -76,7 +77,7 @@ order_stays node slot Importing other number = refl
 order_stays node slot Migrating other number = refl
 order_stays node slot Node other number = ending_stays node slot (ending_verdict node slot other number)
 
-copy_stays : (node : NodeState) (conn : Conn) (key : List ℕ) (ticks : ℕ) (verdict : CopyVerdict) → Stays node (copy_outcome node conn key ticks verdict)
+copy_stays : (node : NodeState) (conn : Conn) (key : List ℕ) (ticks : ℕ) (verdict : CopyVerdict) → Stays node (copy_outcome node conn (hash_slot key) key ticks verdict)
 copy_stays node conn key ticks copies.WrongTarget = refl
 copy_stays node conn key ticks copies.NoKey = refl
 copy_stays node conn key ticks copies.CopyOutstanding = refl

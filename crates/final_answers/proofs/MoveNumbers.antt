@@ -231,7 +231,7 @@ copy_so moves slot all target key there = by_found (move_of moves slot) refl tar
     by_found (Some move) is None = tt
     by_found (Some move) is (Some target) = target_so move target key there (all slot move is)
 
-copied_nameable : (node : NodeState) (conn : Conn) (key : List ℕ) (ticks : ℕ) (verdict : CopyVerdict) → CopiesSo verdict → HasNameable node → HasNameable (copy_outcome node conn key ticks verdict).state
+copied_nameable : (node : NodeState) (conn : Conn) (key : List ℕ) (ticks : ℕ) (verdict : CopyVerdict) → CopiesSo verdict → HasNameable node → HasNameable (copy_outcome node conn (hash_slot key) key ticks verdict).state
 copied_nameable node conn key ticks copies.WrongTarget so all = all
 copied_nameable node conn key ticks copies.NoKey so all = all
 copied_nameable node conn key ticks copies.CopyOutstanding so all = all

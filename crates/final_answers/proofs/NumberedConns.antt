@@ -168,7 +168,7 @@ waiting_stays : (node : NodeState) (conn : Conn) (slot number copy ticks : ℕ) 
     → introduced_at (with_change node.connections conn (waiting_for slot number copy ticks)) other ≡ true
 waiting_stays node conn slot number copy ticks other is = changed_introduced node.connections conn (waiting_for slot number copy ticks) (λ connection. refl) (λ connection was. was) other is
 
-copy_stays : (node : NodeState) (conn : Conn) (key : List ℕ) (ticks : ℕ) (verdict : CopyVerdict) → Stays node (copy_outcome node conn key ticks verdict).state
+copy_stays : (node : NodeState) (conn : Conn) (key : List ℕ) (ticks : ℕ) (verdict : CopyVerdict) → Stays node (copy_outcome node conn (hash_slot key) key ticks verdict).state
 copy_stays node conn key ticks copies.WrongTarget other is = is
 copy_stays node conn key ticks copies.NoKey other is = is
 copy_stays node conn key ticks copies.CopyOutstanding other is = is

@@ -192,7 +192,7 @@ module _ (words : List (List ℕ)) (node : NodeState) (settled : IsSettled node.
   order_quiet slot Migrating other number = migrate_quiet slot _
   order_quiet slot Node other number = ending_quiet slot (ending_verdict node slot other number)
 
-  copy_quiet : (conn : Conn) (key : List ℕ) (ticks : ℕ) (verdict : CopyVerdict) → Quiet (copy_outcome node conn key ticks verdict)
+  copy_quiet : (conn : Conn) (key : List ℕ) (ticks : ℕ) (verdict : CopyVerdict) → Quiet (copy_outcome node conn (hash_slot key) key ticks verdict)
   copy_quiet conn key ticks copies.WrongTarget = (λ none. settled, λ past n. tt)
   copy_quiet conn key ticks copies.NoKey = (λ none. settled, λ past n. tt)
   copy_quiet conn key ticks copies.CopyOutstanding = (λ none. settled, λ past n. tt)

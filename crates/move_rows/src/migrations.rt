@@ -1,5 +1,5 @@
 //! MIGRATE: a key is copied to the node that its slot goes to.
-ghost use Rattle.std.specs.Prelude.{◌≡◌, IfOk, OnOk, Err, true, false};
+ghost use Rattle.std.specs.Prelude.{◌≡◌, IfOk, OnOk, Err, Some, true, false};
 ghost use Rattle.std.specs.FinMap as fin_map;
 ghost use Rattle.key_slot.specs.Slot.{hash_slot};
 ghost use Rattle.migrate.specs.Sending.{frozen};
@@ -8,6 +8,8 @@ ghost use Rattle.step_fault.specs.declared.fault.StepFault.TheVariants.{Exhauste
 ghost use Rattle.node_step.specs.Copies.{copy_of, copy_outcome, copy_verdict_on, sending};
 ghost use Rattle.node_step.specs.Orders.{with_moves};
 ghost use Rattle.node_step.specs.Requests.{has_copy_number, using_up};
+ghost use Rattle.slot_state.specs.Moves.{move_of};
+ghost use Rattle.slot_state.specs.declared.running.Move.TheVariants.{Leaves};
 
 use bus::Body;
 use byte_string::ByteString;
@@ -27,7 +29,7 @@ use std::alloc::AllocError;
 
 /// Copies the key to the node at that address, and has the connection wait for the acknowledgement.
 #[inline(never)]
-#[tactic(auto, using(crate::proofs::SendingLemmas::copy_drafted, crate::proofs::SendingLemmas::copy_drafted_again))]
+#[tactic(auto, using(crate::proofs::SendingLemmas::copy_drafted, crate::proofs::SendingLemmas::copy_drafted_again, node_step::proofs::Outstanding::copied_leaves))]
 pub fn migrate_key<S: SlotParts + SlotKeys, T: Stream>(
     node: &NodeParts<S, T>,
     conn: Conn,
@@ -37,7 +39,7 @@ pub fn migrate_key<S: SlotParts + SlotKeys, T: Stream>(
     draft: &mut Draft,
 ) -> Result<(), StepFault>
     requires { HasNothing node.now draft.old }
-    ensures draft { OnOk result (Drafts node.now (copy_outcome (using_up node.now conn) conn key.now ticks (copy_verdict_on node.now key.now target)) draft.new) }
+    ensures draft { OnOk result (Drafts node.now (copy_outcome (using_up node.now conn) conn (hash_slot key.now) key.now ticks (copy_verdict_on node.now key.now target)) draft.new) }
     ensures number { OnOk result (has_copy_number (copy_verdict_on node.now key.now target) ≡ true) }
     ensures exhausted { result ≡ Err Exhausted → has_copy_number (copy_verdict_on node.now key.now target) ≡ false }
 {
@@ -91,9 +93,9 @@ fn send_again<S: SlotParts + SlotKeys, T: Stream>(
     wait: Wait,
     draft: &mut Draft,
 ) -> Result<(), AllocError>
-    requires slot { wait.slot ≡ hash_slot key.now }
+    requires leaves { move_of node.now.moves wait.slot ≡ Some (Leaves to wait.number wait.copy (Some key.now)) }
     requires nothing { HasNothing node.now draft.old }
-    ensures { OnOk result (Drafts node.now (sending (using_up node.now conn) conn key.now wait.ticks to wait.number wait.copy) draft.new) }
+    ensures { OnOk result (Drafts node.now (sending (using_up node.now conn) conn wait.slot wait.number wait.copy wait.ticks) draft.new) }
 {
     let body = copy_of(node, wait.slot, to, wait.number, wait.copy, key)?;
     let bodies = listed(node.alloc, body)?;
@@ -110,9 +112,9 @@ fn send_copy<S: SlotParts + SlotKeys, T: Stream>(
     wait: Wait,
     draft: &mut Draft,
 ) -> Result<(), AllocError>
-    requires slot { wait.slot ≡ hash_slot key.now }
+    requires leaves { move_of (frozen node.now.moves wait.slot wait.copy key.now) wait.slot ≡ Some (Leaves to wait.number wait.copy (Some key.now)) }
     requires nothing { HasNothing node.now draft.old }
-    ensures { OnOk result (Drafts node.now (sending (with_moves (using_up node.now conn) (frozen node.now.moves wait.slot wait.copy key.now)) conn key.now wait.ticks to wait.number wait.copy) draft.new) }
+    ensures { OnOk result (Drafts node.now (sending (with_moves (using_up node.now conn) (frozen node.now.moves wait.slot wait.copy key.now)) conn wait.slot wait.number wait.copy wait.ticks) draft.new) }
 {
     let body = copy_of(node, wait.slot, to, wait.number, wait.copy, key)?;
     let bodies = listed(node.alloc, body)?;

@@ -21,6 +21,7 @@ use Rattle.connections.specs.Connections.{Closes, ConnectionTable, Opens, connec
 use Rattle.connections.specs.declared.conn.Conn.{Conn}
 use Rattle.connections.specs.declared.conn.Connection.{Connection}
 use Rattle.connections.specs.declared.conn.Wait.{Wait}
+use Rattle.key_slot.specs.Slot.{hash_slot}
 use Rattle.redirect.specs.declared.asked.Asking.{Asking as AskingFor}
 use Rattle.node_step.specs.Outcome.{Outcome, no_outputs, outputs_of, replied, silent}
 use Rattle.node_step.specs.Commands.{command_outcome, decision_on}
@@ -91,13 +92,13 @@ asking_answered old conn number asking draft is drafts = record { number = refl;
 -- MIGRATE
 pub migration_answered : (old : NodeState) (conn : Conn) (host : List ℕ) (port : ℤ) (key : List ℕ) (ticks : ℕ) (target : Option ℕ) (nodes : List NodeConfig) (draft : Draft)
     → nodes ≡ old.config.nodes → target ≡ position (is_at host port) nodes → has_copy_number (copy_verdict_on old key target) ≡ true
-    → Drafts old (copy_outcome (using_up old conn) conn key ticks (copy_verdict_on old key target)) draft
+    → Drafts old (copy_outcome (using_up old conn) conn (hash_slot key) key ticks (copy_verdict_on old key target)) draft
     → AnswersSo old conn (Ok (Cluster (Migrate host port key ticks))) draft
 migration_answered old conn host port key ticks target nodes draft are is number drafts =
     let found : target ≡ position (is_at host port) old.config.nodes = is ∙ ap (position (is_at host port)) are in
     record {
       number = subst (λ other. has_copy_number (copy_verdict_on old key other) ≡ true) found number;
-      drafts = subst (λ other. Drafts old (copy_outcome (using_up old conn) conn key ticks (copy_verdict_on old key other)) draft) found drafts;
+      drafts = subst (λ other. Drafts old (copy_outcome (using_up old conn) conn (hash_slot key) key ticks (copy_verdict_on old key other)) draft) found drafts;
     }
 
 pub migration_exhausted : (old : NodeState) (conn : Conn) (host : List ℕ) (port : ℤ) (key : List ℕ) (ticks : ℕ) (target : Option ℕ) (nodes : List NodeConfig)

@@ -3,6 +3,7 @@ pub mod Recorded
 pub mod Kept
 pub mod Ready
 pub mod Verdicts
+pub mod Outstanding
 pub mod Merging
 pub mod OfSlots
 pub mod WorkedValues

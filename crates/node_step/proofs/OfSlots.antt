@@ -18,6 +18,7 @@ use Rattle.command_table.specs.declared.fault.CommandFault.{CommandFault}
 use Rattle.connections.specs.Connections.{ConnectionTable}
 use Rattle.connections.specs.declared.conn.Conn.{Conn}
 use Rattle.connections.specs.declared.conn.Connection.{Connection}
+use Rattle.key_slot.specs.Slot.{hash_slot}
 use Rattle.keyspace.specs.Keyspace.{Keyspace}
 use Rattle.keyspace.specs.declared.value.Value.{Value}
 use Rattle.migrate.specs.Acknowledging.{acknowledged_key}
@@ -41,7 +42,7 @@ use Rattle.slot_table.specs.declared.entry.SlotEntry.{SlotEntry}
 use Rattle.slot_table.specs.declared.runs.Run.{Run}
 use Rattle.node_step.specs.Claiming.{claim, claimed_by}
 use Rattle.node_step.specs.Commands.{command_outcome, decision_on, drained_by_command, executed}
-use Rattle.node_step.specs.Copies.{acknowledged, acknowledgement, arrival, arrived, copy_of, copy_outcome, copy_verdict_on, keeps_limits, node_at, noted, without_key}
+use Rattle.node_step.specs.Copies.{acknowledged, acknowledgement, arrival, arrived, copy_of, copy_outcome, copy_verdict_on, keeps_limits, node_at, noted, outstanding, without_key}
 use Rattle.node_step.specs.Orders.{ending_outcome, ending_verdict, import_outcome, migrate_outcome, others, to_all}
 use Rattle.node_step.specs.Outcome.{Outcome, silent}
 use Rattle.node_step.specs.Requests.{asking_of, by_command, cluster_outcome, is_numbered, node_with_id, order_outcome}
@@ -113,10 +114,16 @@ copy_are : (slot to number copy : ℕ) (key : List ℕ) (value : Option Value) �
 copy_are slot to number copy key None = all_of_none IsOfSlots
 copy_are slot to number copy key (Some value) = all_of_one IsOfSlots to (Copy slot number copy key value) tt
 
+outstanding_are : (keyspace : Keyspace) (slot : ℕ) (move : Option Move) → AreAll IsOfSlots (outstanding keyspace slot move)
+outstanding_are keyspace slot None = all_of_none IsOfSlots
+outstanding_are keyspace slot (Some (Comes from number last known)) = all_of_none IsOfSlots
+outstanding_are keyspace slot (Some (Leaves to number copies None)) = all_of_none IsOfSlots
+outstanding_are keyspace slot (Some (Leaves to number copies (Some key))) = copy_are slot to number copies key (fin_map.get keyspace key)
+
 move_sent_again : (node : NodeState) (move : ℕ × Move) → AreAll IsOfSlots (sent_again node move)
 move_sent_again node (slot, Comes from number last known) = all_of_none IsOfSlots
 move_sent_again node (slot, Leaves to number copies None) = drained_if_empty_are node slot
-move_sent_again node (slot, Leaves to number copies (Some key)) = copy_are slot to number copies key (fin_map.get node.keyspace key)
+move_sent_again node (slot, Leaves to number copies (Some key)) = outstanding_are node.keyspace slot (Some (Leaves to number copies (Some key)))
 
 -- what is sent again at a tick
 pub sent_again_are : (node : NodeState) → AreAll IsOfSlots (flat_map (sent_again node) (fin_map.entries node.moves.running))
@@ -169,13 +176,13 @@ module _ (P : NodeState → Type 0) (node : NodeState)
   order_does slot Migrating other number = migrate_does slot _
   order_does slot Node other number = ending_does slot (ending_verdict node slot other number)
 
-  copy_does : (conn : Conn) (key : List ℕ) (ticks : ℕ) (verdict : CopyVerdict) → Does (copy_outcome node conn key ticks verdict)
-  copy_does conn key ticks copies.WrongTarget = record { state = holds _ _ _ _ _; sent = all_of_none IsOfSlots; promoted = refl }
-  copy_does conn key ticks copies.NoKey = record { state = holds _ _ _ _ _; sent = all_of_none IsOfSlots; promoted = refl }
-  copy_does conn key ticks copies.CopyOutstanding = record { state = holds _ _ _ _ _; sent = all_of_none IsOfSlots; promoted = refl }
-  copy_does conn key ticks copies.Exhausted = record { state = holds _ _ _ _ _; sent = all_of_none IsOfSlots; promoted = refl }
-  copy_does conn key ticks (copies.SendAgain to number copy) = record { state = holds _ _ _ _ _; sent = copy_are _ to number copy key (fin_map.get node.keyspace key); promoted = refl }
-  copy_does conn key ticks (copies.Copies to number copy) = record { state = holds _ _ _ _ _; sent = copy_are _ to number copy key (fin_map.get node.keyspace key); promoted = refl }
+  copy_does : (conn : Conn) (slot : ℕ) (key : List ℕ) (ticks : ℕ) (verdict : CopyVerdict) → Does (copy_outcome node conn slot key ticks verdict)
+  copy_does conn slot key ticks copies.WrongTarget = record { state = holds _ _ _ _ _; sent = all_of_none IsOfSlots; promoted = refl }
+  copy_does conn slot key ticks copies.NoKey = record { state = holds _ _ _ _ _; sent = all_of_none IsOfSlots; promoted = refl }
+  copy_does conn slot key ticks copies.CopyOutstanding = record { state = holds _ _ _ _ _; sent = all_of_none IsOfSlots; promoted = refl }
+  copy_does conn slot key ticks copies.Exhausted = record { state = holds _ _ _ _ _; sent = all_of_none IsOfSlots; promoted = refl }
+  copy_does conn slot key ticks (copies.SendAgain to number copy) = record { state = holds _ _ _ _ _; sent = outstanding_are node.keyspace slot (move_of node.moves slot); promoted = refl }
+  copy_does conn slot key ticks (copies.Copies to number copy) = record { state = holds _ _ _ _ _; sent = outstanding_are node.keyspace slot _; promoted = refl }
 
   cluster_does : (conn : Conn) (which : ClusterCommand) → Does (cluster_outcome node conn which)
   cluster_does conn (cluster.KeySlot key) = record { state = holds _ _ _ _ _; sent = all_of_none IsOfSlots; promoted = refl }
@@ -187,7 +194,7 @@ module _ (P : NodeState → Type 0) (node : NodeState)
   cluster_does conn (cluster.SetSlot slot order id number) = order_does slot order (node_with_id node id) number
   cluster_does conn cluster.Numbered = record { state = holds _ _ _ _ _; sent = all_of_none IsOfSlots; promoted = refl }
   cluster_does conn (cluster.Asking number) = record { state = holds _ _ _ _ _; sent = all_of_none IsOfSlots; promoted = refl }
-  cluster_does conn (cluster.Migrate host port key timeout) = copy_does conn key timeout (copy_verdict_on node key (node_at node host port))
+  cluster_does conn (cluster.Migrate host port key timeout) = copy_does conn (hash_slot key) key timeout (copy_verdict_on node key (node_at node host port))
 
   -- a request, whatever its words are
   pub request_is_of_slots : (conn : Conn) (connection : Option Connection) (command : Result Command CommandFault) → Does (by_command node conn connection command)

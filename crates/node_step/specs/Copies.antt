@@ -13,6 +13,8 @@ use Rattle.keyspace.specs.Rebuilding.{rebuilding, fits_request}
 use Rattle.keyspace.specs.declared.value.Value.{Value}
 use Rattle.cluster_config.specs.declared.config.NodeConfig.{NodeConfig}
 use Rattle.slot_state.specs.Moves.{move_of}
+use Rattle.slot_state.specs.declared.running.Move.{Move}
+use Rattle.slot_state.specs.declared.running.Move.TheVariants.{Leaves, Comes}
 use Rattle.migrate.specs.Sending.{copy_verdict, after_copy_order}
 use Rattle.migrate.specs.Arriving.{arrival_verdict, after_arrival}
 use Rattle.migrate.specs.Acknowledging.{acknowledged_key, after_ack}
@@ -48,6 +50,13 @@ abbrev pub copy_of : ℕ → ℕ → ℕ → ℕ → List ℕ → Option Value �
 copy_of slot to number copy key None = []
 copy_of slot to number copy key (Some value) = (to, Copy slot number copy key value) ∷ []
 
+-- the copy that is not acknowledged, of a slot with that move
+abbrev pub outstanding : Keyspace → ℕ → Option Move → List (ℕ × Body)
+outstanding keyspace slot (Some (Leaves to number copies (Some key))) = copy_of slot to number copies key (fin_map.get keyspace key)
+outstanding keyspace slot (Some (Leaves to number copies None)) = []
+outstanding keyspace slot (Some (Comes from number last drained)) = []
+outstanding keyspace slot None = []
+
 -- the connection waits for the acknowledgement, for so many ticks
 abbrev pub waiting_for : ℕ → ℕ → ℕ → ℕ → Connection → Connection
 waiting_for slot number copy ticks connection =
@@ -57,28 +66,28 @@ abbrev pub parked : NodeState → Conn → ℕ → ℕ → ℕ → ℕ → NodeS
 parked node conn slot number copy ticks =
     record node { connections = with_change node.connections conn (waiting_for slot number copy ticks) }
 
--- the key is sent, or sent again
-abbrev pub sending : NodeState → Conn → List ℕ → ℕ → ℕ → ℕ → ℕ → Outcome
-sending node conn key ticks to number copy = record (silent (parked node conn (hash_slot key) number copy ticks)) {
+-- the outstanding copy is sent, or sent again
+abbrev pub sending : NodeState → Conn → ℕ → ℕ → ℕ → ℕ → Outcome
+sending node conn slot number copy ticks = record (silent (parked node conn slot number copy ticks)) {
   response = Parked;
-  sent = copy_of (hash_slot key) to number copy key (fin_map.get node.keyspace key);
+  sent = outstanding node.keyspace slot (move_of node.moves slot);
 }
 
-abbrev pub copy_outcome : NodeState → Conn → List ℕ → ℕ → CopyVerdict → Outcome
-copy_outcome node conn key ticks WrongTarget = replied node (CopyOrdered WrongTarget) (error line.WrongTarget)
-copy_outcome node conn key ticks NoKey = replied node (CopyOrdered NoKey) (Simple (codes "NOKEY"))
-copy_outcome node conn key ticks CopyOutstanding = replied node (CopyOrdered CopyOutstanding) (error line.CopyOutstanding)
-copy_outcome node conn key ticks Exhausted = silent node
-copy_outcome node conn key ticks (SendAgain to number copy) = sending node conn key ticks to number copy
-copy_outcome node conn key ticks (Copies to number copy) =
-    sending (with_moves node (after_copy_order node.moves (hash_slot key) key (Copies to number copy))) conn key ticks to number copy
+abbrev pub copy_outcome : NodeState → Conn → ℕ → List ℕ → ℕ → CopyVerdict → Outcome
+copy_outcome node conn slot key ticks WrongTarget = replied node (CopyOrdered WrongTarget) (error line.WrongTarget)
+copy_outcome node conn slot key ticks NoKey = replied node (CopyOrdered NoKey) (Simple (codes "NOKEY"))
+copy_outcome node conn slot key ticks CopyOutstanding = replied node (CopyOrdered CopyOutstanding) (error line.CopyOutstanding)
+copy_outcome node conn slot key ticks Exhausted = silent node
+copy_outcome node conn slot key ticks (SendAgain to number copy) = sending node conn slot number copy ticks
+copy_outcome node conn slot key ticks (Copies to number copy) =
+    sending (with_moves node (after_copy_order node.moves slot key (Copies to number copy))) conn slot number copy ticks
 
 abbrev pub copy_verdict_on : NodeState → List ℕ → Option ℕ → CopyVerdict
 copy_verdict_on node key target =
     copy_verdict (move_of node.moves (hash_slot key)) target key (is_some (fin_map.get node.keyspace key))
 
 abbrev pub migration : NodeState → Conn → List ℕ → ℤ → List ℕ → ℕ → Outcome
-migration node conn host port key ticks = copy_outcome node conn key ticks (copy_verdict_on node key (node_at node host port))
+migration node conn host port key ticks = copy_outcome node conn (hash_slot key) key ticks (copy_verdict_on node key (node_at node host port))
 
 -- ---- a copy arrives
 

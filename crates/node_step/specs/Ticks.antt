@@ -10,7 +10,7 @@ use Rattle.bus.specs.declared.message.Body.{Body}
 use Rattle.bus.specs.declared.message.Body.TheVariants.{Claim, Report}
 use Rattle.connections.specs.Connections.{all_aged, all_freed, is_over, waiting}
 use Rattle.election.specs.Failing.{suspected}
-use Rattle.node_step.specs.Copies.{copy_of}
+use Rattle.node_step.specs.Copies.{outstanding}
 use Rattle.node_step.specs.Failing.{a_tick_older, members_of}
 use Rattle.node_step.specs.Orders.{claim_of, others, to_all}
 use Rattle.node_step.specs.Outcome.{Outcome, error, release, silent}
@@ -24,7 +24,7 @@ use Rattle.node_step.specs.Voting.{due_epoch, in_election, requests_in}
 abbrev pub sent_again : NodeState → ℕ × Move → List (ℕ × Body)
 sent_again node (slot, Comes from number last drained) = []
 sent_again node (slot, Leaves to number copies None) = drained_if_empty node slot
-sent_again node (slot, Leaves to number copies (Some key)) = copy_of slot to number copies key (fin_map.get node.keyspace key)
+sent_again node (slot, Leaves to number copies (Some key)) = outstanding node.keyspace slot (Some (Leaves to number copies (Some key)))
 
 -- those that waited as long as they wanted wait no more, and the others have a tick less
 abbrev pub older : NodeState → NodeState

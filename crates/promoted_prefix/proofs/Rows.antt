@@ -84,13 +84,13 @@ module _ (words : List (List ℕ)) (node : NodeState) where
   order_does command slot Migrating other number = record { number = refl; role = refl; stream = refl; keyspace = refl }
   order_does command slot Node other number = ending_does command slot (ending_verdict node slot other number)
 
-  copy_does : (command : Result Command CommandFault) (conn : Conn) (key : List ℕ) (ticks : ℕ) (verdict : CopyVerdict) → Answers command (copy_outcome node conn key ticks verdict)
-  copy_does command conn key ticks copies.WrongTarget = record { number = refl; role = refl; stream = refl; keyspace = refl }
-  copy_does command conn key ticks copies.NoKey = record { number = refl; role = refl; stream = refl; keyspace = refl }
-  copy_does command conn key ticks copies.CopyOutstanding = record { number = refl; role = refl; stream = refl; keyspace = refl }
-  copy_does command conn key ticks copies.Exhausted = record { number = refl; role = refl; stream = refl; keyspace = refl }
-  copy_does command conn key ticks (copies.SendAgain to number copy) = record { number = refl; role = refl; stream = refl; keyspace = refl }
-  copy_does command conn key ticks (copies.Copies to number copy) = record { number = refl; role = refl; stream = refl; keyspace = refl }
+  copy_does : (command : Result Command CommandFault) (conn : Conn) (slot : ℕ) (key : List ℕ) (ticks : ℕ) (verdict : CopyVerdict) → Answers command (copy_outcome node conn slot key ticks verdict)
+  copy_does command conn slot key ticks copies.WrongTarget = record { number = refl; role = refl; stream = refl; keyspace = refl }
+  copy_does command conn slot key ticks copies.NoKey = record { number = refl; role = refl; stream = refl; keyspace = refl }
+  copy_does command conn slot key ticks copies.CopyOutstanding = record { number = refl; role = refl; stream = refl; keyspace = refl }
+  copy_does command conn slot key ticks copies.Exhausted = record { number = refl; role = refl; stream = refl; keyspace = refl }
+  copy_does command conn slot key ticks (copies.SendAgain to number copy) = record { number = refl; role = refl; stream = refl; keyspace = refl }
+  copy_does command conn slot key ticks (copies.Copies to number copy) = record { number = refl; role = refl; stream = refl; keyspace = refl }
 
   cluster_does : (command : Result Command CommandFault) (conn : Conn) (which : ClusterCommand) → Answers command (cluster_outcome node conn which)
   cluster_does command conn (cluster.KeySlot key) = record { number = refl; role = refl; stream = refl; keyspace = refl }
@@ -102,7 +102,7 @@ module _ (words : List (List ℕ)) (node : NodeState) where
   cluster_does command conn (cluster.SetSlot slot order id number) = order_does command slot order (node_with_id node id) number
   cluster_does command conn cluster.Numbered = record { number = refl; role = refl; stream = refl; keyspace = refl }
   cluster_does command conn (cluster.Asking number) = record { number = refl; role = refl; stream = refl; keyspace = refl }
-  cluster_does command conn (cluster.Migrate host port key timeout) = copy_does command conn key timeout (copy_verdict_on node key (node_at node host port))
+  cluster_does command conn (cluster.Migrate host port key timeout) = copy_does command conn (hash_slot key) key timeout (copy_verdict_on node key (node_at node host port))
 
   pub request_leaves : (conn : Conn) (connection : Option Connection) (command : Result Command CommandFault) → command_of words ≡ command → Answers command (by_command node conn connection command)
   request_leaves conn connection (Err fault) reads = record { number = refl; role = refl; stream = refl; keyspace = refl }

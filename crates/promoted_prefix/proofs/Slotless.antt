@@ -122,7 +122,7 @@ module _ (n : ℕ) (node : NodeState) (stands : IsSlotless n node) where
     ending_stays slot other asked (ending.Ends drained) is =
         let facts = import_ends (standing node slot) (move_of node.moves slot) other asked drained is in absurd (no_some (stands.idle slot) facts.3)
 
-    copy_stays : (conn : Conn) (key : List ℕ) (ticks : ℕ) (target : Option ℕ) (verdict : CopyVerdict) → copy_verdict_on node key target ≡ verdict → Answers (copy_outcome node conn key ticks verdict)
+    copy_stays : (conn : Conn) (key : List ℕ) (ticks : ℕ) (target : Option ℕ) (verdict : CopyVerdict) → copy_verdict_on node key target ≡ verdict → Answers (copy_outcome node conn (hash_slot key) key ticks verdict)
     copy_stays conn key ticks target copies.WrongTarget is = plain _ _ refl refl refl refl refl
     copy_stays conn key ticks target copies.NoKey is = plain _ _ refl refl refl refl refl
     copy_stays conn key ticks target copies.CopyOutstanding is = plain _ _ refl refl refl refl refl

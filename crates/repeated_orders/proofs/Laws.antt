@@ -4,6 +4,7 @@ use Rattle.command_table.specs.declared.command.ClusterCommand.{ClusterCommand}
 use Rattle.command_table.specs.declared.command.ClusterCommand.TheVariants.{Migrate, SetSlot}
 use Rattle.command_table.specs.declared.command.SlotOrder.{SlotOrder}
 use Rattle.connections.specs.declared.conn.Conn.{Conn}
+use Rattle.key_slot.specs.Slot.{hash_slot}
 use Rattle.node_step.specs.Copies.{copy_outcome, copy_verdict_on, node_at}
 use Rattle.node_step.specs.Outcome.{Outcome, stamped}
 use Rattle.node_step.specs.Requests.{cluster_outcome, node_with_id, order_outcome, using_up}
@@ -109,7 +110,7 @@ module _ (host : List ℕ) (port : ℤ) (key : List ℕ) (timeout ticks : ℕ) w
       (record { state = refl; released = refl; response = λ answers. absurd (answers refl); sent = λ answers. absurd (answers refl) })
   second_copy old after later conn other first second took_it are keeps (took is) (took next) =
       let node : NodeState = using_up old conn in
-      let ordered : Outcome = copy_outcome node conn key timeout (copy_verdict_on node key (node_at node host port)) in
+      let ordered : Outcome = copy_outcome node conn (hash_slot key) key timeout (copy_verdict_on node key (node_at node host port)) in
       let found : NodeState = behind ordered later.connections in
       let same : found ≡ later = sym (keeps ∙ ap (λ (n : NodeState). record n { connections = later.connections }) (are ∙ ap (λ (o : Outcome). o.state) is)) in
       let only : OnlySends (using_up found other) ordered (cluster_outcome (using_up found other) other (Migrate host port key ticks)) =

@@ -69,13 +69,13 @@ order_idle node slot Importing other number = refl
 order_idle node slot Migrating other number = refl
 order_idle node slot Node other number = ending_idle node slot (ending_verdict node slot other number)
 
-copy_idle : (node : NodeState) (conn : Conn) (key : List ℕ) (ticks : ℕ) (verdict : CopyVerdict) → Says IsIdle (copy_outcome node conn key ticks verdict).response
-copy_idle node conn key ticks copies.WrongTarget = refl
-copy_idle node conn key ticks copies.NoKey = refl
-copy_idle node conn key ticks copies.CopyOutstanding = refl
-copy_idle node conn key ticks copies.Exhausted = tt
-copy_idle node conn key ticks (copies.SendAgain to number copy) = tt
-copy_idle node conn key ticks (copies.Copies to number copy) = tt
+copy_idle : (node : NodeState) (conn : Conn) (slot : ℕ) (key : List ℕ) (ticks : ℕ) (verdict : CopyVerdict) → Says IsIdle (copy_outcome node conn slot key ticks verdict).response
+copy_idle node conn slot key ticks copies.WrongTarget = refl
+copy_idle node conn slot key ticks copies.NoKey = refl
+copy_idle node conn slot key ticks copies.CopyOutstanding = refl
+copy_idle node conn slot key ticks copies.Exhausted = tt
+copy_idle node conn slot key ticks (copies.SendAgain to number copy) = tt
+copy_idle node conn slot key ticks (copies.Copies to number copy) = tt
 
 cluster_idle : (node : NodeState) (conn : Conn) (which : ClusterCommand) → Says IsIdle (cluster_outcome node conn which).response
 cluster_idle node conn (cluster.KeySlot key) = refl
@@ -87,7 +87,7 @@ cluster_idle node conn (cluster.SlotState slot) = refl
 cluster_idle node conn (cluster.SetSlot slot which id number) = order_idle node slot which (node_with_id node id) number
 cluster_idle node conn cluster.Numbered = refl
 cluster_idle node conn (cluster.Asking number) = refl
-cluster_idle node conn (cluster.Migrate host port key timeout) = copy_idle node conn key timeout (copy_verdict_on node key (node_at node host port))
+cluster_idle node conn (cluster.Migrate host port key timeout) = copy_idle node conn _ key timeout (copy_verdict_on node key (node_at node host port))
 
 words_idle : (node : NodeState) (conn : Conn) (connection : Option Connection) (words : Result Command CommandFault) → IsOfCluster words
     → Says IsIdle (by_command node conn connection words).response

@@ -10,10 +10,10 @@ use Rattle.keyspace.specs.declared.value.Value.{Value}
 use Rattle.slot_store.specs.InSlot.{is_in_slot}
 use Rattle.slot_table.specs.Runs.{runs_of}
 use Rattle.slot_table.specs.Table.{claim_at}
-use Rattle.slot_table.specs.declared.runs.Run.{Run}
 use Rattle.slot_state.specs.Moves.{move_of, last_move_of, begun}
 use Rattle.slot_state.specs.Importing.{import_verdict}
 use Rattle.slot_state.specs.Migrating.{migrate_verdict}
+use Rattle.slot_state.specs.declared.running.Move.{Move}
 use Rattle.slot_state.specs.declared.running.Move.TheVariants.{Leaves, Comes}
 use Rattle.slot_state.specs.declared.importing.ImportVerdict.{ImportVerdict}
 use Rattle.slot_state.specs.declared.importing.ImportVerdict.TheVariants as import
@@ -25,7 +25,8 @@ use Rattle.migrate.specs.declared.sending.CopyVerdict.{CopyVerdict}
 use Rattle.migrate.specs.declared.sending.CopyVerdict.TheVariants as copies
 use Rattle.bus.specs.declared.message.Body.{Body}
 use Rattle.bus.specs.declared.message.Body.TheVariants as body
-use Rattle.node_step.specs.Copies.{copy_of, copy_outcome, copy_verdict_on, parked}
+use Rattle.node_step.proofs.Outstanding.{again_leaves}
+use Rattle.node_step.specs.Copies.{copy_of, copy_outcome, copy_verdict_on, outstanding, parked}
 use Rattle.node_step.specs.Orders.{claim_of, ending_outcome, ending_verdict, import_outcome, migrate_outcome, new_epoch, others, with_slot}
 use Rattle.node_step.specs.Outcome.{Outcome}
 use Rattle.node_step.specs.Slots.{slot_epoch}
@@ -43,11 +44,11 @@ use Rattle.single_keyspace.proofs.Seen.{SlotWas, HoldsAfter, holds_but}
 use Rattle.single_keyspace.proofs.Sendings.{AreJustified, IsJustified, claim_justified, drained_if_empty_justified}
 use Rattle.single_keyspace.proofs.Steps.{StepStands, nothing_sent, quiet, quiet_still}
 use Rattle.single_keyspace.proofs.Values.{some_value, value_here}
-use Rattle.single_keyspace.proofs.Verdicts.{import_begins, migration_begins, import_ends, copy_is_next, copy_is_again}
+use Rattle.single_keyspace.proofs.Verdicts.{import_begins, migration_begins, import_ends, copy_is_next}
 
--- the copy of a frozen key
+-- the copy of a frozen key, where that is of the slot
 pub copy_justified : (past : List Entry) (n : ℕ) (node : NodeState) (slot to number copy : ℕ) (key : List ℕ) → move_of node.moves slot ≡ Some (Leaves to number copy (Some key)) → is_in_slot slot key ≡ true
-    → AreJustified past n node (copy_of slot to number copy key (fin_map.get node.keyspace key))
+    → AreJustified past n node (outstanding node.keyspace slot (Some (Leaves to number copy (Some key))))
 copy_justified past n node slot to number copy key move inside other said among = by_value (fin_map.get node.keyspace key) refl among
   where
     by_value : (o : Option Value) → fin_map.get node.keyspace key ≡ o → Contains (copy_of slot to number copy key o) (other, said) → IsJustified past n node other said
@@ -55,6 +56,12 @@ copy_justified past n node slot to number copy key move inside other said among 
     by_value (Some value) is among =
         subst (λ (p : ℕ × Body). IsJustified past n node p.0 p.1) (contains_one (to, body.Copy slot number copy key value) (other, said) among)
         (move, value_here node.keyspace slot key inside ∙ is)
+
+-- what is outstanding behind an order
+outstanding_justified : (past : List Entry) (n : ℕ) (node : NodeState) (slot to number copy : ℕ) (key : List ℕ) → move_of node.moves slot ≡ Some (Leaves to number copy (Some key)) → is_in_slot slot key ≡ true
+    → AreJustified past n node (outstanding node.keyspace slot (move_of node.moves slot))
+outstanding_justified past n node slot to number copy key move inside =
+    subst (λ (own : Option Move). AreJustified past n node (outstanding node.keyspace slot own)) (sym move) (copy_justified past n node slot to number copy key move inside)
 
 module _ {past : List Entry} {n : ℕ} {before : NodeState} {one : Keyspace} (was : (slot : ℕ) → SlotWas past n before one slot) (stands : NodeStands n before) (words : List (List ℕ)) where
   abbrev Answers : Outcome → Type 0
@@ -137,18 +144,17 @@ module _ {past : List Entry} {n : ℕ} {before : NodeState} {one : Keyspace} (wa
 
   -- ---- MIGRATE
 
-  pub copy_stands : (conn : Conn) (key : List ℕ) (ticks : ℕ) (target : Option ℕ) (verdict : CopyVerdict) → copy_verdict_on before key target ≡ verdict → Answers (copy_outcome before conn key ticks verdict)
-  copy_stands conn key ticks target copies.WrongTarget is = refused (copy_outcome before conn key ticks copies.WrongTarget) refl refl refl refl
-  copy_stands conn key ticks target copies.NoKey is = refused (copy_outcome before conn key ticks copies.NoKey) refl refl refl refl
-  copy_stands conn key ticks target copies.CopyOutstanding is = refused (copy_outcome before conn key ticks copies.CopyOutstanding) refl refl refl refl
-  copy_stands conn key ticks target copies.Exhausted is = refused (copy_outcome before conn key ticks copies.Exhausted) refl refl refl refl
+  pub copy_stands : (conn : Conn) (key : List ℕ) (ticks : ℕ) (target : Option ℕ) (verdict : CopyVerdict) → copy_verdict_on before key target ≡ verdict → Answers (copy_outcome before conn (hash_slot key) key ticks verdict)
+  copy_stands conn key ticks target copies.WrongTarget is = refused (copy_outcome before conn (hash_slot key) key ticks copies.WrongTarget) refl refl refl refl
+  copy_stands conn key ticks target copies.NoKey is = refused (copy_outcome before conn (hash_slot key) key ticks copies.NoKey) refl refl refl refl
+  copy_stands conn key ticks target copies.CopyOutstanding is = refused (copy_outcome before conn (hash_slot key) key ticks copies.CopyOutstanding) refl refl refl refl
+  copy_stands conn key ticks target copies.Exhausted is = refused (copy_outcome before conn (hash_slot key) key ticks copies.Exhausted) refl refl refl refl
   copy_stands conn key ticks target (copies.SendAgain to number copy) is =
       let slot : ℕ = hash_slot key in
-      let facts = copy_is_again (move_of before.moves slot) target key (is_some (fin_map.get before.keyspace key)) to number copy is in
       let after : NodeState = parked before conn slot number copy ticks in
-      quiet_still was _ refl refl (copy_outcome before conn key ticks (copies.SendAgain to number copy)) (record { number_is = stands.number_is; slots = stands.slots; is_master = stands.is_master }) (λ other. refl)
-      (copy_justified past n after slot to number copy key
-      (subst (λ (k : List ℕ). move_of before.moves slot ≡ Some (Leaves to number copy (Some k))) facts.2 facts.1) (eq-eqb (hash_slot key) slot refl))
+      quiet_still was _ refl refl (copy_outcome before conn (hash_slot key) key ticks (copies.SendAgain to number copy)) (record { number_is = stands.number_is; slots = stands.slots; is_master = stands.is_master }) (λ other. refl)
+      (outstanding_justified past n after slot to number copy key
+      (again_leaves (move_of before.moves slot) target key (is_some (fin_map.get before.keyspace key)) to number copy is) (eq-eqb (hash_slot key) slot refl))
   copy_stands conn key ticks target (copies.Copies to number copy) is =
       let slot : ℕ = hash_slot key in
       let facts = copy_is_next (move_of before.moves slot) target key (is_some (fin_map.get before.keyspace key)) to number copy is in
@@ -156,10 +162,10 @@ module _ {past : List Entry} {n : ℕ} {before : NodeState} {one : Keyspace} (wa
       let inside : is_in_slot slot key ≡ true = eq-eqb (hash_slot key) slot refl in
       let moved : NodeState = record before { moves = with_move before.moves slot (Leaves to number copy (Some key)) } in
       let after : NodeState = parked moved conn slot number copy ticks in
-      quiet was _ refl refl (copy_outcome before conn key ticks (copies.Copies to number copy)) (record { number_is = stands.number_is; slots = stands.slots; is_master = stands.is_master })
+      quiet was _ refl refl (copy_outcome before conn (hash_slot key) key ticks (copies.Copies to number copy)) (record { number_is = stands.number_is; slots = stands.slots; is_master = stands.is_master })
       (holds_but was after one slot
       (subst (λ (c : ℕ). HoldsAfter (was slot) (record before { moves = with_move before.moves slot (Leaves to number c (Some key)) }) one) (sym facts.2)
       (copy_ordered_holds (was slot) to number facts.0 key there.0 facts.1 (value_here before.keyspace slot key inside ∙ there.1)))
       (λ other apart. moved_apart before before.keyspace slot (Leaves to number copy (Some key)) other apart refl) (λ other apart key. refl))
-      (copy_justified past n after slot to number copy key
+      (outstanding_justified past n after slot to number copy key
       (put_here before.moves.running slot (Leaves to number copy (Some key))) inside)

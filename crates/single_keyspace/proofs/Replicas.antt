@@ -16,6 +16,7 @@ use Rattle.command_table.specs.declared.command.DataCommand.{DataCommand}
 use Rattle.command_table.specs.declared.command.SlotOrder.{SlotOrder}
 use Rattle.command_table.specs.declared.command.SlotOrder.TheVariants.{Importing, Migrating, Node}
 use Rattle.command_table.specs.declared.fault.CommandFault.{CommandFault}
+use Rattle.key_slot.specs.Slot.{hash_slot}
 use Rattle.keyspace.specs.Commands.{exec, execution_of}
 use Rattle.keyspace.specs.Keyspace.{Keyspace}
 use Rattle.keyspace.specs.Locality.{CommandsAreLocal}
@@ -224,11 +225,11 @@ module _ {n : ℕ} {before : NodeState} (one : Keyspace) (stands : ReplicaStands
     ending_replica slot other asked (ending.Ends drained) is =
         let facts = import_ends (standing before slot) (move_of before.moves slot) other asked drained is in absurd (no_some (stands.idle slot) facts.3)
 
-    copy_replica : (conn : Conn) (key : List ℕ) (ticks : ℕ) (target : Option ℕ) (verdict : CopyVerdict) → copy_verdict_on before key target ≡ verdict → Answers (copy_outcome before conn key ticks verdict)
-    copy_replica conn key ticks target copies.WrongTarget is = plain _ refl refl (copy_outcome before conn key ticks copies.WrongTarget) refl refl refl refl refl
-    copy_replica conn key ticks target copies.NoKey is = plain _ refl refl (copy_outcome before conn key ticks copies.NoKey) refl refl refl refl refl
-    copy_replica conn key ticks target copies.CopyOutstanding is = plain _ refl refl (copy_outcome before conn key ticks copies.CopyOutstanding) refl refl refl refl refl
-    copy_replica conn key ticks target copies.Exhausted is = plain _ refl refl (copy_outcome before conn key ticks copies.Exhausted) refl refl refl refl refl
+    copy_replica : (conn : Conn) (key : List ℕ) (ticks : ℕ) (target : Option ℕ) (verdict : CopyVerdict) → copy_verdict_on before key target ≡ verdict → Answers (copy_outcome before conn (hash_slot key) key ticks verdict)
+    copy_replica conn key ticks target copies.WrongTarget is = plain _ refl refl (copy_outcome before conn (hash_slot key) key ticks copies.WrongTarget) refl refl refl refl refl
+    copy_replica conn key ticks target copies.NoKey is = plain _ refl refl (copy_outcome before conn (hash_slot key) key ticks copies.NoKey) refl refl refl refl refl
+    copy_replica conn key ticks target copies.CopyOutstanding is = plain _ refl refl (copy_outcome before conn (hash_slot key) key ticks copies.CopyOutstanding) refl refl refl refl refl
+    copy_replica conn key ticks target copies.Exhausted is = plain _ refl refl (copy_outcome before conn (hash_slot key) key ticks copies.Exhausted) refl refl refl refl refl
     copy_replica conn key ticks target (copies.SendAgain to number copy) is =
         let facts = copy_is_again _ target key (is_some (fin_map.get before.keyspace key)) to number copy is in absurd (no_some (stands.idle _) facts.1)
     copy_replica conn key ticks target (copies.Copies to number copy) is =

@@ -268,7 +268,7 @@ order_stays node slot Importing other number = still refl refl
 order_stays node slot Migrating other number = still refl refl
 order_stays node slot Node other number = ending_stays node slot (ending_verdict node slot other number)
 
-copy_stays : (node : NodeState) (conn : Conn) (key : List ℕ) (ticks : ℕ) (verdict : CopyVerdict) → Stays node (copy_outcome node conn key ticks verdict).state
+copy_stays : (node : NodeState) (conn : Conn) (key : List ℕ) (ticks : ℕ) (verdict : CopyVerdict) → Stays node (copy_outcome node conn (hash_slot key) key ticks verdict).state
 copy_stays node conn key ticks copies.WrongTarget = still refl refl
 copy_stays node conn key ticks copies.NoKey = still refl refl
 copy_stays node conn key ticks copies.CopyOutstanding = still refl refl
@@ -620,7 +620,7 @@ module _ (asking : Asking) (number : ℕ) where
   order_allowed node slot Migrating other move = λ is. absurd (no_some refl is)
   order_allowed node slot Node other move = ending_allowed node slot (ending_verdict node slot other move)
 
-  copy_allowed : (node : NodeState) (conn : Conn) (key : List ℕ) (ticks : ℕ) (verdict : CopyVerdict) → Allows (copy_outcome node conn key ticks verdict).response
+  copy_allowed : (node : NodeState) (conn : Conn) (key : List ℕ) (ticks : ℕ) (verdict : CopyVerdict) → Allows (copy_outcome node conn (hash_slot key) key ticks verdict).response
   copy_allowed node conn key ticks copies.WrongTarget = λ is. absurd (no_some refl is)
   copy_allowed node conn key ticks copies.NoKey = λ is. absurd (no_some refl is)
   copy_allowed node conn key ticks copies.CopyOutstanding = λ is. absurd (no_some refl is)

@@ -238,7 +238,7 @@ parked_keeps node conn key number copy ticks other (inl apart) may =
     ap may_ask (unchanged_there node.connections conn (waiting_for (hash_slot key) number copy ticks) (λ connection. refl) other apart) ∙ may
 parked_keeps node conn key number copy ticks other (inr replied) may = absurd replied
 
-copy_keeps : (node : NodeState) (conn : Conn) (key : List ℕ) (ticks : ℕ) (verdict : CopyVerdict) → Keeps conn node (copy_outcome node conn key ticks verdict)
+copy_keeps : (node : NodeState) (conn : Conn) (key : List ℕ) (ticks : ℕ) (verdict : CopyVerdict) → Keeps conn node (copy_outcome node conn (hash_slot key) key ticks verdict)
 copy_keeps node conn key ticks copies.WrongTarget other free may = may
 copy_keeps node conn key ticks copies.NoKey other free may = may
 copy_keeps node conn key ticks copies.CopyOutstanding other free may = may
@@ -284,7 +284,7 @@ order_frees node slot Importing named number = refl
 order_frees node slot Migrating named number = refl
 order_frees node slot Node named number = ending_frees node slot (ending_verdict node slot named number)
 
-copy_frees : (node : NodeState) (conn : Conn) (key : List ℕ) (ticks : ℕ) (verdict : CopyVerdict) → (copy_outcome node conn key ticks verdict).released ≡ []
+copy_frees : (node : NodeState) (conn : Conn) (key : List ℕ) (ticks : ℕ) (verdict : CopyVerdict) → (copy_outcome node conn (hash_slot key) key ticks verdict).released ≡ []
 copy_frees node conn key ticks copies.WrongTarget = refl
 copy_frees node conn key ticks copies.NoKey = refl
 copy_frees node conn key ticks copies.CopyOutstanding = refl

@@ -11,6 +11,6 @@ returns g c =
     let old = c.args.node.now in
     let wait = c.args.wait in
     let same : c.in_ok-key.key ≡ c.args.key.now = search rules in
-    sends_copy old (with_moves (using_up old c.args.conn) (frozen old.moves wait.slot wait.copy c.args.key.now)) c.args.conn c.args.key.now c.args.to wait _ c.write_parked.new.draft c.requires.slot
+    sends_copy old (with_moves (using_up old c.args.conn) (frozen old.moves wait.slot wait.copy c.args.key.now)) c.args.conn c.args.key.now c.args.to wait _ c.write_parked.new.draft c.requires.leaves
     (c.in_ok-bodies.ensures ∙ c.in_ok-body.ensures)
     (c.write_parked.ensures _ (ap (λ (key : List ℕ). waiting_so (with_moves (using_up old c.args.conn) (frozen old.moves wait.slot wait.copy key)) c.args.conn wait) (sym same)))

@@ -4,6 +4,7 @@ use Rattle.std.specs.Str.{bytes_eq}
 use Rattle.cluster_config.specs.declared.config.NodeConfig.{NodeConfig}
 use Rattle.command_table.specs.declared.command.ClusterCommand.{ClusterCommand}
 use Rattle.command_table.specs.declared.command.Command.TheVariants.{Cluster}
+use Rattle.key_slot.specs.Slot.{hash_slot}
 use Rattle.node_core.specs.Comes.{AnswersSo}
 use Rattle.node_parts.specs.Drafts.{Drafts}
 use Rattle.node_core.proofs.AnswerLemmas.{asking_answered, migration_answered, migration_exhausted, order_answered, order_exhausted}
@@ -52,7 +53,7 @@ returns-in_ok-migrate_key-in-Migrate-clause-answer g c =
     (c.node_at-target.ensures ∙ ap (λ port. position (is_at c.as_slice-in-Migrate.result.now port) c.node.inside.config.nodes) same_port
     ∙ ap (λ host. position (is_at host c.in-Migrate.port) c.node.inside.config.nodes) (c.as_slice-in-Migrate.ensures ∙ c.deref-in-Migrate.ensures))
     (subst (λ (key : List ℕ). has_copy_number (copy_verdict_on c.args.node.now key target) ≡ true) c.bytes.ensures c.in_ok-migrate_key-in-Migrate.ensures.number)
-    (subst (λ (key : List ℕ). Drafts c.args.node.now (copy_outcome (using_up c.args.node.now c.args.conn) c.args.conn key c.in-Migrate.timeout (copy_verdict_on c.args.node.now key target)) draft)
+    (subst (λ (key : List ℕ). Drafts c.args.node.now (copy_outcome (using_up c.args.node.now c.args.conn) c.args.conn (hash_slot key) key c.in-Migrate.timeout (copy_verdict_on c.args.node.now key target)) draft)
     c.bytes.ensures c.in_ok-migrate_key-in-Migrate.ensures.draft))
 
 pub returns-in-Asking-clause-answer : goal.returns-in-Asking-clause-answer
