@@ -25,11 +25,18 @@ use Rattle.node_step.specs.Claiming.{claimed_by}
 use Rattle.node_step.specs.Commands.{command_outcome, decision_on}
 use Rattle.node_step.specs.Copies.{acknowledged, copy_outcome, copy_verdict_on, node_at}
 use Rattle.node_step.proofs.Kept.{pieced_keeps, recorded_keeps, restored_keeps, synced_is}
-use Rattle.node_step.specs.Messages.{Choice, delivered, knowing, taken, taken_so, written_by_message}
+use Rattle.election.specs.Electing.{elected}
+use Rattle.election.specs.declared.running.Elected.{Elected}
+use Rattle.node_step.proofs.Ready.{in_election_keeps, ready_keeps}
+use Rattle.node_step.specs.Failing.{a_tick_older, members_of}
+use Rattle.node_step.specs.Messages.{Choice, delivered, ready, taken, taken_so, written_by_message}
+use Rattle.node_step.specs.Promotion.{promotion}
+use Rattle.node_step.specs.Voting.{due_epoch, if_elected}
 use Rattle.node_step.specs.Orders.{ending_outcome, ending_verdict}
 use Rattle.node_step.specs.Outcome.{Outcome, silent, stamped}
 use Rattle.node_step.specs.Requests.{asking_of, by_command, cluster_outcome, is_numbered, node_with_id, order_outcome, request_outcome, using_up}
-use Rattle.node_step.specs.State.{NodeState}
+use Rattle.node_step.specs.State.{NodeState, own_master}
+use Rattle.node_step.specs.Ticks.{slots_tick}
 use Rattle.node_step.specs.Step.{IsAnswering, IsClosing, MayCome, NodeStep, written}
 use Rattle.node_step.specs.declared.event.Event.{Event}
 use Rattle.node_step.specs.declared.event.Event.TheVariants.{Open, Close, Request, Deliver, Tick}
@@ -109,6 +116,15 @@ acknowledged_stays : (node : NodeState) (slot number copy : ℕ) (key : Option (
 acknowledged_stays node slot number copy None = refl
 acknowledged_stays node slot number copy (Some key) = refl
 
+-- what comes of a vote, whether it elects the node or not
+elected_keeps : (P : Outcome → Type 0) (node : NodeState) (won : Option Elected) → P (silent node) → ((epoch master : ℕ) → P (promotion node epoch (Some master))) → P (if_elected node won)
+elected_keeps P node None silent_one promoted = silent_one
+elected_keeps P node (Some elected) silent_one promoted = by_master (own_master node)
+  where
+    by_master : (master : Option ℕ) → P (promotion node elected.epoch master)
+    by_master None = silent_one
+    by_master (Some master) = promoted elected.epoch master
+
 taken_so_stays : (node : NodeState) (from : ℕ) (choice : Choice) (body : Body) → Stays node (taken_so node from choice body)
 taken_so_stays node from choice (Copy slot number copy key value) = refl
 taken_so_stays node from choice (Ack slot number copy) = acknowledged_stays node slot number copy (acknowledged_key (move_of node.moves slot) from number copy)
@@ -120,7 +136,7 @@ taken_so_stays node from choice (Claim slots replaced) = by_own (from == node.nu
     by_own false table = refl
 taken_so_stays node from choice (Report suspects) = refl
 taken_so_stays node from choice (Requested request) = refl
-taken_so_stays node from choice (Grant epoch) = refl
+taken_so_stays node from choice (Grant epoch) = elected_keeps (Stays node) _ (elected node.candidate (members_of node) from epoch) refl (λ won master. refl)
 taken_so_stays node from choice (Sync sync) = synced_is (Stays node) node from sync refl refl
 taken_so_stays node from choice (Piece piece) = pieced_keeps (IsOfNumber node) node (λ stream keyspace. refl) from piece choice.follower
 taken_so_stays node from choice (Snapshot snapshot) = restored_keeps (IsOfNumber node) node (λ stream keyspace. refl) from snapshot
@@ -132,8 +148,10 @@ taken_stays node from choice body =
 delivered_stays : (node : NodeState) (message : Message) (choice : Choice) → Stays node (delivered node message choice)
 delivered_stays node message choice = by_node (message.to == node.number)
   where
-    by_node : (here : Bool) → (cond here (taken (knowing node message.epoch) message.from choice message.body) (silent node)).state.number ≡ node.number
-    by_node true = taken_stays (knowing node message.epoch) message.from choice message.body
+    by_node : (here : Bool) → (cond here (taken (ready node message) message.from choice message.body) (silent node)).state.number ≡ node.number
+    by_node true =
+        ready_keeps (λ (own : NodeState). (taken own message.from choice message.body).state.number ≡ node.number) node message
+        (λ epoch masters health candidate as_before goes. taken_stays (record node { current_epoch = epoch; masters = masters; health = health; candidate = candidate }) message.from choice message.body)
     by_node false = refl
 
 close_stays : (old : NodeState) (conn : Conn) (is_open : Bool) (outcome : Outcome) → MatchBool is_open (IsClosing old conn outcome) (outcome ≡ silent old) → Stays old outcome
@@ -151,7 +169,9 @@ event_stays old Open outcome may = ap (λ (o : Outcome). o.state.number) may.com
 event_stays old (Close conn) outcome may = close_stays old conn (is_some (connection_at old.connections conn)) outcome may
 event_stays old (Request conn words) outcome may = answer_stays old conn words (may_ask (connection_at old.connections conn)) outcome may
 event_stays old (Deliver message) outcome may = ap (λ (o : Outcome). o.state.number) may.comes_to ∙ delivered_stays old message may.choice
-event_stays old Tick outcome may = ap (λ (o : Outcome). o.state.number) may
+event_stays old Tick outcome may =
+    let aged = a_tick_older (slots_tick old).state in
+    ap (λ (o : Outcome). o.state.number) may.comes_to ∙ in_election_keeps (IsOfNumber old) aged (due_epoch aged) (λ current candidate. refl)
 
 -- ---- what it sends
 

@@ -34,11 +34,18 @@ use Rattle.node_step.specs.Claiming.{claimed_by}
 use Rattle.node_step.specs.Commands.{command_outcome, decision_on}
 use Rattle.node_step.specs.Copies.{acknowledged, copy_outcome, copy_verdict_on, keeps_limits, node_at}
 use Rattle.node_step.proofs.Kept.{pieced_keeps, recorded_keeps, restored_keeps, synced_is}
-use Rattle.node_step.specs.Messages.{Choice, delivered, knowing, taken, taken_so, written_by_message}
+use Rattle.election.specs.Electing.{elected}
+use Rattle.election.specs.declared.running.Elected.{Elected}
+use Rattle.node_step.proofs.Ready.{in_election_keeps, ready_keeps}
+use Rattle.node_step.specs.Failing.{a_tick_older, members_of}
+use Rattle.node_step.specs.Messages.{Choice, delivered, ready, taken, taken_so, written_by_message}
+use Rattle.node_step.specs.Promotion.{promotion}
+use Rattle.node_step.specs.Voting.{due_epoch, if_elected}
 use Rattle.node_step.specs.Orders.{ending_outcome, ending_verdict, import_outcome, migrate_outcome}
 use Rattle.node_step.specs.Outcome.{Outcome, silent}
 use Rattle.node_step.specs.Requests.{asking_of, by_command, cluster_outcome, is_numbered, node_with_id, order_outcome, request_outcome, using_up}
-use Rattle.node_step.specs.State.{NodeState, first_state, standing}
+use Rattle.node_step.specs.State.{NodeState, first_state, own_master, standing}
+use Rattle.node_step.specs.Ticks.{slots_tick}
 use Rattle.node_step.specs.Step.{IsAnswering, IsClosing, MayCome, NodeStep, written}
 use Rattle.node_step.specs.declared.event.Event.{Event}
 use Rattle.node_step.specs.declared.event.Event.TheVariants.{Open, Close, Request, Deliver, Tick}
@@ -296,6 +303,15 @@ acknowledged_nameable : (node : NodeState) (slot number copy : ℕ) (key : Optio
 acknowledged_nameable node slot number copy None all = all
 acknowledged_nameable node slot number copy (Some key) all = changed_nameable node.moves slot unfrozen unfrozen_same all
 
+-- what comes of a vote, whether it elects the node or not
+elected_keeps : (P : Outcome → Type 0) (node : NodeState) (won : Option Elected) → P (silent node) → ((epoch master : ℕ) → P (promotion node epoch (Some master))) → P (if_elected node won)
+elected_keeps P node None silent_one promoted = silent_one
+elected_keeps P node (Some elected) silent_one promoted = by_master (own_master node)
+  where
+    by_master : (master : Option ℕ) → P (promotion node elected.epoch master)
+    by_master None = silent_one
+    by_master (Some master) = promoted elected.epoch master
+
 taken_so_nameable : (node : NodeState) (from : ℕ) (choice : Choice) (body : Body) → HasNameable node → HasNameable (taken_so node from choice body).state
 taken_so_nameable node from choice (Copy slot number copy key value) all =
     arrival_nameable node.moves slot (arrival_verdict (move_of node.moves slot) from number copy (keeps_limits key value)) all
@@ -306,7 +322,8 @@ taken_so_nameable node from choice (Claim slots replaced) all =
     (retained_nameable node.moves.running all _)
 taken_so_nameable node from choice (Report suspects) all = all
 taken_so_nameable node from choice (Requested request) all = all
-taken_so_nameable node from choice (Grant epoch) all = all
+taken_so_nameable node from choice (Grant epoch) all =
+    elected_keeps (λ (outcome : Outcome). HasNameable outcome.state) _ (elected node.candidate (members_of node) from epoch) all (λ won master. all)
 taken_so_nameable node from choice (Sync sync) all = synced_is (λ (outcome : Outcome). HasNameable outcome.state) node from sync all all
 taken_so_nameable node from choice (Piece piece) all = pieced_keeps HasNameable node (λ stream keyspace. all) from piece choice.follower
 taken_so_nameable node from choice (Snapshot snapshot) all = restored_keeps HasNameable node (λ stream keyspace. all) from snapshot
@@ -317,8 +334,9 @@ taken_nameable node from choice body all =
 
 delivered_nameable : (node : NodeState) (message : Message) (choice : Choice) → HasNameable node → HasNameable (delivered node message choice).state
 delivered_nameable node message choice all =
-    either (λ (outcome : Outcome). HasNameable outcome.state) (message.to == node.number) (taken (knowing node message.epoch) message.from choice message.body) (silent node)
-    (taken_nameable (knowing node message.epoch) message.from choice message.body all) all
+    either (λ (outcome : Outcome). HasNameable outcome.state) (message.to == node.number) (taken (ready node message) message.from choice message.body) (silent node)
+    (ready_keeps (λ (own : NodeState). HasNameable (taken own message.from choice message.body).state) node message
+    (λ epoch masters health candidate as_before goes. taken_nameable (record node { current_epoch = epoch; masters = masters; health = health; candidate = candidate }) message.from choice message.body all)) all
 
 -- ---- any event
 
@@ -338,7 +356,9 @@ event_nameable old Open outcome may all = subst (λ (o : Outcome). HasNameable o
 event_nameable old (Close conn) outcome may all = close_nameable old conn (is_some (connection_at old.connections conn)) outcome may all
 event_nameable old (Request conn words) outcome may all = answer_nameable old conn words (may_ask (connection_at old.connections conn)) outcome may all
 event_nameable old (Deliver message) outcome may all = subst (λ (o : Outcome). HasNameable o.state) (sym may.comes_to) (delivered_nameable old message may.choice all)
-event_nameable old Tick outcome may all = subst (λ (o : Outcome). HasNameable o.state) (sym may) all
+event_nameable old Tick outcome may all =
+    let aged = a_tick_older (slots_tick old).state in
+    subst (λ (o : Outcome). HasNameable o.state) (sym may.comes_to) (in_election_keeps HasNameable aged (due_epoch aged) (λ current candidate. all))
 
 pub step_nameable : (ticket : ℕ) (old new : NodeState) (event : Event) (outputs : Outputs) → NodeStep ticket old event outputs new → HasNameable old → HasNameable new
 step_nameable ticket old new event outputs step all = subst HasNameable (sym step.state) (event_nameable old event step.outcome step.may_come all)

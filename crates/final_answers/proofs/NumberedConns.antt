@@ -28,11 +28,18 @@ use Rattle.node_step.specs.Commands.{command_outcome, decision_on}
 use Rattle.node_step.specs.Copies.{acknowledged, copy_outcome, copy_verdict_on, node_at, waiting_for}
 use Rattle.node_step.proofs.Kept.{pieced_keeps, recorded_keeps, restored_keeps, synced_is}
 use Rattle.node_step.proofs.Recorded.{recorded_state}
-use Rattle.node_step.specs.Messages.{Choice, delivered, knowing, taken, taken_so, written_by_message}
+use Rattle.election.specs.Electing.{elected}
+use Rattle.election.specs.declared.running.Elected.{Elected}
+use Rattle.node_step.proofs.Ready.{in_election_keeps, ready_keeps}
+use Rattle.node_step.specs.Failing.{a_tick_older, members_of}
+use Rattle.node_step.specs.Messages.{Choice, delivered, ready, taken, taken_so, written_by_message}
+use Rattle.node_step.specs.Promotion.{promotion}
+use Rattle.node_step.specs.Voting.{due_epoch, if_elected}
 use Rattle.node_step.specs.Orders.{ending_outcome, ending_verdict}
 use Rattle.node_step.specs.Outcome.{Outcome, silent}
 use Rattle.node_step.specs.Requests.{asking_for, asking_of, by_command, cluster_outcome, is_numbered, node_with_id, order_outcome, request_outcome, using_up}
-use Rattle.node_step.specs.State.{NodeState}
+use Rattle.node_step.specs.State.{NodeState, own_master}
+use Rattle.node_step.specs.Ticks.{slots_tick}
 use Rattle.node_step.specs.Step.{IsAnswering, IsClosing, MayCome, NodeStep, answered, written}
 use Rattle.node_step.specs.declared.event.Event.{Event}
 use Rattle.node_step.specs.declared.event.Event.TheVariants.{Open, Close, Request, Deliver, Tick}
@@ -208,6 +215,15 @@ acknowledged_stays : (node : NodeState) (slot number copy : ℕ) (key : Option (
 acknowledged_stays node slot number copy None other is = is
 acknowledged_stays node slot number copy (Some key) other is = all_freed_introduced node.connections _ other ∙ is
 
+-- what comes of a vote, whether it elects the node or not
+elected_keeps : (P : Outcome → Type 0) (node : NodeState) (won : Option Elected) → P (silent node) → ((epoch master : ℕ) → P (promotion node epoch (Some master))) → P (if_elected node won)
+elected_keeps P node None silent_one promoted = silent_one
+elected_keeps P node (Some elected) silent_one promoted = by_master (own_master node)
+  where
+    by_master : (master : Option ℕ) → P (promotion node elected.epoch master)
+    by_master None = silent_one
+    by_master (Some master) = promoted elected.epoch master
+
 taken_so_stays : (node : NodeState) (from : ℕ) (choice : Choice) (body : Body) → Stays node (taken_so node from choice body).state
 taken_so_stays node from choice (Copy slot number copy key value) other is = is
 taken_so_stays node from choice (Ack slot number copy) other is = acknowledged_stays node slot number copy (acknowledged_key (move_of node.moves slot) from number copy) other is
@@ -219,7 +235,8 @@ taken_so_stays node from choice (Claim slots replaced) other is = by_own (from =
     by_own false table = all_freed_introduced node.connections _ other ∙ is
 taken_so_stays node from choice (Report suspects) other is = is
 taken_so_stays node from choice (Requested request) other is = is
-taken_so_stays node from choice (Grant epoch) other is = is
+taken_so_stays node from choice (Grant epoch) other is =
+    elected_keeps (λ (o : Outcome). introduced_at o.state.connections other ≡ true) _ (elected node.candidate (members_of node) from epoch) is (λ won master. is)
 taken_so_stays node from choice (Sync sync) other is = synced_is (λ (o : Outcome). Stays node o.state) node from sync (λ other is. is) (λ other is. is) other is
 taken_so_stays node from choice (Piece piece) other is = pieced_keeps (Stays node) node (λ stream keyspace other is. is) from piece choice.follower other is
 taken_so_stays node from choice (Snapshot snapshot) other is = restored_keeps (Stays node) node (λ stream keyspace other is. is) from snapshot other is
@@ -231,8 +248,10 @@ taken_stays node from choice body =
 delivered_stays : (node : NodeState) (message : Message) (choice : Choice) → Stays node (delivered node message choice).state
 delivered_stays node message choice other is = by_node (message.to == node.number)
   where
-    by_node : (here : Bool) → introduced_at (cond here (taken (knowing node message.epoch) message.from choice message.body) (silent node)).state.connections other ≡ true
-    by_node true = taken_stays (knowing node message.epoch) message.from choice message.body other is
+    by_node : (here : Bool) → introduced_at (cond here (taken (ready node message) message.from choice message.body) (silent node)).state.connections other ≡ true
+    by_node true =
+        ready_keeps (λ (own : NodeState). introduced_at (taken own message.from choice message.body).state.connections other ≡ true) node message
+        (λ epoch masters health candidate as_before goes. taken_stays (record node { current_epoch = epoch; masters = masters; health = health; candidate = candidate }) message.from choice message.body other is)
     by_node false = is
 
 -- ---- any event
@@ -257,8 +276,10 @@ event_keeps old (Request conn words) outcome may other known is = answer_keeps o
 event_keeps old (Deliver message) outcome may other known is =
     subst (λ (o : Outcome). introduced_at o.state.connections other ≡ true) (sym may.comes_to) (delivered_stays old message may.choice other is)
 event_keeps old Tick outcome may other known is =
-    subst (λ (o : Outcome). introduced_at o.state.connections other ≡ true) (sym may)
-    (all_aged_introduced (all_freed old.connections is_over) other ∙ all_freed_introduced old.connections is_over other ∙ is)
+    let aged = a_tick_older (slots_tick old).state in
+    subst (λ (o : Outcome). introduced_at o.state.connections other ≡ true) (sym may.comes_to)
+    (in_election_keeps (λ (node : NodeState). introduced_at node.connections other ≡ true) aged (due_epoch aged)
+    (λ current candidate. all_aged_introduced (all_freed old.connections is_over) other ∙ all_freed_introduced old.connections is_over other ∙ is))
 
 pub step_keeps : (ticket : ℕ) (old new : NodeState) (event : Event) (outputs : Outputs) → NodeStep ticket old event outputs new → Keeps old new
 step_keeps ticket old new event outputs step conn known is =

@@ -47,13 +47,20 @@ use Rattle.node_step.specs.Commands.{asked_of, command_outcome, decision_on}
 use Rattle.node_step.specs.Copies.{acknowledged, copy_outcome, copy_verdict_on, node_at, waiting_for}
 use Rattle.node_step.proofs.Kept.{pieced_keeps, recorded_keeps, restored_keeps, synced_is}
 use Rattle.node_step.proofs.Recorded.{recorded_response}
-use Rattle.node_step.specs.Messages.{Choice, delivered, knowing, taken, taken_so, written_by_message}
+use Rattle.election.specs.Electing.{counted, elected}
+use Rattle.election.specs.Health.{Candidate, Health}
+use Rattle.election.specs.declared.running.Elected.{Elected}
+use Rattle.node_step.proofs.Ready.{in_election_keeps, ready_keeps}
+use Rattle.node_step.specs.Failing.{a_tick_older, members_of}
+use Rattle.node_step.specs.Messages.{Choice, delivered, ready, taken, taken_so, written_by_message}
+use Rattle.node_step.specs.Promotion.{promotion}
+use Rattle.node_step.specs.Voting.{due_epoch, if_elected}
 use Rattle.node_step.specs.Orders.{ending_outcome, ending_verdict}
 use Rattle.node_step.specs.Outcome.{Outcome, silent}
 use Rattle.node_step.specs.Requests.{asking_for, asking_of, by_command, cluster_outcome, is_numbered, node_with_id, order_outcome, request_outcome, using_up, with_asking}
-use Rattle.node_step.specs.State.{NodeState}
+use Rattle.node_step.specs.State.{NodeState, own_master}
 use Rattle.node_step.specs.Step.{IsAnswering, IsClosing, IsOpening, MayCome, NodeStep, written}
-use Rattle.node_step.specs.Ticks.{tick}
+use Rattle.node_step.specs.Ticks.{slots_tick, tick}
 use Rattle.node_step.specs.declared.event.Event.{Event}
 use Rattle.node_step.specs.declared.event.Event.TheVariants.{Open, Close, Request, Deliver, Tick}
 use Rattle.node_step.specs.declared.outputs.Outputs.{Outputs}
@@ -399,44 +406,62 @@ is_answering old conn words false outcome answer may answers = absurd (no_reply 
 stays_beside : {old : NodeState} (new : NodeState) (stream : StreamView) (keyspace : Keyspace) → Stays old new → Stays old (record new { stream = stream; keyspace = keyspace })
 stays_beside new stream keyspace stays = record { config = stays.config; opens = stays.opens; asking = stays.asking }
 
+-- what any message tells bears on no connection, and what is taken then
+module _ (node : NodeState) (from epoch : ℕ) (masters : List (Option ℕ)) (health : Health) (candidate : Candidate) (choice : Choice) where
+  abbrev heard : NodeState
+  heard = record node { current_epoch = epoch; masters = masters; health = health; candidate = candidate }
+
+  acknowledged_stays : (slot number copy : ℕ) (key : Option (List ℕ)) → Stays node (acknowledged heard slot number copy key).state
+  acknowledged_stays slot number copy None = still refl refl
+  acknowledged_stays slot number copy (Some key) = record { config = refl; opens = refl; asking = all_freed_asking node.connections _ }
+
+  claim_stays : (is_own : Bool) (table : List (Option SlotEntry)) → Stays node (cond is_own (silent heard) (claimed_by heard table)).state
+  claim_stays true table = still refl refl
+  claim_stays false table = record { config = refl; opens = refl; asking = all_freed_asking node.connections _ }
+
+  elected_stays : (counted : Candidate) (won : Option Elected) → Stays node (if_elected (record heard { candidate = counted }) won).state
+  elected_stays counted None = still refl refl
+  elected_stays counted (Some elected) = by_master (own_master heard)
+    where
+      by_master : (master : Option ℕ) → Stays node (promotion (record heard { candidate = counted }) elected.epoch master).state
+      by_master None = still refl refl
+      by_master (Some master) = still refl refl
+
+  taken_so_stays : (body : Body) → Stays node (taken_so heard from choice body).state
+  taken_so_stays (Copy slot number copy key value) = still refl refl
+  taken_so_stays (Ack slot number copy) = acknowledged_stays slot number copy (acknowledged_key (move_of node.moves slot) from number copy)
+  taken_so_stays (Drained slot number epoch) = still refl refl
+  taken_so_stays (Claim slots replaced) = claim_stays (from == node.number) (merged node.table slots from)
+  taken_so_stays (Report suspects) = still refl refl
+  taken_so_stays (Requested request) = still refl refl
+  taken_so_stays (Grant granted) = elected_stays (counted candidate (members_of heard) from granted) (elected candidate (members_of heard) from granted)
+  taken_so_stays (Sync sync) = synced_is (λ (o : Outcome). Stays node o.state) heard from sync (still refl refl) (still refl refl)
+  taken_so_stays (Piece piece) = pieced_keeps (Stays node) heard (λ stream keyspace. still refl refl) from piece choice.follower
+  taken_so_stays (Snapshot snapshot) = restored_keeps (Stays node) heard (λ stream keyspace. still refl refl) from snapshot
+
+  taken_stays : (body : Body) → Stays node (taken heard from choice body).state
+  taken_stays body =
+      let outcome : Outcome = taken_so heard from choice body in
+      recorded_keeps (Stays node) outcome (written_by_message heard from body) choice.dropped (λ stream. stays_beside outcome.state stream outcome.state.keyspace (taken_so_stays body))
+
 delivered_stays : (node : NodeState) (message : Message) (choice : Choice) → Stays node (delivered node message choice).state
 delivered_stays node message choice = by_node (message.to == node.number)
   where
-    acknowledged_stays : (slot number copy : ℕ) (key : Option (List ℕ)) → Stays node (acknowledged (knowing node message.epoch) slot number copy key).state
-    acknowledged_stays slot number copy None = still refl refl
-    acknowledged_stays slot number copy (Some key) = record { config = refl; opens = refl; asking = all_freed_asking node.connections _ }
-
-    claim_stays : (is_own : Bool) (table : List (Option SlotEntry)) → Stays node (cond is_own (silent (knowing node message.epoch)) (claimed_by (knowing node message.epoch) table)).state
-    claim_stays true table = still refl refl
-    claim_stays false table = record { config = refl; opens = refl; asking = all_freed_asking node.connections _ }
-
-    taken_so_stays : (body : Body) → Stays node (taken_so (knowing node message.epoch) message.from choice body).state
-    taken_so_stays (Copy slot number copy key value) = still refl refl
-    taken_so_stays (Ack slot number copy) = acknowledged_stays slot number copy (acknowledged_key (move_of node.moves slot) message.from number copy)
-    taken_so_stays (Drained slot number epoch) = still refl refl
-    taken_so_stays (Claim slots replaced) = claim_stays (message.from == node.number) (merged node.table slots message.from)
-    taken_so_stays (Report suspects) = still refl refl
-    taken_so_stays (Requested request) = still refl refl
-    taken_so_stays (Grant epoch) = still refl refl
-    taken_so_stays (Sync sync) = synced_is (λ (o : Outcome). Stays node o.state) (knowing node message.epoch) message.from sync (still refl refl) (still refl refl)
-    taken_so_stays (Piece piece) = pieced_keeps (Stays node) (knowing node message.epoch) (λ stream keyspace. still refl refl) message.from piece choice.follower
-    taken_so_stays (Snapshot snapshot) = restored_keeps (Stays node) (knowing node message.epoch) (λ stream keyspace. still refl refl) message.from snapshot
-
-    taken_stays : (body : Body) → Stays node (taken (knowing node message.epoch) message.from choice body).state
-    taken_stays body =
-        let outcome : Outcome = taken_so (knowing node message.epoch) message.from choice body in
-        recorded_keeps (Stays node) outcome (written_by_message (knowing node message.epoch) message.from body) choice.dropped (λ stream. stays_beside outcome.state stream outcome.state.keyspace (taken_so_stays body))
-
-    by_node : (is_here : Bool) → Stays node (cond is_here (taken (knowing node message.epoch) message.from choice message.body) (silent node)).state
-    by_node true = taken_stays message.body
+    by_node : (is_here : Bool) → Stays node (cond is_here (taken (ready node message) message.from choice message.body) (silent node)).state
+    by_node true =
+        ready_keeps (λ (own : NodeState). Stays node (taken own message.from choice message.body).state) node message
+        (λ epoch masters health candidate as_before goes. taken_stays node message.from epoch masters health candidate choice message.body)
     by_node false = still refl refl
 
 tick_stays : (node : NodeState) → Stays node (tick node).state
-tick_stays node = record {
-  config = refl;
-  opens = refl;
-  asking = λ conn. all_aged_asking (all_freed node.connections is_over) conn ∙ all_freed_asking node.connections is_over conn;
-}
+tick_stays node =
+    let aged = a_tick_older (slots_tick node).state in
+    in_election_keeps (Stays node) aged (due_epoch aged)
+    (λ current candidate. record {
+      config = refl;
+      opens = refl;
+      asking = λ conn. all_aged_asking (all_freed node.connections is_over) conn ∙ all_freed_asking node.connections is_over conn;
+    })
 
 stays_leaves : (event : Event) (old new : NodeState) → Stays old new → Leaves event old new
 stays_leaves event old new stays = record { config = stays.config; opens = same_count stays.opens; calm = λ conn. inl (inl (stays.asking conn)) }
@@ -497,7 +522,7 @@ event_leaves old (Request conn words) outcome may = answer_leaves old conn words
 event_leaves old (Deliver message) outcome may =
     subst (λ (o : Outcome). Leaves (Deliver message) old o.state) (sym may.comes_to)
     (stays_leaves (Deliver message) old (delivered old message may.choice).state (delivered_stays old message may.choice))
-event_leaves old Tick outcome may = subst (λ (o : Outcome). Leaves Tick old o.state) (sym may) (stays_leaves Tick old (tick old).state (tick_stays old))
+event_leaves old Tick outcome may = subst (λ (o : Outcome). Leaves Tick old o.state) (sym may.comes_to) (stays_leaves Tick old (tick old).state (tick_stays old))
 
 pub step_leaves : (ticket : ℕ) (old new : NodeState) (event : Event) (outputs : Outputs) → NodeStep ticket old event outputs new → Leaves event old new
 step_leaves ticket old new event outputs step = subst (Leaves event old) (sym step.state) (event_leaves old event step.outcome step.may_come)

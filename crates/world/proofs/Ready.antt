@@ -34,14 +34,21 @@ use Rattle.node_step.specs.Claiming.{claimed_by}
 use Rattle.node_step.specs.Commands.{command_outcome, decision_on}
 use Rattle.node_step.specs.Copies.{acknowledged, arrival, copy_outcome, copy_verdict_on, node_at, noted, waiting_for}
 use Rattle.node_step.proofs.Kept.{pieced_keeps, restored_keeps, synced_is}
-use Rattle.node_step.specs.Messages.{Choice, delivered, knowing, taken, taken_so, written_by_message}
+use Rattle.election.specs.Electing.{elected}
+use Rattle.election.specs.Health.{Candidate, Health}
+use Rattle.election.specs.declared.running.Elected.{Elected}
+use Rattle.node_step.proofs.Ready.{in_election_keeps, ready_keeps}
+use Rattle.node_step.specs.Failing.{a_tick_older, members_of}
+use Rattle.node_step.specs.Messages.{Choice, delivered, ready, taken, taken_so, written_by_message}
+use Rattle.node_step.specs.Promotion.{promotion}
+use Rattle.node_step.specs.Voting.{asked_for_vote, due_epoch, if_elected, request_of}
 use Rattle.node_step.specs.Orders.{ending_outcome, ending_verdict}
 use Rattle.node_step.specs.Outcome.{Outcome, release, silent}
 use Rattle.node_step.specs.Requests.{asking_for, asking_of, by_command, cluster_outcome, is_numbered, node_with_id, order_outcome, request_outcome, using_up}
-use Rattle.node_step.specs.State.{NodeState}
+use Rattle.node_step.specs.State.{NodeState, own_master}
 use Rattle.node_step.specs.Step.{IsAnswering, IsClosing, IsOpening, MayCome, NodeStep, written}
 use Rattle.node_step.specs.Streams.{Requests, recorded}
-use Rattle.node_step.specs.Ticks.{tick}
+use Rattle.node_step.specs.Ticks.{slots_tick, tick}
 use Rattle.node_step.specs.declared.event.Event.{Event}
 use Rattle.node_step.specs.declared.event.Event.TheVariants.{Open, Close, Request, Deliver, Tick}
 use Rattle.node_step.specs.declared.outputs.Outputs.{Outputs}
@@ -372,40 +379,55 @@ recorded_ready event old outcome (request ∷ requests) dropped kept = record { 
 quiet_ready : (event : Event) (old node : NodeState) → node.connections ≡ old.connections → KeepsReady event old (silent node)
 quiet_ready event old node same = same_ready event old (silent node) same refl
 
-taken_so_ready : (event : Event) (old : NodeState) (epoch from : ℕ) (choice : Choice) (body : Body) → KeepsReady event old (taken_so (knowing old epoch) from choice body)
-taken_so_ready event old epoch from choice (Copy slot number copy key value) = same_ready event old (arrival (knowing old epoch) from slot number copy key value) refl refl
-taken_so_ready event old epoch from choice (Ack slot number copy) =
-    acknowledged_ready event old (knowing old epoch) slot number copy (acknowledged_key (move_of old.moves slot) from number copy) refl
-taken_so_ready event old epoch from choice (Drained slot number drained) = same_ready event old (noted (knowing old epoch) from slot number drained) refl refl
-taken_so_ready event old epoch from choice (Claim runs replaced) = by_own (from == old.number)
-  where
-    by_own : (own : Bool) → KeepsReady event old (cond own (silent (knowing old epoch)) (claimed_by (knowing old epoch) (merged old.table runs from)))
-    by_own true = same_ready event old (silent (knowing old epoch)) refl refl
-    by_own false = claimed_ready event old (knowing old epoch) (merged old.table runs from) refl
-taken_so_ready event old epoch from choice (Report suspects) = quiet_ready event old (knowing old epoch) refl
-taken_so_ready event old epoch from choice (Requested request) = quiet_ready event old (knowing old epoch) refl
-taken_so_ready event old epoch from choice (Grant granted) = quiet_ready event old (knowing old epoch) refl
-taken_so_ready event old epoch from choice (Sync sync) =
-    synced_is (KeepsReady event old) (knowing old epoch) from sync (quiet_ready event old (knowing old epoch) refl) (same_ready event old _ refl refl)
-taken_so_ready event old epoch from choice (Piece piece) =
-    pieced_keeps (λ (node : NodeState). KeepsReady event old (silent node)) (knowing old epoch) (λ stream keyspace. quiet_ready event old _ refl) from piece choice.follower
-taken_so_ready event old epoch from choice (Snapshot snapshot) =
-    restored_keeps (λ (node : NodeState). KeepsReady event old (silent node)) (knowing old epoch) (λ stream keyspace. quiet_ready event old _ refl) from snapshot
+-- what any message tells bears on no connection, and what is taken then
+module _ (event : Event) (old : NodeState) (epoch : ℕ) (masters : List (Option ℕ)) (health : Health) (candidate : Candidate) where
+  abbrev heard : NodeState
+  heard = record old { current_epoch = epoch; masters = masters; health = health; candidate = candidate }
 
-taken_ready : (event : Event) (old : NodeState) (epoch from : ℕ) (choice : Choice) (body : Body) → KeepsReady event old (taken (knowing old epoch) from choice body)
-taken_ready event old epoch from choice body =
-    recorded_ready event old (taken_so (knowing old epoch) from choice body) (written_by_message (knowing old epoch) from body) choice.dropped (taken_so_ready event old epoch from choice body)
+  elected_ready : (node : NodeState) → node.connections ≡ old.connections → (won : Option Elected) → KeepsReady event old (if_elected node won)
+  elected_ready node same None = quiet_ready event old node same
+  elected_ready node same (Some elected) = by_master (own_master node)
+    where
+      by_master : (master : Option ℕ) → KeepsReady event old (promotion node elected.epoch master)
+      by_master None = quiet_ready event old node same
+      by_master (Some master) = same_ready event old (promotion node elected.epoch (Some master)) same refl
+
+  taken_so_ready : (from : ℕ) (choice : Choice) (body : Body) → KeepsReady event old (taken_so heard from choice body)
+  taken_so_ready from choice (Copy slot number copy key value) = same_ready event old (arrival heard from slot number copy key value) refl refl
+  taken_so_ready from choice (Ack slot number copy) = acknowledged_ready event old heard slot number copy (acknowledged_key (move_of old.moves slot) from number copy) refl
+  taken_so_ready from choice (Drained slot number drained) = same_ready event old (noted heard from slot number drained) refl refl
+  taken_so_ready from choice (Claim runs replaced) = by_own (from == old.number)
+    where
+      by_own : (own : Bool) → KeepsReady event old (cond own (silent heard) (claimed_by heard (merged old.table runs from)))
+      by_own true = same_ready event old (silent heard) refl refl
+      by_own false = claimed_ready event old heard (merged old.table runs from) refl
+  taken_so_ready from choice (Report suspects) = quiet_ready event old heard refl
+  taken_so_ready from choice (Requested request) = same_ready event old (asked_for_vote heard (request_of from request)) refl refl
+  taken_so_ready from choice (Grant granted) = elected_ready _ refl (elected candidate (members_of heard) from granted)
+  taken_so_ready from choice (Sync sync) = synced_is (KeepsReady event old) heard from sync (quiet_ready event old heard refl) (same_ready event old _ refl refl)
+  taken_so_ready from choice (Piece piece) =
+      pieced_keeps (λ (node : NodeState). KeepsReady event old (silent node)) heard (λ stream keyspace. quiet_ready event old _ refl) from piece choice.follower
+  taken_so_ready from choice (Snapshot snapshot) =
+      restored_keeps (λ (node : NodeState). KeepsReady event old (silent node)) heard (λ stream keyspace. quiet_ready event old _ refl) from snapshot
+
+  taken_ready : (from : ℕ) (choice : Choice) (body : Body) → KeepsReady event old (taken heard from choice body)
+  taken_ready from choice body = recorded_ready event old (taken_so heard from choice body) (written_by_message heard from body) choice.dropped (taken_so_ready from choice body)
 
 delivered_ready : (old : NodeState) (message : Message) (choice : Choice) → KeepsReady (Deliver message) old (delivered old message choice)
 delivered_ready old message choice = by_node (message.to == old.number)
   where
-    by_node : (here : Bool) → KeepsReady (Deliver message) old (cond here (taken (knowing old message.epoch) message.from choice message.body) (silent old))
-    by_node true = taken_ready (Deliver message) old message.epoch message.from choice message.body
+    by_node : (here : Bool) → KeepsReady (Deliver message) old (cond here (taken (ready old message) message.from choice message.body) (silent old))
+    by_node true =
+        ready_keeps (λ (node : NodeState). KeepsReady (Deliver message) old (taken node message.from choice message.body)) old message
+        (λ epoch masters health candidate as_before goes. taken_ready (Deliver message) old epoch masters health candidate message.from choice message.body)
     by_node false = same_ready (Deliver message) old (silent old) refl refl
 
 tick_ready : (old : NodeState) → KeepsReady Tick old (tick old)
 tick_ready old = record {
-  ready = λ other spared may. all_aged_may (all_freed old.connections is_over) other ∙ all_freed_may old.connections is_over other may;
+  ready = λ other spared may.
+      let aged = a_tick_older (slots_tick old).state in
+      in_election_keeps (λ (node : NodeState). may_at node.connections other ≡ true) aged (due_epoch aged)
+      (λ current candidate. all_aged_may (all_freed old.connections is_over) other ∙ all_freed_may old.connections is_over other may);
   freed = λ one among. those_waited old.connections is_over _ one among;
 }
 
@@ -440,7 +462,7 @@ event_ready old Open outcome may = opening_ready old outcome may
 event_ready old (Close conn) outcome may = closing_ready old conn outcome may
 event_ready old (Request conn words) outcome may = answering_ready old conn words outcome (may_ask (connection_at old.connections conn)) may
 event_ready old (Deliver message) outcome may = subst (KeepsReady (Deliver message) old) (sym may.comes_to) (delivered_ready old message may.choice)
-event_ready old Tick outcome may = subst (KeepsReady Tick old) (sym may) (tick_ready old)
+event_ready old Tick outcome may = subst (KeepsReady Tick old) (sym may.comes_to) (tick_ready old)
 
 -- a step of a node: what may ask still may, unless the step takes it away, and those that are freed waited
 pub record StepKeepsReady (event : Event) (old : NodeState) (outputs : Outputs) (new : NodeState) : Type 0 where

@@ -1,8 +1,9 @@
 -- Steps of a world.
-use Rattle.std.proofs.Common.{◌≡◌, arith, List, [], ◌∷◌, ◌++◌, refl, sym, ap, subst, ◌∙◌, append-nil, append_assoc}
+use Rattle.std.proofs.Common.{◌≡◌, arith, Bool, true, cond, List, [], ◌∷◌, ◌++◌, refl, sym, ap, subst, ◌∙◌, append-nil, append_assoc}
 use Rattle.std.specs.Prelude.{false, reverse}
 use Rattle.cluster_config.specs.Config.{ClusterConfig, IsCluster}
 use Rattle.world_run.specs.Executed.{KeepsAsking}
+use Rattle.world_run.specs.Promotions.{ends_one_keyspace, promoted_in, until_promotion}
 use Rattle.world_run.specs.Run.{Entry, Goes, first_nodes}
 use Rattle.world.specs.Plays.{Plays, PlaysAll}
 use Rattle.world.specs.Asking.{KeepsRule}
@@ -83,3 +84,12 @@ played_on old new step outputs reached ample same plays =
       plays = subst (λ (config : ClusterConfig). PlaysAll (first_scene config) (before.steps ++ step ∷ []) (before.outputs ++ outputs) new.scene) (sym same)
           (plays_one_more (first_scene old.scene.config) old.scene new.scene before.steps step before.outputs outputs before.plays plays);
     }
+
+-- who keeps to the asking rule does so up to the first promotion
+pub keeps_until_promotion : (past entries : List Entry) → KeepsAsking past entries → KeepsAsking past (until_promotion entries)
+keeps_until_promotion past [] keeps = keeps
+keeps_until_promotion past (entry ∷ entries) keeps = by_end (ends_one_keyspace (promoted_in entry.deed))
+  where
+    by_end : (is_end : Bool) → KeepsAsking past (cond is_end [] (entry ∷ until_promotion entries))
+    by_end true = tt
+    by_end false = (keeps.0, keeps_until_promotion (entry ∷ past) entries keeps.1)

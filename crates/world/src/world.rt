@@ -1,6 +1,8 @@
 //! A world of nodes.
 ghost use Rattle.std.specs.Prelude.{◌≡◌, true, false, IfOk, IfErr, OnOk, OnErr, IsErr};
 ghost use Rattle.world_run.specs.Executed.{AreOfOneKeyspace, executed};
+ghost use Rattle.world_run.specs.Law.{HasOneMasterAnEpoch};
+ghost use Rattle.world_run.specs.Promotions.{until_promotion};
 ghost use Rattle.world.specs.Plays.{Plays, PlaysAll};
 ghost use Rattle.world.specs.Reached.{IsReached};
 ghost use Rattle.world.specs.View.{GoesOn, first_world};
@@ -9,6 +11,7 @@ use crate::output::Output;
 use crate::scene::Scene;
 use crate::step::Step;
 use cluster_config::Config;
+use one_master::no_epoch_has_two_masters;
 use single_keyspace::replies_are_those_of_one_keyspace;
 use std::alloc::{AllocError, Global};
 use std::marker::Model;
@@ -65,14 +68,15 @@ impl World {
     pub fn step(&mut self, step: Step) -> Result<Vec<Output>, AllocError>
         ensures config { self.new.scene.config ≡ self.old.scene.config }
         ensures goes_on { GoesOn self.old.scene.run self.new.scene.run }
-        ensures one_keyspace { AreOfOneKeyspace (executed self.new.scene.run.entries) }
+        ensures one_keyspace { AreOfOneKeyspace (executed (until_promotion self.new.scene.run.entries)) }
+        ensures one_master { HasOneMasterAnEpoch self.new.scene.config.voters self.new.scene.run.entries }
         ensures plays { IfOk result (λ outputs. Plays self.old.scene step outputs.items self.new.scene) }
         ensures ok { OnOk result ((self.old.refused ≡ false) × (self.new.refused ≡ false)) }
         ensures err { OnErr result (self.new.refused ≡ true) }
         ensures refused { self.old.refused ≡ true → self.new ≡ self.old }
     {
         let outputs = self.play(&step);
-        self.is_of_one_keyspace();
+        self.obeys_laws();
         outputs
     }
 
@@ -80,14 +84,15 @@ impl World {
     pub fn run(&mut self, steps: &[Step]) -> Result<Vec<Output>, AllocError>
         ensures config { self.new.scene.config ≡ self.old.scene.config }
         ensures goes_on { GoesOn self.old.scene.run self.new.scene.run }
-        ensures one_keyspace { AreOfOneKeyspace (executed self.new.scene.run.entries) }
+        ensures one_keyspace { AreOfOneKeyspace (executed (until_promotion self.new.scene.run.entries)) }
+        ensures one_master { HasOneMasterAnEpoch self.new.scene.config.voters self.new.scene.run.entries }
         ensures plays { IfOk result (λ outputs. PlaysAll self.old.scene steps.now outputs.items self.new.scene) }
         ensures ok { OnOk result ((self.old.refused ≡ false) × (self.new.refused ≡ false)) }
         ensures err { OnErr result (self.new.refused ≡ true) }
         ensures refused { self.old.refused ≡ true → self.new ≡ self.old }
     {
         let outputs = self.play_all(steps);
-        self.is_of_one_keyspace();
+        self.obeys_laws();
         outputs
     }
 
@@ -140,10 +145,13 @@ impl World {
         AllocError
     }
 
-    fn is_of_one_keyspace(&self)
-        ensures { AreOfOneKeyspace (executed self.now.scene.run.entries) }
+    // What nodes and clients did obeys the laws of all runs.
+    fn obeys_laws(&self)
+        ensures one_keyspace { AreOfOneKeyspace (executed (until_promotion self.now.scene.run.entries)) }
+        ensures one_master { HasOneMasterAnEpoch self.now.scene.config.voters self.now.scene.run.entries }
     {
         let _config = self.scene.config();
         replies_are_those_of_one_keyspace();
+        no_epoch_has_two_masters();
     }
 }
