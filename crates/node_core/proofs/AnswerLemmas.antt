@@ -8,6 +8,7 @@ use Rattle.resp_values.specs.declared.reply.Reply.{Reply}
 use Rattle.command_table.specs.Keys.{is_data_write}
 use Rattle.command_table.specs.Table.{command_of}
 use Rattle.resp2.specs.Stream.{stream_spelling}
+use Rattle.resp_values.specs.Request.{IsRequest}
 use Rattle.command_table.specs.declared.command.Command.{Command}
 use Rattle.command_table.specs.declared.command.ClusterCommand.{ClusterCommand}
 use Rattle.command_table.specs.declared.command.ClusterCommand.TheVariants.{KeySlot, MyId, Slots, CountKeysInSlot, GetKeysInSlot, SlotState, SetSlot, Numbered, Asking, Migrate}
@@ -127,12 +128,13 @@ same_spelling old conn words before answers = ap (λ (response : Response). stre
 
 -- an answer, and what is written by its words
 pub answered_and_written : (old : NodeState) (conn : Conn) (words : List (List ℕ)) (is_write : Bool) (bytes : List ℕ) (before draft : Draft)
-    → is_write ≡ is_written (command_of words) → AnswersSo old conn (command_of words) before
+    → IsRequest words → is_write ≡ is_written (command_of words) → AnswersSo old conn (command_of words) before
     → ((command : Result Command CommandFault) → is_write ≡ is_written command → bytes ≡ stream_spelling (written_by_request words command before.response))
     → ((outcome : Outcome) (requests : Requests) → bytes ≡ stream_spelling requests → Drafts old outcome before → Records old outcome requests draft)
     → AnswersAndWrites old conn words draft
-answered_and_written old conn words is_write bytes before draft is answers spelled records =
+answered_and_written old conn words is_write bytes before draft request is answers spelled records =
     record {
+      request = request;
       number = answers.number;
       records = records (request_outcome old conn (command_of words)) (written old conn words) (spelled (command_of words) is ∙ same_spelling old conn words before answers) answers.drafts;
     }
@@ -161,7 +163,7 @@ pub answer_is_drafted : (old : NodeState) (conn : Conn) (words : List (List ℕ)
 answer_is_drafted old conn words draft asks answers = record {
   outcome = request_outcome old conn (command_of words);
   requests = written old conn words;
-  may_come = λ dropped within. rw asks record { number = answers.number; dropped = dropped; may_drop = within; comes_to = refl };
+  may_come = λ dropped within. rw asks record { request = answers.request; number = answers.number; dropped = dropped; may_drop = within; comes_to = refl };
   records = answers.records;
 }
 

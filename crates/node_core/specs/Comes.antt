@@ -6,6 +6,7 @@ use Rattle.command_table.specs.Table.{command_of}
 use Rattle.command_table.specs.declared.command.Command.{Command}
 use Rattle.command_table.specs.declared.fault.CommandFault.{CommandFault}
 use Rattle.connections.specs.declared.conn.Conn.{Conn}
+use Rattle.resp_values.specs.Request.{IsRequest}
 use Rattle.node_parts.specs.Drafts.{Drafts, Records}
 use Rattle.node_parts.specs.declared.draft.Draft.{Draft}
 use Rattle.node_step.specs.Requests.{has_number, request_outcome, using_up}
@@ -73,5 +74,6 @@ pub record AnswersSo (old : NodeState) (conn : Conn) (read : Result Command Comm
 
 -- and with what is written by its words
 pub record AnswersAndWrites (old : NodeState) (conn : Conn) (words : List (List ℕ)) (draft : Draft) : Type 0 where
+  pub request : IsRequest words
   pub number : has_number (using_up old conn) (command_of words) ≡ true
   pub records : Records old (request_outcome old conn (command_of words)) (written old conn words) draft

@@ -61,6 +61,8 @@ fn answer<S: SlotParts + SlotKeys, T: Stream>(
     ensures answer { OnOk result (AnswersAndWrites node.now conn words.now draft.new) }
     ensures exhausted { result ≡ Err Exhausted → NoNumberLeft node.now (Event.Request conn words.now) }
 {
+    // Who reads the words knows that they are a request.
+    let _words = words.as_slice();
     let is_write = answer_words(node, conn, connection, words, draft)?;
     let bytes = written_by_request(node.alloc, words, is_write, &draft.response)?;
     record(node, bytes, draft)?;

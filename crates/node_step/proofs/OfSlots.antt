@@ -52,12 +52,13 @@ use Rattle.node_step.specs.Ticks.{sent_again}
 
 -- ---- messages of slots
 
-abbrev pub IsOfSlots : Body → Type 0
-IsOfSlots (Copy slot number copy key value) = ⊤
-IsOfSlots (Ack slot number copy) = ⊤
-IsOfSlots (Drained slot number epoch) = ⊤
-IsOfSlots (Claim slots replaced) = ⊤
-IsOfSlots other = ⊥
+-- a copy has the value that its key has at the node
+abbrev pub IsOfSlots : NodeState → Body → Type 0
+IsOfSlots own (Copy slot number copy key value) = fin_map.get own.keyspace key ≡ Some value
+IsOfSlots own (Ack slot number copy) = ⊤
+IsOfSlots own (Drained slot number epoch) = ⊤
+IsOfSlots own (Claim slots replaced) = ⊤
+IsOfSlots own other = ⊥
 
 -- all of these messages are such that this holds
 abbrev pub AreAll : (Body → Type 0) → List (ℕ × Body) → Type 0
@@ -95,81 +96,82 @@ module _ (P : Body → Type 0) where
 
 -- ---- what is sent of slots
 
-drained_by_are : (slot epoch : ℕ) (move : Option Move) → AreAll IsOfSlots (drained_by slot epoch move)
-drained_by_are slot epoch None = all_of_none IsOfSlots
-drained_by_are slot epoch (Some (Comes from number last known)) = all_of_none IsOfSlots
-drained_by_are slot epoch (Some (Leaves to number copies frozen)) = all_of_one IsOfSlots to (Drained slot number epoch) tt
+module _ (own : NodeState) where
+  drained_by_are : (slot epoch : ℕ) (move : Option Move) → AreAll (IsOfSlots own) (drained_by slot epoch move)
+  drained_by_are slot epoch None = all_of_none (IsOfSlots own)
+  drained_by_are slot epoch (Some (Comes from number last known)) = all_of_none (IsOfSlots own)
+  drained_by_are slot epoch (Some (Leaves to number copies frozen)) = all_of_one (IsOfSlots own) to (Drained slot number epoch) tt
 
-drained_if_empty_are : (node : NodeState) (slot : ℕ) → AreAll IsOfSlots (drained_if_empty node slot)
-drained_if_empty_are node slot = all_of_if IsOfSlots (has_keys node.keyspace slot) [] (drained node slot) (all_of_none IsOfSlots) (drained_by_are slot (slot_epoch node slot) (move_of node.moves slot))
+  drained_if_empty_are : (node : NodeState) (slot : ℕ) → AreAll (IsOfSlots own) (drained_if_empty node slot)
+  drained_if_empty_are node slot = all_of_if (IsOfSlots own) (has_keys node.keyspace slot) [] (drained node slot) (all_of_none (IsOfSlots own)) (drained_by_are slot (slot_epoch node slot) (move_of node.moves slot))
 
-drained_since_are : (before : Keyspace) (node : NodeState) (slot : ℕ) → AreAll IsOfSlots (drained_since before node slot)
-drained_since_are before node slot = all_of_if IsOfSlots (has_keys before slot) (drained_if_empty node slot) [] (drained_if_empty_are node slot) (all_of_none IsOfSlots)
+  drained_since_are : (before : Keyspace) (node : NodeState) (slot : ℕ) → AreAll (IsOfSlots own) (drained_since before node slot)
+  drained_since_are before node slot = all_of_if (IsOfSlots own) (has_keys before slot) (drained_if_empty node slot) [] (drained_if_empty_are node slot) (all_of_none (IsOfSlots own))
 
-drained_by_command_are : (old new : NodeState) (keys : List (List ℕ)) → AreAll IsOfSlots (drained_by_command old new keys)
-drained_by_command_are old new [] = all_of_none IsOfSlots
-drained_by_command_are old new (key ∷ others) = drained_since_are old.keyspace new _
+  drained_by_command_are : (old new : NodeState) (keys : List (List ℕ)) → AreAll (IsOfSlots own) (drained_by_command old new keys)
+  drained_by_command_are old new [] = all_of_none (IsOfSlots own)
+  drained_by_command_are old new (key ∷ others) = drained_since_are old.keyspace new _
 
-copy_are : (slot to number copy : ℕ) (key : List ℕ) (value : Option Value) → AreAll IsOfSlots (copy_of slot to number copy key value)
-copy_are slot to number copy key None = all_of_none IsOfSlots
-copy_are slot to number copy key (Some value) = all_of_one IsOfSlots to (Copy slot number copy key value) tt
+  copy_are : (slot to number copy : ℕ) (key : List ℕ) (value : Option Value) → fin_map.get own.keyspace key ≡ value → AreAll (IsOfSlots own) (copy_of slot to number copy key value)
+  copy_are slot to number copy key None is = all_of_none (IsOfSlots own)
+  copy_are slot to number copy key (Some value) is = all_of_one (IsOfSlots own) to (Copy slot number copy key value) is
 
-outstanding_are : (keyspace : Keyspace) (slot : ℕ) (move : Option Move) → AreAll IsOfSlots (outstanding keyspace slot move)
-outstanding_are keyspace slot None = all_of_none IsOfSlots
-outstanding_are keyspace slot (Some (Comes from number last known)) = all_of_none IsOfSlots
-outstanding_are keyspace slot (Some (Leaves to number copies None)) = all_of_none IsOfSlots
-outstanding_are keyspace slot (Some (Leaves to number copies (Some key))) = copy_are slot to number copies key (fin_map.get keyspace key)
+  outstanding_are : (slot : ℕ) (move : Option Move) → AreAll (IsOfSlots own) (outstanding own.keyspace slot move)
+  outstanding_are slot None = all_of_none (IsOfSlots own)
+  outstanding_are slot (Some (Comes from number last known)) = all_of_none (IsOfSlots own)
+  outstanding_are slot (Some (Leaves to number copies None)) = all_of_none (IsOfSlots own)
+  outstanding_are slot (Some (Leaves to number copies (Some key))) = copy_are slot to number copies key (fin_map.get own.keyspace key) refl
 
-move_sent_again : (node : NodeState) (move : ℕ × Move) → AreAll IsOfSlots (sent_again node move)
-move_sent_again node (slot, Comes from number last known) = all_of_none IsOfSlots
-move_sent_again node (slot, Leaves to number copies None) = drained_if_empty_are node slot
-move_sent_again node (slot, Leaves to number copies (Some key)) = outstanding_are node.keyspace slot (Some (Leaves to number copies (Some key)))
+move_sent_again : (node : NodeState) (move : ℕ × Move) → AreAll (IsOfSlots node) (sent_again node move)
+move_sent_again node (slot, Comes from number last known) = all_of_none (IsOfSlots node)
+move_sent_again node (slot, Leaves to number copies None) = drained_if_empty_are node node slot
+move_sent_again node (slot, Leaves to number copies (Some key)) = outstanding_are node slot (Some (Leaves to number copies (Some key)))
 
 -- what is sent again at a tick
-pub sent_again_are : (node : NodeState) → AreAll IsOfSlots (flat_map (sent_again node) (fin_map.entries node.moves.running))
-sent_again_are node = all_flat_map IsOfSlots (sent_again node) (move_sent_again node) (fin_map.entries node.moves.running)
+pub sent_again_are : (node : NodeState) → AreAll (IsOfSlots node) (flat_map (sent_again node) (fin_map.entries node.moves.running))
+sent_again_are node = all_flat_map (IsOfSlots node) (sent_again node) (move_sent_again node) (fin_map.entries node.moves.running)
 
 -- ---- steps
 
 -- this holds of the state, what is sent is of slots, and the node isn't promoted
-pub record IsOfSlotsAlone (P : NodeState → Type 0) (outcome : Outcome) : Type 0 where
+pub record IsOfSlotsAlone (own : NodeState) (P : NodeState → Type 0) (outcome : Outcome) : Type 0 where
   pub state : P outcome.state
-  pub sent : AreAll IsOfSlots outcome.sent
+  pub sent : AreAll (IsOfSlots own) outcome.sent
   pub promoted : outcome.promoted ≡ None
 
 module _ (P : NodeState → Type 0) (node : NodeState)
     (holds : (keyspace : Keyspace) (table : List (Option SlotEntry)) (moves : Moves) (current : ℕ) (connections : ConnectionTable)
     → P (record node { keyspace = keyspace; table = table; moves = moves; current_epoch = current; connections = connections })) where
   abbrev Does : Outcome → Type 0
-  Does = IsOfSlotsAlone P
+  Does = IsOfSlotsAlone node P
 
   command_does : (numbered : Bool) (which : DataCommand) (why : Decision) → Does (command_outcome node numbered which why)
-  command_does numbered which Serve = record { state = holds _ _ _ _ _; sent = drained_by_command_are node (executed node which) (data_keys which); promoted = refl }
-  command_does numbered which (ServeImport number) = record { state = holds _ _ _ _ _; sent = drained_by_command_are node (executed node which) (data_keys which); promoted = refl }
-  command_does numbered which CrossSlot = record { state = holds _ _ _ _ _; sent = all_of_none IsOfSlots; promoted = refl }
-  command_does numbered which Down = record { state = holds _ _ _ _ _; sent = all_of_none IsOfSlots; promoted = refl }
-  command_does numbered which (TryAgain reason) = record { state = holds _ _ _ _ _; sent = all_of_none IsOfSlots; promoted = refl }
-  command_does numbered which (Ask slot to number) = record { state = holds _ _ _ _ _; sent = all_of_none IsOfSlots; promoted = refl }
-  command_does numbered which (Moved slot to) = record { state = holds _ _ _ _ _; sent = all_of_none IsOfSlots; promoted = refl }
+  command_does numbered which Serve = record { state = holds _ _ _ _ _; sent = drained_by_command_are node node (executed node which) (data_keys which); promoted = refl }
+  command_does numbered which (ServeImport number) = record { state = holds _ _ _ _ _; sent = drained_by_command_are node node (executed node which) (data_keys which); promoted = refl }
+  command_does numbered which CrossSlot = record { state = holds _ _ _ _ _; sent = all_of_none (IsOfSlots node); promoted = refl }
+  command_does numbered which Down = record { state = holds _ _ _ _ _; sent = all_of_none (IsOfSlots node); promoted = refl }
+  command_does numbered which (TryAgain reason) = record { state = holds _ _ _ _ _; sent = all_of_none (IsOfSlots node); promoted = refl }
+  command_does numbered which (Ask slot to number) = record { state = holds _ _ _ _ _; sent = all_of_none (IsOfSlots node); promoted = refl }
+  command_does numbered which (Moved slot to) = record { state = holds _ _ _ _ _; sent = all_of_none (IsOfSlots node); promoted = refl }
 
   import_does : (slot : ℕ) (verdict : ImportVerdict) → Does (import_outcome node slot verdict)
-  import_does slot verdict = record { state = holds _ _ _ _ _; sent = all_of_none IsOfSlots; promoted = refl }
+  import_does slot verdict = record { state = holds _ _ _ _ _; sent = all_of_none (IsOfSlots node); promoted = refl }
 
   migrate_does : (slot : ℕ) (verdict : MigrateVerdict) → Does (migrate_outcome node slot verdict)
-  migrate_does slot migrate.UnknownNode = record { state = holds _ _ _ _ _; sent = all_of_none IsOfSlots; promoted = refl }
-  migrate_does slot migrate.Already = record { state = holds _ _ _ _ _; sent = all_of_none IsOfSlots; promoted = refl }
-  migrate_does slot migrate.Busy = record { state = holds _ _ _ _ _; sent = all_of_none IsOfSlots; promoted = refl }
-  migrate_does slot migrate.NotOwner = record { state = holds _ _ _ _ _; sent = all_of_none IsOfSlots; promoted = refl }
-  migrate_does slot migrate.OldMove = record { state = holds _ _ _ _ _; sent = all_of_none IsOfSlots; promoted = refl }
-  migrate_does slot (migrate.Begins to number) = record { state = holds _ _ _ _ _; sent = drained_if_empty_are (migrate_outcome node slot (migrate.Begins to number)).state slot; promoted = refl }
+  migrate_does slot migrate.UnknownNode = record { state = holds _ _ _ _ _; sent = all_of_none (IsOfSlots node); promoted = refl }
+  migrate_does slot migrate.Already = record { state = holds _ _ _ _ _; sent = all_of_none (IsOfSlots node); promoted = refl }
+  migrate_does slot migrate.Busy = record { state = holds _ _ _ _ _; sent = all_of_none (IsOfSlots node); promoted = refl }
+  migrate_does slot migrate.NotOwner = record { state = holds _ _ _ _ _; sent = all_of_none (IsOfSlots node); promoted = refl }
+  migrate_does slot migrate.OldMove = record { state = holds _ _ _ _ _; sent = all_of_none (IsOfSlots node); promoted = refl }
+  migrate_does slot (migrate.Begins to number) = record { state = holds _ _ _ _ _; sent = drained_if_empty_are node (migrate_outcome node slot (migrate.Begins to number)).state slot; promoted = refl }
 
   ending_does : (slot : ℕ) (verdict : NodeVerdict) → Does (ending_outcome node slot verdict)
-  ending_does slot (ending.Ends drained) = record { state = holds _ _ _ _ _; sent = all_to_all IsOfSlots (others node) _ tt; promoted = refl }
-  ending_does slot ending.UnknownNode = record { state = holds _ _ _ _ _; sent = all_of_none IsOfSlots; promoted = refl }
-  ending_does slot ending.OldMove = record { state = holds _ _ _ _ _; sent = all_of_none IsOfSlots; promoted = refl }
-  ending_does slot ending.NotDrained = record { state = holds _ _ _ _ _; sent = all_of_none IsOfSlots; promoted = refl }
-  ending_does slot ending.IsOwner = record { state = holds _ _ _ _ _; sent = all_of_none IsOfSlots; promoted = refl }
-  ending_does slot ending.NotYetOwner = record { state = holds _ _ _ _ _; sent = all_of_none IsOfSlots; promoted = refl }
+  ending_does slot (ending.Ends drained) = record { state = holds _ _ _ _ _; sent = all_to_all (IsOfSlots node) (others node) _ tt; promoted = refl }
+  ending_does slot ending.UnknownNode = record { state = holds _ _ _ _ _; sent = all_of_none (IsOfSlots node); promoted = refl }
+  ending_does slot ending.OldMove = record { state = holds _ _ _ _ _; sent = all_of_none (IsOfSlots node); promoted = refl }
+  ending_does slot ending.NotDrained = record { state = holds _ _ _ _ _; sent = all_of_none (IsOfSlots node); promoted = refl }
+  ending_does slot ending.IsOwner = record { state = holds _ _ _ _ _; sent = all_of_none (IsOfSlots node); promoted = refl }
+  ending_does slot ending.NotYetOwner = record { state = holds _ _ _ _ _; sent = all_of_none (IsOfSlots node); promoted = refl }
 
   order_does : (slot : ℕ) (order : SlotOrder) (other number : Option ℕ) → Does (order_outcome node slot order other number)
   order_does slot Importing other number = import_does slot _
@@ -177,53 +179,53 @@ module _ (P : NodeState → Type 0) (node : NodeState)
   order_does slot Node other number = ending_does slot (ending_verdict node slot other number)
 
   copy_does : (conn : Conn) (slot : ℕ) (key : List ℕ) (ticks : ℕ) (verdict : CopyVerdict) → Does (copy_outcome node conn slot key ticks verdict)
-  copy_does conn slot key ticks copies.WrongTarget = record { state = holds _ _ _ _ _; sent = all_of_none IsOfSlots; promoted = refl }
-  copy_does conn slot key ticks copies.NoKey = record { state = holds _ _ _ _ _; sent = all_of_none IsOfSlots; promoted = refl }
-  copy_does conn slot key ticks copies.CopyOutstanding = record { state = holds _ _ _ _ _; sent = all_of_none IsOfSlots; promoted = refl }
-  copy_does conn slot key ticks copies.Exhausted = record { state = holds _ _ _ _ _; sent = all_of_none IsOfSlots; promoted = refl }
-  copy_does conn slot key ticks (copies.SendAgain to number copy) = record { state = holds _ _ _ _ _; sent = outstanding_are node.keyspace slot (move_of node.moves slot); promoted = refl }
-  copy_does conn slot key ticks (copies.Copies to number copy) = record { state = holds _ _ _ _ _; sent = outstanding_are node.keyspace slot _; promoted = refl }
+  copy_does conn slot key ticks copies.WrongTarget = record { state = holds _ _ _ _ _; sent = all_of_none (IsOfSlots node); promoted = refl }
+  copy_does conn slot key ticks copies.NoKey = record { state = holds _ _ _ _ _; sent = all_of_none (IsOfSlots node); promoted = refl }
+  copy_does conn slot key ticks copies.CopyOutstanding = record { state = holds _ _ _ _ _; sent = all_of_none (IsOfSlots node); promoted = refl }
+  copy_does conn slot key ticks copies.Exhausted = record { state = holds _ _ _ _ _; sent = all_of_none (IsOfSlots node); promoted = refl }
+  copy_does conn slot key ticks (copies.SendAgain to number copy) = record { state = holds _ _ _ _ _; sent = outstanding_are node slot (move_of node.moves slot); promoted = refl }
+  copy_does conn slot key ticks (copies.Copies to number copy) = record { state = holds _ _ _ _ _; sent = outstanding_are node slot _; promoted = refl }
 
   cluster_does : (conn : Conn) (which : ClusterCommand) → Does (cluster_outcome node conn which)
-  cluster_does conn (cluster.KeySlot key) = record { state = holds _ _ _ _ _; sent = all_of_none IsOfSlots; promoted = refl }
-  cluster_does conn cluster.MyId = record { state = holds _ _ _ _ _; sent = all_of_none IsOfSlots; promoted = refl }
-  cluster_does conn cluster.Slots = record { state = holds _ _ _ _ _; sent = all_of_none IsOfSlots; promoted = refl }
-  cluster_does conn (cluster.CountKeysInSlot slot) = record { state = holds _ _ _ _ _; sent = all_of_none IsOfSlots; promoted = refl }
-  cluster_does conn (cluster.GetKeysInSlot slot count) = record { state = holds _ _ _ _ _; sent = all_of_none IsOfSlots; promoted = refl }
-  cluster_does conn (cluster.SlotState slot) = record { state = holds _ _ _ _ _; sent = all_of_none IsOfSlots; promoted = refl }
+  cluster_does conn (cluster.KeySlot key) = record { state = holds _ _ _ _ _; sent = all_of_none (IsOfSlots node); promoted = refl }
+  cluster_does conn cluster.MyId = record { state = holds _ _ _ _ _; sent = all_of_none (IsOfSlots node); promoted = refl }
+  cluster_does conn cluster.Slots = record { state = holds _ _ _ _ _; sent = all_of_none (IsOfSlots node); promoted = refl }
+  cluster_does conn (cluster.CountKeysInSlot slot) = record { state = holds _ _ _ _ _; sent = all_of_none (IsOfSlots node); promoted = refl }
+  cluster_does conn (cluster.GetKeysInSlot slot count) = record { state = holds _ _ _ _ _; sent = all_of_none (IsOfSlots node); promoted = refl }
+  cluster_does conn (cluster.SlotState slot) = record { state = holds _ _ _ _ _; sent = all_of_none (IsOfSlots node); promoted = refl }
   cluster_does conn (cluster.SetSlot slot order id number) = order_does slot order (node_with_id node id) number
-  cluster_does conn cluster.Numbered = record { state = holds _ _ _ _ _; sent = all_of_none IsOfSlots; promoted = refl }
-  cluster_does conn (cluster.Asking number) = record { state = holds _ _ _ _ _; sent = all_of_none IsOfSlots; promoted = refl }
+  cluster_does conn cluster.Numbered = record { state = holds _ _ _ _ _; sent = all_of_none (IsOfSlots node); promoted = refl }
+  cluster_does conn (cluster.Asking number) = record { state = holds _ _ _ _ _; sent = all_of_none (IsOfSlots node); promoted = refl }
   cluster_does conn (cluster.Migrate host port key timeout) = copy_does conn (hash_slot key) key timeout (copy_verdict_on node key (node_at node host port))
 
   -- a request, whatever its words are
   pub request_is_of_slots : (conn : Conn) (connection : Option Connection) (command : Result Command CommandFault) → Does (by_command node conn connection command)
-  request_is_of_slots conn connection (Err fault) = record { state = holds _ _ _ _ _; sent = all_of_none IsOfSlots; promoted = refl }
+  request_is_of_slots conn connection (Err fault) = record { state = holds _ _ _ _ _; sent = all_of_none (IsOfSlots node); promoted = refl }
   request_is_of_slots conn connection (Ok (Cluster which)) = cluster_does conn which
   request_is_of_slots conn connection (Ok (Data which)) = command_does (is_numbered connection) which (decision_on node which (asking_of connection))
 
   -- and the messages that slots are moved by
   arrived_does : (from slot number copy : ℕ) (key : List ℕ) (value : Value) (verdict : ArrivalVerdict) → Does (arrived node from slot number copy key value verdict)
-  arrived_does from slot number copy key value Installs = record { state = holds _ _ _ _ _; sent = all_of_one IsOfSlots from (Ack slot number copy) tt; promoted = refl }
-  arrived_does from slot number copy key value Repeats = record { state = holds _ _ _ _ _; sent = all_of_one IsOfSlots from (Ack slot number copy) tt; promoted = refl }
-  arrived_does from slot number copy key value Ignored = record { state = holds _ _ _ _ _; sent = all_of_none IsOfSlots; promoted = refl }
+  arrived_does from slot number copy key value Installs = record { state = holds _ _ _ _ _; sent = all_of_one (IsOfSlots node) from (Ack slot number copy) tt; promoted = refl }
+  arrived_does from slot number copy key value Repeats = record { state = holds _ _ _ _ _; sent = all_of_one (IsOfSlots node) from (Ack slot number copy) tt; promoted = refl }
+  arrived_does from slot number copy key value Ignored = record { state = holds _ _ _ _ _; sent = all_of_none (IsOfSlots node); promoted = refl }
 
   pub arrival_is_of_slots : (from slot number copy : ℕ) (key : List ℕ) (value : Value) → Does (arrival node from slot number copy key value)
   arrival_is_of_slots from slot number copy key value = arrived_does from slot number copy key value (arrival_verdict (move_of node.moves slot) from number copy (keeps_limits key value))
 
   acknowledged_does : (slot number copy : ℕ) (key : Option (List ℕ)) → Does (acknowledged node slot number copy key)
-  acknowledged_does slot number copy None = record { state = holds _ _ _ _ _; sent = all_of_none IsOfSlots; promoted = refl }
-  acknowledged_does slot number copy (Some key) = record { state = holds _ _ _ _ _; sent = drained_since_are node.keyspace (without_key node slot number copy key) slot; promoted = refl }
+  acknowledged_does slot number copy None = record { state = holds _ _ _ _ _; sent = all_of_none (IsOfSlots node); promoted = refl }
+  acknowledged_does slot number copy (Some key) = record { state = holds _ _ _ _ _; sent = drained_since_are node node.keyspace (without_key node slot number copy key) slot; promoted = refl }
 
   pub acknowledgement_is_of_slots : (from slot number copy : ℕ) → Does (acknowledgement node from slot number copy)
   acknowledgement_is_of_slots from slot number copy = acknowledged_does slot number copy (acknowledged_key (move_of node.moves slot) from number copy)
 
   pub noted_is_of_slots : (from slot number epoch : ℕ) → Does (noted node from slot number epoch)
-  noted_is_of_slots from slot number epoch = record { state = holds _ _ _ _ _; sent = all_of_none IsOfSlots; promoted = refl }
+  noted_is_of_slots from slot number epoch = record { state = holds _ _ _ _ _; sent = all_of_none (IsOfSlots node); promoted = refl }
 
   pub claim_is_of_slots : (from : ℕ) (runs : List (Run ℕ)) → Does (claim node from runs)
   claim_is_of_slots from runs = by_sender (from == node.number)
     where
       by_sender : (own : Bool) → Does (cond own (silent node) (claimed_by node (merged node.table runs from)))
-      by_sender true = record { state = holds _ _ _ _ _; sent = all_of_none IsOfSlots; promoted = refl }
-      by_sender false = record { state = holds _ _ _ _ _; sent = all_of_none IsOfSlots; promoted = refl }
+      by_sender true = record { state = holds _ _ _ _ _; sent = all_of_none (IsOfSlots node); promoted = refl }
+      by_sender false = record { state = holds _ _ _ _ _; sent = all_of_none (IsOfSlots node); promoted = refl }

@@ -3,6 +3,7 @@ use Rattle.std.specs.Prelude.{◌≡◌, ◌==◌, ℕ, true, List, is_some, Mat
 use Rattle.command_table.specs.Table.{command_of}
 use Rattle.connections.specs.Connections.{connection_at, may_ask, Opens, Closes}
 use Rattle.bus.specs.declared.message.Message.{Message}
+use Rattle.resp_values.specs.Request.{IsRequest}
 use Rattle.node_step.specs.Failing.{a_tick_older}
 use Rattle.node_step.specs.Messages.{Choice, MayChoose, delivered, ready}
 use Rattle.node_step.specs.Outcome.{Outcome, outputs_of, silent}
@@ -35,8 +36,10 @@ written node conn words = written_by_request words (command_of words) (request_o
 abbrev pub answered : NodeState → Conn → List (List ℕ) → ℕ → Outcome
 answered node conn words dropped = recorded (request_outcome node conn (command_of words)) (written node conn words) dropped
 
--- the words were read as a command and answered
+-- the words were read as a command and answered; they are those of a request, which keeps the limits
+-- (else: SET gives a a value longer than a word may be; it goes behind the stream, where no replica can read it)
 pub record IsAnswering (old : NodeState) (conn : Conn) (words : List (List ℕ)) (outcome : Outcome) : Type 0 where
+  pub request : IsRequest words
   pub number : has_number (using_up old conn) (command_of words) ≡ true
   pub dropped : ℕ
   pub may_drop : MayGiveUp old (written old conn words) dropped

@@ -191,13 +191,13 @@ module _ (voters : List ℕ) (sent : List Message) (n : ℕ) (node : NodeState) 
   -- a row of messages
   so_taken_leaves : (from : ℕ) (choice : Choice) (said : Body) → ((epoch : ℕ) → said ≡ body.Grant epoch → was_cast sent from epoch n ≡ true) → Leaves (taken_so node from choice said)
   so_taken_leaves from choice (body.Copy slot number copy key value) cast =
-      of_slots voters sent n node stands _ (arrival_is_of_slots (IsStill node) node (λ keyspace table moves current connections. record { number = refl; config = refl; voter = refl; election = inl refl; role = refl }) from slot number copy key value)
+      of_slots voters sent n node stands _ _ (arrival_is_of_slots (IsStill node) node (λ keyspace table moves current connections. record { number = refl; config = refl; voter = refl; election = inl refl; role = refl }) from slot number copy key value)
   so_taken_leaves from choice (body.Ack slot number copy) cast =
-      of_slots voters sent n node stands _ (acknowledgement_is_of_slots (IsStill node) node (λ keyspace table moves current connections. record { number = refl; config = refl; voter = refl; election = inl refl; role = refl }) from slot number copy)
+      of_slots voters sent n node stands _ _ (acknowledgement_is_of_slots (IsStill node) node (λ keyspace table moves current connections. record { number = refl; config = refl; voter = refl; election = inl refl; role = refl }) from slot number copy)
   so_taken_leaves from choice (body.Drained slot number epoch) cast =
-      of_slots voters sent n node stands _ (noted_is_of_slots (IsStill node) node (λ keyspace table moves current connections. record { number = refl; config = refl; voter = refl; election = inl refl; role = refl }) from slot number epoch)
+      of_slots voters sent n node stands _ _ (noted_is_of_slots (IsStill node) node (λ keyspace table moves current connections. record { number = refl; config = refl; voter = refl; election = inl refl; role = refl }) from slot number epoch)
   so_taken_leaves from choice (body.Claim slots replaced) cast =
-      of_slots voters sent n node stands _ (claim_is_of_slots (IsStill node) node (λ keyspace table moves current connections. record { number = refl; config = refl; voter = refl; election = inl refl; role = refl }) from slots)
+      of_slots voters sent n node stands _ _ (claim_is_of_slots (IsStill node) node (λ keyspace table moves current connections. record { number = refl; config = refl; voter = refl; election = inl refl; role = refl }) from slots)
   so_taken_leaves from choice (body.Report suspects) cast = nothing
   so_taken_leaves from choice (body.Request request) cast = vote_leaves (request_of from request) _ refl
   so_taken_leaves from choice (body.Grant epoch) cast = voted_leaves from epoch (cast epoch refl) _ refl
@@ -255,7 +255,7 @@ module _ (voters : List ℕ) (past : List Entry) (n : ℕ) (node : NodeState) (s
       no_vote =
           all_of_both IsNoVote _ _
           (all_of_both IsNoVote _ _
-          (all_of_both IsNoVote _ _ (λ to said among. slots_no_vote said (sent_again_are node to said among))
+          (all_of_both IsNoVote _ _ (λ to said among. slots_no_vote node said (sent_again_are node to said among))
           (all_of_both IsNoVote _ _ (all_to_all IsNoVote (others node) (body.Claim (claim_of node) node.replaced) (λ epoch is. cc))
           (all_to_all IsNoVote (others node) (body.Report (suspected aged.health (members_of node))) (λ epoch is. cc))))
           (sync (own_master node)))
@@ -280,7 +280,7 @@ module _ (voters : List ℕ) (past : List Entry) (n : ℕ) (node : NodeState) (s
   answering_leaves conn words outcome answering =
       subst LeavesAll (sym answering.comes_to)
       (recorded_leaves voters (sent_by past) n node.voter.last_vote (is_replica node) (request_outcome node conn (command_of words)) (written node conn words) answering.dropped
-      (of_slots voters (sent_by past) n node stands (request_outcome node conn (command_of words))
+      (of_slots voters (sent_by past) n node stands _ (request_outcome node conn (command_of words))
       (request_is_of_slots (IsStill node) (using_up node conn) (λ keyspace table moves current connections. record { number = refl; config = refl; voter = refl; election = inl refl; role = refl })
       conn (connection_at node.connections conn) (command_of words))))
 

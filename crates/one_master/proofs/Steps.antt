@@ -21,11 +21,11 @@ use Rattle.one_master.specs.Stands.{AreSent, NodeStands, StepStands}
 abbrev pub IsNoVote : Body → Type 0
 IsNoVote said = (epoch : ℕ) → said ≡ body.Grant epoch → ⊥
 
-pub slots_no_vote : (said : Body) → IsOfSlots said → IsNoVote said
-slots_no_vote said of epoch is = subst IsOfSlots is of
+pub slots_no_vote : (own : NodeState) (said : Body) → IsOfSlots own said → IsNoVote said
+slots_no_vote own said of epoch is = subst (IsOfSlots own) is of
 
-no_vote_of_slots : (sent : List (ℕ × Body)) → AreAll IsOfSlots sent → AreAll IsNoVote sent
-no_vote_of_slots sent are to said among = slots_no_vote said (are to said among)
+no_vote_of_slots : (own : NodeState) (sent : List (ℕ × Body)) → AreAll (IsOfSlots own) sent → AreAll IsNoVote sent
+no_vote_of_slots own sent are to said among = slots_no_vote own said (are to said among)
 
 -- ---- the same node, as far as votes are concerned
 
@@ -81,8 +81,8 @@ module _ (voters : List ℕ) (sent : List Message) (n : ℕ) where
       promoted_none o promotion none is = cc
 
   -- with slots alone
-  pub of_slots : (before : NodeState) → NodeStands voters sent n before → (outcome : Outcome) → IsOfSlotsAlone (IsStill before) outcome → Leaves before outcome
-  of_slots before stands outcome alone = quiet before stands outcome alone.state (no_vote_of_slots outcome.sent alone.sent) alone.promoted
+  pub of_slots : (before : NodeState) → NodeStands voters sent n before → (own : NodeState) (outcome : Outcome) → IsOfSlotsAlone own (IsStill before) outcome → Leaves before outcome
+  of_slots before stands own outcome alone = quiet before stands outcome alone.state (no_vote_of_slots own outcome.sent alone.sent) alone.promoted
 
   pub recorded_leaves : (last : ℕ) (replica : Bool) (outcome : Outcome) (requests : Requests) (dropped : ℕ) → StepStands voters sent n last replica outcome
       → StepStands voters sent n last replica (recorded outcome requests dropped)

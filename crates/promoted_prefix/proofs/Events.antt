@@ -45,12 +45,15 @@ use Rattle.node_step.specs.Streams.{MayGiveUp, Requests, recorded}
 use Rattle.node_step.specs.Ticks.{older, slots_tick, tick}
 use Rattle.node_step.specs.Voting.{due_epoch, grant_to, if_elected, request_of, requests_in, voters_of, voting}
 use Rattle.node_step.specs.declared.promotion.Promotion.{Promotion}
-use Rattle.promoted_prefix.proofs.Growing.{Grows, IsTrueSaid, longer_apart, longer_grows, longer_nothing, said_more}
+use Rattle.promoted_prefix.proofs.Frozen.{HasShortFrozen}
+use Rattle.promoted_prefix.proofs.Growing.{Grows, IsSound, longer_apart, longer_grows, longer_nothing, said_more}
+use Rattle.promoted_prefix.proofs.Limits.{message_writes, on_can, request_writes}
 use Rattle.promoted_prefix.proofs.Rows.{Leaves, acknowledgement_leaves, arrival_leaves, claim_leaves, request_leaves}
 use Rattle.promoted_prefix.proofs.Slotless.{IsSlotless, Stays, acknowledgement_stays, arrival_stays, claim_stays, noted_stays, request_stays, same_node}
+use Rattle.promoted_prefix.proofs.Stored.{CanBeMade, IsLeft}
 use Rattle.promoted_prefix.proofs.Whole.{HasWhole, answer_true, promotion_apart, promotion_goes_on, promotion_grows, promotion_whole, written_piece, written_whole}
 use Rattle.promoted_prefix.specs.Law.{BeginsSo}
-use Rattle.promoted_prefix.specs.Written.{CarriesStored, begun_from, longer}
+use Rattle.promoted_prefix.specs.Written.{begun_from, longer}
 
 -- ---- nodes
 
@@ -81,23 +84,28 @@ pub record StepStands (full more : FullStreams) (n : ℕ) (outcome : Outcome) : 
   pub grows : Grows full more
   pub apart : (id : StreamId) → id.node ≢ n → more id ≡ full id
   pub node : NodeStands more n outcome.state
-  pub sent : AreAll (IsTrueSaid more) outcome.sent
+  pub sent : AreAll (IsSound more) outcome.sent
   pub begins : BeginsSo full outcome.state outcome.promoted
 
-slots_true : (full : FullStreams) (said : Body) → IsOfSlots said → IsTrueSaid full said
-slots_true full (body.Copy slot number copy key value) of = tt
-slots_true full (body.Ack slot number copy) of = tt
-slots_true full (body.Drained slot number epoch) of = tt
-slots_true full (body.Claim slots replaced) of = tt
-slots_true full (body.Report suspects) of = absurd of
-slots_true full (body.Request request) of = absurd of
-slots_true full (body.Grant epoch) of = absurd of
-slots_true full (body.Sync sync) of = absurd of
-slots_true full (body.Piece piece) of = absurd of
-slots_true full (body.Snapshot snapshot) of = absurd of
+slots_sound : (full : FullStreams) (own : NodeState) → CanBeMade own.keyspace → (said : Body) → IsOfSlots own said → IsSound full said
+slots_sound full own can (body.Copy slot number copy key value) of = subst (IsLeft key) of (can key)
+slots_sound full own can (body.Ack slot number copy) of = tt
+slots_sound full own can (body.Drained slot number epoch) of = tt
+slots_sound full own can (body.Claim slots replaced) of = tt
+slots_sound full own can (body.Report suspects) of = absurd of
+slots_sound full own can (body.Request request) of = absurd of
+slots_sound full own can (body.Grant epoch) of = absurd of
+slots_sound full own can (body.Sync sync) of = absurd of
+slots_sound full own can (body.Piece piece) of = absurd of
+slots_sound full own can (body.Snapshot snapshot) of = absurd of
 
-all_true : (full : FullStreams) (sent : List (ℕ × Body)) → AreAll IsOfSlots sent → AreAll (IsTrueSaid full) sent
-all_true full sent are to said among = slots_true full said (are to said among)
+all_sound : (full : FullStreams) (own : NodeState) → CanBeMade own.keyspace → (sent : List (ℕ × Body)) → AreAll (IsOfSlots own) sent → AreAll (IsSound full) sent
+all_sound full own can sent are to said among = slots_sound full own can said (are to said among)
+
+-- each key of a node can be made again
+pub node_can : (full : FullStreams) (n : ℕ) (node : NodeState) → NodeStands full n node → CanBeMade node.keyspace
+node_can full n node (inl master) = on_can (full node.stream.held.id) (follower_of node) master.has.on
+node_can full n node (inr replica) = on_can (full node.stream.held.id) (follower_of node) replica.on
 
 same_streams : (full : FullStreams) → Grows full full
 same_streams full = record { rest = λ id. []; is = λ id. sym (append-nil (full id)) }
@@ -116,14 +124,14 @@ module _ (full : FullStreams) (n : ℕ) (node : NodeState) where
   begins_nothing outcome none = subst (BeginsSo full outcome.state) (sym none) tt
 
   -- nothing is written
-  unwritten : (outcome : Outcome) → outcome.promoted ≡ None → NodeStands full n outcome.state → AreAll (IsTrueSaid full) outcome.sent → StandsBy [] outcome
+  unwritten : (outcome : Outcome) → outcome.promoted ≡ None → NodeStands full n outcome.state → AreAll (IsSound full) outcome.sent → StandsBy [] outcome
   unwritten outcome none stands sent =
       by_none [] outcome none
       (subst (λ (more : FullStreams). StepStands full more n outcome) (sym (longer_nothing full id))
       (record { grows = same_streams full; apart = λ other apart. refl; node = stands; sent = sent; begins = begins_nothing outcome none }))
 
   -- a master writes
-  master_writes : IsMaster full n node → (requests : Requests) (outcome : Outcome) → outcome.promoted ≡ None → Leaves node requests outcome → AreAll (IsTrueSaid full) outcome.sent → All IsRequest requests
+  master_writes : IsMaster full n node → (requests : Requests) (outcome : Outcome) → outcome.promoted ≡ None → Leaves node requests outcome → AreAll (IsSound full) outcome.sent → All IsRequest requests
       → (dropped : ℕ) → MayGiveUp node requests dropped → StandsBy requests (recorded outcome requests dropped)
   master_writes master [] outcome none leaves sent are dropped within =
       unwritten outcome none
@@ -146,8 +154,8 @@ module _ (full : FullStreams) (n : ℕ) (node : NodeState) where
           has = subst (HasWhole more n) (λ i. record { stream = written dropped bytes (sym leaves.stream i); keyspace = sym leaves.keyspace i })
               (written_whole full n (follower_of node) master.has all are dropped within);
         });
-        sent = all_of_both (IsTrueSaid more) outcome.sent _ (λ to said among. said_more full more (longer_grows full id bytes) said (sent to said among))
-            (all_to_all (IsTrueSaid more) (replicas_of outcome.state.masters outcome.state.number) _
+        sent = all_of_both (IsSound more) outcome.sent _ (λ to said among. said_more full more (longer_grows full id bytes) said (sent to said among))
+            (all_to_all (IsSound more) (replicas_of outcome.state.masters outcome.state.number) _
             (subst (λ (stream : StreamView). IsTruePiece more (record { stream = stream.held.id; from = end_of stream.held; bytes = bytes; base = stream.former })) (sym leaves.stream)
             (written_piece full n (follower_of node) master.has all are dropped within)));
         begins = begins_nothing (recorded outcome all dropped) none;
@@ -163,20 +171,20 @@ module _ (full : FullStreams) (n : ℕ) (node : NodeState) where
       })
 
   -- a replica doesn't
-  replica_writes : IsReplica full n node → (requests : Requests) (outcome : Outcome) → outcome.promoted ≡ None → Leaves node requests outcome → Stays n requests outcome → AreAll (IsTrueSaid full) outcome.sent
+  replica_writes : IsReplica full n node → (requests : Requests) (outcome : Outcome) → outcome.promoted ≡ None → Leaves node requests outcome → Stays n requests outcome → AreAll (IsSound full) outcome.sent
       → (dropped : ℕ) → StandsBy requests (recorded outcome requests dropped)
   replica_writes replica requests outcome none leaves stays sent dropped =
       subst (λ (r : Requests). StandsBy r (recorded outcome r dropped)) (sym stays.nothing)
       (unwritten outcome none (replica_after replica outcome (subst (λ (r : Requests). Leaves node r outcome) stays.nothing leaves) stays.node) sent)
 
   -- either of them
-  node_writes : NodeStands full n node → (requests : Requests) (outcome : Outcome) → outcome.promoted ≡ None → Leaves node requests outcome → (IsSlotless n node → Stays n requests outcome) → AreAll (IsTrueSaid full) outcome.sent
+  node_writes : NodeStands full n node → (requests : Requests) (outcome : Outcome) → outcome.promoted ≡ None → Leaves node requests outcome → (IsSlotless n node → Stays n requests outcome) → AreAll (IsSound full) outcome.sent
       → All IsRequest requests → (dropped : ℕ) → MayGiveUp node requests dropped → StandsBy requests (recorded outcome requests dropped)
   node_writes (inl master) requests outcome none leaves stays sent are dropped within = master_writes master requests outcome none leaves sent are dropped within
   node_writes (inr replica) requests outcome none leaves stays sent are dropped within = replica_writes replica requests outcome none leaves (stays replica.slotless) sent dropped
 
   -- and nothing is written
-  node_stays : NodeStands full n node → (outcome : Outcome) → outcome.promoted ≡ None → Leaves node [] outcome → (IsSlotless n node → IsSlotless n outcome.state) → AreAll (IsTrueSaid full) outcome.sent → StandsBy [] outcome
+  node_stays : NodeStands full n node → (outcome : Outcome) → outcome.promoted ≡ None → Leaves node [] outcome → (IsSlotless n node → IsSlotless n outcome.state) → AreAll (IsSound full) outcome.sent → StandsBy [] outcome
   node_stays (inl master) outcome none leaves stays sent =
       unwritten outcome none
       (inl (record {
@@ -188,9 +196,9 @@ module _ (full : FullStreams) (n : ℕ) (node : NodeState) where
 
   -- ---- votes
 
-  grant_said : (request : VoteRequest) (granted : Bool) → AreAll (IsTrueSaid full) (grant_to request granted)
-  grant_said request true = all_of_one (IsTrueSaid full) request.candidate (body.Grant request.epoch) tt
-  grant_said request false = all_of_none (IsTrueSaid full)
+  grant_said : (request : VoteRequest) (granted : Bool) → AreAll (IsSound full) (grant_to request granted)
+  grant_said request true = all_of_one (IsSound full) request.candidate (body.Grant request.epoch) tt
+  grant_said request false = all_of_none (IsSound full)
 
   vote_stands : NodeStands full n node → (request : VoteRequest) (granted : Bool) → StandsBy [] (voting node request granted)
   vote_stands stands request granted =
@@ -198,7 +206,7 @@ module _ (full : FullStreams) (n : ℕ) (node : NodeState) where
 
   counting_stands : NodeStands full n node → (candidate : Candidate) → StandsBy [] (silent (record node { candidate = candidate }))
   counting_stands stands candidate =
-      node_stays stands (silent (record node { candidate = candidate })) refl (record { number = refl; role = refl; stream = refl; keyspace = refl }) (λ slotless. same_node n node slotless _ refl refl refl refl) (all_of_none (IsTrueSaid full))
+      node_stays stands (silent (record node { candidate = candidate })) refl (record { number = refl; role = refl; stream = refl; keyspace = refl }) (λ slotless. same_node n node slotless _ refl refl refl refl) (all_of_none (IsSound full))
 
   -- a replica is promoted, and a master never
   promoted_stands : NodeStands full n node → (candidate : Candidate) (won : Elected) (master : Option ℕ) → own_master node ≡ master → StandsBy [] (promotion (record node { candidate = candidate }) won.epoch master)
@@ -218,7 +226,7 @@ module _ (full : FullStreams) (n : ℕ) (node : NodeState) where
           has = subst (λ (number : ℕ). HasWhole more n (record { stream = going_on (record { node = number; epoch = won.epoch }) node.stream; keyspace = node.keyspace })) (sym replica.slotless.number)
               (promotion_whole full (follower_of node) replica.on n won.epoch (replica.fresh won.epoch));
         });
-        sent = all_to_all (IsTrueSaid more) (others counting) _ tt;
+        sent = all_to_all (IsSound more) (others counting) _ tt;
         begins = subst (λ (number : ℕ). BeginsSo full (record outcome.state { stream = going_on (record { node = number; epoch = won.epoch }) node.stream }) outcome.promoted) (sym replica.slotless.number)
             (promotion_goes_on full (follower_of node) replica.on n won.epoch (replica.fresh won.epoch) _ refl refl);
       })
@@ -261,7 +269,7 @@ module _ (full : FullStreams) (n : ℕ) (node : NodeState) where
   if_followed (inr replica) after from true is taken = taken replica is
 
   silent_stands : (after : NodeState) → NodeStands full n after → StandsBy [] (silent after)
-  silent_stands after stands = unwritten (silent after) refl stands (all_of_none (IsTrueSaid full))
+  silent_stands after stands = unwritten (silent after) refl stands (all_of_none (IsSound full))
 
   synced_stands : NodeStands full n node → (from : ℕ) (sync : Sync) → StandsBy [] (cond (is_replica node) (silent node) (record (silent node) { sent = sync_answer node from (answer_to node.stream sync) }))
   synced_stands (inl master) from sync =
@@ -272,29 +280,29 @@ module _ (full : FullStreams) (n : ℕ) (node : NodeState) where
 
   -- ---- messages
 
-  taken_stands : NodeStands full n node → (from : ℕ) (choice : Choice) (said : Body) → IsTrueSaid full said → CarriesStored said → MayChoose node from said choice → All IsRequest (written_by_message node from said)
+  taken_stands : NodeStands full n node → (from : ℕ) (choice : Choice) (said : Body) → IsSound full said → MayChoose node from said choice → All IsRequest (written_by_message node from said)
       → StandsBy (written_by_message node from said) (taken node from choice said)
-  taken_stands stands from choice (body.Copy slot number copy key value) is_true stored may are =
+  taken_stands stands from choice (body.Copy slot number copy key value) sound may are =
       let does = arrival_is_of_slots (λ s. ⊤) node (λ keyspace table moves current connections. tt) from slot number copy key value in
-      node_writes stands _ _ does.promoted (arrival_leaves node from slot number copy key value stored are) (λ slotless. arrival_stays n node slotless from slot number copy key value) (all_true full _ does.sent) are choice.dropped may.dropped
-  taken_stands stands from choice (body.Ack slot number copy) is_true stored may are =
+      node_writes stands _ _ does.promoted (arrival_leaves node from slot number copy key value sound.0 are) (λ slotless. arrival_stays n node slotless from slot number copy key value) (all_sound full node (node_can full n node stands) _ does.sent) are choice.dropped may.dropped
+  taken_stands stands from choice (body.Ack slot number copy) sound may are =
       let does = acknowledgement_is_of_slots (λ s. ⊤) node (λ keyspace table moves current connections. tt) from slot number copy in
-      node_writes stands _ _ does.promoted (acknowledgement_leaves node from slot number copy) (λ slotless. acknowledgement_stays n node slotless from slot number copy) (all_true full _ does.sent) are choice.dropped may.dropped
-  taken_stands stands from choice (body.Drained slot number epoch) is_true stored may are =
-      node_stays stands _ refl (record { number = refl; role = refl; stream = refl; keyspace = refl }) (λ slotless. noted_stays n node slotless from slot number epoch) (all_of_none (IsTrueSaid full))
-  taken_stands stands from choice (body.Claim slots replaced) is_true stored may are =
+      node_writes stands _ _ does.promoted (acknowledgement_leaves node from slot number copy) (λ slotless. acknowledgement_stays n node slotless from slot number copy) (all_sound full node (node_can full n node stands) _ does.sent) are choice.dropped may.dropped
+  taken_stands stands from choice (body.Drained slot number epoch) sound may are =
+      node_stays stands _ refl (record { number = refl; role = refl; stream = refl; keyspace = refl }) (λ slotless. noted_stays n node slotless from slot number epoch) (all_of_none (IsSound full))
+  taken_stands stands from choice (body.Claim slots replaced) sound may are =
       let does = claim_is_of_slots (λ s. ⊤) node (λ keyspace table moves current connections. tt) from slots in
-      node_writes stands _ _ does.promoted (claim_leaves node from slots) (λ slotless. claim_stays n node slotless from slots) (all_true full _ does.sent) are choice.dropped may.dropped
-  taken_stands stands from choice (body.Report suspects) is_true stored may are = silent_stands node stands
-  taken_stands stands from choice (body.Request request) is_true stored may are =
+      node_writes stands _ _ does.promoted (claim_leaves node from slots) (λ slotless. claim_stays n node slotless from slots) (all_sound full node (node_can full n node stands) _ does.sent) are choice.dropped may.dropped
+  taken_stands stands from choice (body.Report suspects) sound may are = silent_stands node stands
+  taken_stands stands from choice (body.Request request) sound may are =
       vote_stands stands (request_of from request) (may_grant node.voter (members_of node) node.health node.current_epoch (request_of from request))
-  taken_stands stands from choice (body.Grant epoch) is_true stored may are =
+  taken_stands stands from choice (body.Grant epoch) sound may are =
       voted_stands stands (counted node.candidate (members_of node) from epoch) (elected node.candidate (members_of node) from epoch)
-  taken_stands stands from choice (body.Sync sync) is_true stored may are = synced_stands stands from sync
-  taken_stands stands from choice (body.Piece piece) is_true stored may are =
-      silent_stands _ (if_followed stands _ from (is_just (own_master node) from) refl (λ replica own. piece_taken replica piece is_true choice.follower (may.follower own) (verdict_on node.stream piece) refl))
-  taken_stands stands from choice (body.Snapshot snapshot) is_true stored may are =
-      silent_stands _ (if_followed stands _ from (is_just (own_master node) from) refl (λ replica own. snapshot_taken replica snapshot is_true))
+  taken_stands stands from choice (body.Sync sync) sound may are = synced_stands stands from sync
+  taken_stands stands from choice (body.Piece piece) sound may are =
+      silent_stands _ (if_followed stands _ from (is_just (own_master node) from) refl (λ replica own. piece_taken replica piece sound choice.follower (may.follower own) (verdict_on node.stream piece) refl))
+  taken_stands stands from choice (body.Snapshot snapshot) sound may are =
+      silent_stands _ (if_followed stands _ from (is_just (own_master node) from) refl (λ replica own. snapshot_taken replica snapshot sound))
 
 -- ---- events
 
@@ -324,22 +332,21 @@ module _ (full : FullStreams) (n : ℕ) (node : NodeState) (stands : NodeStands 
   nothing_stands = silent_stands full n node node stands
 
   -- a message that is for the node
-  pub delivered_stands : (message : Message) (choice : Choice) → IsTrueSaid full message.body → CarriesStored message.body
+  pub delivered_stands : (message : Message) (choice : Choice) → HasShortFrozen node.moves → IsSound full message.body
       → ((message.to == node.number) ≡ true → MayChoose (ready node message) message.from message.body choice)
-      → All IsRequest (cond (message.to == node.number) (written_by_message (ready node message) message.from message.body) [])
       → By (cond (message.to == node.number) (written_by_message (ready node message) message.from message.body) []) (delivered node message choice)
-  delivered_stands message choice is_true stored may = by_target (message.to == node.number) refl
+  delivered_stands message choice short sound may = by_target (message.to == node.number) refl
     where
-      by_target : (b : Bool) → (message.to == node.number) ≡ b → All IsRequest (cond b (written_by_message (ready node message) message.from message.body) [])
+      by_target : (b : Bool) → (message.to == node.number) ≡ b
           → By (cond b (written_by_message (ready node message) message.from message.body) []) (cond b (taken (ready node message) message.from choice message.body) (silent node))
-      by_target false other are = nothing_stands
-      by_target true mine are =
-          ready_keeps (λ (heard : NodeState). MayChoose heard message.from message.body choice → All IsRequest (written_by_message heard message.from message.body)
-          → By (written_by_message heard message.from message.body) (taken heard message.from choice message.body)) node message
-          (λ epoch masters health candidate role election may_choose keep.
+      by_target false other = nothing_stands
+      by_target true mine =
+          ready_keeps (λ (heard : NodeState). MayChoose heard message.from message.body choice → By (written_by_message heard message.from message.body) (taken heard message.from choice message.body)) node message
+          (λ epoch masters health candidate role election may_choose.
           let heard : NodeState = record node { current_epoch = epoch; masters = masters; health = health; candidate = candidate } in
-          taken_stands full n heard (heard_stands heard refl refl refl role refl refl) message.from choice message.body is_true stored may_choose keep)
-          (may mine) are
+          taken_stands full n heard (heard_stands heard refl refl refl role refl refl) message.from choice message.body sound may_choose
+          (message_writes full heard (node_can full n node stands) short message.from message.body sound))
+          (may mine)
 
   -- a tick
   pub tick_stands : By [] (tick node)
@@ -351,28 +358,28 @@ module _ (full : FullStreams) (n : ℕ) (node : NodeState) (stands : NodeStands 
       aged : NodeState
       aged = a_tick_older (older node)
 
-      sync : (master : Option ℕ) → AreAll (IsTrueSaid full) (sync_to node.stream master)
-      sync None = all_of_none (IsTrueSaid full)
-      sync (Some master) = all_of_one (IsTrueSaid full) master _ tt
+      sync : (master : Option ℕ) → AreAll (IsSound full) (sync_to node.stream master)
+      sync None = all_of_none (IsSound full)
+      sync (Some master) = all_of_one (IsSound full) master _ tt
 
-      requests : (epoch master : Option ℕ) → AreAll (IsTrueSaid full) (requests_in aged epoch master)
-      requests None master = all_of_none (IsTrueSaid full)
-      requests (Some epoch) None = all_of_none (IsTrueSaid full)
-      requests (Some epoch) (Some master) = all_to_all (IsTrueSaid full) (voters_of aged) _ tt
+      requests : (epoch master : Option ℕ) → AreAll (IsSound full) (requests_in aged epoch master)
+      requests None master = all_of_none (IsSound full)
+      requests (Some epoch) None = all_of_none (IsSound full)
+      requests (Some epoch) (Some master) = all_to_all (IsSound full) (voters_of aged) _ tt
 
-      said : AreAll (IsTrueSaid full) (tick node).sent
+      said : AreAll (IsSound full) (tick node).sent
       said =
-          all_of_both (IsTrueSaid full) _ _
-          (all_of_both (IsTrueSaid full) _ _
-          (all_of_both (IsTrueSaid full) _ _ (all_true full _ (sent_again_are node))
-          (all_of_both (IsTrueSaid full) _ _ (all_to_all (IsTrueSaid full) (others node) (body.Claim (claim_of node) node.replaced) tt)
-          (all_to_all (IsTrueSaid full) (others node) (body.Report (suspected aged.health (members_of node))) tt)))
+          all_of_both (IsSound full) _ _
+          (all_of_both (IsSound full) _ _
+          (all_of_both (IsSound full) _ _ (all_sound full node (node_can full n node stands) _ (sent_again_are node))
+          (all_of_both (IsSound full) _ _ (all_to_all (IsSound full) (others node) (body.Claim (claim_of node) node.replaced) tt)
+          (all_to_all (IsSound full) (others node) (body.Report (suspected aged.health (members_of node))) tt)))
           (sync (own_master node)))
           (requests (due_epoch aged) (own_master node))
 
   -- a request
-  pub answering_stands : (conn : Conn) (words : List (List ℕ)) (outcome : Outcome) → IsAnswering node conn words outcome → All IsRequest (written_at node conn words) → By (written_at node conn words) outcome
-  answering_stands conn words outcome answering are =
+  pub answering_stands : (conn : Conn) (words : List (List ℕ)) (outcome : Outcome) → IsAnswering node conn words outcome → By (written_at node conn words) outcome
+  answering_stands conn words outcome answering =
       let asked : Outcome = request_outcome node conn (command_of words) in
       let leaves = request_leaves words (using_up node conn) conn (connection_at node.connections conn) (command_of words) refl in
       let does = request_is_of_slots (λ s. ⊤) (using_up node conn) (λ keyspace table moves current connections. tt) conn (connection_at node.connections conn) (command_of words) in
@@ -380,10 +387,11 @@ module _ (full : FullStreams) (n : ℕ) (node : NodeState) (stands : NodeStands 
       (node_writes full n node stands (written_at node conn words) asked does.promoted
       (record { number = leaves.number; role = leaves.role; stream = leaves.stream; keyspace = leaves.keyspace })
       (λ slotless. request_stays n (using_up node conn) (same_node n node slotless (using_up node conn) refl refl refl refl) words conn (connection_at node.connections conn) (command_of words) refl)
-      (all_true full asked.sent does.sent) are answering.dropped answering.may_drop)
+      (all_sound full (using_up node conn) (node_can full n node stands) asked.sent does.sent)
+      (request_writes words answering.request (command_of words) asked.response) answering.dropped answering.may_drop)
 
   pub with_connections : (outcome : Outcome) → outcome.promoted ≡ None → outcome.sent ≡ [] → outcome.state ≡ record node { connections = outcome.state.connections } → By [] outcome
   with_connections outcome none said state =
       unwritten full n node outcome none
       (subst (NodeStands full n) (sym state) (heard_stands (record node { connections = outcome.state.connections }) refl refl refl refl refl refl))
-      (subst (AreAll (IsTrueSaid full)) (sym said) (all_of_none (IsTrueSaid full)))
+      (subst (AreAll (IsSound full)) (sym said) (all_of_none (IsSound full)))

@@ -2,10 +2,12 @@
 use Rattle.std.proofs.Common.{◌≡◌, ◌≢◌, ◌==◌, ◌+◌, ◌<◌, ℕ, Bool, true, false, cond, List, [], ◌++◌, length, take, drop, Option, Some, None, append-nil, refl, sym, ap, subst, ◌∙◌, inl, inr, arith}
 use Rattle.std.proofs.lemmas.Bool.{and_from, and_parts, eq-eqb, eqb-true, cases_Bool}
 use Rattle.std.proofs.lemmas.List.{same_lists, length-append, length-take, length-drop, get_or_append_left, get_or-take, get_or-drop, take-append-le}
+use Rattle.std.specs.Prelude.{⊤}
 use Rattle.bus.specs.declared.message.Body.{Body}
 use Rattle.bus.specs.declared.message.Body.TheVariants.{Piece, Snapshot}
 use Rattle.bus.specs.declared.message.Body.TheVariants as bodies
 use Rattle.keyspace.specs.Keyspace.{Keyspace, keyspace_of}
+use Rattle.keyspace.specs.Replay.{HasRequest}
 use Rattle.resp2.specs.Stream.{stream_spelling}
 use Rattle.stream_values.specs.Follower.{Follower}
 use Rattle.stream_values.specs.Piece.{PieceView}
@@ -14,8 +16,8 @@ use Rattle.stream_values.specs.declared.stream_id.Base.{Base}
 use Rattle.stream_values.specs.declared.stream_id.StreamId.{StreamId}
 use Rattle.true_streams.proofs.Following.{IsOn}
 use Rattle.true_streams.proofs.Places.{At, of_part}
-use Rattle.true_streams.specs.Full.{FullStreams, IsStateAt, IsTrueBase, IsTruePiece, Shares}
-pub use Rattle.promoted_prefix.specs.Law.{IsTrueSaid}
+use Rattle.true_streams.specs.Full.{FullStreams, IsStateAt, IsTrueBase, IsTruePiece, IsTrueSnapshot, Shares}
+use Rattle.promoted_prefix.specs.Law.{IsTrueSaid}
 use Rattle.promoted_prefix.specs.Written.{longer}
 
 -- ---- ids
@@ -110,13 +112,32 @@ module _ (full more : FullStreams) (grows : Grows full more) where
       (at_grown (full piece.stream) (grows.rest piece.stream) piece.from piece.bytes (of_part (full piece.stream) piece.from piece.bytes is_true.within is_true.bytes)) in
       record { within = stands.within; bytes = part_of (more piece.stream) piece.from piece.bytes stands; base = base_more piece.stream piece.base is_true.base }
 
+-- what a message says of streams is true, and the key of a copy can be made with its value
+abbrev pub IsSound : FullStreams → Body → Type 0
+IsSound full (bodies.Copy slot number copy key value) = HasRequest (key, value)
+IsSound full (Piece piece) = IsTruePiece full piece
+IsSound full (Snapshot snapshot) = IsTrueSnapshot full snapshot
+IsSound full other = ⊤
+
+pub sound_true : (full : FullStreams) (said : Body) → IsSound full said → IsTrueSaid full said
+sound_true full (bodies.Piece piece) sound = sound
+sound_true full (bodies.Snapshot snapshot) sound = sound
+sound_true full (bodies.Copy slot number copy key value) sound = tt
+sound_true full (bodies.Ack slot number copy) sound = tt
+sound_true full (bodies.Drained slot number epoch) sound = tt
+sound_true full (bodies.Claim slots replaced) sound = tt
+sound_true full (bodies.Report suspects) sound = tt
+sound_true full (bodies.Request request) sound = tt
+sound_true full (bodies.Grant epoch) sound = tt
+sound_true full (bodies.Sync sync) sound = tt
+
 module _ (full more : FullStreams) (grows : Grows full more) where
-  pub said_more : (said : Body) → IsTrueSaid full said → IsTrueSaid more said
+  pub said_more : (said : Body) → IsSound full said → IsSound more said
   said_more (bodies.Piece piece) is_true = piece_more full more grows piece is_true
   said_more (bodies.Snapshot snapshot) is_true =
       subst (λ (l : List ℕ). IsStateAt l snapshot.offset (keyspace_of snapshot.pairs)) (sym (grows.is snapshot.stream))
       (state_grown (full snapshot.stream) (grows.rest snapshot.stream) snapshot.offset (keyspace_of snapshot.pairs) is_true)
-  said_more (bodies.Copy slot number copy key value) is_true = tt
+  said_more (bodies.Copy slot number copy key value) has = has
   said_more (bodies.Ack slot number copy) is_true = tt
   said_more (bodies.Drained slot number epoch) is_true = tt
   said_more (bodies.Claim slots replaced) is_true = tt

@@ -1,9 +1,16 @@
+pub mod Short
+pub mod Fields
+pub mod Reading
+pub mod Keyed
+pub mod ShortWords
+pub mod Stored
+pub mod Frozen
 pub mod Growing
+pub mod Limits
 pub mod Whole
 pub mod Writes
 pub mod Deletions
 pub mod Rows
-pub mod Keyed
 pub mod Slotless
 pub mod Events
 pub mod Worlds

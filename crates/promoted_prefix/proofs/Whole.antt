@@ -29,7 +29,7 @@ use Rattle.node_step.specs.Replicas.{follower_of, sync_answer}
 use Rattle.node_step.specs.State.{NodeState}
 use Rattle.node_step.specs.Streams.{Requests}
 use Rattle.node_step.specs.declared.promotion.Promotion.{Promotion}
-use Rattle.promoted_prefix.proofs.Growing.{Grows, IsTrueSaid, at_first, at_grown, base_more, longer_grows, longer_here, one_id, part_of, same_ids}
+use Rattle.promoted_prefix.proofs.Growing.{Grows, IsSound, at_first, at_grown, base_more, longer_grows, longer_here, one_id, part_of, same_ids}
 use Rattle.promoted_prefix.specs.Law.{GoesOn}
 use Rattle.promoted_prefix.specs.Written.{begun_from, longer}
 
@@ -157,21 +157,21 @@ pairs_are : (keyspace : Keyspace) → keyspace_of (fin_map.entries keyspace) ≡
 pairs_are keyspace = same _ _ (λ q. fin_map.get-from_entries nat_list_cmp_total (fin_map.entries keyspace) q ∙ sym (fin_map.get-entries keyspace q))
 
 module _ (full : FullStreams) (n : ℕ) (node : NodeState) (has : HasWhole full n (follower_of node)) where
-  snapshot : (from : ℕ) → AreAll (IsTrueSaid full) (sync_answer node from answers.Snapshot)
+  snapshot : (from : ℕ) → AreAll (IsSound full) (sync_answer node from answers.Snapshot)
   snapshot from =
-      all_of_one (IsTrueSaid full) from _
+      all_of_one (IsSound full) from _
       (subst (λ (m : Keyspace). IsStateAt (full node.stream.held.id) node.stream.offset m) (sym (pairs_are node.keyspace)) (state_is full n (follower_of node) has))
 
   sent_so : (from : ℕ) (sync : Sync) (kept : Bool) → has_from node.stream.held sync.received ≡ kept → (own up_to_date : Bool)
-      → AreAll (IsTrueSaid full) (sync_answer node from (cond (own && kept) (cond up_to_date answers.UpToDate (answers.Piece (piece_from node.stream sync.received))) answers.Snapshot))
-  sent_so from sync true is true true = all_of_none (IsTrueSaid full)
-  sent_so from sync true is true false = all_of_one (IsTrueSaid full) from (body.Piece (piece_from node.stream sync.received)) (piece_true full n (follower_of node) has sync.received is)
+      → AreAll (IsSound full) (sync_answer node from (cond (own && kept) (cond up_to_date answers.UpToDate (answers.Piece (piece_from node.stream sync.received))) answers.Snapshot))
+  sent_so from sync true is true true = all_of_none (IsSound full)
+  sent_so from sync true is true false = all_of_one (IsSound full) from (body.Piece (piece_from node.stream sync.received)) (piece_true full n (follower_of node) has sync.received is)
   sent_so from sync false is true up_to_date = snapshot from
   sent_so from sync true is false up_to_date = snapshot from
   sent_so from sync false is false up_to_date = snapshot from
 
   -- what a master answers is true
-  pub answer_true : (from : ℕ) (sync : Sync) → AreAll (IsTrueSaid full) (sync_answer node from (answer_to node.stream sync))
+  pub answer_true : (from : ℕ) (sync : Sync) → AreAll (IsSound full) (sync_answer node from (answer_to node.stream sync))
   answer_true from sync =
       sent_so from sync (has_from node.stream.held sync.received) refl (is_own node.stream sync) (is_same sync.stream node.stream.held.id && (sync.received == end_of node.stream.held))
 

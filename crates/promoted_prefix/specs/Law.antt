@@ -12,7 +12,7 @@ use Rattle.node_step.specs.State.{NodeState, is_replica}
 use Rattle.node_step.specs.declared.promotion.Promotion.{Promotion}
 use Rattle.world_run.specs.Promotions.{promoted_in}
 use Rattle.world_run.specs.Run.{Entry, Goes, IsRun, first_nodes, sent_by}
-use Rattle.promoted_prefix.specs.Written.{KeepsLimits, no_streams, streams_after}
+use Rattle.promoted_prefix.specs.Written.{no_streams, streams_after}
 
 -- the offset ends a whole request of the stream that was followed, and the keyspace is what the requests up to it leave; the bytes that
 -- are kept are those of the stream up to there
@@ -31,15 +31,9 @@ EachGoesOn full past old [] new goes = ⊤
 EachGoesOn full past old (entry ∷ entries) new goes =
     BeginsSo full goes.1.after (promoted_in entry.deed) × EachGoesOn (streams_after full goes.1.before entry.deed) (entry ∷ past) goes.0 entries new goes.2
 
--- each of these entries keeps the limits
-abbrev pub EachKeepsLimits : (past : List Entry) (old : List NodeState) (entries : List Entry) (new : List NodeState) → Goes past old entries new → Type 0
-EachKeepsLimits past old [] new goes = ⊤
-EachKeepsLimits past old (entry ∷ entries) new goes = KeepsLimits goes.1.before entry.deed × EachKeepsLimits (entry ∷ past) goes.0 entries new goes.2
-
 -- that is so in each run
 abbrev pub PromotedPrefix : Type 0
-PromotedPrefix = (config : ClusterConfig) (entries : List Entry) (run : IsRun config entries) → EachKeepsLimits [] (first_nodes config) entries run.last run.goes
-    → EachGoesOn no_streams [] (first_nodes config) entries run.last run.goes
+PromotedPrefix = (config : ClusterConfig) (entries : List Entry) (run : IsRun config entries) → EachGoesOn no_streams [] (first_nodes config) entries run.last run.goes
 
 -- ---- in each moment
 
@@ -66,5 +60,5 @@ pub record AreOnStreams (full : FullStreams) (sent : List Message) (nodes : List
 
 -- that is so at the end of each run, so in each moment of one
 abbrev pub NodesFollowStreams : Type 0
-NodesFollowStreams = (config : ClusterConfig) (entries : List Entry) (run : IsRun config entries) → EachKeepsLimits [] (first_nodes config) entries run.last run.goes
+NodesFollowStreams = (config : ClusterConfig) (entries : List Entry) (run : IsRun config entries)
     → AreOnStreams (full_after no_streams [] (first_nodes config) entries run.last run.goes) (sent_by entries) run.last

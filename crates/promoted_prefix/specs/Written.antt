@@ -1,11 +1,7 @@
 -- All bytes that were ever put behind each stream (Redis documentation, "Redis replication", "Replication ID explained").
-use Rattle.std.specs.Prelude.{ℕ, ◌==◌, ⊤, List, [], ◌++◌, take, All, Option, Some, None, if◌then◌else◌}
-use Rattle.bus.specs.declared.message.Body.{Body}
-use Rattle.bus.specs.declared.message.Body.TheVariants.{Copy}
+use Rattle.std.specs.Prelude.{ℕ, ◌==◌, List, [], ◌++◌, take, Option, Some, None, if◌then◌else◌}
 use Rattle.command_table.specs.Table.{command_of}
-use Rattle.keyspace.specs.Rebuild.{IsStored}
 use Rattle.resp2.specs.Stream.{stream_spelling}
-use Rattle.resp_values.specs.Request.{IsRequest}
 use Rattle.stream_values.specs.Stream.{is_same}
 use Rattle.stream_values.specs.declared.stream_id.StreamId.{StreamId}
 use Rattle.true_streams.specs.Full.{FullStreams}
@@ -51,19 +47,3 @@ after_promotion full before deed (Some promotion) = begun_from full promotion (r
 -- after an entry of a node in that state
 abbrev pub streams_after : FullStreams → NodeState → Deed → FullStreams
 streams_after full before deed = after_promotion full before deed (promoted_in deed)
-
--- ---- what is kept by the types of words and values
-
--- a copy has a value as keys have it
-abbrev pub CarriesStored : Body → Type 0
-CarriesStored (Copy slot number copy key value) = IsStored value
-CarriesStored other = ⊤
-
-abbrev pub IsOfStored : Deed → Type 0
-IsOfStored (Made (Deliver message) outputs) = CarriesStored message.body
-IsOfStored other = ⊤
-
--- and what is written keeps the limits of requests
-pub record KeepsLimits (before : NodeState) (deed : Deed) : Type 0 where
-  pub requests : All IsRequest (written_in before deed)
-  pub stored : IsOfStored deed

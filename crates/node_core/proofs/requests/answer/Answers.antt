@@ -9,7 +9,7 @@ use Rattle.node_step.specs.Step.{written}
 pub returns-clause-answer : goal.returns-clause-answer
 returns-clause-answer g c =
     answered_and_written c.args.node.now c.args.conn c.args.words.now c.in_ok-is_write.is_write c.in_ok-bytes.bytes.items c.answer_words.new.draft c.record.new.draft
-    c.in_ok-is_write.ensures.write c.in_ok-is_write.ensures.answer c.in_ok-bytes.ensures c.in_ok-record.ensures.records
+    c.as_slice-words.ensures.request c.in_ok-is_write.ensures.write c.in_ok-is_write.ensures.answer c.in_ok-bytes.ensures c.in_ok-record.ensures.records
 
 pub returns-in_err-is_write-clause-exhausted : goal.returns-in_err-is_write-clause-exhausted
 returns-in_err-is_write-clause-exhausted g c = λ exhausted.
