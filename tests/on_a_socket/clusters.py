@@ -45,12 +45,14 @@ def node_id(number):
 
 
 def six_nodes(**changes):
-    """Three masters with a third of the slots each, and a replica of each."""
+    """Three masters with a third of the slots each, and a replica of each. Nobody takes the place of a node that is kept from the processor for
+    long, but where the changes have another `node_timeout`.
+    """
     with open(os.path.join(EXAMPLES, "six_nodes.json"), encoding="utf-8") as file:
         cluster = json.load(file)
     for node, port in zip(cluster["nodes"], free_ports(6)):
         node["port"] = port
-    return {**cluster, **changes}
+    return {**cluster, "node_timeout": 1000000, **changes}
 
 
 def replica_of(master):
