@@ -1,0 +1,216 @@
+"""Measures how long a failover takes, beside a Redis Cluster of six nodes with the same timeout, and what nodes cost that nobody asks.
+
+usage: bench/failover.py [PROGRAM] [--out FILE]    by default the program that ./check built
+
+A failover lasts from the end of a master to the first write that the promoted node serves. The master is stopped by `--stop` here, and killed
+there. A client asks the replica each millisecond. It needs Debian's redis-server and redis-tools. The report goes to the output, and to FILE.
+"""
+
+import contextlib
+import json
+import os
+import re
+import signal
+import socket
+import statistics
+import subprocess
+import sys
+import tempfile
+import time
+
+import servers
+from run import Report, machine
+
+# Of how many ticks `node_timeout` is, how long a tick is, in milliseconds, and how often a failover is measured.
+NODE_TIMEOUT, TICK_MS, ROUNDS = 20, (10, 100), 9
+# Which master ends, its replica, and after how many ticks it is stopped.
+MASTER, REPLICA, STOP = 2, 5, 20
+# A key of that master, in both clusters.
+SET = b"*3\r\n$3\r\nSET\r\n$1\r\nx\r\n$1\r\nv\r\n"
+# How many seconds a failover may take, or a cluster of Redis until it is whole.
+PATIENCE = 60
+# How long nodes are looked at that nobody asks, in seconds, and how long they are left alone before.
+IDLE, SETTLED = 20, 3
+
+
+def main(words):
+    out = None
+    if "--out" in words:
+        at = words.index("--out")
+        out = words[at + 1]
+        words = words[:at] + words[at + 2:]
+    if words:
+        servers.PROGRAM = os.path.abspath(words[0])
+    report = Report()
+    report.say(f"# {time.strftime('%-d %B %Y')}, failovers")
+    report.say(f"\n{machine()}; Redis {servers.redis_version()} beside it; load at the start {os.getloadavg()[0]:.1f}.")
+    failovers(report)
+    idle_nodes(report)
+    if out:
+        with open(out, "w", encoding="utf-8") as file:
+            file.write("\n".join(report.lines) + "\n")
+
+
+# ---- a failover
+
+
+def failovers(report):
+    report.say("\n## From the end of a master to the first write at its replica")
+    report.say(f"\nThree masters with a replica each; a node is suspected after {NODE_TIMEOUT} ticks. {ROUNDS} rounds, in which both clusters lose a master in turn.")
+    report.table("Tick", "Timeout", "rcluster, ticks", "rcluster, ms: median", "least", "most", "Redis, ms: median", "least", "most")
+    for tick_ms in TICK_MS:
+        ours, theirs = zip(*((ours_after(tick_ms), theirs_after(NODE_TIMEOUT * tick_ms)) for _ in range(ROUNDS)))
+        report.row(f"{tick_ms} ms", f"{NODE_TIMEOUT * tick_ms} ms", f"{statistics.median(ours) / tick_ms:.1f}", *spread(ours), *spread(theirs))
+
+
+def spread(times):
+    return [f"{it:,.0f}" for it in (statistics.median(times), min(times), max(times))]
+
+
+def ours_after(tick_ms):
+    """How many milliseconds a failover takes."""
+    with six_nodes(tick_ms) as server, connect(server.ports[MASTER]) as client, connect(server.ports[REPLICA]) as replica:
+        client.sendall(SET)
+        while client.recv(100):
+            pass
+        return 1000 * seconds_until_served(replica)
+
+
+def six_nodes(tick_ms):
+    """Three masters with a replica each, of which one is stopped."""
+    ports = [servers.free_port() for _ in range(6)]
+    nodes = [{"id": "%040x" % it, "host": "127.0.0.1", "port": port} for it, port in enumerate(ports)]
+    for master, replica, slots in zip(nodes, nodes[3:], servers.THIRDS):
+        master["slots"], replica["replica_of"] = [slots], master["id"]
+    with tempfile.NamedTemporaryFile("w", suffix=".json", prefix="bench-", delete=False) as file:
+        json.dump({"tick_ms": tick_ms, "node_timeout": NODE_TIMEOUT, "nodes": nodes, "voters": [it["id"] for it in nodes[:3]]}, file)
+    # The clients connect before the master is stopped.
+    stop = max(STOP, 1000 // tick_ms)
+    server = servers.Server("rcluster", [servers.PROGRAM, "serve", "--config", file.name, "--stop", f"{MASTER}@{stop}"], ports[0])
+    server.ports = ports
+    return server
+
+
+def connect(port):
+    client = socket.create_connection(("127.0.0.1", port), PATIENCE)
+    client.setsockopt(socket.IPPROTO_TCP, socket.TCP_NODELAY, 1)
+    return client
+
+
+def seconds_until_served(replica):
+    """How long it takes from now on until a write is served there."""
+    begun = time.monotonic()
+    while time.monotonic() < begun + PATIENCE:
+        replica.sendall(SET)
+        if replica.recv(100) == b"+OK\r\n":
+            return time.monotonic() - begun
+        time.sleep(0.001)
+    raise SystemExit("no replica is promoted")
+
+
+def theirs_after(timeout):
+    """The same of a Redis Cluster, in which a node is suspected after so many milliseconds."""
+    with redis_cluster(timeout) as processes:
+        nodes = nodes_at(next(iter(processes)))
+        owner = next(it for it in nodes if it["first"] is not None and it["first"] <= 16287 <= it["last"])
+        successor = next(it for it in nodes if it["master"] == owner["id"])
+        with connect(successor["port"]) as replica:
+            processes[owner["port"]].send_signal(signal.SIGKILL)
+            return 1000 * seconds_until_served(replica)
+
+
+@contextlib.contextmanager
+def redis_cluster(timeout):
+    """Six nodes, of which three are replicas that follow their masters. Gives their processes, by their ports."""
+    with tempfile.TemporaryDirectory(prefix="bench-") as folder, contextlib.ExitStack() as stack:
+        nodes = [stack.enter_context(redis_node(folder, timeout)) for _ in range(6)]
+        addresses = [f"127.0.0.1:{it.port}" for it in nodes]
+        words = ["redis-cli", "--cluster", "create", *addresses, "--cluster-replicas", "1", "--cluster-yes"]
+        subprocess.run(words, check=True, stdout=subprocess.DEVNULL)
+        wait_until_whole([it.port for it in nodes])
+        yield {it.port: it.process for it in nodes}
+
+
+def redis_node(folder, timeout):
+    port = redis_port()
+    words = ["redis-server", "--port", str(port), "--bind", "127.0.0.1", "--save", "", "--appendonly", "no", "--dir", folder]
+    words += ["--cluster-enabled", "yes", "--cluster-config-file", f"{port}.conf", "--cluster-node-timeout", str(timeout)]
+    return servers.Server("redis", words, port)
+
+
+def redis_port():
+    """A port that is free, as is the one of the bus, which is greater by 10,000."""
+    while True:
+        port = servers.free_port()
+        with socket.socket() as bus, contextlib.suppress(OSError):
+            bus.bind(("127.0.0.1", port + 10000))
+            return port
+
+
+def wait_until_whole(ports):
+    """All nodes know all others, and each replica has what its master has."""
+    last = time.monotonic() + PATIENCE
+    while time.monotonic() < last:
+        states = [ask(port, "CLUSTER", "INFO") for port in ports]
+        links = [it for it in (ask(port, "INFO", "replication") for port in ports) if "role:slave" in it]
+        if all("cluster_state:ok" in it and "cluster_known_nodes:6" in it for it in states) and len(links) == 3 and all("master_link_status:up" in it for it in links):
+            # What a node holds of the others is told with its heartbeats.
+            time.sleep(1)
+            return
+        time.sleep(0.1)
+    raise SystemExit("the Redis Cluster isn't whole")
+
+
+def ask(port, *words):
+    return subprocess.run(["redis-cli", "-p", str(port), *words], check=True, capture_output=True, text=True).stdout
+
+
+def nodes_at(port):
+    """Of each node the id, the port, the id of its master, and its first and last slot."""
+    nodes = []
+    for line in ask(port, "CLUSTER", "NODES").splitlines():
+        number, address, _flags, master, *rest = line.split()
+        slots = re.fullmatch(r"(\d+)-(\d+)", rest[-1])
+        first, last = map(int, slots.groups()) if slots else (None, None)
+        nodes.append({"id": number, "port": int(re.match(r"[\d.]+:(\d+)", address)[1]), "master": master, "first": first, "last": last})
+    return nodes
+
+
+# ---- nodes that nobody asks
+
+
+def idle_nodes(report):
+    report.say("\n## Nodes that nobody asks")
+    report.say(f"\nThe share of a processor that all nodes take together, over {IDLE} seconds, with a tick of 100 ms.")
+    report.table("Nodes", "Messages a tick", "Percent of a processor")
+    for what, options, messages in (
+        ("16 masters", ("--masters", "16"), 16 * 15 * 2),
+        ("8 masters with a replica each", ("--masters", "8", "--replicas", "1"), 16 * 15 * 2 + 8),
+        ("3 masters with a replica each", ("--masters", "3", "--replicas", "1"), 6 * 5 * 2 + 3),
+        ("1 master", ("--masters", "1"), 0),
+    ):
+        report.row(what, messages, f"{100 * idle_share(options):.1f}")
+
+
+def idle_share(options):
+    """The share of a processor that these nodes take."""
+    port = free_ports(16)
+    with servers.Server("rcluster", [servers.PROGRAM, "serve", *options, "--port", str(port)], port) as server:
+        time.sleep(SETTLED)
+        before, begun = server.processor_seconds(), time.monotonic()
+        time.sleep(IDLE)
+        return (server.processor_seconds() - before) / (time.monotonic() - begun)
+
+
+def free_ports(count):
+    """The first of so many ports in a row that are free."""
+    while True:
+        first = servers.free_port()
+        with contextlib.ExitStack() as stack, contextlib.suppress(OSError):
+            for port in range(first, first + count):
+                stack.enter_context(socket.socket()).bind(("127.0.0.1", port))
+            return first
+
+
+if __name__ == "__main__":
+    main(sys.argv[1:])
