@@ -9,7 +9,6 @@ use Rattle.election.specs.declared.voter.VoteRequest.{VoteRequest}
 use Rattle.node_parts.specs.Drafts.{Drafts, Promotes}
 use Rattle.node_parts.specs.Succession.{promoting, replacement}
 use Rattle.node_parts.specs.declared.draft.Draft.{Draft}
-use Rattle.node_parts.specs.declared.succession.Succession.{Succession}
 use Rattle.node_step.specs.Failing.{members_of}
 use Rattle.node_step.specs.Orders.{claim_of, others, to_all}
 use Rattle.node_step.specs.Outcome.{Outcome, silent}

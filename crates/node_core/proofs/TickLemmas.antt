@@ -1,5 +1,5 @@
 -- A tick, as a node drafts it.
-use Rattle.std.proofs.Common.{◌≡◌, ◌++◌, ℕ, List, [], map, true, Option, Some, None, refl, sym, ap, subst, ◌∙◌}
+use Rattle.std.proofs.Common.{◌≡◌, ◌++◌, ℕ, List, map, true, Option, Some, None, refl, sym, ap, subst, ◌∙◌}
 use Rattle.std.specs.List.{flat_map}
 use Rattle.bus.specs.declared.message.Body.{Body}
 use Rattle.command_table.specs.declared.error_line.ErrorLine.TheVariants as line
