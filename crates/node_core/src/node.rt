@@ -12,7 +12,7 @@ ghost use Rattle.stream_values.specs.Stream.{received};
 use crate::messages::take;
 use crate::requests::request;
 use crate::ticks::pass_tick;
-use bus::Message;
+use bus::{Message, Replaced};
 use cluster_config::Config;
 use connections::Conn;
 use key_slot::Slot;
@@ -100,6 +100,13 @@ impl<S: SlotParts + SlotKeys + Replaces, T: Stream> NodeCore<S, T> {
         ensures { result ≡ received self.now.stream }
     {
         self.parts.stream.received()
+    }
+
+    /// Whose place the node took, if it was promoted.
+    pub fn replaced(&self) -> Option<Replaced>
+        ensures { result ≡ self.now.replaced }
+    {
+        self.parts.election.replaced
     }
 
     /// How many keys of the slot the node holds.
