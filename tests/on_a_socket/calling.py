@@ -52,7 +52,7 @@ def no_address(text):
 
 
 def play_calls(judge):
-    cluster = clusters.six_nodes(node_timeout=1000000)
+    cluster = clusters.six_nodes()
     ports = ports_of(cluster)
     with Server(cluster):
         for what, port, words, wanted in rows(ports):

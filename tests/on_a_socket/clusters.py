@@ -45,12 +45,14 @@ def node_id(number):
 
 
 def six_nodes(**changes):
-    """Three masters with a third of the slots each, and a replica of each."""
+    """Three masters with a third of the slots each, and a replica of each. Nobody takes the place of a node that is kept from the processor for
+    long, but where the changes have another `node_timeout`.
+    """
     with open(os.path.join(EXAMPLES, "six_nodes.json"), encoding="utf-8") as file:
         cluster = json.load(file)
     for node, port in zip(cluster["nodes"], free_ports(6)):
         node["port"] = port
-    return {**cluster, **changes}
+    return {**cluster, "node_timeout": 1000000, **changes}
 
 
 def replica_of(master):
@@ -60,10 +62,17 @@ def replica_of(master):
 
 def masters(count, **changes):
     """So many masters, which have all slots among them."""
+    return with_replicas(count, 0, **changes)
+
+
+def with_replicas(count, replicas, **changes):
+    """So many masters, which have all slots among them, and then so many replicas of the first master, of the second one, and so on."""
     bounds = [16384 * number // count for number in range(count + 1)]
+    roles = [{"slots": [[bounds[number], bounds[number + 1] - 1]]} for number in range(count)]
+    roles += [{"replica_of": node_id(master)} for master in range(count) for _ in range(replicas)]
     nodes = [
-        {"id": node_id(number), "host": "127.0.0.1", "port": port, "slots": [[bounds[number], bounds[number + 1] - 1]]}
-        for number, port in enumerate(free_ports(count))
+        {"id": node_id(number), "host": "127.0.0.1", "port": port, **role}
+        for number, (port, role) in enumerate(zip(free_ports(len(roles)), roles))
     ]
     return {"tick_ms": 100, "node_timeout": 20, "nodes": nodes, "voters": [node_id(0)], **changes}
 

@@ -58,7 +58,7 @@ def play_the_end(judge):
 
 def play_a_stop(judge):
     """A node of a server that has no descriptors left is stopped, and the others go on."""
-    cluster = clusters.six_nodes(tick_ms=TICK_MS, node_timeout=1000000)
+    cluster = clusters.six_nodes(tick_ms=TICK_MS)
     stopped, *others = ports_of(cluster)
     with Server(cluster, "--stop", f"0@{TICKS}") as server, contextlib.ExitStack() as stack:
         limit(server)

@@ -135,7 +135,7 @@ def play_slots(judge):
         *told_of(SLOT, TARGET, SOURCE, KEYS),
     ]
     for options in (["--log"], []):
-        cluster = clusters.six_nodes(tick_ms=20, node_timeout=1000000)
+        cluster = clusters.six_nodes(tick_ms=20)
         ports = ports_of(cluster)
         with Server(cluster, *options) as server:
             for count in range(KEYS):

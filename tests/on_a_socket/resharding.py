@@ -318,7 +318,7 @@ def compare(judge, where, port, values):
 
 
 def play_a_cluster(judge):
-    cluster = clusters.six_nodes(tick_ms=20, node_timeout=1000000)
+    cluster = clusters.six_nodes(tick_ms=20)
     ports = ports_of(cluster)
     get = spelled(b"GET", b"foo")
     with Server(cluster):
@@ -451,7 +451,7 @@ def play_cuts(judge):
 
     def run(cut):
         """The relay's count, the outcomes of a run that is cut off and of one that isn't, and the tables."""
-        cluster = clusters.masters(3, tick_ms=20, node_timeout=1000000)
+        cluster = clusters.masters(3, tick_ms=20)
         ports = ports_of(cluster)
         with Server(cluster):
             for key in values:

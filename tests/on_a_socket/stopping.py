@@ -44,14 +44,9 @@ def play(judge):
     play_replica(judge)
 
 
-def cluster_of(**changes):
-    """Six nodes of which none is held failed."""
-    return clusters.six_nodes(node_timeout=1000000, **changes)
-
-
 def play_stops(judge, stops, options):
     what = " ".join(options)
-    cluster = cluster_of(tick_ms=TICK_MS)
+    cluster = clusters.six_nodes(tick_ms=TICK_MS)
     ports = ports_of(cluster)
     others = [it for it in range(len(ports)) if it not in stops]
     with judge.part(what), Server(cluster, "--ticks", str(TICKS), *options) as server, contextlib.ExitStack() as stack:
@@ -82,7 +77,7 @@ def judge_end(judge, what, server):
 def play_writing(judge):
     """Clients write at all masters as fast as they can while one is stopped. Those of the others are served until the end."""
     what = "clients write as a node is stopped"
-    cluster = cluster_of(tick_ms=TICK_MS)
+    cluster = clusters.six_nodes(tick_ms=TICK_MS)
     ports = ports_of(cluster)
     ends = {master: [] for master in range(len(KEYS))}
     counts = []
@@ -110,7 +105,7 @@ def play_writing(judge):
 def play_replica(judge):
     """A master goes on to write its stream for a replica that is stopped, and its clients don't wait for that."""
     what = "a replica is stopped"
-    cluster = cluster_of(tick_ms=TICK_MS)
+    cluster = clusters.six_nodes(tick_ms=TICK_MS)
     ports = ports_of(cluster)
     with Server(cluster, "--stop", f"{replica_of(0)}@1"), connect(ports[0]) as client:
         judge.true(f"{what}: it refuses clients", refuses_in_time(ports[replica_of(0)]), "it doesn't")

@@ -1,11 +1,12 @@
 //! What is asked of a node, and what comes of it as text.
 
 use anyhow::{Context, Result};
-use bus::Body;
+use bus::{Body, Replaced, Suspects};
 use byte_string::ByteString;
 use itoa::Buffer;
 use node_core::{Conn, Event, Outputs, Response};
 use resp2::{Words, append_reply};
+use slot_table::Epoch;
 use std::alloc::{AllocError, Global};
 
 /// What is asked of a node. Its connections are numbered from 0 on, in the order in which they were opened.
@@ -56,8 +57,11 @@ fn bytes_of(word: &str) -> &[u8] {
     }
 }
 
-/// Puts all that came out of a step behind the text: replies as their bytes, and a word for each message, behind which stands what part of
-/// a stream it brings or asks for.
+/// Puts all that came out of a step behind the text: replies as their bytes, a word for each message, and `promoted` with the epoch and the
+/// offset where the node took the place of its master.
+///
+/// Behind the word of a message stands what part of a stream it brings or asks for, whose place its sender took, whom it suspects, or the
+/// epoch of an election.
 pub fn push_outputs(text: &mut Vec<u8>, outputs: &Outputs) -> Result<(), AllocError> {
     push_response(text, &outputs.response)?;
     for release in outputs.released.as_slice() {
@@ -66,7 +70,16 @@ pub fn push_outputs(text: &mut Vec<u8>, outputs: &Outputs) -> Result<(), AllocEr
     for message in outputs.sent.as_slice() {
         push_body(text, &message.body)?;
     }
-    Ok(())
+    match outputs.promoted.get() {
+        Some(promotion) => push_promotion(text, promotion.epoch, promotion.offset),
+        None => Ok(()),
+    }
+}
+
+fn push_promotion(text: &mut Vec<u8>, epoch: Epoch, offset: u64) -> Result<(), AllocError> {
+    text.extend_from_slice(b"promoted ")?;
+    push_number(text, epoch.get(), b" ")?;
+    push_number(text, offset, b" ")
 }
 
 fn push_body(text: &mut Vec<u8>, body: &Body) -> Result<(), AllocError> {
@@ -81,14 +94,28 @@ fn push_body(text: &mut Vec<u8>, body: &Body) -> Result<(), AllocError> {
             push_number(text, snapshot.offset, b" ")?;
             push_number(text, snapshot.pairs.as_slice().len() as u64, b" ")
         }
-        Body::Copy { .. }
-        | Body::Ack { .. }
-        | Body::Drained { .. }
-        | Body::Claim(_, _)
-        | Body::Report(_)
-        | Body::Request(_)
-        | Body::Grant(_) => Ok(()),
+        Body::Claim(_, Some(replaced)) => push_replaced(text, *replaced),
+        Body::Report(suspects) => push_suspects(text, suspects),
+        Body::Request(request) => push_number(text, request.epoch.get(), b" "),
+        Body::Grant(epoch) => push_number(text, epoch.get(), b" "),
+        Body::Claim(_, None) => Ok(()),
+        Body::Copy { .. } | Body::Ack { .. } | Body::Drained { .. } => Ok(()),
     }
+}
+
+// The number of the former master.
+fn push_replaced(text: &mut Vec<u8>, replaced: Replaced) -> Result<(), AllocError> {
+    push_number(text, u64::from(replaced.master.get()), b" ")
+}
+
+// The numbers of those that are suspected.
+fn push_suspects(text: &mut Vec<u8>, suspects: &Suspects) -> Result<(), AllocError> {
+    for (number, is_suspected) in suspects.as_slice().iter().enumerate() {
+        if *is_suspected {
+            push_number(text, number as u64, b" ")?;
+        }
+    }
+    Ok(())
 }
 
 fn push_number(text: &mut Vec<u8>, number: u64, behind: &[u8]) -> Result<(), AllocError> {

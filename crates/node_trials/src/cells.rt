@@ -106,7 +106,7 @@ const CASES: [Case; 2] = [
             Apply(Open),
             Apply(Ask(0, "PING")),
         ],
-        given: "0 1 2 3 +OK\r\n4 $1\r\n1\r\n5 -MOVED 3300 127.0.0.1:7000\r\n6 7 8 9 journal 0 1 2 3 +OK\r\n4 $1\r\n1\r\n5 -MOVED 3300 127.0.0.1:7000\r\n6 7 8 9 ",
+        given: "0 1 2 3 +OK\r\n4 $1\r\n1\r\n5 -MOVED 3300 127.0.0.1:7000\r\n6 7 8 9 journal 0 claim claim report report 1 2 3 +OK\r\n4 $1\r\n1\r\n5 -MOVED 3300 127.0.0.1:7000\r\n6 7 8 9 ",
     },
     // A request that waits for a copy is parked. Its reply is kept until it is taken, and messages wait in the outbox. The step
     // that takes a message draws the next ticket. A connection that is closed gets nothing any more, and another one that waits
@@ -133,8 +133,8 @@ const CASES: [Case; 2] = [
             TakeSent,
         ],
         given: "0 1 2 +OK\r\n3 +OK\r\n4 +OK\r\n5 +OK\r\n6 parked 7 parked none 2 sent 8 0 sent 9 10 none \
--IOERR copy not acknowledged\r\nnone 2 sent journal 0 1 2 +OK\r\n3 +OK\r\n4 +OK\r\n5 +OK\r\n6 parked copy 7 parked copy \
-9 -IOERR copy not acknowledged\r\n-IOERR copy not acknowledged\r\ncopy copy 10 ",
+-IOERR copy not acknowledged\r\nnone 6 sent journal 0 1 2 +OK\r\n3 +OK\r\n4 +OK\r\n5 +OK\r\n6 parked copy 7 parked copy \
+9 -IOERR copy not acknowledged\r\n-IOERR copy not acknowledged\r\ncopy copy claim claim report report 10 ",
     },
 ];
 

@@ -1,4 +1,4 @@
-//! The cluster of the trials.
+//! The clusters of the trials.
 ghost use Rattle.std.specs.Prelude.{◌≡◌, IfOk, length};
 
 use cluster_config::{Config, ConfigFault, read_config};
@@ -23,6 +23,15 @@ const WITH_REPLICAS: &[u8] = b"{\"tick_ms\":10,\"node_timeout\":20,\"backlog\":6
 {\"id\":\"0000000000000000000000000000000000000005\",\"host\":\"127.0.0.1\",\"port\":7005,\"replica_of\":\"0000000000000000000000000000000000000002\"}],\
 \"voters\":[\"0000000000000000000000000000000000000000\"]}";
 
+// Two masters with half of the slots each, and two replicas of the first one, of which the second one has no vote. A node that is silent for a
+// tick is suspected.
+const WITH_ELECTIONS: &[u8] = b"{\"tick_ms\":10,\"node_timeout\":1,\"backlog\":64,\"nodes\":[\
+{\"id\":\"0000000000000000000000000000000000000000\",\"host\":\"127.0.0.1\",\"port\":7000,\"slots\":[[0,8191]]},\
+{\"id\":\"0000000000000000000000000000000000000001\",\"host\":\"127.0.0.1\",\"port\":7001,\"slots\":[[8192,16383]]},\
+{\"id\":\"0000000000000000000000000000000000000002\",\"host\":\"127.0.0.1\",\"port\":7002,\"replica_of\":\"0000000000000000000000000000000000000000\"},\
+{\"id\":\"0000000000000000000000000000000000000003\",\"host\":\"127.0.0.1\",\"port\":7003,\"replica_of\":\"0000000000000000000000000000000000000000\"}],\
+\"voters\":[\"0000000000000000000000000000000000000000\",\"0000000000000000000000000000000000000001\",\"0000000000000000000000000000000000000002\"]}";
+
 /// Three masters with a third of the slots each.
 pub fn three_masters(alloc: Global) -> Result<Config, ConfigFault>
     ensures { IfOk result (λ config. length config.nodes ≡ 3) }
@@ -37,6 +46,12 @@ pub fn three_masters(alloc: Global) -> Result<Config, ConfigFault>
 /// The same with a replica of each. Node 5 is the replica of node 2. A node keeps the last 64 bytes of its stream.
 pub fn with_replicas(alloc: Global) -> Result<Config, ConfigFault> {
     read_config(alloc, WITH_REPLICAS)
+}
+
+/// Two masters with half of the slots each. Nodes 2 and 3 are replicas of node 0, and all but node 3 vote. A node is suspected once it is silent
+/// for a tick.
+pub fn with_elections(alloc: Global) -> Result<Config, ConfigFault> {
+    read_config(alloc, WITH_ELECTIONS)
 }
 
 /// The node of that number as it begins.

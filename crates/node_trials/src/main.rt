@@ -7,6 +7,7 @@ mod callers;
 mod cells;
 mod clusters;
 mod conversation;
+mod failover;
 mod following;
 mod full_link;
 mod gates;
@@ -38,6 +39,7 @@ enum Trial {
     Refused,
     Moves,
     Following,
+    Failover,
     Writes,
     Cells,
     Seats,
@@ -64,6 +66,7 @@ fn trial_of(word: &str) -> Option<Trial> {
         "refused" => Some(Trial::Refused),
         "moves" => Some(Trial::Moves),
         "following" => Some(Trial::Following),
+        "failover" => Some(Trial::Failover),
         "writes" => Some(Trial::Writes),
         "cells" => Some(Trial::Cells),
         "seats" => Some(Trial::Seats),
@@ -94,6 +97,7 @@ where
         Trial::Refused => refused::try_out(rt),
         Trial::Moves => moves::try_out(&rt),
         Trial::Following => following::try_out(&rt),
+        Trial::Failover => failover::try_out(&rt),
         Trial::Writes => writes::try_out(rt),
         Trial::Cells => cells::try_out(&rt),
         Trial::Seats => seats::try_out(&rt),

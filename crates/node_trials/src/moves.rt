@@ -52,12 +52,12 @@ const LOST_COPY: Rows = &[
     "2 SET foo 5 | +OK\r\n",
     "2 CLUSTER SETSLOT 12182 MIGRATING #1 7 | +OK\r\n",
     "2 MIGRATE 127.0.0.1 7001 foo 0 5 | parked copy ",
-    "2 tick | copy ",
-    "2 tick | copy ",
-    "2 tick | copy ",
-    "2 tick | copy ",
+    "2 tick | copy claim claim report report ",
+    "2 tick | copy claim claim report report ",
+    "2 tick | copy claim claim report report ",
+    "2 tick | copy claim claim report report ",
     "2 beside GET foo | -TRYAGAIN Key is being moved\r\n",
-    "2 tick | -IOERR copy not acknowledged\r\ncopy ",
+    "2 tick | -IOERR copy not acknowledged\r\ncopy claim claim report report ",
     "2 GET foo | -TRYAGAIN Key is being moved\r\n",
     "2 CLUSTER SLOTSTATE 12182 | *6\r\n$9\r\nmigrating\r\n$40\r\n0000000000000000000000000000000000000001\r\n:7\r\n:7\r\n:1\r\n:0\r\n",
 ];
@@ -79,7 +79,7 @@ const REFUSALS: Rows = &[
     "1 GET foo | -MOVED 12182 127.0.0.1:7002\r\n",
     "2 CLUSTER SETSLOT 16383 MIGRATING #1 | +OK\r\ndrained ",
     "2 CLUSTER SETSLOT 16383 MIGRATING #1 | +OK\r\n",
-    "2 tick | drained ",
+    "2 tick | drained claim claim report report ",
     "2 DEL {foo}1 | :1\r\ndrained ",
 ];
 
