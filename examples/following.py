@@ -13,7 +13,9 @@ from dataclasses import dataclass, field
 
 SLOTS = 16384
 # The bodies of the messages that a step may send, by what happens at the node.
-SENT_BY = {"Copy": {"Ack"}, "Ack": {"Drained"}, "Drained": set(), "Claim": set(), "tick": {"Copy", "Drained"}, "request": {"Drained"}}
+SENT_BY = {"Copy": {"Ack"}, "Ack": {"Drained"}, "Drained": set(), "Claim": set(), "Report": set(), "tick": {"Copy", "Drained"}, "request": {"Drained"}}
+# What each tick tells all others behind that. Of these messages only those are drawn that arrive.
+SIGNS_OF_LIFE = {"Claim", "Report"}
 SENT_BY_ORDER = {"IMPORTING": set(), "MIGRATING": {"Drained"}, "NODE": {"Claim"}, "MIGRATE": {"Copy"}}
 # The commands on keys: those that leave their keys there, those that remove them, and those that change nothing.
 WRITING = {"SET", "SETNX", "MSET", "GETSET", "APPEND", "INCR", "DECR", "INCRBY", "HSET", "HSETNX", "HINCRBY"}
@@ -207,6 +209,7 @@ class Play:
         self.note(number, "a tick")
         self.release(number)
         self.send(number, SENT_BY["tick"])
+        self.send(number, SIGNS_OF_LIFE, are_drawn=False)
 
     def play_stop(self, number, _words):
         if not self.is_up(number):
@@ -251,6 +254,8 @@ class Play:
         """A message arrives; where it comes again it has an arrow more."""
         if message.came_in is None:
             message.came_in = self.row
+            if not any(arrow is message for arrow in self.arrows):
+                self.arrows.append(message)
         else:
             self.arrows.append(Arrow("message", f"{message.text}, again", message.begin, message.end, message.sent_in, self.row))
 
@@ -260,7 +265,7 @@ class Play:
             self.nodes[number].waiting -= 1
             self.note(number, f"MIGRATE: {shorter(reply)}")
 
-    def send(self, number, bodies, key=None):
+    def send(self, number, bodies, key=None, are_drawn=True):
         """The messages that the step sends."""
         while self.at < len(self.printed):
             parts = self.printed[self.at].split(" ")
@@ -271,7 +276,8 @@ class Play:
             arrow = Arrow("message", body, ("node", number), ("node", to), self.row)
             arrow.content = (body, self.content_of(number, body, to, key))
             self.messages[name] = arrow
-            self.arrows.append(arrow)
+            if are_drawn:
+                self.arrows.append(arrow)
 
     def content_of(self, number, body, to, key):
         node = self.nodes[number]

@@ -3,6 +3,7 @@ ghost use Rattle.std.specs.Prelude.{◌≡◌, ◌≤◌, [], IfNone, IfSome, le
 ghost use Rattle.audit.specs.Merge.{AreJournals, merged, placed};
 ghost use Rattle.merged_run.specs.Merged.{entries_of};
 ghost use Rattle.merged_run.specs.Settled.{AreSettled};
+ghost use Rattle.promoted_prefix.specs.Law.{PromotionsGoOn};
 ghost use Rattle.world_run.specs.Executed.{AreOfOneKeyspace, KeepsAsking, executed};
 ghost use Rattle.world_run.specs.Law.{HasOneMasterAnEpoch};
 ghost use Rattle.world_run.specs.Promotions.{until_promotion};
@@ -13,6 +14,7 @@ use cluster_config::Config;
 use merged_run::settled_runs_are_of_one_keyspace;
 use node_cell::Entry;
 use one_master::no_epoch_has_two_masters;
+use promoted_prefix::promoted_nodes_go_on;
 use single_keyspace::replies_are_those_of_one_keyspace;
 use slot_table::NodeNo;
 use std::marker::Model;
@@ -63,18 +65,20 @@ impl WorldRun {
     /// How many entries it has: as many as tickets were drawn.
     ///
     /// They are a run of the cluster. So the replies of the commands that its nodes executed up to the first promotion are those of one
-    /// keyspace, if its clients kept to the asking rule up to there, and always if no slot began to come to a node up to there; and no
-    /// epoch has two masters.
+    /// keyspace, if its clients kept to the asking rule up to there, and always if no slot began to come to a node up to there. No epoch
+    /// has two masters, and each promoted node begins with the prefix of its master's stream that its offset names.
     pub fn steps(&self) -> u64
         ensures count { result ≡ length self.now.entries }
         ensures run { IsRun self.now.config self.now.entries }
         ensures one_keyspace { KeepsAsking [] (until_promotion self.now.entries) → AreOfOneKeyspace (executed (until_promotion self.now.entries)) }
         ensures settled { AreSettled (until_promotion self.now.entries) → AreOfOneKeyspace (executed (until_promotion self.now.entries)) }
         ensures one_master { HasOneMasterAnEpoch self.now.config.voters self.now.entries }
+        ensures promoted_prefix { PromotionsGoOn self.now.config self.now.entries }
     {
         replies_are_those_of_one_keyspace();
         settled_runs_are_of_one_keyspace();
         no_epoch_has_two_masters();
+        promoted_nodes_go_on();
         let _of_a_cluster = self.config.nodes();
         self.tickets
     }

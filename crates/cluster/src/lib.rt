@@ -2,8 +2,8 @@
 #![tactic(auto)]
 
 mod arrivals;
+mod changes;
 mod clients;
-mod departures;
 mod mail;
 mod node;
 mod runtime;

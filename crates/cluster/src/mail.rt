@@ -1,6 +1,6 @@
 //! The messages between the nodes.
 
-use crate::departures::Departures;
+use crate::changes::Changes;
 use crate::node::Node;
 use crate::stop::Stop;
 use links::{Station, Web};
@@ -67,14 +67,14 @@ pub(crate) fn carry<C: HasLinks<R> + Drop, R: Clock + Wait>(
     node: &Node<C>,
     nodes: &[Arc<Node<C>, Global>],
     stop: &Stop,
-    departures: &mut Departures,
+    changes: &mut Changes,
 ) {
     for _ in rt.forever() {
         let seen = node.shared.mail_rings();
         if stop.has_ended() {
             return;
         }
-        let round = exchange(rt, node, nodes, departures);
+        let round = exchange(rt, node, nodes, changes);
         if !round.has_received {
             node.shared.wait_for_mail(rt, seen, round.rest);
         }
@@ -95,7 +95,7 @@ fn exchange<C: HasLinks<R> + Drop, R: Clock + Wait>(
     rt: &R,
     node: &Node<C>,
     nodes: &[Arc<Node<C>, Global>],
-    departures: &mut Departures,
+    changes: &mut Changes,
 ) -> Round {
     let mut cell = node.shared.lock(rt);
     if node.shared.is_closed() {
@@ -103,7 +103,7 @@ fn exchange<C: HasLinks<R> + Drop, R: Clock + Wait>(
     }
     let mut has_received = false;
     for (number, other) in nodes.iter().enumerate() {
-        has_received |= receive_all(rt, &mut *cell, number, &**other, departures);
+        has_received |= receive_all(rt, &mut *cell, number, &**other, changes);
     }
     let sending = send_to_all(rt, &mut *cell, nodes);
     node.shared.note_pace(cell.is_behind(), sending.has_sent);
@@ -140,11 +140,11 @@ fn receive_all<C: HasLinks<R> + Drop, R: Clock + Wait>(
     cell: &mut C,
     number: usize,
     other: &Node<C>,
-    departures: &mut Departures,
+    changes: &mut Changes,
 ) -> bool {
     let mut has_received = false;
     for _ in 0..MOST_TAKEN {
-        if !receive_from(rt, cell, number, other, departures) {
+        if !receive_from(rt, cell, number, other, changes) {
             return has_received;
         }
         has_received = true;
@@ -158,13 +158,13 @@ fn receive_from<C: HasLinks<R> + Drop, R: Clock + Wait>(
     cell: &mut C,
     number: usize,
     other: &Node<C>,
-    departures: &mut Departures,
+    changes: &mut Changes,
 ) -> bool {
-    departures.look(&*cell);
+    changes.look(&*cell);
     if !cell.take_from(number) {
         return false;
     }
-    departures.tell(rt, &*cell);
+    changes.tell(rt, &*cell);
     tell_of_room(cell, number, other);
     true
 }

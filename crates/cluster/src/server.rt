@@ -4,8 +4,8 @@ ghost use Rattle.std.specs.List.{range_with_len};
 ghost use Rattle.links.specs.Ends.{AreEndsOf, AreLinkedFrom};
 ghost use Rattle.tickets.specs.Tickets.{IsFresh};
 
+use crate::changes::Changes;
 use crate::clients::Clients;
-use crate::departures::Departures;
 use crate::mail::{HasLinks, carry};
 use crate::node::{Node, Timing, accept_clients, pass_time};
 use crate::runtime::Runtime;
@@ -412,10 +412,10 @@ where
         return Err(ServeFault::Memory);
     };
     let witness = Arc::try_clone(&clients.witness)?;
-    let mut departures = Departures::new(alloc, witness, number);
+    let mut changes = Changes::new(alloc, witness, number);
     let nodes = all_of(alloc, nodes)?;
     let started = thread::spawn(&rt, move || {
-        carry(&rt, &*node, nodes.as_slice(), &*stop, &mut departures);
+        carry(&rt, &*node, nodes.as_slice(), &*stop, &mut changes);
     });
     started.map_err(|_| ServeFault::Thread)
 }

@@ -1,4 +1,4 @@
-//! What happens to a cluster, for somebody who listens: what no client is told, and which slots come and go.
+//! What happens to a cluster, for somebody who listens: what no client is told, which slots come and go, and who is promoted.
 
 use std::alloc::{AllocError, Global};
 use std::collections::VecDeque;
@@ -46,6 +46,13 @@ pub enum Incident {
         slot: u16,
         to: usize,
         deleted: usize,
+    },
+    /// The node took the place of its master in that epoch: it has so many bytes of that one's stream of writes.
+    Promoted {
+        node: usize,
+        master: usize,
+        epoch: u64,
+        offset: u64,
     },
     /// So many incidents found too many others waiting.
     Missed(u64),

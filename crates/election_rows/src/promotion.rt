@@ -2,8 +2,11 @@
 ghost use Rattle.std.specs.Prelude.{◌≡◌, IfOk, OnOk, Some, length, map};
 ghost use Rattle.node_parts.specs.Drafts.{HasNothing, Promotes};
 ghost use Rattle.node_parts.specs.Succession.{replacement};
+ghost use Rattle.node_step.specs.Orders.{others, to_all};
 ghost use Rattle.node_step.specs.Promotion.{entry_after, promotion};
 ghost use Rattle.slot_table.specs.Claims.{is_above};
+ghost use Rattle.slot_table.specs.Runs.{runs_of};
+ghost use Rattle.slot_table.specs.Table.{claim_at};
 
 use bus::{Body, Replaced};
 use key_slot::Slot;
@@ -25,10 +28,7 @@ pub fn promote<S: SlotParts + SlotKeys, T: Stream>(
     ensures { OnOk result (Promotes node.now (promotion node.now epoch (Some master)) draft.new) }
 {
     let table = table_after(node, master, epoch)?;
-    let claim = table.claim_of(node.alloc, node.number)?;
-    let claim = Body::Claim(claim, Some(replaced(node, master, epoch)));
-    let mut bodies = Vec::new(node.alloc);
-    node.append_to_others(&claim, &mut bodies)?;
+    let bodies = claims(node, &table, replaced(node, master, epoch))?;
     let succession = Succession {
         table,
         master,
@@ -36,6 +36,21 @@ pub fn promote<S: SlotParts + SlotKeys, T: Stream>(
     };
     node.write_promotion(draft, bodies, succession);
     Ok(())
+}
+
+// The claim to the node's slots in that table for each other node.
+fn claims<S: SlotParts + SlotKeys, T: Stream>(
+    node: &NodeParts<S, T>,
+    table: &SlotTable,
+    replaced: Replaced,
+) -> Result<Vec<(NodeNo, Body)>, AllocError>
+    ensures { IfOk result (λ bodies. bodies.items ≡ to_all (others node.now) (Body.Claim (runs_of (claim_at table.now node.now.number)) (Some replaced))) }
+{
+    let claim = table.claim_of(node.alloc, node.number)?;
+    let claim = Body::Claim(claim, Some(replaced));
+    let mut bodies = Vec::new(node.alloc);
+    node.append_to_others(&claim, &mut bodies)?;
+    Ok(bodies)
 }
 
 // Whose place the node takes, and where its stream begins.

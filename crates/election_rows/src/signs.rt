@@ -2,7 +2,7 @@
 ghost use Rattle.std.specs.Prelude.{◌≡◌, ◌++◌, IfOk, OnOk};
 ghost use Rattle.election.specs.Failing.{suspected};
 ghost use Rattle.node_step.specs.Failing.{members_of};
-ghost use Rattle.node_step.specs.Orders.{claim_of};
+ghost use Rattle.node_step.specs.Orders.{claim_of, others, to_all};
 ghost use Rattle.node_step.specs.Ticks.{signs};
 
 use bus::{Body, Suspects};
@@ -20,8 +20,32 @@ pub fn append_signs<S: SlotParts + SlotKeys, T: Stream>(
 ) -> Result<(), AllocError>
     ensures { OnOk result (bodies.new.items ≡ bodies.old.items ++ signs node.now) }
 {
-    node.append_to_others(&claim(node)?, bodies)?;
-    node.append_to_others(&report(node), bodies)?;
+    append_claims(node, bodies)?;
+    append_reports(node, bodies)?;
+    Ok(())
+}
+
+// The claim of the node for each other one.
+fn append_claims<S: SlotParts + SlotKeys, T: Stream>(
+    node: &NodeParts<S, T>,
+    bodies: &mut Vec<(NodeNo, Body)>,
+) -> Result<(), AllocError>
+    ensures { OnOk result (bodies.new.items ≡ bodies.old.items ++ to_all (others node.now) (Body.Claim (claim_of node.now) node.now.replaced)) }
+{
+    let claim = claim(node)?;
+    node.append_to_others(&claim, bodies)?;
+    Ok(())
+}
+
+// Its report for each other one.
+fn append_reports<S: SlotParts + SlotKeys, T: Stream>(
+    node: &NodeParts<S, T>,
+    bodies: &mut Vec<(NodeNo, Body)>,
+) -> Result<(), AllocError>
+    ensures { OnOk result (bodies.new.items ≡ bodies.old.items ++ to_all (others node.now) (Body.Report (suspected node.now.health (members_of node.now)))) }
+{
+    let report = report(node);
+    node.append_to_others(&report, bodies)?;
     Ok(())
 }
 

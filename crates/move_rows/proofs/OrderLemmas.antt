@@ -1,11 +1,9 @@
 -- Orders that move a slot.
-use Rattle.std.proofs.Common.{◌≡◌, ◌<◌, ◌^◌, ◌==◌, ◌&&◌, ◌+◌, ◌++◌, ℕ, Bool, true, false, not, cond, List, [], ◌∷◌, Option, Some, None, filter, append-nil, eq-eqb, refl, sym, ap, subst, ◌∙◌, arith}
+use Rattle.std.proofs.Common.{◌≡◌, ◌<◌, ◌^◌, ◌==◌, ◌&&◌, ℕ, Bool, true, false, cond, List, [], ◌∷◌, Option, Some, None, eq-eqb, refl, sym, ap, subst, ◌∙◌}
 use Rattle.std.proofs.lemmas.Bool.{lt-ltb}
-use Rattle.std.proofs.lemmas.List.{map-append}
 use Rattle.std.specs.Prelude.{slice_set}
 use Rattle.std.specs.Cmp.{nat_cmp_total, unsigned_tied}
 use Rattle.std.specs.FinMap as map
-use Rattle.std.specs.List.{range_with_len}
 use Rattle.bus.specs.declared.message.Body.{Body}
 use Rattle.bus.specs.declared.message.Body.TheVariants.{Claim, Drained}
 use Rattle.connections.specs.declared.conn.Conn.{Conn}
@@ -22,7 +20,6 @@ use Rattle.slot_state.specs.declared.migrating.MigrateVerdict.TheVariants as mig
 use Rattle.slot_state.specs.declared.ending.NodeVerdict.TheVariants.{Ends as IsOver}
 use Rattle.slot_state.specs.declared.running.Move.{Move}
 use Rattle.slot_state.specs.declared.running.Move.TheVariants.{Comes, Leaves}
-use Rattle.slot_table.proofs.MergeLemmas.{filter_more_range}
 use Rattle.slot_table.specs.Runs.{runs_of}
 use Rattle.slot_table.specs.Table.{claim_at}
 use Rattle.slot_table.specs.declared.runs.Run.{Run}

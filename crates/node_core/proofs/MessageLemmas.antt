@@ -1,5 +1,5 @@
 -- Messages that are taken by a draft.
-use Rattle.std.proofs.Common.{◌≡◌, ◌==◌, ℕ, Bool, true, false, not, cond, List, [], map, filter, Option, true≢false, refl, sym, ap, subst, ◌∙◌}
+use Rattle.std.proofs.Common.{◌≡◌, ◌==◌, ℕ, Bool, true, false, not, List, [], map, filter, Option, true≢false, refl, sym, ap, subst, ◌∙◌}
 use Rattle.std.proofs.lemmas.Bool.{cond-false, cond-true, not-false, not-true}
 use Rattle.std.specs.FinMap as fin_map
 use Rattle.std.specs.List.{list_any}

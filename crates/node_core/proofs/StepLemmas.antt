@@ -3,7 +3,7 @@ use Rattle.std.proofs.Common.{◌≡◌, ℕ, List, [], ◌∷◌, refl, ap}
 use Rattle.std.specs.Prelude.{IfOk, Result, Ok, Err, length, nat_lt, ◌+◌, ◌^◌}
 use Rattle.connections.specs.declared.conn.Conn.{Conn}
 use Rattle.node_parts.proofs.ChangeLemmas.{made_comes}
-use Rattle.node_parts.specs.Drafts.{Comes, IsDraftOf, stamped_draft}
+use Rattle.node_parts.specs.Drafts.{IsDraftOf, stamped_draft}
 use Rattle.node_parts.specs.Making.{IsApplied}
 use Rattle.node_parts.specs.declared.draft.Draft.{Draft}
 use Rattle.node_step.specs.Numbers.{has_offset}

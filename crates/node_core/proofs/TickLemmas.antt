@@ -1,5 +1,5 @@
 -- A tick, as a node drafts it.
-use Rattle.std.proofs.Common.{◌≡◌, ◌++◌, ℕ, List, [], map, true, Option, Some, None, refl, sym, ap, subst, ◌∙◌}
+use Rattle.std.proofs.Common.{◌≡◌, ◌++◌, ℕ, List, map, true, Option, Some, None, refl, sym, ap, subst, ◌∙◌}
 use Rattle.std.specs.List.{flat_map}
 use Rattle.bus.specs.declared.message.Body.{Body}
 use Rattle.command_table.specs.declared.error_line.ErrorLine.TheVariants as line
@@ -26,17 +26,11 @@ use Rattle.resp_values.specs.declared.reply.Reply.{Reply}
 use Rattle.slot_state.specs.Moves.{running_moves}
 
 -- who waited as long as wanted is told, copies are sent again, and others are told what a tick tells them
-pub tick_drafted : (node : NodeState) (epoch : Option ℕ) (reply : Reply) (released : List Release) (again told synced bodies : List (ℕ × Body)) (draft : Draft) → reply ≡ error line.NotAcknowledged
-    → released ≡ map (release reply) (waiting node.connections is_over) → again ≡ flat_map (sent_again node) (running_moves node.moves) → told ≡ again ++ signs node
-    → synced ≡ told ++ sync_to node.stream (own_master node) → bodies ≡ synced ++ requests_in node epoch (own_master node)
+pub tick_drafted : (node : NodeState) (epoch : Option ℕ) (released : List Release) (bodies : List (ℕ × Body)) (draft : Draft) → released ≡ (slots_tick node).released → bodies ≡ (ticked_in node epoch).sent
     → ((after : NodeState) → after ≡ older node → Drafts node (record (silent after) { released = released; sent = bodies }) draft) → Drafts node (ticked_in node epoch) draft
-tick_drafted node epoch reply released again told synced bodies draft replies gives first tells syncs asks drafts =
-    let sent : bodies ≡ (ticked_in node epoch).sent =
-    asks ∙ ap (λ (b : List (ℕ × Body)). b ++ requests_in node epoch (own_master node))
-    (syncs ∙ ap (λ (b : List (ℕ × Body)). b ++ sync_to node.stream (own_master node)) (tells ∙ ap (λ (b : List (ℕ × Body)). b ++ signs node) first)) in
-    subst (λ (b : List (ℕ × Body)). Drafts node (record (silent (older node)) { released = map (release (error line.NotAcknowledged)) (waiting node.connections is_over); sent = b }) draft) sent
-    (subst (λ (r : List Release). Drafts node (record (silent (older node)) { released = r; sent = bodies }) draft)
-    (gives ∙ ap (λ r. map (release r) (waiting node.connections is_over)) replies) (drafts (older node) refl))
+tick_drafted node epoch released bodies draft gives sent drafts =
+    subst (λ (b : List (ℕ × Body)). Drafts node (record (silent (older node)) { released = (slots_tick node).released; sent = b }) draft) sent
+    (subst (λ (r : List Release). Drafts node (record (silent (older node)) { released = r; sent = bodies }) draft) gives (drafts (older node) refl))
 
 -- a node that grew older before drafts the tick of the node that it was
 abbrev ticked_so : NodeState → Option ℕ → Outcome

@@ -1,11 +1,10 @@
 -- Votes, as a node takes them.
-use Rattle.std.proofs.Common.{◌≡◌, ℕ, Bool, [], Option, Some, None, refl, sym, ap, subst, ◌∙◌, arith}
+use Rattle.std.proofs.Common.{◌≡◌, ℕ, Bool, [], Option, Some, None, sym, ap, ◌∙◌, arith}
 use Rattle.bus.specs.declared.message.Body.TheVariants.{Grant, Request}
 use Rattle.bus.specs.declared.message.Request.{Request as Asked}
 use Rattle.election.specs.Electing.{counted, elected}
 use Rattle.election.specs.Voting.{after_request, may_grant}
 use Rattle.election.specs.declared.running.Elected.{Elected}
-use Rattle.election.specs.declared.voter.VoteRequest.{VoteRequest}
 use Rattle.node_core.proofs.MessageLemmas.{choosing}
 use Rattle.node_core.specs.Comes.{IsJust, MayBeTaken}
 use Rattle.node_parts.proofs.ChangeLemmas.{made_comes, promotion_comes, records_nothing}
@@ -16,7 +15,7 @@ use Rattle.node_step.specs.Failing.{members_of}
 use Rattle.node_step.specs.Outcome.{Outcome, no_outputs, silent}
 use Rattle.node_step.specs.Promotion.{promotion}
 use Rattle.node_step.specs.State.{NodeState, own_master}
-use Rattle.node_step.specs.Voting.{asked_for_vote, grant_to, if_elected, request_of, voted_for, voting}
+use Rattle.node_step.specs.Voting.{grant_to, if_elected, request_of, voting}
 use Rattle.node_step.specs.declared.outputs.Outputs.{Outputs}
 
 -- a draft of one outcome, which writes nothing

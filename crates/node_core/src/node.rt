@@ -3,7 +3,7 @@ ghost use Rattle.std.specs.Prelude.{◌≡◌, IfOk, OnErr, Err};
 ghost use Rattle.std.specs.FinMap as fin_map;
 ghost use Rattle.connections.specs.Connections.{IsUsedUp};
 ghost use Rattle.node_step.specs.Numbers.{NoNumberLeft};
-ghost use Rattle.node_step.specs.State.{first_state};
+ghost use Rattle.node_step.specs.State.{first_state, own_master};
 ghost use Rattle.node_step.specs.Step.{NodeStep};
 ghost use Rattle.slot_store.specs.InSlot.{in_slot};
 ghost use Rattle.step_fault.specs.declared.fault.StepFault.TheVariants.{Exhausted};
@@ -12,7 +12,7 @@ ghost use Rattle.stream_values.specs.Stream.{received};
 use crate::messages::take;
 use crate::requests::request;
 use crate::ticks::pass_tick;
-use bus::Message;
+use bus::{Message, Replaced};
 use cluster_config::Config;
 use connections::Conn;
 use key_slot::Slot;
@@ -100,6 +100,20 @@ impl<S: SlotParts + SlotKeys + Replaces, T: Stream> NodeCore<S, T> {
         ensures { result ≡ received self.now.stream }
     {
         self.parts.stream.received()
+    }
+
+    /// The master of the node, if it is a replica now.
+    pub fn own_master(&self) -> Option<NodeNo>
+        ensures { result ≡ own_master self.now }
+    {
+        self.parts.own_master()
+    }
+
+    /// Whose place the node took, if it was promoted.
+    pub fn replaced(&self) -> Option<Replaced>
+        ensures { result ≡ self.now.replaced }
+    {
+        self.parts.election.replaced
     }
 
     /// How many keys of the slot the node holds.

@@ -1,23 +1,28 @@
 //! Ticks of a node's time.
-ghost use Rattle.std.specs.Prelude.{◌≡◌, Err, IfOk, OnErr, OnOk};
+ghost use Rattle.std.specs.Prelude.{◌≡◌, ◌++◌, Err, IfOk, OnErr, OnOk};
 ghost use Rattle.node_core.specs.Ticking.{ticked_in};
 ghost use Rattle.node_parts.specs.Drafts.{Drafts, HasNothing};
 ghost use Rattle.node_parts.specs.Electing.{KeepsRest};
 ghost use Rattle.node_step.specs.Numbers.{NoNumberLeft};
+ghost use Rattle.node_step.specs.Replicas.{sync_to};
+ghost use Rattle.node_step.specs.State.{own_master};
 ghost use Rattle.node_step.specs.Step.{NodeStep};
+ghost use Rattle.node_step.specs.Ticks.{signs, slots_tick};
+ghost use Rattle.node_step.specs.Voting.{requests_in};
 ghost use Rattle.node_step.specs.declared.event.Event.TheVariants.{Tick};
 ghost use Rattle.step_fault.specs.declared.fault.StepFault.TheVariants.{Exhausted};
 
+use bus::Body;
 use command_table::ErrorLine;
 use connections::Waiting;
 use election_rows::{append_requests, append_signs};
 use move_rows::sent_again;
 use node_parts::{Change, Draft, NodeParts};
-use node_step::{Outputs, Recorder, StepFault};
+use node_step::{Outputs, Recorder, Releases, StepFault};
 use repl_stream::Stream;
 use replica_rows::append_sync;
 use slot_store::{SlotKeys, SlotParts};
-use slot_table::Epoch;
+use slot_table::{Epoch, NodeNo};
 use std::alloc::AllocError;
 
 /// Lets a tick pass: the node grows older, an election begins, if it is due, waits end, and others are told.
@@ -39,7 +44,6 @@ pub(crate) fn pass_tick<S: SlotParts + SlotKeys, T: Stream, K: Recorder>(
 }
 
 // Drafts a tick of a node that has grown older, and began an election in that epoch, if in any.
-#[tactic(auto, using(crate::proofs::TickLemmas::tick_drafted))]
 fn draft_tick<S: SlotParts + SlotKeys, T: Stream>(
     node: &NodeParts<S, T>,
     epoch: Option<Epoch>,
@@ -48,12 +52,45 @@ fn draft_tick<S: SlotParts + SlotKeys, T: Stream>(
     requires { HasNothing node.now draft.old }
     ensures { OnOk result (Drafts node.now (ticked_in node.now epoch) draft.new) }
 {
+    let released = released(node)?;
+    let bodies = sent(node, epoch)?;
+    node.write_releases(draft, released, bodies, Change::Ages);
+    Ok(())
+}
+
+// What connections get that waited as long as they wanted.
+fn released<S: SlotParts + SlotKeys, T: Stream>(
+    node: &NodeParts<S, T>,
+) -> Result<Releases, AllocError>
+    ensures { IfOk result (λ released. released ≡ (slots_tick node.now).released) }
+{
     let reply = ErrorLine::NotAcknowledged.reply();
     let released = node.releases(&Waiting::Over, &reply)?;
+    Ok(released)
+}
+
+// What others are sent: copies again, and behind them what a tick tells.
+fn sent<S: SlotParts + SlotKeys, T: Stream>(
+    node: &NodeParts<S, T>,
+    epoch: Option<Epoch>,
+) -> Result<Vec<(NodeNo, Body)>, AllocError>
+    ensures { IfOk result (λ bodies. bodies.items ≡ (ticked_in node.now epoch).sent) }
+{
     let mut bodies = sent_again(node)?;
-    append_signs(node, &mut bodies)?;
-    append_sync(node, &mut bodies)?;
-    append_requests(node, epoch, &mut bodies)?;
-    node.write_releases(draft, released, bodies, Change::Ages);
+    append_told(node, epoch, &mut bodies)?;
+    Ok(bodies)
+}
+
+// Which slots the node has, whom it suspects, how far it is as a replica, and that it asks for votes.
+fn append_told<S: SlotParts + SlotKeys, T: Stream>(
+    node: &NodeParts<S, T>,
+    epoch: Option<Epoch>,
+    bodies: &mut Vec<(NodeNo, Body)>,
+) -> Result<(), AllocError>
+    ensures { OnOk result (bodies.new.items ≡ bodies.old.items ++ signs node.now ++ sync_to node.now.stream (own_master node.now) ++ requests_in node.now epoch (own_master node.now)) }
+{
+    append_signs(node, bodies)?;
+    append_sync(node, bodies)?;
+    append_requests(node, epoch, bodies)?;
     Ok(())
 }

@@ -1,5 +1,5 @@
 -- What holds of a node whatever its stream is, and whatever keys it copies from its master, is kept by what it is told of streams.
-use Rattle.std.proofs.Common.{◌≡◌, ℕ, Bool, true, false, cond, [], ◌∷◌, refl}
+use Rattle.std.proofs.Common.{ℕ, Bool, true, false, cond, [], ◌∷◌}
 use Rattle.keyspace.specs.Keyspace.{Keyspace}
 use Rattle.stream_values.specs.Follower.{Follower}
 use Rattle.stream_values.specs.Piece.{PieceVerdict, PieceView, verdict_on}

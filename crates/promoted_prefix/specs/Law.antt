@@ -31,9 +31,13 @@ EachGoesOn full past old [] new goes = ⊤
 EachGoesOn full past old (entry ∷ entries) new goes =
     BeginsSo full goes.1.after (promoted_in entry.deed) × EachGoesOn (streams_after full goes.1.before entry.deed) (entry ∷ past) goes.0 entries new goes.2
 
--- that is so in each run
+-- that is so of these entries, whichever nodes they lead to
+abbrev pub PromotionsGoOn : ClusterConfig → List Entry → Type 0
+PromotionsGoOn config entries = (run : IsRun config entries) → EachGoesOn no_streams [] (first_nodes config) entries run.last run.goes
+
+-- and so of each run
 abbrev pub PromotedPrefix : Type 0
-PromotedPrefix = (config : ClusterConfig) (entries : List Entry) (run : IsRun config entries) → EachGoesOn no_streams [] (first_nodes config) entries run.last run.goes
+PromotedPrefix = (config : ClusterConfig) (entries : List Entry) → PromotionsGoOn config entries
 
 -- ---- in each moment
 

@@ -1,12 +1,12 @@
 //! How far the replicas of a cluster were at its end, on standard error.
 
-use cluster_config::{Config, Role};
 use node_cell::HoldsCell;
 
-/// Tells of each replica how many bytes it has of its master's stream. The nodes are all those of the cluster, by their numbers.
-pub fn tell_followers<C: HoldsCell, R: Eprint>(rt: &R, config: &Config, nodes: &[C]) {
-    for (number, node) in config.nodes().iter().enumerate() {
-        if let Role::Replica { of } = &node.role {
+/// Tells of each node that is a replica now how many bytes it has of its master's stream. The nodes are all those of the cluster, by their
+/// numbers.
+pub fn tell_followers<C: HoldsCell, R: Eprint>(rt: &R, nodes: &[C]) {
+    for (number, node) in nodes.iter().enumerate() {
+        if let Some(of) = node.core().own_master() {
             tell_follower(rt, nodes, number, of.index());
         }
     }

@@ -1,5 +1,5 @@
 //! `rcluster serve --log`: a line on standard error for each thing that happens to a cluster and that no client is told, and for each
-//! slot that arrives at a node or leaves it.
+//! slot that arrives at a node or leaves it, and each node that is promoted.
 
 use crate::failure::Failure;
 use crate::fault::ProgramFault;
@@ -106,6 +106,15 @@ impl fmt::Display for Line {
             } => write!(
                 f,
                 "node {node}: slot {slot} left for node {to}, keys deleted: {deleted}"
+            ),
+            Incident::Promoted {
+                node,
+                master,
+                epoch,
+                offset,
+            } => write!(
+                f,
+                "node {node}: promoted in place of node {master}, epoch: {epoch}, bytes of its stream: {offset}"
             ),
             Incident::Missed(count) => write!(f, "lines that are missing before this one: {count}"),
         }

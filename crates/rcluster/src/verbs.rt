@@ -192,7 +192,7 @@ const JOURNAL: Argument = Argument {
 const LOG: Argument = Argument {
     name: "log",
     value_name: "",
-    help: "Tells on standard error of each client that can't be served, and why, and of each slot that arrives at a node or leaves it, behind the seconds since the beginning",
+    help: "Tells on standard error of each client that can't be served, and why, of each slot that arrives at a node or leaves it, and of each node that is promoted, behind the seconds since the beginning",
     kind: Kind::Flag,
 };
 

@@ -1,4 +1,5 @@
 pub mod Reading
 pub mod Requests
+mod Simulated
 pub mod Splitting
 pub mod Steps

@@ -2,6 +2,7 @@
 use Rattle.std.specs.Prelude.{◌≡◌, ℕ, List}
 use Rattle.std.specs.List.{flat_map}
 use Rattle.cluster_config.specs.Config.{ClusterConfig}
+use Rattle.promoted_prefix.specs.Law.{PromotionsGoOn}
 use Rattle.world_run.specs.Executed.{AreOfOneKeyspace, executed}
 use Rattle.world_run.specs.Law.{HasOneMasterAnEpoch}
 use Rattle.world_run.specs.Promotions.{until_promotion}
@@ -13,7 +14,8 @@ use Rattle.final_answers.specs.Law.{AreAnswered}
 use Rattle.simulator.specs.Printing.{printed}
 
 -- the cluster begins, the steps are played, and what came out of them is printed; the replies of what was executed up to the first
--- promotion are those of one keyspace, no epoch has two masters, and the answer to each call says what became of its command
+-- promotion are those of one keyspace, no epoch has two masters, each promoted node begins with its prefix, and the answer to each call
+-- says what became of its command
 pub record Simulates (config : ClusterConfig) (steps : List Step) (text : List ℕ) : Type 0 where
   pub scene : SceneView
   pub outputs : List Output
@@ -21,4 +23,5 @@ pub record Simulates (config : ClusterConfig) (steps : List Step) (text : List �
   pub prints : text ≡ flat_map printed outputs
   pub one_keyspace : AreOfOneKeyspace (executed (until_promotion scene.run.entries))
   pub one_master : HasOneMasterAnEpoch config.voters scene.run.entries
+  pub promoted_prefix : PromotionsGoOn config scene.run.entries
   pub answers : AreAnswered config steps outputs scene

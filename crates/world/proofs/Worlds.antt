@@ -1,8 +1,8 @@
 -- Steps of a world.
-use Rattle.std.proofs.Common.{◌≡◌, arith, Bool, true, cond, List, [], ◌∷◌, ◌++◌, refl, sym, ap, subst, ◌∙◌, append-nil, append_assoc}
-use Rattle.std.specs.Prelude.{false, reverse}
+use Rattle.std.proofs.Common.{◌≡◌, arith, Bool, true, false, cond, List, [], ◌∷◌, ◌++◌, refl, sym, ap, subst, ◌∙◌, append-nil, append_assoc}
+use Rattle.std.specs.Prelude.{reverse}
 use Rattle.cluster_config.specs.Config.{ClusterConfig, IsCluster}
-use Rattle.world_run.specs.Executed.{KeepsAsking}
+use Rattle.world_run.specs.Executed.{KeepsAsking, MayAsk, answered}
 use Rattle.world_run.specs.Promotions.{ends_one_keyspace, promoted_in, until_promotion}
 use Rattle.world_run.specs.Run.{Entry, Goes, first_nodes}
 use Rattle.world.specs.Plays.{Plays, PlaysAll}
@@ -86,10 +86,12 @@ played_on old new step outputs reached ample same plays =
     }
 
 -- who keeps to the asking rule does so up to the first promotion
+keeps_by_end : (past : List Entry) (entry : Entry) (entries : List Entry) (is_end : Bool) → MayAsk past entry.node (answered entry.deed) → KeepsAsking (entry ∷ past) entries
+    → KeepsAsking past (cond is_end [] (entry ∷ entries))
+keeps_by_end past entry entries true may keeps = tt
+keeps_by_end past entry entries false may keeps = (may, keeps)
+
 pub keeps_until_promotion : (past entries : List Entry) → KeepsAsking past entries → KeepsAsking past (until_promotion entries)
 keeps_until_promotion past [] keeps = keeps
-keeps_until_promotion past (entry ∷ entries) keeps = by_end (ends_one_keyspace (promoted_in entry.deed))
-  where
-    by_end : (is_end : Bool) → KeepsAsking past (cond is_end [] (entry ∷ until_promotion entries))
-    by_end true = tt
-    by_end false = (keeps.0, keeps_until_promotion (entry ∷ past) entries keeps.1)
+keeps_until_promotion past (entry ∷ entries) keeps =
+    keeps_by_end past entry (until_promotion entries) (ends_one_keyspace (promoted_in entry.deed)) keeps.0 (keeps_until_promotion (entry ∷ past) entries keeps.1)

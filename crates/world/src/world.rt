@@ -1,5 +1,6 @@
 //! A world of nodes.
 ghost use Rattle.std.specs.Prelude.{◌≡◌, true, false, IfOk, IfErr, OnOk, OnErr, IsErr};
+ghost use Rattle.promoted_prefix.specs.Law.{PromotionsGoOn};
 ghost use Rattle.world_run.specs.Executed.{AreOfOneKeyspace, executed};
 ghost use Rattle.world_run.specs.Law.{HasOneMasterAnEpoch};
 ghost use Rattle.world_run.specs.Promotions.{until_promotion};
@@ -12,6 +13,7 @@ use crate::scene::Scene;
 use crate::step::Step;
 use cluster_config::Config;
 use one_master::no_epoch_has_two_masters;
+use promoted_prefix::promoted_nodes_go_on;
 use single_keyspace::replies_are_those_of_one_keyspace;
 use std::alloc::{AllocError, Global};
 use std::marker::Model;
@@ -70,6 +72,7 @@ impl World {
         ensures goes_on { GoesOn self.old.scene.run self.new.scene.run }
         ensures one_keyspace { AreOfOneKeyspace (executed (until_promotion self.new.scene.run.entries)) }
         ensures one_master { HasOneMasterAnEpoch self.new.scene.config.voters self.new.scene.run.entries }
+        ensures promoted_prefix { PromotionsGoOn self.new.scene.config self.new.scene.run.entries }
         ensures plays { IfOk result (λ outputs. Plays self.old.scene step outputs.items self.new.scene) }
         ensures ok { OnOk result ((self.old.refused ≡ false) × (self.new.refused ≡ false)) }
         ensures err { OnErr result (self.new.refused ≡ true) }
@@ -86,6 +89,7 @@ impl World {
         ensures goes_on { GoesOn self.old.scene.run self.new.scene.run }
         ensures one_keyspace { AreOfOneKeyspace (executed (until_promotion self.new.scene.run.entries)) }
         ensures one_master { HasOneMasterAnEpoch self.new.scene.config.voters self.new.scene.run.entries }
+        ensures promoted_prefix { PromotionsGoOn self.new.scene.config self.new.scene.run.entries }
         ensures plays { IfOk result (λ outputs. PlaysAll self.old.scene steps.now outputs.items self.new.scene) }
         ensures ok { OnOk result ((self.old.refused ≡ false) × (self.new.refused ≡ false)) }
         ensures err { OnErr result (self.new.refused ≡ true) }
@@ -149,9 +153,11 @@ impl World {
     fn obeys_laws(&self)
         ensures one_keyspace { AreOfOneKeyspace (executed (until_promotion self.now.scene.run.entries)) }
         ensures one_master { HasOneMasterAnEpoch self.now.scene.config.voters self.now.scene.run.entries }
+        ensures promoted_prefix { PromotionsGoOn self.now.scene.config self.now.scene.run.entries }
     {
         let _config = self.scene.config();
         replies_are_those_of_one_keyspace();
         no_epoch_has_two_masters();
+        promoted_nodes_go_on();
     }
 }

@@ -1,7 +1,15 @@
-use Rattle.election_rows.proofs.VoteLemmas.{signs_appended}
+use Rattle.std.proofs.Common.{◌++◌, ℕ, List, ap, ◌∙◌}
+use Rattle.std.proofs.lemmas.List.{append_assoc}
+use Rattle.bus.specs.declared.message.Body.{Body}
+use Rattle.bus.specs.declared.message.Body.TheVariants.{Claim, Report}
+use Rattle.election.specs.Failing.{suspected}
+use Rattle.node_step.specs.Failing.{members_of}
+use Rattle.node_step.specs.Orders.{claim_of, others, to_all}
 use Rattle.election_rows.proofs.signs.append_signs.Goals as goal
 
 pub returns : goal.returns
 returns g c =
-    signs_appended c.args.node.now c.args.bodies.now.items c.append_to_others.new.bodies.items c.append_to_others-2.new.bodies.items c.in_ok-claim.field-0 c.report.result
-    c.in_ok-claim.ensures c.report.ensures c.in_ok-append_to_others.ensures c.in_ok-append_to_others-2.ensures
+    let node = c.args.node.now in
+    let claims : List (ℕ × Body) = to_all (others node) (Claim (claim_of node) node.replaced) in
+    let reports : List (ℕ × Body) = to_all (others node) (Report (suspected node.health (members_of node))) in
+    c.in_ok-append_reports.ensures ∙ ap (λ (bodies : List (ℕ × Body)). bodies ++ reports) c.in_ok-append_claims.ensures ∙ append_assoc c.args.bodies.now.items claims reports

@@ -1,4 +1,4 @@
-use Rattle.std.proofs.Common.{rules, ◌≡◌, ◌<◌, ◌≤◌, ◌-◌, ◌∙◌, length, get_or, ap}
+use Rattle.std.proofs.Common.{rules, ◌≡◌, ◌∙◌, get_or, ap}
 use Rattle.bus.specs.declared.message.Message.{Message}
 use Rattle.links.proofs.PaceLemmas.{goes_on, too_long}
 use Rattle.links.proofs.pace.are_long.Goals as goal

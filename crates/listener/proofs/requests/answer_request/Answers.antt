@@ -1,4 +1,4 @@
-use Rattle.std.proofs.Common.{refl, sym, ◌∙◌, List, ℕ, Some}
+use Rattle.std.proofs.Common.{refl, sym, ◌∙◌, List, ℕ}
 use Rattle.std.proofs.lemmas.Result.{err_from_is_err_and}
 use Rattle.listener.specs.Streams.{IsAllowed}
 use Rattle.listener.proofs.DeskLemmas.{adds_wait, answers_at_once, answers_later, halts_at_once, halts_later, halts_refused, halts_unanswered, halts_waited, refusals_are_of_answering}

@@ -1,5 +1,6 @@
 use Rattle.std.proofs.Common.{◌∙◌, [], ap, subst, length}
 use Rattle.merged_run.specs.Settled.{AreSettled}
+use Rattle.promoted_prefix.specs.Law.{PromotionsGoOn}
 use Rattle.world_run.specs.Executed.{AreOfOneKeyspace, KeepsAsking, executed}
 use Rattle.world_run.specs.Law.{HasOneMasterAnEpoch}
 use Rattle.world_run.specs.Promotions.{until_promotion}
@@ -29,3 +30,6 @@ pub returns-clause-one_master : goal.returns-clause-one_master
 returns-clause-one_master c =
     subst (λ (run : RunView). HasOneMasterAnEpoch run.config.voters run.entries) c.self.view_is
     (c.no_epoch_has_two_masters.ensures _ _ (journals_are_a_run _ _ _ c.self.invariant).run)
+
+pub returns-clause-promoted_prefix : goal.returns-clause-promoted_prefix
+returns-clause-promoted_prefix c = subst (λ (run : RunView). PromotionsGoOn run.config run.entries) c.self.view_is (c.promoted_nodes_go_on.ensures _ _)

@@ -1,5 +1,4 @@
-use Rattle.std.proofs.Common.{◌≡◌, ◌==◌, not, true, false, ap, refl, subst, sym, ◌∙◌}
-use Rattle.bus.specs.declared.message.Message.{Message}
+use Rattle.std.proofs.Common.{◌≡◌, ◌==◌, not, false, ap, refl, subst, sym, ◌∙◌}
 use Rattle.node_core.proofs.MessageLemmas.{passed_by, taken_is_step}
 use Rattle.node_core.proofs.StepLemmas.{if_made, offset_alike}
 use Rattle.node_core.specs.Comes.{MayBeTaken}

@@ -1,4 +1,5 @@
 use Rattle.std.proofs.Common.{[], subst}
+use Rattle.promoted_prefix.specs.Law.{PromotionsGoOn}
 use Rattle.world.specs.View.{WorldView}
 use Rattle.world_run.specs.Executed.{AreOfOneKeyspace, executed}
 use Rattle.world_run.specs.Law.{HasOneMasterAnEpoch}
@@ -18,3 +19,8 @@ returns-clause-one_master c =
     let scene = c.self.inside.scene in
     subst (λ (world : WorldView). HasOneMasterAnEpoch world.scene.config.voters world.scene.run.entries) c.self.view_is
     (c.no_epoch_has_two_masters.ensures scene.config scene.run.entries (record { last = scene.run.nodes; goes = c.self.invariant.goes }))
+
+pub returns-clause-promoted_prefix : goal.returns-clause-promoted_prefix
+returns-clause-promoted_prefix c =
+    let scene = c.self.inside.scene in
+    subst (λ (world : WorldView). PromotionsGoOn world.scene.config world.scene.run.entries) c.self.view_is (c.promoted_nodes_go_on.ensures scene.config scene.run.entries)

@@ -1,4 +1,4 @@
-//! The slots that leave a node by what other nodes say.
+//! What messages of other nodes change in a node.
 
 use crate::witness::{Incident, Witness};
 use key_slot::Slot;
@@ -8,16 +8,19 @@ use std::alloc::Global;
 use std::rt::Clock;
 use std::sync::{Arc, Wait};
 
-/// Has the witness see each slot that leaves the node of that number. Where nobody listens it looks at nothing but that.
+/// Has the witness see each slot that leaves the node of that number, and that the node is promoted. Where nobody listens it looks at
+/// nothing but that.
 ///
-/// A slot leaves by a message, so it looks before each one and behind it, under one hold of the node's lock. One for which it has no
+/// Both happen by a message, so it looks before each one and behind it, under one hold of the node's lock. A slot for which it has no
 /// memory isn't seen.
 #[derive(Drop)]
-pub(crate) struct Departures {
+pub(crate) struct Changes {
     witness: Arc<Witness, Global>,
     node: usize,
     // The slots that were on their way before the message.
     leaving: Vec<Leaving>,
+    // Whether the node had been promoted before it.
+    was_promoted: bool,
 }
 
 // A slot that is on its way to another node, and how many of its keys the node holds.
@@ -27,13 +30,14 @@ struct Leaving {
     keys: usize,
 }
 
-impl Departures {
-    /// Those from the node of that number.
-    pub(crate) fn new(alloc: Global, witness: Arc<Witness, Global>, node: usize) -> Departures {
-        Departures {
+impl Changes {
+    /// Those in the node of that number.
+    pub(crate) fn new(alloc: Global, witness: Arc<Witness, Global>, node: usize) -> Changes {
+        Changes {
             witness,
             node,
             leaving: Vec::new(alloc),
+            was_promoted: false,
         }
     }
 
@@ -42,13 +46,32 @@ impl Departures {
         if self.witness.is_heard() {
             self.leaving.clear();
             note_all(cell, &mut self.leaving);
+            self.was_promoted = cell.core().replaced().is_some();
         }
     }
 
-    /// Has the witness see those of the slots that are another node's now.
+    /// Has the witness see those of the slots that are another node's now, and whether the node is a master now.
     pub(crate) fn tell<C: HoldsCell, R: Clock + Wait>(&self, rt: &R, cell: &C) {
+        if !self.witness.is_heard() {
+            return;
+        }
         for leaving in self.leaving.iter() {
             self.tell_of(rt, cell, *leaving);
+        }
+        if !self.was_promoted {
+            self.tell_of_promotion(rt, cell);
+        }
+    }
+
+    fn tell_of_promotion<C: HoldsCell, R: Clock + Wait>(&self, rt: &R, cell: &C) {
+        if let Some(replaced) = cell.core().replaced() {
+            let promoted = Incident::Promoted {
+                node: self.node,
+                master: replaced.master.index(),
+                epoch: replaced.stream.epoch.get(),
+                offset: replaced.offset,
+            };
+            self.witness.see(rt, promoted);
         }
     }
 
