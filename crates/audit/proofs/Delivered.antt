@@ -1,9 +1,9 @@
 -- What stations received was sent.
-use Rattle.std.proofs.Common.{◌≡◌, ◌<◌, ◌+◌, ◌==◌, ◌∙◌, ◌⊎◌, ℕ, Bool, true, false, cond, zero, suc, List, [], ◌∷◌, ◌++◌, length, map, get_or, refl, sym, ap, subst, inl, inr, arith}
+use Rattle.std.proofs.Common.{◌≡◌, ◌<◌, ◌==◌, ◌∙◌, ◌⊎◌, ℕ, Bool, true, false, cond, suc, List, [], ◌∷◌, ◌++◌, length, map, get_or, refl, sym, ap, subst, inl, inr, arith}
 use Rattle.std.specs.Prelude.{All, Contains}
-use Rattle.std.specs.List.{filter, flat_map, range_with_len}
-use Rattle.std.proofs.lemmas.List.{get_or_default, get_or-map, length-map}
-use Rattle.std.proofs.lemmas.List.Elements.{All-contains, Contains-append_cases, Contains-append_left, Contains-append_right, Contains-get_or}
+use Rattle.std.specs.List.{filter, flat_map}
+use Rattle.std.proofs.lemmas.List.{get_or-map, length-map}
+use Rattle.std.proofs.lemmas.List.Elements.{Contains-append_cases, Contains-append_left, Contains-append_right, Contains-get_or}
 use Rattle.std.proofs.lemmas.List.FromFn.{get_or-range_with_len}
 use Rattle.atomic_table.specs.Seated.{TableId}
 use Rattle.bus.specs.declared.message.Message.{Message}
@@ -11,7 +11,7 @@ use Rattle.cluster_config.specs.Config.{ClusterConfig}
 use Rattle.links.specs.Ends.{AllArrived, AreWired, EndView, end_at, no_end}
 use Rattle.links.specs.Ports.{PortView}
 use Rattle.links.specs.Stations.{IsStation, StationView, all_sent, all_taken, end_of, for_node, port_at, port_of, sent_by, taken_by}
-use Rattle.node_cell.specs.Journal.{CellView, IsHistory, no_cluster}
+use Rattle.node_cell.specs.Journal.{no_cluster}
 use Rattle.node_cell.specs.declared.entry.Entry.{Entry}
 use Rattle.node_cell.specs.declared.entry.Entry.TheVariants.{Step, Skipped}
 use Rattle.node_step.specs.State.{first_state}

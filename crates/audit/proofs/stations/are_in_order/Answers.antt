@@ -1,4 +1,4 @@
-use Rattle.std.proofs.Common.{rules, ◌≡◌, ◌≢◌, arith, ◌∙◌, sym, ap}
+use Rattle.std.proofs.Common.{rules, arith}
 use Rattle.audit.proofs.Ordering.{all_in_order, in_order_more, not_in_order}
 use Rattle.audit.proofs.stations.are_in_order.Goals as goal
 

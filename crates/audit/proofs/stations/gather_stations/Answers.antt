@@ -1,9 +1,9 @@
-use Rattle.std.proofs.Common.{rules, ◌≡◌, ◌∙◌, ℕ, List, length, map, sym, ap, subst}
+use Rattle.std.proofs.Common.{rules, ◌≡◌, ℕ, List, length, sym, subst}
 use Rattle.bus.specs.declared.message.Message.{Message}
 use Rattle.links.specs.Ends.{AllArrived, AreWired, EndView}
 use Rattle.audit.specs.Gathered.{parts_of}
 use Rattle.audit.specs.Merge.{AreEachOnce, PartView, nodes_of}
-use Rattle.audit.specs.Stations.{AreInOrder, cells_of, ends_of}
+use Rattle.audit.specs.Stations.{AreInOrder, cells_of}
 use Rattle.audit.proofs.Delivered.{all_sound, wired}
 use Rattle.audit.proofs.Ordering.{each_once, some_are_there}
 use Rattle.audit.proofs.stations.gather_stations.Goals as goal

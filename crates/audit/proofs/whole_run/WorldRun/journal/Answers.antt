@@ -1,4 +1,4 @@
-use Rattle.std.proofs.Common.{rules, ◌≡◌, ◌<◌, ◌∙◌, List, length, map, ap, subst, sym}
+use Rattle.std.proofs.Common.{rules, ◌≡◌, ◌<◌, ◌∙◌, List, length, map, ap, sym}
 use Rattle.node_cell.specs.declared.entry.Entry.{Entry as JournalEntry}
 use Rattle.merged_run.specs.Merged.{entries_of}
 use Rattle.audit.specs.Law.{RunView}
