@@ -46,6 +46,7 @@ def main(words):
     report.say(f"\n{machine()}; Redis {servers.redis_version()} beside it; load at the start {os.getloadavg()[0]:.1f}.")
     failovers(report)
     idle_nodes(report)
+    report.say(f"\nLoad at the end {os.getloadavg()[0]:.1f}.")
     if out:
         with open(out, "w", encoding="utf-8") as file:
             file.write("\n".join(report.lines) + "\n")

@@ -38,7 +38,7 @@ SOON = 1.5
 
 # ---- one master
 
-# Which node is stopped after how many of its ticks, and how many ticks more than `node_timeout` its replica may take.
+# Which node is stopped after how many of its ticks, and by how many ticks more or fewer than `node_timeout` its replica may take its place.
 STOPPED, STOP, MORE_TICKS = 2, 20, 5
 TICKS, TICK_MS = 70, 100
 # How many keys it has, and a key of the first master in another slot than that of `KEYS`.
@@ -181,7 +181,7 @@ def judge_promotion(judge, ports, server):
     judge.equal("what the replica answers, one after the other", [it for it, _ in itertools.groupby(answer for _, answer in told)], [redirection, bulk(b"4")])
     taken = min((when for when, answer in told if answer != redirection), default=float("inf"))
     judge.most("seconds until it takes the place", taken - server.begun, over - server.begun)
-    judge.least("seconds until it takes the place", taken - server.begun, (STOP + NODE_TIMEOUT - 2) * TICK_MS / 1000)
+    judge.least("seconds until it takes the place", taken - server.begun, (STOP + NODE_TIMEOUT - MORE_TICKS) * TICK_MS / 1000)
 
 
 def watch(port, request, told, ended):
