@@ -137,7 +137,7 @@ const MASTERS: Argument = Argument {
 const REPLICAS: Argument = Argument {
     name: "replicas",
     value_name: "R",
-    help: "How many replicas each of these masters has, 0 if missing, 16 nodes in all; they hold no keys yet, and answer MOVED",
+    help: "How many replicas each of these masters has, 0 if missing, 16 nodes in all; they follow their masters' writes, answer MOVED, and where three masters or more vote one takes the place of a master that stops",
     kind: Kind::NumberBeside {
         one: "masters",
         other: "config",
