@@ -98,4 +98,6 @@ fn serve<K: Deployment, R: Wait + Drop>(
         &mut Counting::new(stream),
         &mut Counting::new(stream),
     );
+    // What the conversation still holds of the node is let go here.
+    drop(gate);
 }

@@ -95,7 +95,7 @@ impl<K: Deployment> Nodes<K> {
         };
         let mut gate = Gate::new(rt, &**node, self.begin());
         let ticked = gate.step(Event::Tick).is_ok();
-        gate.release();
+        drop(gate);
         ticked
     }
 
