@@ -1,5 +1,6 @@
 -- Bytes that wait, go out, or go out in part.
-use Rattle.std.proofs.Common.{◌≡◌, ℕ, List, [], ◌++◌, append_assoc, append-nil, Ok, Err, OnErr, OnOk, Result, sym, ◌∙◌, ap, subst}
+use Rattle.std.proofs.Common.{◌≡◌, ◌+◌, ℕ, List, [], ◌++◌, append_assoc, append-nil, drop, take, Ok, Err, OnErr, OnOk, Result, sym, ◌∙◌, ap, subst}
+use Rattle.std.proofs.lemmas.List.{drop-drop, take-append-drop}
 use Rattle.std.specs.Io.KnownBytes.{Appends}
 use Rattle.std.proofs.KnownBytes.{Appends-nil, Appends-trans}
 use Rattle.resp2.specs.Counting.{HasRisen}
@@ -88,3 +89,14 @@ pub fails_alone : {T E : Type 0} (r : Result T E) (a b c : Stream) (x y p : List
 fails_alone (Ok value) a b c x y p sent alone fails = tt
 fails_alone (Err error) a b c x y p sent alone fails =
     fails_behind a b c x p sent (subst (λ w. AppendsBeginning b.bytes c.bytes w) alone fails.begun) fails.risen
+
+-- some of what is left of the batch went out
+pub puts_some : (a b : Stream) (batch left : List ℕ) (sent count : ℕ) → Appends a.bytes b.bytes (take count (drop sent batch)) → left ≡ drop (sent + count) batch
+    → Puts (change a b) (change (drop sent batch) left) []
+puts_some a b batch left sent count wrote rest =
+    record {
+      sent = take count (drop sent batch);
+      appends = wrote;
+      all = ap (λ w. take count (drop sent batch) ++ w) (rest ∙ sym (drop-drop count sent batch)) ∙ take-append-drop count (drop sent batch)
+          ∙ sym (append-nil (drop sent batch));
+    }

@@ -2,3 +2,4 @@ pub mod HistoryLemmas
 pub mod BatchLemmas
 pub mod DeskLemmas
 pub mod TalkLemmas
+pub mod TurnLemmas

@@ -11,6 +11,7 @@ use Rattle.listener.specs.Streams.{Change, Stream, change}
 use Rattle.listener.specs.Conversation.{IsUnopened, Serves, Tells, fault_of, line_of, replies_bytes}
 use Rattle.listener.specs.Conversation.IsUnopened.{no_room, was_refused, gave_none}
 use Rattle.listener.specs.Progress.{Closes, Opens, Puts, Refuses, Stops, Talks}
+use Rattle.listener.specs.Turns.{Leaves}
 use Rattle.listener.proofs.HistoryLemmas.{adds_again}
 use Rattle.listener.proofs.BatchLemmas.{fails_after, puts_longer, puts_nothing, sends_after}
 use Rattle.listener.proofs.DeskLemmas.{writes_on}
@@ -64,11 +65,11 @@ module _ (allowed : Asked → Type 0) where
       }
 
   -- a connection was opened, and closed at last
-  pub talks_opened : (a b c d : List Asked) (conn : Conn) (ended : Result Rest ConnFault) (input : Change Stream) (old new : Stream) (waiting : List ℕ)
+  pub talks_opened : (a b c d : List Asked) (conn : Conn) (ended : Result Rest ConnFault) (input : Change Stream) (old new : Stream) (pending waiting : List ℕ)
       → Opens allowed (change a b) conn
-      → Stops allowed conn ended input (record { asked = b; pending = []; waiting = []; out = old }) (record { asked = c; pending = []; waiting = waiting; out = new })
+      → Stops allowed conn ended input (record { asked = b; pending = []; waiting = []; out = old }) (record { asked = c; pending = pending; waiting = waiting; out = new })
       → Closes allowed (change c d) conn → Talks allowed (change a d) input (change old new) ended waiting
-  talks_opened a b c d conn ended input old new waiting opens stops closes =
+  talks_opened a b c d conn ended input old new pending waiting opens stops closes =
       let halts = stops.halts in
       record {
         replies = replies_bytes halts.exchanges;
@@ -118,3 +119,25 @@ module _ (allowed : Asked → Type 0) where
       in_full other =
           tells_last result ended a b c waiting talks.replies (line_of ended) (rw (talks.waits other) at talks.puts)
           (talks.count.same other) (told other)
+
+  -- there was no connection, and the client is told so
+  pub leaves_unopened : (asked : Change (List Asked)) (input output : Stream) (fault : ConnFault) → Refuses allowed asked fault
+      → Leaves allowed asked (change input input) (change output output) (Err fault) (line_of (Err fault))
+  leaves_unopened asked input output fault refuses =
+      record { left = []; talks = talks_unopened asked input output fault [] refuses refl; told = refl }
+
+  -- a connection was opened and closed, and the client is told why
+  pub leaves_opened : (a b c d : List Asked) (conn : Conn) (ended : Result Rest ConnFault) (input : Change Stream) (old new : Stream) (pending waiting farewell : List ℕ)
+      → Opens allowed (change a b) conn
+      → Stops allowed conn ended input (record { asked = b; pending = []; waiting = []; out = old }) (record { asked = c; pending = pending; waiting = waiting; out = new })
+      → Closes allowed (change c d) conn → farewell ≡ waiting ++ line_of ended
+      → Leaves allowed (change a d) input (change old new) ended farewell
+  leaves_opened a b c d conn ended input old new pending waiting farewell opens stops closes told =
+      record { left = waiting; talks = talks_opened a b c d conn ended input old new pending waiting opens stops closes; told = told }
+
+  -- the client was told what it was to be sent, if the writer didn't fail before
+  pub serves_left : (asked : Change (List Asked)) (input : Change Stream) (a b c : Stream) (ended : Result Rest ConnFault) (farewell : List ℕ) (result : Result (Unit {0}) ConnFault)
+      → Leaves allowed asked input (change a b) ended farewell → (ended ≢ Err Writer → Tells result ended (change b c) farewell)
+      → (ended ≡ Err Writer → (result ≡ Err Writer) × (c ≡ b)) → Serves allowed asked input (change a c) result
+  serves_left asked input a b c ended farewell result leaves told silent =
+      serves asked input a b c ended leaves.left result leaves.talks (λ other. rw leaves.told at told other) silent

@@ -1,3 +1,4 @@
 pub mod Conversation
 pub mod Progress
 pub mod Streams
+pub mod Turns

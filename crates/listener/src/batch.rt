@@ -1,80 +1,190 @@
-//! Replies on their way to a client: those of one read go out together.
-ghost use Rattle.std.specs.Prelude.{◌≡◌, ◌++◌, [], OnOk, OnErr, MatchBool};
+//! The batch of replies that go out together, and what is written behind it.
+ghost use Rattle.std.specs.Prelude.{◌≡◌, ◌+◌, ◌≤◌, ◌++◌, [], false, vec_len, OnOk, OnErr, IfErr, MatchBool, drop};
 ghost use Rattle.resp_values.specs.Reply.{reply_spelling};
 ghost use Rattle.listener.specs.Conversation.{error_bytes};
-ghost use Rattle.listener.specs.Streams.{Fails, Sends, streams};
+ghost use Rattle.listener.specs.Progress.{Puts};
+ghost use Rattle.listener.specs.Streams.{Fails, Sends, change, streams};
+ghost use Rattle.listener.specs.Turns.{held_bytes, reply_in};
 
+use crate::fault::ConnFault;
+use crate::outgoing::Held;
 use command_table::ErrorLine;
+use node_gate::Answered;
+use node_step::Response;
 use resp2::{Counting, Element, Reply, append_reply, send_reply};
 use std::io;
-use std::io::Write;
-
-// A batch that has grown so far is written before the next reply. So a client that asks for much and reads slowly
-// costs this and one reply at most, and not the replies to all that it sent.
-const MOST_WAITING: usize = 65_536;
+use std::io::{ErrorKind, Write};
 
 // A longer value is written from where it stands: to copy it would cost more than a write of its own.
 const LONG_VALUE: usize = 16_384;
 
-/// Writes what waits, and the reply behind it.
-pub fn send<W: Write>(
-    reply: &Reply,
-    batch: &mut Vec<u8>,
-    writer: &mut Counting<W>,
-) -> io::Result<()>
-    ensures ok { OnOk result (Sends (streams W.contents writer.old writer.new)
-        (batch.old.items ++ reply_spelling reply.now)) }
-    ensures empty { OnOk result (batch.new.items ≡ []) }
-    ensures err { OnErr result (Fails (streams W.contents writer.old writer.new)
-        (batch.old.items ++ reply_spelling reply.now)) }
-{
-    flush(batch, writer)?;
-    // A reply of many parts is one write where it fits alone, and not one for each part.
-    if fits_in(reply, batch) {
-        return flush(batch, writer);
-    }
-    send_reply(reply, writer)
+/// What a write did that doesn't wait.
+#[derive(Clone, Copy, PartialEq, Eq, Debug)]
+pub(crate) enum Wrote {
+    /// There was nothing to write.
+    Nothing,
+    Some,
+    /// The writer takes nothing now.
+    Blocked,
 }
 
-/// Appends a short reply to a batch that isn't full, where memory allows, and says whether it did.
-pub fn fits_in(reply: &Reply, batch: &mut Vec<u8>) -> bool
+/// Appends the reply in the response, if it is short, where memory allows, and says whether it did.
+pub(crate) fn fits(response: &Response, batch: &mut Vec<u8>) -> bool
+    ensures { MatchBool result (batch.new.items ≡ batch.old.items ++ reply_in response.now)
+        (batch.new.items ≡ batch.old.items) }
+{
+    match response {
+        Response::Replied(answer) => fits_in(&answer.reply, batch),
+        _ => false,
+    }
+}
+
+/// Appends a short reply, where memory allows, and says whether it did.
+pub(crate) fn fits_in(reply: &Reply, batch: &mut Vec<u8>) -> bool
     ensures { MatchBool result (batch.new.items ≡ batch.old.items ++ reply_spelling reply.now)
         (batch.new.items ≡ batch.old.items) }
 {
-    if batch.len() >= MOST_WAITING || is_long(reply) {
+    if is_long(reply) {
         return false;
     }
     append_reply(reply, batch).is_ok()
 }
 
-/// Writes what waits.
-pub fn flush<W: Write>(batch: &mut Vec<u8>, writer: &mut Counting<W>) -> io::Result<()>
-    ensures ok { OnOk result (Sends (streams W.contents writer.old writer.new) batch.old.items) }
-    ensures empty { OnOk result (batch.new.items ≡ []) }
-    ensures err { OnErr result (Fails (streams W.contents writer.old writer.new) batch.old.items) }
+/// Appends the line, where memory allows, and says whether it did.
+pub(crate) fn line_fits(line: ErrorLine, batch: &mut Vec<u8>) -> bool
+    ensures { MatchBool result (batch.new.items ≡ batch.old.items ++ error_bytes line)
+        (batch.new.items ≡ batch.old.items) }
 {
-    if batch.is_empty() {
-        return Ok(());
+    let reply = line.reply();
+    fits_in(&reply, batch)
+}
+
+/// Appends what is held, however long it is, where memory allows, and says whether it did.
+pub(crate) fn puts_held<S: Answered>(held: &Held<S>, batch: &mut Vec<u8>) -> bool
+    ensures put { MatchBool result (batch.new.items ≡ batch.old.items ++ held_bytes S.gave held.now)
+        (batch.new.items ≡ batch.old.items) }
+    ensures parked { held.now ≡ Held.Parked → result ≡ false }
+{
+    match held {
+        Held::Step(step) => match step.response() {
+            Response::Replied(answer) => append_reply(&answer.reply, batch).is_ok(),
+            _ => false,
+        },
+        Held::Reply(reply) => append_reply(reply, batch).is_ok(),
+        Held::Nothing => false,
+        Held::Parked => false,
     }
-    writer.write_all(batch.as_slice())?;
+}
+
+/// Writes what is left of the batch, of which so many bytes were sent.
+pub(crate) fn flush<W: Write>(
+    batch: &mut Vec<u8>,
+    sent: &mut usize,
+    writer: &mut Counting<W>,
+) -> io::Result<()>
+    ensures ok { OnOk result (Sends (streams W.contents writer.old writer.new) (drop sent.old batch.old.items)) }
+    ensures empty { OnOk result ((batch.new.items ≡ []) × (sent.new ≡ 0)) }
+    ensures err { OnErr result (Fails (streams W.contents writer.old writer.new) (drop sent.old batch.old.items)) }
+{
+    if let Some(rest) = batch.get(*sent..)
+        && !rest.is_empty()
+    {
+        writer.write_all(rest)?;
+    }
     batch.clear();
+    *sent = 0;
     Ok(())
 }
 
-/// Writes what waits, and an error behind it.
-pub fn say<W: Write>(
-    line: ErrorLine,
+/// Writes what is held behind an empty batch.
+pub(crate) fn send_held<W: Write, S: Answered>(
+    held: &Held<S>,
     batch: &mut Vec<u8>,
     writer: &mut Counting<W>,
 ) -> io::Result<()>
-    ensures ok { OnOk result (Sends (streams W.contents writer.old writer.new) (batch.old.items ++ error_bytes line)) }
-    ensures err { OnErr result (Fails (streams W.contents writer.old writer.new) (batch.old.items ++ error_bytes line)) }
+    requires { batch.old.items ≡ [] }
+    ensures ok { OnOk result (Sends (streams W.contents writer.old writer.new) (held_bytes S.gave held.now)) }
+    ensures empty { OnOk result (batch.new.items ≡ []) }
+    ensures err { OnErr result (Fails (streams W.contents writer.old writer.new) (held_bytes S.gave held.now)) }
 {
-    let reply = line.reply();
-    if fits_in(&reply, batch) {
-        return flush(batch, writer);
+    match held {
+        Held::Step(step) => match step.response() {
+            Response::Replied(answer) => send_alone(&answer.reply, batch, writer),
+            _ => Ok(()),
+        },
+        Held::Reply(reply) => send_alone(reply, batch, writer),
+        Held::Nothing => Ok(()),
+        Held::Parked => Ok(()),
     }
-    send(&reply, batch, writer)
+}
+
+/// Writes a reply behind an empty batch.
+pub(crate) fn send_alone<W: Write>(
+    reply: &Reply,
+    batch: &mut Vec<u8>,
+    writer: &mut Counting<W>,
+) -> io::Result<()>
+    requires { batch.old.items ≡ [] }
+    ensures ok { OnOk result (Sends (streams W.contents writer.old writer.new) (reply_spelling reply.now)) }
+    ensures empty { OnOk result (batch.new.items ≡ []) }
+    ensures err { OnErr result (Fails (streams W.contents writer.old writer.new) (reply_spelling reply.now)) }
+{
+    // A reply of many parts is one write where it is short, and not one for each part.
+    if fits_in(reply, batch) {
+        return flush(batch, &mut 0, writer);
+    }
+    send_reply(reply, writer)
+}
+
+/// Writes some of what is left of the batch, of which so many bytes were sent.
+pub(crate) fn write_once<W: Write>(
+    batch: &mut Vec<u8>,
+    sent: &mut usize,
+    writer: &mut Counting<W>,
+) -> Result<Wrote, ConnFault>
+    ensures put { Puts (streams W.contents writer.old writer.new) (change (drop sent.old batch.old.items) (drop sent.new batch.new.items)) [] }
+    ensures err { IfErr result (λ fault. fault ≡ ConnFault.Writer) }
+{
+    let rest = rest_of(batch.as_slice(), *sent);
+    if rest.is_empty() {
+        return Ok(Wrote::Nothing);
+    }
+    match writer.write(rest) {
+        Ok(count) => {
+            if count == 0 {
+                return Err(ConnFault::Writer);
+            }
+            note_sent(batch, sent, count);
+            Ok(Wrote::Some)
+        }
+        Err(error) => match error.kind() {
+            ErrorKind::WouldBlock => Ok(Wrote::Blocked),
+            ErrorKind::Interrupted => Ok(Wrote::Some),
+            _ => Err(ConnFault::Writer),
+        },
+    }
+}
+
+// What is left of the batch, of which so many bytes were sent.
+fn rest_of(batch: &[u8], sent: usize) -> &[u8]
+    ensures { result.now ≡ drop sent batch.now }
+{
+    match batch.get(sent..) {
+        Some(rest) => rest,
+        None => &[],
+    }
+}
+
+// Notes that so many more bytes of the batch were sent.
+fn note_sent(batch: &mut Vec<u8>, sent: &mut usize, count: usize)
+    requires { sent.old + count ≤ vec_len batch.old }
+    ensures { drop sent.new batch.new.items ≡ drop (sent.old + count) batch.old.items }
+{
+    *sent += count;
+    if *sent == batch.len() {
+        batch.clear();
+        *sent = 0;
+    }
 }
 
 fn is_long(reply: &Reply) -> bool {

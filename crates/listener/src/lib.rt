@@ -3,8 +3,16 @@
 
 mod batch;
 mod connection;
+mod farewell;
 mod fault;
+mod input;
+mod outgoing;
 mod requests;
+mod talk;
 
 pub use connection::serve_conn;
+pub use farewell::Farewell;
 pub use fault::ConnFault;
+pub use outgoing::Left;
+pub use requests::{Next, Rest};
+pub use talk::Talk;

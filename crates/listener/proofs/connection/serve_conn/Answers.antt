@@ -1,9 +1,9 @@
 use Rattle.std.proofs.Common.{ap}
 use Rattle.listener.specs.Streams.{stream_of}
-use Rattle.listener.proofs.TalkLemmas.{serves}
+use Rattle.listener.proofs.TalkLemmas.{serves_left}
 use Rattle.listener.proofs.connection.serve_conn.Goals as goal
 
 pub returns : goal.returns
 returns g c =
-    serves _ _ _ _ _ _ _ _ _ c.talk-ended.ensures c.tell.ensures.told
+    serves_left _ _ _ _ _ _ _ _ _ c.talk-over.ensures c.tell.ensures.told
     (λ e. let quiet = c.tell.ensures.silent e in (quiet.0, ap (stream_of g.W.Write.contents) quiet.1))

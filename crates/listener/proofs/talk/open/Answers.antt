@@ -1,7 +1,7 @@
 use Rattle.std.proofs.Common.{refl}
 use Rattle.std.proofs.lemmas.Result.{err_from_is_err_and}
 use Rattle.listener.specs.Conversation.IsUnopened.{was_refused, gave_none}
-use Rattle.listener.proofs.connection.open.Goals as goal
+use Rattle.listener.proofs.talk.open.Goals as goal
 
 pub returns-in_err-step-clause-err : goal.returns-in_err-step-clause-err
 returns-in_err-step-clause-err g c =

@@ -1,0 +1,174 @@
+//! A conversation between two turns.
+ghost use Rattle.std.specs.Prelude.{◌≡◌, ◌≢◌, ◌⊎◌, ◌<◌, ◌++◌, [], length, Err, Ok, None, IfOk, IfErr, OnOk, OnErr, MatchBool};
+ghost use Rattle.resp_values.specs.Reply.{reply_spelling};
+ghost use Rattle.listener.specs.Conversation.{line_of};
+ghost use Rattle.listener.specs.Progress.{Closes, Halts, IsOfAnswering, Opens, Puts, Refuses};
+ghost use Rattle.listener.specs.Streams.{Fails, IsAllowed, Sends, Stream, change, streams};
+ghost use Rattle.listener.specs.Turns.{EndsTurn, HasRoom, IsParked, Turns, desk_of, farewell_of, waiting_of};
+
+use crate::farewell::Farewell;
+use crate::fault::ConnFault;
+use crate::outgoing::{Held, Left, Outgoing};
+use crate::requests::{Next, Rest, answer_some, ask_alone};
+use connections::Conn;
+use node_gate::{Answered, NodeGate};
+use node_step::{Event, Response};
+use resp2::{Counting, Reader, Reply};
+use std::alloc::Global;
+use std::io;
+use std::io::Write;
+
+/// A conversation between two of its turns: its connection, the bytes that are not answered yet, and what the client is still to be
+/// sent.
+///
+/// A turn takes the bytes that came ([`read`](Talk::read)), has the node answer requests ([`answer`](Talk::answer)), and sends replies
+/// ([`finish`](Talk::finish)). None of them waits for the client, so one thread serves many.
+#[derive(Drop)]
+pub struct Talk<S> {
+    pub(crate) conn: Conn,
+    pub(crate) requests: Reader,
+    pub(crate) outgoing: Outgoing<S>,
+}
+
+impl<S: Answered + Drop> Talk<S> {
+    /// Opens a connection at the node.
+    pub fn begin<G: NodeGate<Answer = S>>(alloc: Global, gate: &mut G) -> Result<Talk<S>, ConnFault>
+        ensures opened { IfOk result (λ talk. Opens (IsAllowed G.may G.may_refuse G.may_give) (change (G.asked gate.old) (G.asked gate.new)) talk.conn) }
+        ensures unread { IfOk result (λ talk. (talk.requests.pending ≡ []) × (talk.requests.fault ≡ None)) }
+        ensures empty { IfOk result (λ talk. waiting_of S.gave talk.outgoing ≡ []) }
+        ensures room { IfOk result (λ talk. HasRoom talk.outgoing) }
+        ensures refused { IfErr result (λ fault. Refuses (IsAllowed G.may G.may_refuse G.may_give) (change (G.asked gate.old) (G.asked gate.new)) fault) }
+    {
+        let conn = open(gate)?;
+        Ok(Talk {
+            conn,
+            requests: Reader::new(alloc),
+            outgoing: Outgoing::new(alloc),
+        })
+    }
+
+    /// The connection.
+    pub fn conn(&self) -> Conn
+        ensures { result ≡ self.now.conn }
+    {
+        self.conn
+    }
+
+    /// Whether the last request was parked, so that its reply is to be heard.
+    pub fn is_parked(&self) -> bool
+        ensures { MatchBool result (IsParked self.now) (self.now.outgoing.held ≢ Held.Parked) }
+    {
+        matches!(self.outgoing.held, Held::Parked)
+    }
+
+    /// Takes bytes that the client sent. An error is that there is no memory for them.
+    pub fn read(&mut self, bytes: &[u8]) -> Result<(), ConnFault>
+        ensures took { OnOk result ((self.new.requests.pending ≡ self.old.requests.pending ++ bytes.now) × (self.new.requests.fault ≡ self.old.requests.fault)) }
+        ensures refused { OnErr result (self.new.requests ≡ self.old.requests) }
+        ensures fault { IfErr result (λ fault. fault ≡ ConnFault.Memory) }
+        ensures same { (self.new.conn ≡ self.old.conn) × (self.new.outgoing ≡ self.old.outgoing) }
+    {
+        match self.requests.feed(bytes) {
+            Ok(()) => Ok(()),
+            Err(_) => Err(ConnFault::Memory),
+        }
+    }
+
+    /// Has the node answer whole requests that came, in order, so many at most, and says what comes next. While one is parked none is
+    /// asked. The node is kept until the gate releases it.
+    ///
+    /// A fault ends the conversation: the requests in front of that one are answered.
+    pub fn answer<G: NodeGate<Answer = S>>(
+        &mut self,
+        gate: &mut G,
+        most: u32,
+    ) -> Result<Next, ConnFault>
+        ensures parked { IsParked self.old → (result ≡ Ok Next.Hear) × (self.new ≡ self.old) × (gate.new ≡ gate.old) }
+        ensures turns { self.old.outgoing.held ≢ Held.Parked → IfOk result (λ next. (out : Stream) → Turns (IsAllowed G.may G.may_refuse G.may_give) self.old.conn next
+            (desk_of S.gave (G.asked gate.old) self.old out) (desk_of S.gave (G.asked gate.new) self.new out)) }
+        ensures ends { IfOk result (λ next. self.old.outgoing.held ≢ Held.Parked → EndsTurn next self.old.requests self.new.requests self.new.outgoing) }
+        ensures goes_on { IfOk result (λ next. HasRoom self.old.outgoing → 0 < most → (next ≡ Next.Write) ⊎ (next ≡ Next.Answer)
+            → length self.new.requests.pending < length self.old.requests.pending) }
+        ensures halts { IfErr result (λ fault. (out : Stream) → Halts (IsAllowed G.may G.may_refuse G.may_give) self.old.conn (Err fault)
+            (desk_of S.gave (G.asked gate.old) self.old out) (desk_of S.gave (G.asked gate.new) self.new out)) }
+        ensures fault { IfErr result IsOfAnswering }
+        ensures sound { OnErr result (self.old.requests.fault ≡ None → self.new.requests.fault ≡ None) }
+        ensures same { self.new.conn ≡ self.old.conn }
+    {
+        if self.is_parked() {
+            return Ok(Next::Hear);
+        }
+        answer_some(
+            gate,
+            self.conn,
+            most,
+            &mut self.requests,
+            &mut self.outgoing,
+        )
+    }
+
+    /// Puts the reply that came later behind those that wait.
+    pub fn hear(&mut self, reply: Reply)
+        requires { IsParked self.old }
+        ensures put { waiting_of S.gave self.new.outgoing ≡ waiting_of S.gave self.old.outgoing ++ reply_spelling reply }
+        ensures here { self.new.outgoing.held ≢ Held.Parked }
+        ensures same { (self.new.conn ≡ self.old.conn) × (self.new.requests ≡ self.old.requests) }
+    {
+        self.outgoing.hear(reply);
+    }
+
+    /// Sends some of the replies by one write, and says what is left. An error is that the writer failed.
+    pub fn finish<W: Write>(&mut self, writer: &mut Counting<W>) -> Result<Left, ConnFault>
+        ensures put { Puts (streams W.contents writer.old writer.new) (change (waiting_of S.gave self.old.outgoing) (waiting_of S.gave self.new.outgoing)) [] }
+        ensures nothing { IfOk result (λ left. left ≡ Left.Nothing → waiting_of S.gave self.new.outgoing ≡ []) }
+        ensures parked { (IsParked self.old → IsParked self.new) × (self.old.outgoing.held ≢ Held.Parked → self.new.outgoing.held ≢ Held.Parked) }
+        ensures same { (self.new.conn ≡ self.old.conn) × (self.new.requests ≡ self.old.requests) }
+        ensures err { IfErr result (λ fault. fault ≡ ConnFault.Writer) }
+    {
+        self.outgoing.write_some(writer)
+    }
+
+    /// Sends all replies that wait, however long the writer takes.
+    pub(crate) fn write_out<W: Write>(&mut self, writer: &mut Counting<W>) -> io::Result<()>
+        ensures ok { OnOk result (Sends (streams W.contents writer.old writer.new) (waiting_of S.gave self.old.outgoing)) }
+        ensures empty { OnOk result (waiting_of S.gave self.new.outgoing ≡ []) }
+        ensures room { OnOk result (self.old.outgoing.held ≢ Held.Parked → HasRoom self.new.outgoing) }
+        ensures err { OnErr result (Fails (streams W.contents writer.old writer.new) (waiting_of S.gave self.old.outgoing)) }
+        ensures same { (self.new.conn ≡ self.old.conn) × (self.new.requests ≡ self.old.requests) }
+    {
+        self.outgoing.write_out(writer)
+    }
+
+    /// Closes the connection at the node. What is left is what the client is still to be sent, with the line that tells it why the
+    /// conversation ended.
+    pub fn end<G: NodeGate<Answer = S>>(
+        self,
+        gate: &mut G,
+        ended: Result<Rest, ConnFault>,
+    ) -> Farewell<S>
+        ensures closed { Closes (IsAllowed G.may G.may_refuse G.may_give) (change (G.asked gate.old) (G.asked gate.new)) self.conn }
+        ensures waits { farewell_of S.gave result ≡ waiting_of S.gave self.outgoing ++ line_of ended }
+    {
+        close(gate, self.conn);
+        Farewell::of(self.outgoing, ended)
+    }
+}
+
+// A new connection at the node.
+fn open<G: NodeGate>(gate: &mut G) -> Result<Conn, ConnFault>
+    ensures ok { IfOk result (λ conn. Opens (IsAllowed G.may G.may_refuse G.may_give) (change (G.asked gate.old) (G.asked gate.new)) conn) }
+    ensures err { IfErr result (λ fault. Refuses (IsAllowed G.may G.may_refuse G.may_give) (change (G.asked gate.old) (G.asked gate.new)) fault) }
+{
+    let step = ask_alone(gate, Event::Open)?;
+    let Response::Opened(conn) = step.response() else {
+        return Err(ConnFault::Unanswered);
+    };
+    Ok(*conn)
+}
+
+// Closes the connection. Where the node refuses, it stays open there.
+fn close<G: NodeGate>(gate: &mut G, conn: Conn)
+    ensures { Closes (IsAllowed G.may G.may_refuse G.may_give) (change (G.asked gate.old) (G.asked gate.new)) conn }
+{
+    let _step = ask_alone(gate, Event::Close(conn));
+}
