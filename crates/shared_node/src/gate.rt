@@ -1,5 +1,6 @@
 //! A conversation's way to a node: a cell behind a lock.
-ghost use Rattle.std.specs.Prelude.{◌≡◌, IfSome};
+ghost use Rattle.std.specs.Prelude.{◌≡◌, ◌++◌, ◌∷◌, [], None, Some, IfSome};
+ghost use Rattle.node_gate.specs.Asks.Asked.{waiting};
 ghost use Rattle.shared_node.specs.Answers.{MayGive};
 
 use crate::shared::SharedNode;
@@ -7,6 +8,7 @@ use connections::Conn;
 use node_cell::{Asks, Entered, HoldsCell, NodeGate};
 use node_step::{Event, StepFault};
 use resp_values::Reply;
+use std::mem;
 use std::sync::{MutexGuard, Wait};
 
 /// One conversation's way to a node whose cell is in a `C`. The handle `rt` is the leave to wait for the node's lock.
@@ -45,6 +47,35 @@ impl<'n, C: HoldsCell + Drop, R: Wait> Gate<'n, C, R> {
             Some(cell) => Some(&**cell),
             None => None,
         }
+    }
+
+    /// Changes places with the conversation that asked this: from now on that one has this way to the node, and the lock with it. So a
+    /// thread that serves several conversations keeps the node from one to the next.
+    pub fn exchange(&mut self, asks: &mut Asks<C::Cluster>)
+        ensures comes { ⟦<Gate<'n, C, R> as NodeGate>⟧.asked self.new ≡ asks.old }
+        ensures goes { asks.new ≡ ⟦<Gate<'n, C, R> as NodeGate>⟧.asked self.old }
+    {
+        mem::swap(&mut self.asks, asks);
+    }
+
+    /// Takes the reply to the connection, whose last request was answered with [`Parked`](node_step::Response::Parked), if the node has
+    /// it by now. The node is held until others are let in.
+    pub fn look(&mut self, conn: Conn) -> Option<Reply>
+        ensures heard { IfSome result (λ reply. ⟦<Gate<'n, C, R> as NodeGate>⟧.asked self.new ≡ ⟦<Gate<'n, C, R> as NodeGate>⟧.asked self.old ++ waiting conn (Some reply) ∷ []) }
+        ensures given { IfSome result (λ reply. MayGive C.Cluster.config conn reply) }
+        ensures none { result ≡ None → ⟦<Gate<'n, C, R> as NodeGate>⟧.asked self.new ≡ ⟦<Gate<'n, C, R> as NodeGate>⟧.asked self.old }
+    {
+        // No step is made, so there is no pace to keep.
+        let mut locked = match self.held.take() {
+            Some(locked) => locked,
+            None => self.node.lock(&self.rt),
+        };
+        let found = locked.take_reply(conn);
+        self.held = Some(locked);
+        if found.is_some() {
+            self.asks.note_wait(conn, &found);
+        }
+        found
     }
 
     // The node with its lock, which is taken where this conversation doesn't hold it yet.

@@ -1,8 +1,9 @@
 //! A node that several threads share.
 
+use mio::Waker;
 use node_cell::HoldsCell;
 use std::sync::atomic::{AtomicBool, AtomicU64, Ordering};
-use std::sync::{Condvar, Mutex, MutexGuard, Wait};
+use std::sync::{Condvar, Mutex, MutexGuard, OnceLock, Wait};
 use std::thread;
 use std::time::Duration;
 
@@ -12,6 +13,10 @@ const MOST_STEPS: u64 = 4096;
 // How many milliseconds a client's thread waits at most before its next step, where its node's messages wait in too great numbers.
 const PACE: u64 = 10;
 
+// How often a thread lets others run before it counts as one that waits long. Newcomers don't try to lock the node while there are
+// such threads, so that these come first.
+const FEW_YIELDS: u32 = 5;
+
 // How often a thread lets others run before it sleeps until the node's lock is free. The lock is held for some microseconds, and
 // to sleep and to be woken takes longer than that.
 const MOST_YIELDS: u32 = 500;
@@ -20,12 +25,16 @@ const MOST_YIELDS: u32 = 500;
 #[derive(Drop)]
 pub struct SharedNode<C: HoldsCell> {
     cell: Mutex<C>,
+    // How many threads wait long for the lock.
+    pressed: AtomicU64,
     // It rings where replies are kept for connections that wait.
     replies: Condvar,
     // It rings where messages are to be sent, or may have come.
     mail: Condvar,
     // It rings where messages that waited were sent.
     sent: Condvar,
+    // They wake the loops that serve the node's clients, if it has loops. A loop waits for sockets, and not for a bell.
+    wakers: OnceLock<Vec<Waker>>,
     // How many steps have left messages since they were last taken from the node.
     steps: AtomicU64,
     // Those that were taken wait for their links in too great numbers.
@@ -39,9 +48,11 @@ impl<C: HoldsCell + Drop> SharedNode<C> {
     pub fn new(cell: C) -> SharedNode<C> {
         SharedNode {
             cell: Mutex::new(cell),
+            pressed: AtomicU64::new(0),
             replies: Condvar::new(),
             mail: Condvar::new(),
             sent: Condvar::new(),
+            wakers: OnceLock::new(),
             steps: AtomicU64::new(0),
             are_many: AtomicBool::new(false),
             is_closed: AtomicBool::new(false),
@@ -53,9 +64,50 @@ impl<C: HoldsCell + Drop> SharedNode<C> {
         self.cell.into_inner()
     }
 
+    /// Has these wake the loops that serve the node's clients, by the loops' numbers. Further ones are dropped.
+    pub fn set_wakers<R: Wait>(&self, rt: &R, wakers: Vec<Waker>) {
+        let _set = self.wakers.set(rt, wakers);
+    }
+
+    /// Wakes the loop of that number.
+    pub fn wake(&self, number: usize) {
+        if let Some(waker) = self.wakers().get(number) {
+            let _woken = waker.wake();
+        }
+    }
+
+    fn wake_all(&self) {
+        for waker in self.wakers() {
+            let _woken = waker.wake();
+        }
+    }
+
+    fn wakers(&self) -> &[Waker] {
+        match self.wakers.get() {
+            Some(wakers) => wakers.as_slice(),
+            None => &[],
+        }
+    }
+
     /// Locks the node.
     pub fn lock<R: Wait>(&self, rt: &R) -> MutexGuard<'_, C> {
-        for _ in 0..MOST_YIELDS {
+        for _ in 0..FEW_YIELDS {
+            if self.pressed.load(Ordering::SeqCst) == 0
+                && let Some(cell) = self.cell.try_lock()
+            {
+                return cell;
+            }
+            thread::yield_now();
+        }
+        self.pressed.fetch_add(1, Ordering::SeqCst);
+        let cell = self.lock_first(rt);
+        self.pressed.fetch_sub(1, Ordering::SeqCst);
+        cell
+    }
+
+    // Locks the node for a thread that has waited long.
+    fn lock_first<R: Wait>(&self, rt: &R) -> MutexGuard<'_, C> {
+        for _ in FEW_YIELDS..MOST_YIELDS {
             if let Some(cell) = self.cell.try_lock() {
                 return cell;
             }
@@ -77,6 +129,7 @@ impl<C: HoldsCell + Drop> SharedNode<C> {
     pub fn ring_for_replies(&self, cell: &C) {
         if cell.has_undelivered() {
             self.replies.notify_all();
+            self.wake_all();
         }
     }
 
@@ -135,6 +188,7 @@ impl<C: HoldsCell + Drop> SharedNode<C> {
         drop(self.cell.lock(rt));
         self.replies.notify_all();
         self.mail.notify_all();
+        self.wake_all();
     }
 
     /// Whether the waits are ended.
