@@ -15,18 +15,19 @@ from report import Report
 from sources import PROGRAM, ROOT, note_built, program_of
 from wrong import try_wrong_bodies
 
-# The test scripts, and the program that each runs, if it runs one.
-SCRIPTS = {
-    "tests/refused_memory": "node_trials",
-    "tests/refused_moves": "node_trials",
-    "tests/refused_audit": "audit_trials",
-    "tests/refused_calls": "rcluster",
-    "tests/simulated/run": "rcluster",
-    "tests/drawings/run": "rcluster",
-    "tests/cases/run": "rcluster",
-    "tests/on_a_socket/run": "rcluster",
-    "tests/documents/run": None,
-}
+# The test scripts, each with the program that it runs, if it runs one, and the words before that.
+SCRIPTS = [
+    ("tests/refused_memory", "node_trials"),
+    ("tests/refused_moves", "node_trials"),
+    ("tests/refused_audit", "audit_trials"),
+    ("tests/refused_calls", "rcluster"),
+    ("tests/simulated/run", "rcluster"),
+    ("tests/drawings/run", "rcluster"),
+    ("tests/cases/run", "rcluster"),
+    ("tests/on_a_socket/run", "rcluster"),
+    ("tests/on_a_socket/run", "rcluster", "--loops", "2"),
+    ("tests/documents/run", None),
+]
 # Where the kit's report of the last run is kept whole, with the processor's seconds of each crate behind it.
 LOG = os.path.join(ROOT, "check.log")
 
@@ -42,8 +43,8 @@ def main(words):
     passed, failed = pass_crates(words)
     if not failed:
         note_built(program_of(PROGRAM))
-    for script, program in SCRIPTS.items():
-        is_well = run_script(script, program)
+    for script, program, *options in SCRIPTS:
+        is_well = run_script(script, program, options)
         passed, failed = passed + is_well, failed + (not is_well)
     print(f"in {time.monotonic() - begun:.0f} s on {os.cpu_count()} cores, {ended_seconds():.0f} s of a processor")
     print(f"{passed} passed, {failed} failed")
@@ -72,11 +73,11 @@ def pass_crates(words):
     return report.passed, max(report.failed, int(gate.returncode != 0))
 
 
-def run_script(script, program):
+def run_script(script, program, options):
     begun = time.monotonic()
-    words = [program_of(program)] if program else []
-    is_well = subprocess.run([script, *words], check=False).returncode == 0
-    print(f"{script}: {'passed' if is_well else 'FAILED'} in {time.monotonic() - begun:.0f} s", flush=True)
+    words = [script, *options]
+    is_well = subprocess.run([*words, *([program_of(program)] if program else [])], check=False).returncode == 0
+    print(f"{' '.join(words)}: {'passed' if is_well else 'FAILED'} in {time.monotonic() - begun:.0f} s", flush=True)
     return is_well
 
 

@@ -1,11 +1,9 @@
 """Builds the program, as far as it isn't built yet, and serves a cluster.
 
-usage: ./serve [FILE]             FILE describes the cluster; by default it is examples/six_nodes.json
-       ./serve --proved [FILE]    the same, once the program is proved
-
 The program is built without its proofs, which takes some three minutes. Where ./check has proved it, that build is served.
 """
 
+import argparse
 import os
 import sys
 import time
@@ -16,41 +14,46 @@ import quick_build
 from sources import PROGRAM, ROOT, is_built, note_built, program_of, unproved_program
 
 CRATE = os.path.join(ROOT, "crates", PROGRAM)
+EXAMPLE = os.path.join(ROOT, "examples", "six_nodes.json")
 # How long the kit's own way without proofs serves at most.
 SECONDS = "3600"
 
 
-def main(words):
-    is_proved = words[:1] == ["--proved"]
-    rest = words[is_proved:]
-    if len(rest) > 1 or any(it.startswith("-") for it in rest):
-        print(__doc__, end="", file=sys.stderr)
-        return 2
-    file = os.path.abspath(rest[0]) if rest else os.path.join(ROOT, "examples", "six_nodes.json")
+def main():
+    asked = arguments()
+    file = os.path.abspath(asked.file)
     if not os.path.isfile(file):
         print(f"there is no file {file}", file=sys.stderr)
         return 1
     try:
-        return serve_proved(file) if is_proved else serve(file)
+        return (serve_proved if asked.proved else serve)(file, asked.loops)
     except kit.NoKit as error:
         print(error, file=sys.stderr)
         return 1
 
 
-def serve(file):
+def arguments():
+    parser = argparse.ArgumentParser(prog="./serve", description=__doc__)
+    parser.add_argument("--proved", action="store_true", help="serves it once the program is proved")
+    parser.add_argument("--loops", metavar="N", default="2", help="how many threads of each node serve its clients, 1 to 8; by default 2")
+    parser.add_argument("file", metavar="FILE", nargs="?", default=EXAMPLE, help="describes the cluster; by default examples/six_nodes.json")
+    return parser.parse_args()
+
+
+def serve(file, loops):
     if is_built(program_of(PROGRAM)):
-        return start(program_of(PROGRAM), file)
+        return start(program_of(PROGRAM), file, loops)
     program = unproved_program()
     if not is_built(program):
         try:
             build_unproved(program)
         except quick_build.Failed as failed:
-            return serve_slowly(file, failed)
+            return serve_slowly(file, loops, failed)
     print("This build was not proved on this machine: ./check does that.", flush=True)
-    return start(program, file)
+    return start(program, file, loops)
 
 
-def serve_proved(file):
+def serve_proved(file, loops):
     program = program_of(PROGRAM)
     if not is_built(program):
         begun = time.monotonic()
@@ -59,7 +62,7 @@ def serve_proved(file):
             print("The program is not proved, so it isn't started.", file=sys.stderr)
             return 1
         print(f"The program is proved and built, in {time.monotonic() - begun:.0f} s.", flush=True)
-    return start(program, file)
+    return start(program, file, loops)
 
 
 def build_unproved(program):
@@ -70,17 +73,17 @@ def build_unproved(program):
     print(f"It is built, in {time.monotonic() - begun:.0f} s.", flush=True)
 
 
-def serve_slowly(file, failed):
+def serve_slowly(file, loops, failed):
     print(f"The program can't be built quickly with this kit: {failed}", file=sys.stderr)
     print("So the kit's own way without proofs serves it, a tenth as fast, for an hour. ./check proves it.", flush=True)
-    words = ["rt", "try", "--seconds", SECONDS, "--data", f"cluster.json={file}", "--", "serve", "--config", "cluster.json"]
+    words = ["rt", "try", "--seconds", SECONDS, "--data", f"cluster.json={file}", "--", "serve", "--config", "cluster.json", "--loops", loops]
     os.chdir(CRATE)
     os.execvp(words[0], words)
 
 
-def start(program, file):
-    os.execv(program, [program, "serve", "--config", file])
+def start(program, file, loops):
+    os.execv(program, [program, "serve", "--config", file, "--loops", loops])
 
 
 if __name__ == "__main__":
-    sys.exit(main(sys.argv[1:]))
+    sys.exit(main())

@@ -5,13 +5,16 @@ use crate::witness::{Incident, Witness};
 use command::{ClusterCommand, Command, SlotOrder, parse};
 use connections::Conn;
 use key_slot::Slot;
-use node_cell::{Entered, HoldsCell, NodeGate};
+use node_cell::{Asks, Entered, HoldsCell, NodeGate};
 use node_step::{Event, StepFault};
 use resp_values::{Reply, Words};
 use shared_node::Gate;
 use slot_state::Move;
 use std::rt::Clock;
 use std::sync::Wait;
+
+// After so many steps a thread that serves several conversations lets others ask the node.
+const MOST_STEPS: u32 = 64;
 
 /// One conversation's way to the node of that number, at which the witness sees each slot that arrives by an order of its client.
 ///
@@ -23,6 +26,8 @@ pub(crate) struct SeeingGate<'n, C: HoldsCell, R: Wait> {
     gate: Gate<'n, C, R>,
     witness: &'n Witness,
     node: usize,
+    // How many steps were made since the node was last released.
+    steps: u32,
 }
 
 // A slot that comes to a node.
@@ -45,6 +50,24 @@ impl<'n, C: HoldsCell + Drop, R: Clock + Wait> SeeingGate<'n, C, R> {
             gate,
             witness,
             node,
+            steps: 0,
+        }
+    }
+
+    /// Changes places with the conversation that asked this, as [`Gate::exchange`] does.
+    pub(crate) fn exchange(&mut self, asks: &mut Asks<C::Cluster>) {
+        self.gate.exchange(asks);
+    }
+
+    /// Takes the reply to the connection, if the node has it by now, as [`Gate::look`] does.
+    pub(crate) fn look(&mut self, conn: Conn) -> Option<Reply> {
+        self.gate.look(conn)
+    }
+
+    /// Lets others ask the node, if many steps were made since the last time.
+    pub(crate) fn let_others_in(&mut self) {
+        if self.steps >= MOST_STEPS {
+            self.release();
         }
     }
 
@@ -91,6 +114,7 @@ impl<'n, C: HoldsCell + Drop, R: Clock + Wait> NodeGate for SeeingGate<'n, C, R>
     ghost may_give = { MayGive C.Cluster.config };
 
     fn step(&mut self, event: Event) -> Result<Entered<C::Cluster>, StepFault> {
+        self.steps = self.steps.saturating_add(1);
         let awaited = self.awaited(&event);
         let answer = self.gate.step(event);
         if let Some(arrival) = awaited {
@@ -100,10 +124,12 @@ impl<'n, C: HoldsCell + Drop, R: Clock + Wait> NodeGate for SeeingGate<'n, C, R>
     }
 
     fn wait(&mut self, conn: Conn) -> Option<Reply> {
+        self.steps = 0;
         self.gate.wait(conn)
     }
 
     fn release(&mut self) {
+        self.steps = 0;
         self.gate.release();
     }
 }

@@ -4,6 +4,9 @@
 mod arrivals;
 mod changes;
 mod clients;
+mod desk;
+mod guest;
+mod host;
 mod mail;
 mod node;
 mod runtime;
@@ -13,7 +16,7 @@ mod stop;
 mod witness;
 
 pub use runtime::Runtime;
-pub use server::{Place, ServeFault, serve_nodes};
+pub use server::{Course, Place, ServeFault, serve_nodes};
 pub use shared_node::{Gate, SharedNode};
 pub use stop::NodeStop;
 pub use witness::{Heard, Incident, Shortage, Witness};

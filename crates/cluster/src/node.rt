@@ -1,11 +1,12 @@
 //! A node that is served: the threads that accept its clients, serve them and let time pass.
 use crate::arrivals::SeeingGate;
 use crate::clients::{Clients, Refused};
+use crate::desk::{Desk, Newcomer};
 use crate::runtime::Runtime;
 use crate::stop::Stop;
 use crate::witness::{Incident, Shortage, Witness};
 use listener::serve_conn;
-use node_cell::{Admission, HoldsCell, NodeGate};
+use node_cell::{Admission, Asks, HoldsCell, NodeGate};
 use node_step::Event;
 use resp2::Counting;
 use shared_node::{Gate, SharedNode};
@@ -47,6 +48,22 @@ impl<C: HoldsCell + Drop> Node<C> {
         self.shared.into_cell()
     }
 
+    /// What is asked of the node by one conversation: nothing yet.
+    pub(crate) fn begin(&self) -> Asks<C::Cluster> {
+        self.admission.begin()
+    }
+
+    /// A new conversation's way to the node, which has that number, at which the witness sees the slots that arrive.
+    pub(crate) fn seeing_gate<'n, R: Clock + Wait + Copy>(
+        &'n self,
+        rt: R,
+        witness: &'n Witness,
+        number: usize,
+    ) -> SeeingGate<'n, C, R> {
+        let gate = Gate::new(rt, &self.shared, self.begin());
+        SeeingGate::new(rt, gate, witness, number)
+    }
+
     /// Wakes the thread that accepts clients.
     pub(crate) fn wake<R: Net>(&self, rt: &R) {
         if let Ok(address) = self.listener.local_addr() {
@@ -61,7 +78,8 @@ impl<C: HoldsCell + Drop> Node<C> {
     }
 }
 
-/// Accepts the clients of the node of that number until it is closed. Each is served by a thread of its own.
+/// Accepts the clients of the node of that number until it is closed. Each waits at one of the desks, in turn, or where there are none
+/// is served by a thread of its own.
 pub(crate) fn accept_clients<C: HoldsCell + Drop + Send + 'static, R: Runtime>(
     rt: R,
     alloc: Global,
@@ -69,10 +87,12 @@ pub(crate) fn accept_clients<C: HoldsCell + Drop + Send + 'static, R: Runtime>(
     node: &Arc<Node<C>, Global>,
     clients: &Arc<Clients, Global>,
     stop: &Stop,
+    desks: &[Arc<Desk, Global>],
 )
 where
     C::Cluster: Send + Sync + 'static,
 {
+    let mut turn = 0;
     // They are kept before the first client comes, as far as the system has them.
     let _all = clients.spares.are_kept(&rt, &node.listener);
     for stream in node.listener.incoming() {
@@ -82,7 +102,8 @@ where
         match stream {
             // A client for which there is no memory, no thread or no descriptor is let go.
             Ok(stream) => {
-                let accepted = accept(rt, alloc, number, node, clients, stream);
+                let accepted = accept(rt, alloc, number, node, clients, stream, desks, turn);
+                turn = next_of(turn, desks.len());
                 if let Err(Refused::Short(shortage)) = accepted {
                     let node = number;
                     clients
@@ -96,7 +117,15 @@ where
     }
 }
 
-// Starts the thread of a client. Where that fails its connection is closed.
+// The number behind this one, of so many. Behind the last one comes 0.
+fn next_of(number: usize, count: usize) -> usize {
+    match number.saturating_add(1) {
+        next if next < count => next,
+        _ => 0,
+    }
+}
+
+// Has a client wait at the desk of that number, or starts its thread where there are no desks. Where that fails its connection is closed.
 fn accept<C: HoldsCell + Drop + Send + 'static, R: Runtime>(
     rt: R,
     alloc: Global,
@@ -104,6 +133,8 @@ fn accept<C: HoldsCell + Drop + Send + 'static, R: Runtime>(
     node: &Arc<Node<C>, Global>,
     clients: &Arc<Clients, Global>,
     stream: TcpStream,
+    desks: &[Arc<Desk, Global>],
+    desk: usize,
 ) -> Result<(), Refused>
 where
     C::Cluster: Send + Sync + 'static,
@@ -113,10 +144,15 @@ where
     }
     let stream = Arc::new(alloc, stream).map_err(AllocError::from)?;
     let client = clients.add(&rt, number, &stream)?;
-    if let Err(refused) = start_client(rt, alloc, number, node, clients, stream, client) {
+    let begun = match desks.get(desk) {
+        Some(desk) => desk.put(&rt, Newcomer { stream, client }),
+        None => start_client(rt, alloc, number, node, clients, stream, client),
+    };
+    if let Err(refused) = begun {
         clients.remove(&rt, client);
         return Err(refused);
     }
+    node.shared.wake(desk);
     Ok(())
 }
 
@@ -155,8 +191,7 @@ fn serve_client<C: HoldsCell + Drop, R: Clock + Wait + Copy + Drop>(
 ) {
     // A reply is one write, so nothing is gained by waiting for more.
     let _nodelay = stream.set_nodelay(true);
-    let gate = Gate::new(rt, &node.shared, node.admission.begin());
-    let mut gate = SeeingGate::new(rt, gate, witness, number);
+    let mut gate = node.seeing_gate(rt, witness, number);
     let mut reader = Counting::new(stream);
     let mut writer = Counting::new(stream);
     let _ended = serve_conn(alloc, &mut gate, &mut reader, &mut writer);
@@ -187,7 +222,7 @@ pub(crate) fn pass_time<C: HoldsCell + Drop, R: Wait + Copy + Drop>(
         most,
         own,
     } = timing;
-    let mut gate = Gate::new(rt, &node.shared, node.admission.begin());
+    let mut gate = Gate::new(rt, &node.shared, node.begin());
     tick_at(&rt, &mut gate, stop, interval, own.min(most));
     if own < most {
         stop_node(&rt, number, node, clients, stop);

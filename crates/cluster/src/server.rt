@@ -6,6 +6,8 @@ ghost use Rattle.tickets.specs.Tickets.{IsFresh};
 
 use crate::changes::Changes;
 use crate::clients::Clients;
+use crate::desk::Desk;
+use crate::host::{Hall, serve_guests};
 use crate::mail::{HasLinks, carry};
 use crate::node::{Node, Timing, accept_clients, pass_time};
 use crate::runtime::Runtime;
@@ -13,6 +15,7 @@ use crate::stop::{NodeStop, Stop, most_ticks};
 use crate::witness::{Incident, Shortage, Witness};
 use cluster_config::Config;
 use links::{NodeEnds, Station, Web};
+use mio::Waker;
 use node_cell::{Admission, Deployment, HoldsCell, Log, NodeCell, Posted};
 use slot_table::NodeNo;
 use std::alloc::{AllocError, Global};
@@ -61,16 +64,27 @@ pub struct Place<K: Deployment, R: Wait> {
     pub listener: TcpListener,
 }
 
-/// Serves the nodes of the cluster, each at its place, with an `L` as its journal and the links `W` between them, until `ticks`
-/// ticks of the first of them have passed, or for ever. It returns the stations, in the order of the nodes' numbers, once all threads are
+/// How long a cluster is served, and how.
+#[derive(Clone, Copy)]
+pub struct Course<'a> {
+    /// After how many ticks of its first node it ends, or None where it goes on for ever.
+    pub ticks: Option<u64>,
+    /// Which of its nodes are stopped meanwhile.
+    pub stops: &'a [NodeStop],
+    /// How many threads of each node serve all of its clients in turn, or None where each client has a thread of its own.
+    pub loops: Option<usize>,
+}
+
+/// Serves the nodes of the cluster, each at its place, with an `L` as its journal and the links `W` between them, as long as the course
+/// says. It returns the stations, in the order of the nodes' numbers, once all threads are
 /// done with them. The witness sees which clients can't be served, and which thread can't be started.
 ///
-/// A node that has one of the `stops` is stopped meanwhile: from then on it makes no tick, takes no message and sends none, its
+/// A node that has a stop is stopped meanwhile: from then on it makes no tick, takes no message and sends none, its
 /// connections are shut down, and whoever connects to it is refused. Steps that its clients asked for before, and those that close their
 /// connections, may come behind that.
 ///
-/// Each node has a thread that accepts clients, one that lets its time pass and one that carries its messages, and each
-/// client has one.
+/// Each node has a thread that accepts clients, one that lets its time pass and one that carries its messages, and those that serve
+/// its clients.
 pub fn serve_nodes<
     K: Deployment + Send + Sync + 'static,
     W: Web + Send + 'static,
@@ -81,8 +95,7 @@ pub fn serve_nodes<
     alloc: Global,
     config: &Config,
     places: Vec<Place<K, R>>,
-    ticks: Option<u64>,
-    stops: &[NodeStop],
+    course: Course,
     witness: &Arc<Witness, Global>,
 ) -> Result<Vec<Station<K, W, L, R>>, ServeFault>
 where
@@ -97,8 +110,7 @@ where
     let nodes = nodes_at::<K, W, L, R>(alloc, config, places)?;
     let times = Times {
         interval: Duration::from_millis(u64::from(config.tick_ms())),
-        ticks,
-        stops,
+        course,
     };
     run_all(rt, alloc, nodes.as_slice(), times, witness)?;
     stations_of(alloc, nodes)
@@ -109,23 +121,20 @@ where
 struct Times<'a> {
     // How long one takes.
     interval: Duration,
-    // After how many of the first node the cluster ends, or None where it goes on for ever.
-    ticks: Option<u64>,
-    // After how many of their own some nodes are stopped.
-    stops: &'a [NodeStop],
+    course: Course<'a>,
 }
 
 impl Times<'_> {
     // Those of the node of that number.
     fn of(&self, node: usize) -> Timing {
-        let most = match self.ticks {
+        let most = match self.course.ticks {
             Some(ticks) if node == 0 => ticks,
             _ => u64::MAX,
         };
         Timing {
             interval: self.interval,
             most,
-            own: most_ticks(self.stops, node),
+            own: most_ticks(self.course.stops, node),
         }
     }
 }
@@ -308,7 +317,9 @@ where
     for (number, node) in nodes.iter().enumerate() {
         let clock = start_clock(rt, number, node, clients, stop, times.of(number));
         add_thread(rt, threads, clients, number, clock)?;
-        let accepting = start_accepting(rt, alloc, number, node, clients, stop);
+        let count = times.course.loops.unwrap_or(0);
+        let desks = start_hosts(rt, alloc, number, node, clients, count, threads)?;
+        let accepting = start_accepting(rt, alloc, number, node, clients, stop, desks);
         add_thread(rt, threads, clients, number, accepting)?;
         let carrying = start_carrying(rt, alloc, number, node, nodes, clients, stop);
         add_thread(rt, threads, clients, number, carrying)?;
@@ -326,15 +337,101 @@ fn add_thread<R: Runtime>(
 ) -> Result<(), ServeFault> {
     match started {
         Ok(thread) => threads.push(thread).map_err(AllocError::from)?,
-        Err(fault) => {
-            let shortage = fault.shortage();
-            clients
-                .witness
-                .see(&rt, Incident::ThreadNotStarted { node, shortage });
-            return Err(fault);
-        }
+        Err(fault) => return Err(tell_of(rt, clients, node, fault)),
     }
     Ok(())
+}
+
+// Has the witness see that a thread of the node isn't started, and gives the fault back.
+fn tell_of<R: Runtime>(rt: R, clients: &Clients, node: usize, fault: ServeFault) -> ServeFault {
+    let shortage = fault.shortage();
+    clients
+        .witness
+        .see(&rt, Incident::ThreadNotStarted { node, shortage });
+    fault
+}
+
+// Starts so many threads that serve the clients of the node of that number in turn, and gives their desks.
+fn start_hosts<C: HoldsCell + Drop + Send + 'static, R: Runtime>(
+    rt: R,
+    alloc: Global,
+    number: usize,
+    node: &Arc<Node<C>, Global>,
+    clients: &Arc<Clients, Global>,
+    count: usize,
+    threads: &mut Vec<JoinHandle<()>>,
+) -> Result<Vec<Arc<Desk, Global>>, ServeFault>
+where
+    C::Cluster: Send + Sync + 'static,
+{
+    let halls = match halls_of(rt, alloc, node, count) {
+        Ok(halls) => halls,
+        Err(fault) => return Err(tell_of(rt, clients, number, fault)),
+    };
+    let desks = desks_of(alloc, halls.as_slice())?;
+    for hall in halls {
+        let host = start_host(rt, alloc, number, node, clients, hall);
+        add_thread(rt, threads, clients, number, host)?;
+    }
+    Ok(desks)
+}
+
+fn desks_of(alloc: Global, halls: &[Hall]) -> Result<Vec<Arc<Desk, Global>>, AllocError> {
+    let mut desks = Vec::with_capacity(alloc, halls.len())?;
+    for hall in halls {
+        let desk = Arc::try_clone(&hall.desk)?;
+        desks.push(desk).map_err(AllocError::from)?;
+    }
+    Ok(desks)
+}
+
+// The halls of so many of these threads. The node has what wakes the threads before the first is started.
+fn halls_of<C: HoldsCell + Drop, R: Runtime>(
+    rt: R,
+    alloc: Global,
+    node: &Node<C>,
+    count: usize,
+) -> Result<Vec<Hall>, ServeFault> {
+    let mut halls = Vec::with_capacity(alloc, count)?;
+    for _ in 0..count {
+        let hall = Hall::new(&rt, alloc)?;
+        halls.push(hall).map_err(AllocError::from)?;
+    }
+    let wakers = wakers_of(alloc, halls.as_slice())?;
+    node.shared.set_wakers(&rt, wakers);
+    Ok(halls)
+}
+
+fn wakers_of(alloc: Global, halls: &[Hall]) -> Result<Vec<Waker>, ServeFault> {
+    let mut wakers = Vec::with_capacity(alloc, halls.len())?;
+    for hall in halls {
+        wakers.push(hall.waker()?).map_err(AllocError::from)?;
+    }
+    Ok(wakers)
+}
+
+// Starts a thread that serves clients of the node of that number in turn.
+fn start_host<C: HoldsCell + Drop + Send + 'static, R: Runtime>(
+    rt: R,
+    alloc: Global,
+    number: usize,
+    node: &Arc<Node<C>, Global>,
+    clients: &Arc<Clients, Global>,
+    hall: Hall,
+) -> Result<JoinHandle<()>, ServeFault>
+where
+    C::Cluster: Send + Sync + 'static,
+{
+    let Ok(node) = Arc::try_clone(node) else {
+        return Err(ServeFault::Memory);
+    };
+    let Ok(clients) = Arc::try_clone(clients) else {
+        return Err(ServeFault::Memory);
+    };
+    let started = thread::spawn(&rt, move || {
+        serve_guests(rt, alloc, number, &*node, &*clients, hall);
+    });
+    started.map_err(|_| ServeFault::Thread)
 }
 
 // Starts the thread that lets the time of the node of that number pass. Once all ticks are counted, the cluster ends.
@@ -373,6 +470,7 @@ fn start_accepting<C: HasLinks<R> + Drop + Send + 'static, R: Runtime>(
     node: &Arc<Node<C>, Global>,
     clients: &Arc<Clients, Global>,
     stop: &Arc<Stop, Global>,
+    desks: Vec<Arc<Desk, Global>>,
 ) -> Result<JoinHandle<()>, ServeFault>
 where
     C::Cluster: Send + Sync + 'static,
@@ -387,7 +485,7 @@ where
         return Err(ServeFault::Memory);
     };
     let started = thread::spawn(&rt, move || {
-        accept_clients(rt, alloc, number, &node, &clients, &*stop);
+        accept_clients(rt, alloc, number, &node, &clients, &*stop, desks.as_slice());
     });
     started.map_err(|_| ServeFault::Thread)
 }

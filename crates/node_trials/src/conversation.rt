@@ -2,7 +2,8 @@
 ghost use Rattle.std.specs.Prelude.{◌≡◌, length};
 ghost use Rattle.tickets.specs.Tickets.{IsFresh};
 
-use crate::streams::{Pieces, Written};
+use crate::streams::{Pieces, Trickle, Written};
+use crate::turns::converse_in_turns;
 use cluster::{Gate, SharedNode};
 use cluster_config::Config;
 use listener::{ConnFault, serve_conn};
@@ -66,6 +67,45 @@ pub fn hold<R: Wait + Drop>(
         room: client.room,
     };
     hold_at::<Brand, R>(rt, alloc, config, seat, reader, writer)
+}
+
+/// Holds a conversation in turns of one request each, with a client that takes a few bytes at a time, and gives what was written.
+pub fn hold_in_turns<R: Wait + Drop>(
+    rt: R,
+    alloc: Global,
+    config: &Config,
+    requests: &[u8],
+    reserved: usize,
+) -> Result<Vec<u8>, AllocError>
+    requires three { length config.now.nodes ≡ 3 }
+{
+    let (_table, mut seats) = open(alloc, 1)?;
+    let seat = seats.pop().unwrap();
+    let writer = Trickle {
+        bytes: Vec::with_capacity(alloc, reserved)?,
+        is_full: false,
+    };
+    hold_in_turns_at::<Brand, R>(rt, alloc, config, seat, requests, writer)
+}
+
+fn hold_in_turns_at<K: Deployment, R: Wait + Drop>(
+    rt: R,
+    alloc: Global,
+    config: &Config,
+    seat: Seat,
+    requests: &[u8],
+    writer: Trickle,
+) -> Result<Vec<u8>, AllocError>
+    requires three { length config.now.nodes ≡ 3 }
+    requires cluster { config.now ≡ K.config }
+    requires seat { IsFresh K.table K.seats seat }
+{
+    let node = NodeNo::new(NODE).unwrap();
+    let node = SharedNode::new(NodeCell::<K, Journal>::new(alloc, config, node, seat)?);
+    let mut gate = Gate::new(rt, &node, Admission::<K>::new(config).begin());
+    let mut writer = Counting::new(writer);
+    converse_in_turns(alloc, &mut gate, requests, &mut writer);
+    Ok(writer.into_inner().bytes)
 }
 
 fn hold_at<K: Deployment, R: Wait + Drop>(

@@ -9,7 +9,7 @@ use crate::replay::is_repeated;
 use crate::telling::say;
 use anyhow::{Context, Result, bail};
 use audit::{WorldRun, gather_stations};
-use cluster::{Place, Runtime, Witness, serve_nodes};
+use cluster::{Course, Place, Runtime, Witness, serve_nodes};
 use cluster_config::Config;
 use links::{NodeEnds, Web, link_all};
 use node_cell::{Deployment, Entry, Journal, Posted};
@@ -136,15 +136,12 @@ where
     let places = places::<K, R>(&rt, seats, ends)?;
     let clients = start_all(rt, places.as_slice())?;
     let nobody = Arc::new(alloc, Witness::unheard(alloc)).map_err(AllocError::from)?;
-    let served = serve_nodes::<K, W, Journal, R>(
-        rt,
-        alloc,
-        config,
-        places,
-        Some(TICKS),
-        &[],
-        &nobody,
-    );
+    let course = Course {
+        ticks: Some(TICKS),
+        stops: &[],
+        loops: None,
+    };
+    let served = serve_nodes::<K, W, Journal, R>(rt, alloc, config, places, course, &nobody);
     let Ok(stations) = served else {
         bail!("the nodes can't be served");
     };

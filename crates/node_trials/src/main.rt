@@ -23,6 +23,7 @@ mod seats;
 mod second_tries;
 mod streams;
 mod telling;
+mod turns;
 mod two_nodes;
 mod writes;
 

@@ -2,7 +2,7 @@
 //! the line that tells of refused memory, or to the end of the connection.
 
 use crate::clusters::three_masters;
-use crate::conversation::{Client, hold};
+use crate::conversation::{Client, hold, hold_in_turns};
 use crate::growth::{hash_is_unchanged, map_is_unchanged};
 use crate::second_tries::{buffer_is_unchanged, reader_loses_nothing};
 use crate::telling::tell;
@@ -65,10 +65,15 @@ fn other_answer<R: Wait + AllocGlobal + Copy + Drop>(rt: R) -> Result<Option<Str
         bail!("a key that was refused changed a map");
     }
     let answers = answers(rt)?;
-    if may_be_read(answers.as_slice()) {
-        return Ok(None);
+    if !may_be_read(answers.as_slice()) {
+        return Ok(Some(String::from_utf8(answers)?));
     }
-    Ok(Some(String::from_utf8(answers)?))
+    let config = three_masters(rt.alloc())?;
+    let answers = hold_in_turns(rt, rt.alloc(), &config, REQUESTS, CLIENT.reserved)?;
+    if !may_be_read(answers.as_slice()) {
+        return Ok(Some(String::from_utf8(answers)?));
+    }
+    Ok(None)
 }
 
 // Nothing is read where memory is refused before.

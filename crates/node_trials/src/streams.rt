@@ -60,3 +60,29 @@ impl Write for Written {
         Ok(())
     }
 }
+
+/// Takes a few bytes at a time, and nothing at every other call, as a socket does that doesn't wait.
+#[derive(Drop)]
+pub struct Trickle {
+    /// What was taken.
+    pub bytes: Vec<u8>,
+    /// Whether the next call takes nothing.
+    pub is_full: bool,
+}
+
+// How many bytes one call takes.
+const FEW: usize = 7;
+
+impl Write for Trickle {
+    fn write(&mut self, buf: &[u8]) -> io::Result<usize> {
+        self.is_full = !self.is_full;
+        if self.is_full {
+            return Err(io::Error::from(ErrorKind::WouldBlock));
+        }
+        self.bytes.write(&buf[..FEW.min(buf.len())])
+    }
+
+    fn flush(&mut self) -> io::Result<()> {
+        Ok(())
+    }
+}

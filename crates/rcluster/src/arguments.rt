@@ -24,6 +24,8 @@ pub enum Call<'a> {
         ticks: Option<u64>,
         /// Which nodes are stopped meanwhile, each as the node and its ticks.
         stops: Vec<&'a str>,
+        /// How many threads of each node serve its clients in turn, or None where each client has a thread of its own.
+        loops: Option<u64>,
         /// Whether each node keeps its journal in memory.
         records_journal: bool,
         /// Whether standard error is told what no client is.
@@ -179,6 +181,7 @@ fn serve_call<'a>(alloc: Global, serve: Option<&ArgMatches<'a>>) -> Result<Call<
             only_checks: serve.get_flag("check"),
             ticks: serve.get_one::<u64>("ticks"),
             stops: texts(alloc, serve, "stop")?,
+            loops: serve.get_one::<u64>("loops"),
             records_journal: serve.get_flag("journal"),
             is_logged: serve.get_flag("log"),
         }),
@@ -188,6 +191,7 @@ fn serve_call<'a>(alloc: Global, serve: Option<&ArgMatches<'a>>) -> Result<Call<
             only_checks: false,
             ticks: None,
             stops: Vec::new(alloc),
+            loops: None,
             records_journal: false,
             is_logged: false,
         }),

@@ -15,6 +15,9 @@ const MOST_REPETITIONS: u64 = 1_000_000;
 /// After how many ticks at most the program may be asked to end, and a node to stop.
 pub const MOST_TICKS: u64 = 1_000_000;
 
+// How many threads of a node may serve its clients in turn.
+const MOST_LOOPS: u64 = 8;
+
 /// The port of the first master where nothing is said.
 pub const FIRST_PORT: u64 = 7000;
 
@@ -85,6 +88,7 @@ pub static VERBS: [Verb; 4] = [
             CHECK,
             TICKS,
             STOP,
+            LOOPS,
             JOURNAL,
             LOG,
         ],
@@ -180,6 +184,16 @@ const STOP: Argument = Argument {
     value_name: "N@TICKS",
     help: "Stops node N, counted from 0, after TICKS ticks of its own, 1 to 1000000, as if it were gone, while the others are served on; may be there several times",
     kind: Kind::Texts,
+};
+
+const LOOPS: Argument = Argument {
+    name: "loops",
+    value_name: "N",
+    help: "Has N threads of each node serve all of its clients in turn, 1 to 8; if missing, each client has a thread of its own",
+    kind: Kind::Number {
+        least: 1,
+        most: MOST_LOOPS,
+    },
 };
 
 const JOURNAL: Argument = Argument {
