@@ -37,8 +37,15 @@ def children_seconds():
     return used.ru_utime + used.ru_stime
 
 
-def start(port, test, count, keys, pipeline, size, connections):
+def latencies(port, test, count, keys, pipeline, size, connections, threads):
+    """Lets redis-benchmark send so many requests by so many threads. Returns the rate, and milliseconds: `p50`, `p99` and `max`."""
+    row = row_of(start(port, test, count, keys, pipeline, size, connections, threads))
+    return {"rate": float(row[1]), "p50": float(row[4]), "p99": float(row[6]), "max": float(row[7])}
+
+
+def start(port, test, count, keys, pipeline, size, connections, threads=1):
     options = ["-p", port, "-c", connections, "-P", pipeline, "-n", count, "-r", keys, "-d", size, "--csv"]
+    options += ["--threads", threads] if threads > 1 else []
     options += ["-t", test] if isinstance(test, str) else test
     return subprocess.Popen(
         ["redis-benchmark", *map(str, options)], stdout=subprocess.PIPE, stderr=subprocess.DEVNULL, text=True
@@ -46,11 +53,15 @@ def start(port, test, count, keys, pipeline, size, connections):
 
 
 def rate_of(process):
+    return float(row_of(process)[1])
+
+
+def row_of(process):
     said = process.communicate()[0]
     if process.returncode:
         raise SystemExit(f"redis-benchmark ended with {process.returncode}")
     rows = [row for row in csv.reader(io.StringIO(said)) if len(row) > 1 and row[0] != "test"]
-    return float(rows[-1][1])
+    return rows[-1]
 
 
 def idle(port, count):

@@ -97,7 +97,7 @@ def cluster_of(ranges, options, under, program=PROGRAM):
 def redis(under=()):
     """Returns a Redis that stores nothing on a disk."""
     port = free_port()
-    words = ["redis-server", "--port", str(port), "--bind", "127.0.0.1", "--save", "", "--appendonly", "no", "--dir", tempfile.gettempdir()]
+    words = ["redis-server", "--port", str(port), "--bind", "127.0.0.1", "--save", "", "--appendonly", "no", "--maxclients", "12000", "--dir", tempfile.gettempdir()]
     return Server("redis", words, port, under)
 
 

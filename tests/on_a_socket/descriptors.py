@@ -1,7 +1,8 @@
 """A server that may have few descriptors, as `ulimit -n` limits them. Whoever can't be served sees its connection closed at once, at each
 node, also where many come at the same time; those that are connected go on, and once some leave others are served.
 
-How many are served isn't the same each time: where many come at once, some of the descriptors that are kept back serve clients.
+How many are served isn't the same each time: where clients come at once, or one comes before the thread that accepted another has come
+back, some of the descriptors that are kept back serve clients.
 """
 
 import contextlib
@@ -9,12 +10,16 @@ import resource
 import time
 
 import clusters
+import program
 from clusters import ports_of
 from program import PATIENCE, Server
 from wire import PING, PONG, ask, connect, playing, refuses_in_time, rest_of
 
-# How many descriptors the server may have, how many clients come one after another, and how many of them leave.
-LIMIT, COMING, LEAVING = 64, 70, 5
+# How many descriptors the server may have, how many clients come one after another, how many of them leave, and how many come then.
+# These are less, by a descriptor for each node: so many of those that are kept back may serve clients.
+LIMIT, COMING, LEAVING, NEWCOMERS = 64, 70, 11, 5
+# How many more a thread takes that serves clients in turn: one to wait by, and one to be woken by.
+OF_A_LOOP = 2
 # How many clients are served at least: six nodes take some 20 descriptors for themselves.
 LEAST = 30
 # How many come at once, and how many times each of them comes.
@@ -35,7 +40,7 @@ def play(judge):
         stay(judge, "many came at once", served, ports)
         for client in served[:LEAVING]:
             client.close()
-        newcomers = [served_in_time(stack, port) for port in ports[:LEAVING]]
+        newcomers = [served_in_time(stack, port) for port in ports[:NEWCOMERS]]
         judge.equal("some left: others that aren't served", newcomers.count(None), 0)
         stay(judge, "others came", served[LEAVING:] + newcomers, ports)
         stack.close()
@@ -68,7 +73,8 @@ def play_a_stop(judge):
 
 
 def limit(server):
-    resource.prlimit(server.process.pid, resource.RLIMIT_NOFILE, (LIMIT, LIMIT))
+    most = LIMIT + OF_A_LOOP * program.LOOPS * len(server.cluster["nodes"])
+    resource.prlimit(server.process.pid, resource.RLIMIT_NOFILE, (most, most))
 
 
 def come(judge, stack, ports):

@@ -60,7 +60,7 @@ def play_descriptors(judge):
 
 
 def play_threads(judge):
-    """Where memory is short no thread gets a stack, be it of a client or of a node."""
+    """Where memory is short no thread gets a stack, be it of a client or of a node. Clients that are served in turn need none."""
     cluster = clusters.masters(2)
     ports = ports_of(cluster)
     with Server(cluster, "--log") as server, contextlib.ExitStack() as stack:
@@ -69,7 +69,10 @@ def play_threads(judge):
         with limited(server):
             nodes = [it % len(ports) for it in range(COMING)]
             refused = [it for it in nodes if outcome(stack.enter_context(connect(ports[it]))) == "closed"]
-        judge.least("memory is short: clients that aren't served", len(refused), 1)
+        if program.LOOPS:
+            judge.equal("memory is short: clients that aren't served", refused, [])
+        else:
+            judge.least("memory is short: clients that aren't served", len(refused), 1)
         judge_lines(judge, "memory is short", server, refused, NO_THREAD)
     words = [program.PATH, "serve", "--masters", "16", "--port", str(free_row(16)), "--log"]
     done = subprocess.run(["sh", "-c", f'ulimit -v {SMALL}; exec "$@"', "sh", *words], capture_output=True, timeout=PATIENCE, check=False)

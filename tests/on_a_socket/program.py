@@ -8,6 +8,8 @@ import threading
 import time
 
 PATH = os.path.abspath(os.path.join(os.path.dirname(os.path.abspath(__file__)), "..", "..", "crates/rcluster/out/rcluster"))
+# How many threads of each node of a server serve its clients in turn. With none each client has a thread of its own.
+LOOPS = 0
 # How long the program may take to begin or to end, in seconds.
 PATIENCE = 20
 # Held while a process begins, and while a port is probed: a process that begins has the probe open until it runs its program, and
@@ -36,6 +38,11 @@ def write(folder, text):
         file.write(text)
 
 
+def loops():
+    """The words that say who serves the clients."""
+    return ("--loops", str(LOOPS)) if LOOPS else ()
+
+
 class Server:
     """The program that serves a cluster. It is killed at the end of the block where it hasn't ended."""
 
@@ -51,7 +58,7 @@ class Server:
         self.begun = time.monotonic()
         with BEGINNING:
             self.process = subprocess.Popen(
-                [PATH, "serve", *(self.source or ("--config", FILE)), *self.options],
+                [PATH, "serve", *(self.source or ("--config", FILE)), *loops(), *self.options],
                 cwd=self.folder.name, stdin=subprocess.DEVNULL, stdout=subprocess.PIPE, stderr=self.errors,
             )
         # A line for each node. Where one is missing, the row that compares them says so, and this says why.

@@ -161,6 +161,11 @@ def faulty_words():
     yield (*SERVE, "--ticks"), "a value is required for '--ticks <N>'"
     for stop in ("", "1", "1@", "@1", "x@1", "1@x", "1@0", "1@1000001", "01@1", "1@01", "+1@1", "1@1@1", "1@1.5", "18446744073709551616@1"):
         yield (*SERVE, "--stop", "0@1", "--stop", stop), f'"{stop}" is no stop: --stop takes N@TICKS'
+    for loops in ("0", "9", "x", ""):
+        yield (*SERVE, "--loops", loops), f"invalid value '{loops}' for '--loops <N>'"
+    yield (*SERVE, "--loops", "-1"), "unexpected argument '-1'"
+    yield (*SERVE, "--loops"), "a value is required for '--loops <N>'"
+    yield (*SERVE, "--loops", "2", "--loops", "2"), "cannot be used multiple times"
     yield (*SERVE, "--stop"), "a value is required for '--stop <N@TICKS>'"
     yield (*SERVE, "--stop", "-1@1"), "unexpected argument '-1'"
     yield (*SERVE, "--stop", "0@1", "--stop", "1@1"), "error: --stop names node 1, and the last node of the cluster is node 0"
@@ -200,7 +205,7 @@ def play_words(judge):
     judge.equal("--version", program.run("--version"), (0, b"rcluster 0.1.0\n", b""))
     status, output, error = program.run("serve", "--help")
     judge.equal("serve --help: status, and nothing on standard error", (status, error), (0, b""))
-    for option in (b"--config <FILE>", b"--masters <M>", b"--replicas <R>", b"--port <P>", b"--check", b"--ticks <N>", b"--stop <N@TICKS>", b"--journal", b"--log"):
+    for option in (b"--config <FILE>", b"--masters <M>", b"--replicas <R>", b"--port <P>", b"--check", b"--ticks <N>", b"--stop <N@TICKS>", b"--loops <N>", b"--journal", b"--log"):
         judge.within(f"serve --help tells {option.decode()}", option, output)
     for verb, codes in [
         ("serve", ["F1", "F2", "F3", *(f"K{it}" for it in range(1, 9))]),
