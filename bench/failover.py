@@ -8,7 +8,6 @@ there. A client asks the replica each millisecond. It needs Debian's redis-serve
 
 import contextlib
 import json
-import os
 import re
 import signal
 import socket
@@ -19,7 +18,7 @@ import tempfile
 import time
 
 import servers
-from run import Report, machine
+from run import measure
 
 # Of how many ticks `node_timeout` is, how long a tick is, in milliseconds, and how often a failover is measured.
 NODE_TIMEOUT, TICK_MS, ROUNDS = 20, (10, 100), 9
@@ -34,22 +33,7 @@ IDLE, SETTLED = 20, 3
 
 
 def main(words):
-    out = None
-    if "--out" in words:
-        at = words.index("--out")
-        out = words[at + 1]
-        words = words[:at] + words[at + 2:]
-    if words:
-        servers.PROGRAM = os.path.abspath(words[0])
-    report = Report()
-    report.say(f"# {time.strftime('%-d %B %Y')}, failovers")
-    report.say(f"\n{machine()}; Redis {servers.redis_version()} beside it; load at the start {os.getloadavg()[0]:.1f}.")
-    failovers(report)
-    idle_nodes(report)
-    report.say(f"\nLoad at the end {os.getloadavg()[0]:.1f}.")
-    if out:
-        with open(out, "w", encoding="utf-8") as file:
-            file.write("\n".join(report.lines) + "\n")
+    measure(words, "failovers", failovers, idle_nodes)
 
 
 # ---- a failover

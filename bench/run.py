@@ -53,6 +53,12 @@ class Report:
     def row(self, *cells):
         self.say("| " + " | ".join(str(cell) for cell in cells) + " |")
 
+    def write(self, out):
+        """Writes all of it to that file, if there is one."""
+        if out:
+            with open(out, "w", encoding="utf-8") as file:
+                file.write("\n".join(self.lines) + "\n")
+
 
 # ---- instructions a request, by callgrind: the difference of two loads, so that starting and filling don't count
 
@@ -305,12 +311,30 @@ PARTS = {
 }
 
 
+def measure(words, title, *parts):
+    """Has each part say its figures in a report, which goes to the output, and to the file behind `--out`. A word beside that is the program."""
+    words, out = without_out(words)
+    if words:
+        servers.PROGRAM = os.path.abspath(words[0])
+    report = Report()
+    report.say(f"# {time.strftime('%-d %B %Y')}, {title}")
+    report.say(f"\n{machine()}; Redis {servers.redis_version()} beside it; load at the start {os.getloadavg()[0]:.1f}.")
+    for part in parts:
+        part(report)
+    report.say(f"\nLoad at the end {os.getloadavg()[0]:.1f}.")
+    report.write(out)
+
+
+def without_out(words):
+    """Returns the words without `--out FILE`, and that file, or None."""
+    if "--out" not in words:
+        return words, None
+    at = words.index("--out")
+    return words[:at] + words[at + 2:], words[at + 1]
+
+
 def main(words):
-    out = None
-    if "--out" in words:
-        at = words.index("--out")
-        out = words[at + 1]
-        words = words[:at] + words[at + 2:]
+    words, out = without_out(words)
     scale = 0.1 if "--quick" in words else 1
     wanted = [word for word in words if word != "--quick"] or list(PARTS)
     if any(word not in PARTS for word in wanted):
@@ -321,9 +345,7 @@ def main(words):
     report.say(f"\n{machine()}; Redis {servers.redis_version()} beside it; load at the start {os.getloadavg()[0]:.1f}.")
     for word in wanted:
         PARTS[word](report, scale)
-    if out:
-        with open(out, "w", encoding="utf-8") as file:
-            file.write("\n".join(report.lines) + "\n")
+    report.write(out)
     return 0
 
 

@@ -7,7 +7,6 @@ descriptors. The report goes to the output, and to FILE.
 """
 
 import contextlib
-import os
 import resource
 import socket
 import statistics
@@ -16,7 +15,7 @@ import time
 
 import load
 import servers
-from run import Report, machine
+from run import measure
 
 LOOPS = ("--loops", "2")
 KEYS, SIZE, ROUNDS = 100_000, 16, 3
@@ -27,24 +26,9 @@ PING, PONG = b"*1\r\n$4\r\nPING\r\n", b"+PONG\r\n"
 
 
 def main(words):
-    out = None
-    if "--out" in words:
-        at = words.index("--out")
-        out = words[at + 1]
-        words = words[:at] + words[at + 2:]
-    if words:
-        servers.PROGRAM = os.path.abspath(words[0])
     most = resource.getrlimit(resource.RLIMIT_NOFILE)[1]
     resource.setrlimit(resource.RLIMIT_NOFILE, (most, most))
-    report = Report()
-    report.say(f"# {time.strftime('%-d %B %Y')}, many connections")
-    report.say(f"\n{machine()}; Redis {servers.redis_version()} beside it; load at the start {os.getloadavg()[0]:.1f}.")
-    tails(report)
-    crowds(report)
-    report.say(f"\nLoad at the end {os.getloadavg()[0]:.1f}.")
-    if out:
-        with open(out, "w", encoding="utf-8") as file:
-            file.write("\n".join(report.lines) + "\n")
+    measure(words, "many connections", tails, crowds)
 
 
 def all_servers():
