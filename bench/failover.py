@@ -8,7 +8,6 @@ there. A client asks the replica each millisecond. It needs Debian's redis-serve
 
 import contextlib
 import json
-import re
 import signal
 import socket
 import statistics
@@ -18,6 +17,7 @@ import tempfile
 import time
 
 import servers
+from redis_cluster import nodes_at, redis_cluster
 from run import measure
 
 # Of how many ticks `node_timeout` is, how long a tick is, in milliseconds, and how often a failover is measured.
@@ -102,63 +102,6 @@ def theirs_after(timeout):
         with connect(successor["port"]) as replica:
             processes[owner["port"]].send_signal(signal.SIGKILL)
             return 1000 * seconds_until_served(replica)
-
-
-@contextlib.contextmanager
-def redis_cluster(timeout):
-    """Six nodes, of which three are replicas that follow their masters. Gives their processes, by their ports."""
-    with tempfile.TemporaryDirectory(prefix="bench-") as folder, contextlib.ExitStack() as stack:
-        nodes = [stack.enter_context(redis_node(folder, timeout)) for _ in range(6)]
-        addresses = [f"127.0.0.1:{it.port}" for it in nodes]
-        words = ["redis-cli", "--cluster", "create", *addresses, "--cluster-replicas", "1", "--cluster-yes"]
-        subprocess.run(words, check=True, stdout=subprocess.DEVNULL)
-        wait_until_whole([it.port for it in nodes])
-        yield {it.port: it.process for it in nodes}
-
-
-def redis_node(folder, timeout):
-    port = redis_port()
-    words = ["redis-server", "--port", str(port), "--bind", "127.0.0.1", "--save", "", "--appendonly", "no", "--dir", folder]
-    words += ["--cluster-enabled", "yes", "--cluster-config-file", f"{port}.conf", "--cluster-node-timeout", str(timeout)]
-    return servers.Server("redis", words, port)
-
-
-def redis_port():
-    """A port that is free, as is the one of the bus, which is greater by 10,000."""
-    while True:
-        port = servers.free_port()
-        with socket.socket() as bus, contextlib.suppress(OSError):
-            bus.bind(("127.0.0.1", port + 10000))
-            return port
-
-
-def wait_until_whole(ports):
-    """All nodes know all others, and each replica has what its master has."""
-    last = time.monotonic() + PATIENCE
-    while time.monotonic() < last:
-        states = [ask(port, "CLUSTER", "INFO") for port in ports]
-        links = [it for it in (ask(port, "INFO", "replication") for port in ports) if "role:slave" in it]
-        if all("cluster_state:ok" in it and "cluster_known_nodes:6" in it for it in states) and len(links) == 3 and all("master_link_status:up" in it for it in links):
-            # What a node holds of the others is told with its heartbeats.
-            time.sleep(1)
-            return
-        time.sleep(0.1)
-    raise SystemExit("the Redis Cluster isn't whole")
-
-
-def ask(port, *words):
-    return subprocess.run(["redis-cli", "-p", str(port), *words], check=True, capture_output=True, text=True).stdout
-
-
-def nodes_at(port):
-    """Of each node the id, the port, the id of its master, and its first and last slot."""
-    nodes = []
-    for line in ask(port, "CLUSTER", "NODES").splitlines():
-        number, address, _flags, master, *rest = line.split()
-        slots = re.fullmatch(r"(\d+)-(\d+)", rest[-1])
-        first, last = map(int, slots.groups()) if slots else (None, None)
-        nodes.append({"id": number, "port": int(re.match(r"[\d.]+:(\d+)", address)[1]), "master": master, "first": first, "last": last})
-    return nodes
 
 
 # ---- nodes that nobody asks

@@ -1,7 +1,7 @@
 """Measures how fast keys move from one node to another: a slot of 10,000 keys by one `rcluster reshard`, and eight slots of 10,000 keys each by
 eight of them at once.
 
-usage: bench/moves.py [PROGRAM]    by default the program that ./check built
+usage: bench/moves.py [--loops N] [PROGRAM]    by default the program that ./check built, with a thread for each client
 
 Both nodes are served by one process, and nobody else asks them. Each key takes two messages between the nodes: its copy and the
 acknowledgement.
@@ -22,8 +22,9 @@ PORTS = (17000, 17001)
 
 
 def main(words):
+    loops, words = (words[:2], words[2:]) if words[:1] == ["--loops"] else ([], words)
     program = os.path.abspath(words[0] if words else PROGRAM)
-    with subprocess.Popen([program, "serve", "--masters", "2", "--port", str(PORTS[0])], stdout=subprocess.PIPE) as server:
+    with subprocess.Popen([program, "serve", "--masters", "2", "--port", str(PORTS[0]), *loops], stdout=subprocess.PIPE) as server:
         try:
             for _ in PORTS:
                 server.stdout.readline()

@@ -74,9 +74,9 @@ def rcluster(*options, under=(), program=PROGRAM):
 THIRDS = [[0, 5460], [5461, 10922], [10923, 16383]]
 
 
-def three_masters():
+def three_masters(*options, program=PROGRAM):
     """Returns three nodes with a third of the slots each; their ports are `ports`."""
-    return cluster_of(THIRDS, (), ())
+    return cluster_of(THIRDS, options, (), program)
 
 
 def cluster_of(ranges, options, under, program=PROGRAM):

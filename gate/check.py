@@ -56,6 +56,7 @@ def pass_crates(words):
     try:
         running = kit.version()
         print(f"the kit is {running}", flush=True)
+        words = words if kit.keeps_what_passed() else []
         gate = subprocess.Popen(["rt", "ci", *words], stdout=subprocess.PIPE, stderr=subprocess.STDOUT, text=True, errors="replace")
     except (OSError, kit.NoKit) as error:
         print(error, file=sys.stderr)

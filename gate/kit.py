@@ -31,6 +31,12 @@ def version():
     return asked.stdout.strip()
 
 
+def keeps_what_passed():
+    """Whether this kit's gate keeps on the machine what passed. One that doesn't proves everything again each time."""
+    asked = subprocess.run(["rt", "help"], stdout=subprocess.PIPE, stderr=subprocess.STDOUT, text=True, errors="replace", check=False)
+    return "--anew" in asked.stdout
+
+
 def known_versions():
     """Returns the versions under which everything passed."""
     with open(VERSIONS, encoding="utf-8") as file:

@@ -1,4 +1,4 @@
-"""Servers that are audited, one after another, while three clients count at keys of a slot that `reshard` moves, and fifty others send
+"""Servers that are audited, one after another, while three clients count at keys of a slot that `reshard` moves, and twenty others send
 pipelines of requests.
 
 Each time the run is audited, with a step at least for each tick of node 0 and for each request that was answered.
@@ -14,7 +14,7 @@ from wire import OK, ask, connect, playing, spelled
 # How many servers are audited.
 TIMES = 20
 # How many clients send pipelines, and how many requests are in one.
-PIPELINING, PIPELINE = 50, 16
+PIPELINING, PIPELINE = 20, 16
 # A key for each of the three masters.
 KEYS = (b"b", b"c", b"x")
 

@@ -64,7 +64,7 @@ ROWS = (
     ("all vote, and masters are stopped one after another", 3, 1, {2: 20, 1: 55, 0: 90}, range(6), [(2, 5), (1, 4)]),
     ("both replicas are there", 2, 2, {0: 20}, [1, 4, 5], [(0, 2)]),
     ("the first replica is stopped before its master", 2, 2, {2: 20, 0: 24}, [1, 4, 5], [(0, 3)]),
-    ("the first replica is stopped once it took the place", 2, 2, {0: 20, 2: 60}, [1, 4, 5], [(0, 2), (2, 3)]),
+    ("the first replica is stopped once it took the place", 2, 2, {0: 20, 2: 80}, [1, 4, 5], [(0, 2), (2, 3)]),
     ("both replicas are stopped before their master", 2, 2, {2: 20, 3: 20, 0: 24}, [1, 4, 5], []),
 )
 

@@ -36,6 +36,8 @@ UNREAD = 3000
 FEW = 12
 # How many keys a slot has that moves.
 KEYS = 17
+# How many bytes of addresses more than it has a server takes where memory is short: those of a few stacks of clients, which have 256 KiB each.
+ROOM = 4 << 20
 # How many KiB of addresses are too few for the stacks of the threads of 16 nodes, of which each has 8 MiB.
 SMALL = 250000
 
@@ -66,7 +68,7 @@ def play_threads(judge):
     with Server(cluster, "--log") as server, contextlib.ExitStack() as stack:
         for port in ports:
             judge.true("memory isn't short yet: a client is served", served_in_time(stack, port), str(port))
-        with limited(server):
+        with limited(server, ROOM):
             nodes = [it % len(ports) for it in range(COMING)]
             refused = [it for it in nodes if outcome(stack.enter_context(connect(ports[it]))) == "closed"]
         if program.LOOPS:

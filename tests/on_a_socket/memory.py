@@ -37,12 +37,12 @@ def play(judge):
 
 
 @contextlib.contextmanager
-def limited(server):
-    """Limits the addresses that the program may take, while the block runs."""
+def limited(server, room=ROOM):
+    """Limits the addresses that the program may take to so many bytes more, while the block runs."""
     _, most = resource.prlimit(server.process.pid, resource.RLIMIT_AS)
     with open(f"/proc/{server.process.pid}/statm", encoding="ascii") as file:
         taken = int(file.read().split()[0]) * resource.getpagesize()
-    resource.prlimit(server.process.pid, resource.RLIMIT_AS, (taken + ROOM, most))
+    resource.prlimit(server.process.pid, resource.RLIMIT_AS, (taken + room, most))
     yield
     resource.prlimit(server.process.pid, resource.RLIMIT_AS, (most, most))
 

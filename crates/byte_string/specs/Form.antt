@@ -1,6 +1,6 @@
 -- The bytes of a string in each of its forms. No public clause needs it: clauses see the bytes.
-use Rattle.std.specs.Prelude.{◌≤◌, ℕ, List, take, ⊤}
-use Rattle.byte_string.specs.declared.short.TheConstants.{MOST_SHORT}
+use Rattle.std.specs.Prelude.{ℕ, List, take, ⊤}
+use Rattle.byte_string.specs.Short.{IsShort}
 use Rattle.byte_string.specs.declared.byte_string.Form.{Form}
 use Rattle.byte_string.specs.declared.byte_string.Form.TheVariants.{Short, Shared, Owned}
 
@@ -10,6 +10,6 @@ bytes_of (Shared block) = block.value
 bytes_of (Owned buffer) = buffer.value.items
 
 abbrev pub IsForm : Form → Type 0
-IsForm (Short short) = short.len ≤ MOST_SHORT
+IsForm (Short short) = IsShort short
 IsForm (Shared _) = ⊤
 IsForm (Owned _) = ⊤

@@ -8,6 +8,7 @@ ghost use Rattle.std.proofs.Common.{ap};
 ghost use Rattle.byte_string.specs.Form.{IsForm, bytes_of};
 ghost use Rattle.byte_string.specs.declared.short.TheConstants.{MOST_SHORT};
 
+use crate::order::order;
 use crate::short::Short;
 use bytes::Bytes;
 use std::alloc::{AllocError, Global};
@@ -39,9 +40,26 @@ pub struct ByteString {
 }
 
 impl Drop for ByteString {
+    #[inline(always)]
     fn drop(self) {
-        let ByteString { form: _ } = self;
+        let ByteString { form } = self;
+        match form {
+            Form::Short(_) => {}
+            Form::Shared(block) => drop_shared(block),
+            Form::Owned(buffer) => drop_owned(buffer),
+        }
     }
+}
+
+// These two are out of line, so that a short string is dropped by a test.
+#[inline(never)]
+fn drop_shared(block: Arc<Bytes>) {
+    drop(block);
+}
+
+#[inline(never)]
+fn drop_owned(buffer: Box<Vec<u8>>) {
+    drop(buffer);
 }
 
 impl Model for ByteString {
@@ -85,6 +103,7 @@ impl ByteString {
     }
 
     /// A copy of these bytes.
+    #[inline(always)]
     pub fn copy_from_slice(alloc: Global, bytes: &[u8]) -> Result<ByteString, AllocError>
         ensures { IfOk result (λ string. string ≡ bytes.now) }
     {
@@ -137,7 +156,8 @@ impl ByteString {
     }
 }
 
-// A copy of bytes that are too many to lie in place.
+// A copy of bytes that are too many to lie in place. Out of line, so that a short copy stays short.
+#[inline(never)]
 fn long_copy(alloc: Global, bytes: &[u8]) -> Result<Form, AllocError>
     ensures bytes { IfOk result (λ form. bytes_of form ≡ bytes.now) }
     ensures form { IfOk result (λ form. IsForm form) }
@@ -149,6 +169,14 @@ fn long_copy(alloc: Global, bytes: &[u8]) -> Result<Form, AllocError>
     let mut buffer = Vec::with_capacity(alloc, bytes.len())?;
     buffer.extend_from_slice(bytes)?;
     Ok(Form::Owned(Box::new(alloc, buffer)?))
+}
+
+// The order where one of two strings is long. Out of line, so that a search among short keys stays short.
+#[inline(never)]
+fn long_order(a: &[u8], b: &[u8]) -> Ordering
+    ensures { result ≡ slice_cmp nat_cmp a.now b.now }
+{
+    order(a, b)
 }
 
 // All bytes in a buffer that has room for as many again.
@@ -212,7 +240,10 @@ impl Ord for ByteString {
     ghost matches_eq = { texts_ties };
 
     fn cmp(&self, other: &ByteString) -> Ordering {
-        self.as_slice().cmp(&other.as_slice())
+        match (&self.form, &other.form) {
+            (Form::Short(short), Form::Short(other)) => short.order(other),
+            _ => long_order(self.as_slice(), other.as_slice()),
+        }
     }
 }
 

@@ -12,6 +12,7 @@ impl ByteString {
     /// A long string keeps the memory that it came in, and no byte of it is copied. A shorter one is copied: it may be
     /// kept for as long as its key lives, and would keep the whole block of input around it, which is often a thousand
     /// times as large.
+    #[inline(always)]
     pub fn cut_from(input: &mut BytesMut, len: usize) -> Result<ByteString, AllocError>
         requires { len ≤ length input.old.items }
         ensures front { IfOk result (λ string. string ≡ take len input.old.items) }

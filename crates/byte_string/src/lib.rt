@@ -3,6 +3,7 @@
 
 mod byte_string;
 mod cut;
+mod order;
 mod short;
 
 pub use byte_string::ByteString;

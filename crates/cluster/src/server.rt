@@ -4,24 +4,18 @@ ghost use Rattle.std.specs.List.{range_with_len};
 ghost use Rattle.links.specs.Ends.{AreEndsOf, AreLinkedFrom};
 ghost use Rattle.tickets.specs.Tickets.{IsFresh};
 
-use crate::changes::Changes;
-use crate::clients::Clients;
-use crate::desk::Desk;
-use crate::host::{Hall, serve_guests};
-use crate::mail::{HasLinks, carry};
-use crate::node::{Node, Timing, accept_clients, pass_time};
-use crate::runtime::Runtime;
-use crate::stop::{NodeStop, Stop, most_ticks};
-use crate::witness::{Incident, Shortage, Witness};
+use crate::clock::Timing;
+use crate::threads::start_all;
 use cluster_config::Config;
 use links::{NodeEnds, Station, Web};
-use mio::Waker;
 use node_cell::{Admission, Deployment, HoldsCell, Log, NodeCell, Posted};
+use shared_cluster::{
+    Clients, HasLinks, Node, NodeStop, Runtime, SharedCluster, Shortage, Stop, Witness, most_ticks,
+};
 use slot_table::NodeNo;
 use std::alloc::{AllocError, Global};
 use std::net::TcpListener;
 use std::sync::{Arc, Wait};
-use std::thread;
 use std::thread::JoinHandle;
 use std::time::Duration;
 use tickets::Seat;
@@ -37,12 +31,12 @@ pub enum ServeFault {
     Mixed,
 }
 
-impl ServeFault {
-    // Of what there was none as a thread was started.
-    fn shortage(self) -> Shortage {
-        match self {
-            ServeFault::Memory => Shortage::Memory,
-            ServeFault::Thread | ServeFault::Mixed => Shortage::Thread,
+// Of what there was none as a thread was to be started.
+impl From<Shortage> for ServeFault {
+    fn from(shortage: Shortage) -> ServeFault {
+        match shortage {
+            Shortage::Memory => ServeFault::Memory,
+            Shortage::Thread | Shortage::Descriptor => ServeFault::Thread,
         }
     }
 }
@@ -112,21 +106,21 @@ where
         interval: Duration::from_millis(u64::from(config.tick_ms())),
         course,
     };
-    run_all(rt, alloc, nodes.as_slice(), times, witness)?;
+    let nodes = run_all(rt, alloc, nodes, times, witness)?;
     stations_of(alloc, nodes)
 }
 
-// The ticks of the nodes.
+/// The ticks of the nodes, and how their clients are served.
 #[derive(Clone, Copy)]
-struct Times<'a> {
-    // How long one takes.
+pub(crate) struct Times<'a> {
+    // How long a tick takes.
     interval: Duration,
     course: Course<'a>,
 }
 
 impl Times<'_> {
-    // Those of the node of that number.
-    fn of(&self, node: usize) -> Timing {
+    /// Those of the node of that number.
+    pub(crate) fn of(&self, node: usize) -> Timing {
         let most = match self.course.ticks {
             Some(ticks) if node == 0 => ticks,
             _ => u64::MAX,
@@ -137,59 +131,82 @@ impl Times<'_> {
             own: most_ticks(self.course.stops, node),
         }
     }
+
+    /// How many threads of a node serve its clients in turn.
+    pub(crate) fn loops(&self) -> usize {
+        self.course.loops.unwrap_or(0)
+    }
 }
 
-// Runs the nodes until the end.
+// Runs the nodes until the end, and gives them back.
 fn run_all<C: HasLinks<R> + Drop + Send + 'static, R: Runtime>(
     rt: R,
     alloc: Global,
-    nodes: &[Arc<Node<C>, Global>],
+    nodes: Vec<Node<C>>,
     times: Times,
     witness: &Arc<Witness, Global>,
-) -> Result<(), ServeFault>
+) -> Result<Vec<Node<C>>, ServeFault>
 where
     C::Cluster: Send + Sync + 'static,
+    ensures { IfOk result (λ after. vec_len after ≡ vec_len nodes) }
 {
-    let clients = Clients::new(alloc, nodes.len(), witness)?;
-    let clients = Arc::new(alloc, clients).map_err(AllocError::from)?;
-    let stop = Arc::new(alloc, Stop::new()).map_err(AllocError::from)?;
-    run_with(rt, alloc, nodes, &clients, &stop, times)
+    let count = nodes.len();
+    let cluster = share(alloc, nodes, witness)?;
+    run(rt, alloc, &cluster, times)?;
+    match Arc::into_inner(cluster) {
+        Some(cluster) if cluster.nodes.len() == count => Ok(cluster.nodes),
+        _ => Err(ServeFault::Thread),
+    }
 }
 
-fn run_with<C: HasLinks<R> + Drop + Send + 'static, R: Runtime>(
+// The nodes with what their threads share.
+fn share<C: HoldsCell + Drop>(
+    alloc: Global,
+    nodes: Vec<Node<C>>,
+    witness: &Arc<Witness, Global>,
+) -> Result<Arc<SharedCluster<C>, Global>, AllocError> {
+    let clients = Clients::new(alloc, nodes.len(), witness)?;
+    let clients = Arc::new(alloc, clients).map_err(AllocError::from)?;
+    let cluster = SharedCluster {
+        nodes,
+        clients,
+        stop: Stop::new(),
+    };
+    Arc::new(alloc, cluster).map_err(AllocError::from)
+}
+
+fn run<C: HasLinks<R> + Drop + Send + 'static, R: Runtime>(
     rt: R,
     alloc: Global,
-    nodes: &[Arc<Node<C>, Global>],
-    clients: &Arc<Clients, Global>,
-    stop: &Arc<Stop, Global>,
+    cluster: &Arc<SharedCluster<C>, Global>,
     times: Times,
 ) -> Result<(), ServeFault>
 where
     C::Cluster: Send + Sync + 'static,
 {
-    let mut threads = Vec::with_capacity(alloc, 3 * nodes.len())?;
-    let started = start_all(rt, alloc, nodes, clients, stop, times, &mut threads);
+    // Without those that serve clients in turn, a node has three threads.
+    let mut threads = Vec::with_capacity(alloc, cluster.nodes.len().saturating_mul(3))?;
+    let started = start_all(rt, alloc, cluster, times, &mut threads);
     match started {
-        Ok(()) => stop.wait(&rt),
-        Err(_) => stop.end(),
+        Ok(()) => cluster.stop.wait(&rt),
+        Err(_) => cluster.stop.end(),
     }
-    end_all(&rt, nodes, clients, threads);
+    end_all(&rt, cluster, threads);
     started
 }
 
 // Ends all connections and all threads.
 fn end_all<C: HasLinks<R> + Drop, R: Runtime>(
     rt: &R,
-    nodes: &[Arc<Node<C>, Global>],
-    clients: &Clients,
+    cluster: &SharedCluster<C>,
     threads: Vec<JoinHandle<()>>,
 ) {
-    for node in nodes {
+    for node in cluster.nodes.iter() {
         node.shared.close(rt);
     }
     // Connections go first: where no more files can be opened, no thread that accepts can be woken before one is closed.
-    clients.shut_down(rt);
-    for node in nodes {
+    cluster.clients.shut_down(rt);
+    for node in cluster.nodes.iter() {
         node.wake(rt);
     }
     for thread in threads {
@@ -202,7 +219,7 @@ fn nodes_at<K: Deployment, W: Web, L: Log + Drop, R: Runtime>(
     alloc: Global,
     config: &Config,
     places: Vec<Place<K, R>>,
-) -> Result<Vec<Arc<Node<Station<K, W, L, R>>, Global>>, AllocError>
+) -> Result<Vec<Node<Station<K, W, L, R>>>, AllocError>
     requires cluster { config.now ≡ K.config }
     requires places { length places.items ≡ length config.now.nodes }
     requires seats { All (λ place. IsFresh K.table K.seats place.seat) places.items }
@@ -219,7 +236,7 @@ fn add_nodes<K: Deployment, W: Web, L: Log + Drop, R: Runtime>(
     alloc: Global,
     config: &Config,
     places: Vec<Place<K, R>>,
-    nodes: &mut Vec<Arc<Node<Station<K, W, L, R>>, Global>>,
+    nodes: &mut Vec<Node<Station<K, W, L, R>>>,
 ) -> Result<(), AllocError>
     requires cluster { config.now ≡ K.config }
     requires places { length places.items ≡ length config.now.nodes }
@@ -239,7 +256,7 @@ fn add_node<K: Deployment, W: Web, L: Log + Drop, R: Runtime>(
     alloc: Global,
     config: &Config,
     place: Place<K, R>,
-    nodes: &mut Vec<Arc<Node<Station<K, W, L, R>>, Global>>,
+    nodes: &mut Vec<Node<Station<K, W, L, R>>>,
 ) -> Result<(), AllocError>
     requires cluster { config.now ≡ K.config }
     requires number { vec_len nodes.old < length config.now.nodes }
@@ -256,7 +273,7 @@ fn node_at<K: Deployment, W: Web, L: Log + Drop, R: Runtime>(
     config: &Config,
     number: usize,
     place: Place<K, R>,
-) -> Result<Arc<Node<Station<K, W, L, R>>, Global>, AllocError>
+) -> Result<Node<Station<K, W, L, R>>, AllocError>
     requires cluster { config.now ≡ K.config }
     requires number { number < length config.now.nodes }
     requires seat { IsFresh K.table K.seats place.seat }
@@ -270,7 +287,7 @@ fn node_at<K: Deployment, W: Web, L: Log + Drop, R: Runtime>(
         listener,
     } = place;
     let station = station_at::<K, W, L, R>(alloc, config, number, seat, ends)?;
-    share(alloc, station, Admission::new(config), listener)
+    Ok(Node::new(station, Admission::new(config), listener))
 }
 
 // A station of the node of that number, as it begins.
@@ -290,249 +307,10 @@ fn station_at<K: Deployment, W: Web, L: Log + Drop, R: Runtime>(
     Station::<K, W, L, R>::new(alloc, cell, ends.into_vec())
 }
 
-// A node with this station, for the threads that serve it.
-fn share<C: HoldsCell + Drop>(
-    alloc: Global,
-    cell: C,
-    admission: Admission<C::Cluster>,
-    listener: TcpListener,
-) -> Result<Arc<Node<C>, Global>, AllocError> {
-    let node = Node::new(cell, admission, listener);
-    Arc::new(alloc, node).map_err(AllocError::from)
-}
-
-// Starts the threads of all nodes.
-fn start_all<C: HasLinks<R> + Drop + Send + 'static, R: Runtime>(
-    rt: R,
-    alloc: Global,
-    nodes: &[Arc<Node<C>, Global>],
-    clients: &Arc<Clients, Global>,
-    stop: &Arc<Stop, Global>,
-    times: Times,
-    threads: &mut Vec<JoinHandle<()>>,
-) -> Result<(), ServeFault>
-where
-    C::Cluster: Send + Sync + 'static,
-{
-    for (number, node) in nodes.iter().enumerate() {
-        let clock = start_clock(rt, number, node, clients, stop, times.of(number));
-        add_thread(rt, threads, clients, number, clock)?;
-        let count = times.course.loops.unwrap_or(0);
-        let desks = start_hosts(rt, alloc, number, node, clients, count, threads)?;
-        let accepting = start_accepting(rt, alloc, number, node, clients, stop, desks);
-        add_thread(rt, threads, clients, number, accepting)?;
-        let carrying = start_carrying(rt, alloc, number, node, nodes, clients, stop);
-        add_thread(rt, threads, clients, number, carrying)?;
-    }
-    Ok(())
-}
-
-// Adds a thread of the node that was started, to be joined.
-fn add_thread<R: Runtime>(
-    rt: R,
-    threads: &mut Vec<JoinHandle<()>>,
-    clients: &Clients,
-    node: usize,
-    started: Result<JoinHandle<()>, ServeFault>,
-) -> Result<(), ServeFault> {
-    match started {
-        Ok(thread) => threads.push(thread).map_err(AllocError::from)?,
-        Err(fault) => return Err(tell_of(rt, clients, node, fault)),
-    }
-    Ok(())
-}
-
-// Has the witness see that a thread of the node isn't started, and gives the fault back.
-fn tell_of<R: Runtime>(rt: R, clients: &Clients, node: usize, fault: ServeFault) -> ServeFault {
-    let shortage = fault.shortage();
-    clients
-        .witness
-        .see(&rt, Incident::ThreadNotStarted { node, shortage });
-    fault
-}
-
-// Starts so many threads that serve the clients of the node of that number in turn, and gives their desks.
-fn start_hosts<C: HoldsCell + Drop + Send + 'static, R: Runtime>(
-    rt: R,
-    alloc: Global,
-    number: usize,
-    node: &Arc<Node<C>, Global>,
-    clients: &Arc<Clients, Global>,
-    count: usize,
-    threads: &mut Vec<JoinHandle<()>>,
-) -> Result<Vec<Arc<Desk, Global>>, ServeFault>
-where
-    C::Cluster: Send + Sync + 'static,
-{
-    let halls = match halls_of(rt, alloc, node, count) {
-        Ok(halls) => halls,
-        Err(fault) => return Err(tell_of(rt, clients, number, fault)),
-    };
-    let desks = desks_of(alloc, halls.as_slice())?;
-    for hall in halls {
-        let host = start_host(rt, alloc, number, node, clients, hall);
-        add_thread(rt, threads, clients, number, host)?;
-    }
-    Ok(desks)
-}
-
-fn desks_of(alloc: Global, halls: &[Hall]) -> Result<Vec<Arc<Desk, Global>>, AllocError> {
-    let mut desks = Vec::with_capacity(alloc, halls.len())?;
-    for hall in halls {
-        let desk = Arc::try_clone(&hall.desk)?;
-        desks.push(desk).map_err(AllocError::from)?;
-    }
-    Ok(desks)
-}
-
-// The halls of so many of these threads. The node has what wakes the threads before the first is started.
-fn halls_of<C: HoldsCell + Drop, R: Runtime>(
-    rt: R,
-    alloc: Global,
-    node: &Node<C>,
-    count: usize,
-) -> Result<Vec<Hall>, ServeFault> {
-    let mut halls = Vec::with_capacity(alloc, count)?;
-    for _ in 0..count {
-        let hall = Hall::new(&rt, alloc)?;
-        halls.push(hall).map_err(AllocError::from)?;
-    }
-    let wakers = wakers_of(alloc, halls.as_slice())?;
-    node.shared.set_wakers(&rt, wakers);
-    Ok(halls)
-}
-
-fn wakers_of(alloc: Global, halls: &[Hall]) -> Result<Vec<Waker>, ServeFault> {
-    let mut wakers = Vec::with_capacity(alloc, halls.len())?;
-    for hall in halls {
-        wakers.push(hall.waker()?).map_err(AllocError::from)?;
-    }
-    Ok(wakers)
-}
-
-// Starts a thread that serves clients of the node of that number in turn.
-fn start_host<C: HoldsCell + Drop + Send + 'static, R: Runtime>(
-    rt: R,
-    alloc: Global,
-    number: usize,
-    node: &Arc<Node<C>, Global>,
-    clients: &Arc<Clients, Global>,
-    hall: Hall,
-) -> Result<JoinHandle<()>, ServeFault>
-where
-    C::Cluster: Send + Sync + 'static,
-{
-    let Ok(node) = Arc::try_clone(node) else {
-        return Err(ServeFault::Memory);
-    };
-    let Ok(clients) = Arc::try_clone(clients) else {
-        return Err(ServeFault::Memory);
-    };
-    let started = thread::spawn(&rt, move || {
-        serve_guests(rt, alloc, number, &*node, &*clients, hall);
-    });
-    started.map_err(|_| ServeFault::Thread)
-}
-
-// Starts the thread that lets the time of the node of that number pass. Once all ticks are counted, the cluster ends.
-fn start_clock<C: HasLinks<R> + Drop + Send + 'static, R: Runtime>(
-    rt: R,
-    number: usize,
-    node: &Arc<Node<C>, Global>,
-    clients: &Arc<Clients, Global>,
-    stop: &Arc<Stop, Global>,
-    timing: Timing,
-) -> Result<JoinHandle<()>, ServeFault>
-where
-    C::Cluster: Send + Sync + 'static,
-{
-    let Ok(node) = Arc::try_clone(node) else {
-        return Err(ServeFault::Memory);
-    };
-    let Ok(clients) = Arc::try_clone(clients) else {
-        return Err(ServeFault::Memory);
-    };
-    let Ok(stop) = Arc::try_clone(stop) else {
-        return Err(ServeFault::Memory);
-    };
-    let started = thread::spawn(&rt, move || {
-        pass_time(rt, number, &*node, &*clients, &*stop, timing);
-        stop.end();
-    });
-    started.map_err(|_| ServeFault::Thread)
-}
-
-// Starts the thread that accepts the clients of the node of that number.
-fn start_accepting<C: HasLinks<R> + Drop + Send + 'static, R: Runtime>(
-    rt: R,
-    alloc: Global,
-    number: usize,
-    node: &Arc<Node<C>, Global>,
-    clients: &Arc<Clients, Global>,
-    stop: &Arc<Stop, Global>,
-    desks: Vec<Arc<Desk, Global>>,
-) -> Result<JoinHandle<()>, ServeFault>
-where
-    C::Cluster: Send + Sync + 'static,
-{
-    let Ok(node) = Arc::try_clone(node) else {
-        return Err(ServeFault::Memory);
-    };
-    let Ok(clients) = Arc::try_clone(clients) else {
-        return Err(ServeFault::Memory);
-    };
-    let Ok(stop) = Arc::try_clone(stop) else {
-        return Err(ServeFault::Memory);
-    };
-    let started = thread::spawn(&rt, move || {
-        accept_clients(rt, alloc, number, &node, &clients, &*stop, desks.as_slice());
-    });
-    started.map_err(|_| ServeFault::Thread)
-}
-
-// Starts the thread that carries the messages of the node of that number.
-fn start_carrying<C: HasLinks<R> + Drop + Send + 'static, R: Runtime>(
-    rt: R,
-    alloc: Global,
-    number: usize,
-    node: &Arc<Node<C>, Global>,
-    nodes: &[Arc<Node<C>, Global>],
-    clients: &Clients,
-    stop: &Arc<Stop, Global>,
-) -> Result<JoinHandle<()>, ServeFault>
-where
-    C::Cluster: Send + Sync + 'static,
-{
-    let Ok(node) = Arc::try_clone(node) else {
-        return Err(ServeFault::Memory);
-    };
-    let Ok(stop) = Arc::try_clone(stop) else {
-        return Err(ServeFault::Memory);
-    };
-    let witness = Arc::try_clone(&clients.witness)?;
-    let mut changes = Changes::new(alloc, witness, number);
-    let nodes = all_of(alloc, nodes)?;
-    let started = thread::spawn(&rt, move || {
-        carry(&rt, &*node, nodes.as_slice(), &*stop, &mut changes);
-    });
-    started.map_err(|_| ServeFault::Thread)
-}
-
-fn all_of<T: Drop>(
-    alloc: Global,
-    nodes: &[Arc<T, Global>],
-) -> Result<Vec<Arc<T, Global>>, AllocError> {
-    let mut all = Vec::with_capacity(alloc, nodes.len())?;
-    for node in nodes {
-        all.push(Arc::try_clone(node)?).map_err(AllocError::from)?;
-    }
-    Ok(all)
-}
-
 // The stations of nodes that nobody serves any more, in the order of the nodes' numbers.
 fn stations_of<K: Deployment, W: Web, L: Log + Drop, R: Runtime>(
     alloc: Global,
-    nodes: Vec<Arc<Node<Station<K, W, L, R>>, Global>>,
+    nodes: Vec<Node<Station<K, W, L, R>>>,
 ) -> Result<Vec<Station<K, W, L, R>>, ServeFault>
     ensures count { IfOk result (λ stations. vec_len stations ≡ vec_len nodes) }
     ensures nodes { IfOk result (λ stations. map (λ station. station.cell.node) stations.items ≡ range_with_len 0 (vec_len nodes)) }
@@ -544,7 +322,7 @@ fn stations_of<K: Deployment, W: Web, L: Log + Drop, R: Runtime>(
 
 // Adds the station of each node, in order, to none.
 fn add_stations<K: Deployment, W: Web, L: Log + Drop, R: Runtime>(
-    nodes: Vec<Arc<Node<Station<K, W, L, R>>, Global>>,
+    nodes: Vec<Node<Station<K, W, L, R>>>,
     stations: &mut Vec<Station<K, W, L, R>>,
 ) -> Result<(), ServeFault>
     requires none { stations.old.items ≡ [] }
@@ -559,7 +337,7 @@ fn add_stations<K: Deployment, W: Web, L: Log + Drop, R: Runtime>(
 
 // Adds the station of the node, which is to have the next number.
 fn add_station<K: Deployment, W: Web, L: Log + Drop, R: Runtime>(
-    node: Arc<Node<Station<K, W, L, R>>, Global>,
+    node: Node<Station<K, W, L, R>>,
     stations: &mut Vec<Station<K, W, L, R>>,
 ) -> Result<(), ServeFault>
     ensures count { OnOk result (vec_len stations.new ≡ vec_len stations.old + 1) }
@@ -572,14 +350,11 @@ fn add_station<K: Deployment, W: Web, L: Log + Drop, R: Runtime>(
 
 // The station of a node, which is to have that number.
 fn station_of<K: Deployment, W: Web, L: Log + Drop, R: Runtime>(
-    node: Arc<Node<Station<K, W, L, R>>, Global>,
+    node: Node<Station<K, W, L, R>>,
     number: usize,
 ) -> Result<Station<K, W, L, R>, ServeFault>
     ensures { IfOk result (λ station. station.cell.node ≡ number) }
 {
-    let Some(node) = Arc::into_inner(node) else {
-        return Err(ServeFault::Thread);
-    };
     // No type says which node a lock has.
     let station = node.into_cell();
     if station.number().index() != number {

@@ -4,12 +4,13 @@ use Rattle.std.specs.Cmp.Lexicographic.{pointwise}
 use Rattle.indexmap.specs.IndexMap.{spare}
 use Rattle.hash.specs.Pairs.{Pairs, Changes, value_of, field_changed}
 use Rattle.hash.specs.declared.entries.Entries.{Entries}
-use Rattle.hash.specs.declared.entries.Entries.TheVariants.{Few, Many}
+use Rattle.hash.specs.declared.entries.Entries.TheVariants.{Few, Many, Holed}
 
 -- the pairs, in their order
 abbrev pub pairs_of : Entries → Pairs
 pairs_of (Few list) = list.items
 pairs_of (Many map) = map.value.entries
+pairs_of (Holed holed) = holed.value.pairs
 
 -- the pair is that of the field
 abbrev pub is_of : List ℕ → List ℕ × List ℕ → Bool
@@ -29,3 +30,4 @@ FitsIn room pairs (change ∷ changes) =
 abbrev pub IsReadyFor : Entries → Changes → Type 0
 IsReadyFor (Few list) changes = FitsIn (vec_capacity list) list.items changes
 IsReadyFor (Many map) changes = length changes ≤ spare map.value
+IsReadyFor (Holed holed) changes = length changes ≤ holed.value.room

@@ -1,5 +1,6 @@
 pub mod Entries
 pub mod Foreseen
+pub mod Holed
 pub mod Iter
 pub mod Pairs
 pub mod Size

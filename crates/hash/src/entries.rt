@@ -1,10 +1,11 @@
-//! The fields of a hash with their values: few in a list, and many in a map.
+//! The fields of a hash with their values: few in a list, many in a map, and many with holes where fields were removed.
 ghost use Rattle.std.specs.Prelude.{◌≡◌, ◌∷◌, [], ◌<◌, ◌≤◌, ◌^◌, length, Some, None, IfOk, OnOk, OnErr};
 ghost use Rattle.std.specs.Option.{option_copied};
 ghost use Rattle.indexmap.specs.IndexMap.{spare};
 ghost use Rattle.hash.specs.Pairs.{Changes, value_of, field_changed, HasDistinctFields};
 ghost use Rattle.hash.specs.Entries.{pairs_of, IsReadyFor};
 
+use crate::holed::Holed;
 use crate::iter::Iter;
 use crate::{few, many};
 use byte_string::ByteString;
@@ -15,13 +16,19 @@ use std::mem;
 /// How many fields lie in a list at most. A walk over so many costs about as much as a look into a map.
 const MOST_FEW: usize = 8;
 
-/// Pairs in the order in which their fields came. Entries that became a map stay one.
+/// How many pairs are moved at most to close the gap of a removed field. Where more stand behind it, a hole costs less,
+/// though each look-up then asks first whether its field is removed.
+const MOST_MOVED: usize = 512;
+
+/// Pairs in the order in which their fields came. Entries that became a map stay one, and so do those with holes.
 #[derive(Drop)]
 pub enum Entries {
     /// Few pairs, with room for no more than was asked for.
     Few(Vec<(ByteString, ByteString)>),
     /// Many pairs.
     Many(Box<IndexMap<ByteString, ByteString>>),
+    /// Many pairs, since one was removed that stood far from the end.
+    Holed(Box<Holed>),
 }
 
 impl Entries {
@@ -40,6 +47,7 @@ impl Entries {
         match self {
             Entries::Few(pairs) => pairs.len(),
             Entries::Many(map) => map.len(),
+            Entries::Holed(holed) => holed.len(),
         }
     }
 
@@ -50,6 +58,7 @@ impl Entries {
         match self {
             Entries::Few(pairs) => few::value_in(pairs.as_slice(), field),
             Entries::Many(map) => map.get(field),
+            Entries::Holed(holed) => holed.get(field),
         }
     }
 
@@ -60,6 +69,7 @@ impl Entries {
         match self {
             Entries::Few(pairs) => Iter::over_few(pairs.as_slice()),
             Entries::Many(map) => Iter::over_many(map),
+            Entries::Holed(holed) => holed.iter(),
         }
     }
 
@@ -86,6 +96,7 @@ impl Entries {
                 Ok(())
             }
             Entries::Many(map) => map.reserve(changes.len()),
+            Entries::Holed(holed) => holed.reserve(changes.len()),
         }
     }
 
@@ -103,6 +114,7 @@ impl Entries {
         let pairs = match self {
             Entries::Few(pairs) => pairs,
             Entries::Many(map) => return many::put(map, field, value),
+            Entries::Holed(holed) => return holed.put(field, value),
         };
         match few::place_of(pairs.as_slice(), &field) {
             Some(place) => Ok(Some(few::replace_at(pairs, place, value))),
@@ -128,6 +140,7 @@ impl Entries {
         match self {
             Entries::Few(pairs) => few::set(pairs, field, value),
             Entries::Many(map) => many::set(map, field, value),
+            Entries::Holed(holed) => holed.set(field, value),
         }
     }
 
@@ -138,9 +151,33 @@ impl Entries {
         ensures ready { (changes : Changes) → IsReadyFor self.old ((field.now, None) ∷ changes) →
             IsReadyFor self.new changes }
     {
+        self.open_before(field);
         match self {
             Entries::Few(pairs) => few::remove(pairs, field),
             Entries::Many(map) => map.shift_remove(field),
+            Entries::Holed(holed) => holed.remove(field),
+        }
+    }
+
+    // Where the removal of the field would move many pairs, the map may have holes from now on, if there is memory for it.
+    fn open_before(&mut self, field: &ByteString)
+        ensures pairs { pairs_of self.new ≡ pairs_of self.old }
+        ensures ready { (changes : Changes) → IsReadyFor self.old changes → IsReadyFor self.new changes }
+    {
+        let Entries::Many(map) = self else {
+            return;
+        };
+        if map.len() <= MOST_MOVED {
+            return;
+        }
+        let Some(place) = map.get_index_of(field) else {
+            return;
+        };
+        let behind = map.len() - place - 1;
+        if behind > MOST_MOVED {
+            if let Ok(holed) = Holed::of(map) {
+                *self = Entries::Holed(holed);
+            }
         }
     }
 }
@@ -184,6 +221,7 @@ impl Clone for Entries {
         match self {
             Entries::Few(pairs) => Ok(Entries::Few(pairs.clone()?)),
             Entries::Many(map) => Ok(Entries::Many(map.clone()?)),
+            Entries::Holed(holed) => Ok(Entries::Holed(holed.clone()?)),
         }
     }
 }

@@ -2,9 +2,11 @@
 ghost use Rattle.std.specs.Prelude.{◌≡◌, length};
 ghost use Rattle.std.specs.Iterator.{at_most};
 ghost use Rattle.std.specs.Map.Iter.{TakesFirst, deref_pair};
+ghost use Rattle.hash.specs.Holed.{left_of};
 
+use crate::holes;
 use byte_string::ByteString;
-use indexmap::{IndexMap, map};
+use indexmap::{IndexMap, IndexSet, map};
 use std::marker::Model;
 use std::slice;
 
@@ -12,6 +14,14 @@ use std::slice;
 enum Form<'a> {
     Few(slice::Iter<'a, (ByteString, ByteString)>),
     Many(map::Iter<'a, ByteString, ByteString>),
+    Holed(Left<'a>),
+}
+
+// The pairs of a map whose fields aren't removed.
+#[derive(Drop)]
+struct Left<'a> {
+    pairs: map::Iter<'a, ByteString, ByteString>,
+    removed: &'a IndexSet<ByteString>,
 }
 
 /// The fields of a hash with their values, in order.
@@ -46,6 +56,20 @@ impl<'a> Iter<'a> {
             form: Form::Many(map.iter()),
         }
     }
+
+    pub(crate) fn over_holed(
+        map: &'a IndexMap<ByteString, ByteString>,
+        removed: &'a IndexSet<ByteString>,
+    ) -> Iter<'a>
+        ensures { result ≡ left_of map.now.entries removed.now.keys }
+    {
+        Iter {
+            form: Form::Holed(Left {
+                pairs: map.iter(),
+                removed,
+            }),
+        }
+    }
 }
 
 impl<'a> Iterator for Iter<'a> {
@@ -62,6 +86,22 @@ impl<'a> Iterator for Iter<'a> {
                 Some((&pair.0, &pair.1))
             }
             Form::Many(pairs) => pairs.next(),
+            Form::Holed(left) => next_left(&mut left.pairs, left.removed),
         }
     }
+}
+
+// The next pair whose field isn't removed.
+fn next_left<'a>(
+    pairs: &mut map::Iter<'a, ByteString, ByteString>,
+    removed: &IndexSet<ByteString>,
+) -> Option<(&'a ByteString, &'a ByteString)>
+    ensures { TakesFirst deref_pair (left_of pairs.old removed.now.keys) result (left_of pairs.new removed.now.keys) }
+{
+    while let Some((field, value)) = pairs.next() {
+        if !holes::is_removed(removed, field) {
+            return Some((field, value));
+        }
+    }
+    None
 }

@@ -6,6 +6,8 @@ mod entries;
 mod extent;
 mod few;
 mod hash;
+mod holed;
+mod holes;
 mod iter;
 mod many;
 mod shared;

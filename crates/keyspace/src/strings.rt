@@ -450,6 +450,7 @@ fn type_of(value: Option<&Value>) -> &'static [u8]
 }
 
 // The reply shares a long string with the store.
+#[inline(always)]
 fn string_reply(value: Option<&Value>) -> Result<Reply, AllocError>
     ensures { IfOk result (λ reply. reply ≡ string_reply (option_copied value.entry)) }
 {

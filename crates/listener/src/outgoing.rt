@@ -87,6 +87,7 @@ impl<S: Answered + Drop> Outgoing<S> {
     }
 
     /// Puts the reply that the step gave behind those that wait.
+    #[inline(always)]
     pub(crate) fn put(&mut self, step: S)
         requires { HasRoom self.old }
         ensures put { waiting_of S.gave self.new ≡ waiting_of S.gave self.old ++ reply_in (S.gave step).response }

@@ -81,6 +81,7 @@ pub(crate) fn answer_some<S: Answered + Drop, G: NodeGate<Answer = S>>(
 }
 
 // Asks the node, puts the reply behind those that wait, and says whether it has come. This holds whatever bytes come behind the request.
+#[inline(always)]
 fn answer_request<S: Answered + Drop, G: NodeGate<Answer = S>>(
     gate: &mut G,
     conn: Conn,
@@ -127,6 +128,7 @@ pub(crate) fn ask_alone<G: NodeGate>(gate: &mut G, event: Event) -> Result<G::An
 }
 
 // Asks the node once. Others wait until they are let in.
+#[inline(always)]
 fn ask_node<G: NodeGate>(gate: &mut G, event: Event) -> Result<G::Answer, StepFault>
     requires { IsOwn event }
     ensures { Adds (IsAllowed G.may G.may_refuse G.may_give) (change (G.asked gate.old) (G.asked gate.new))

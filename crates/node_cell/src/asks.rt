@@ -73,6 +73,7 @@ impl<K: Deployment> Asks<K> {
     ///
     /// Memory and Exhausted leave the node as it was. A refusal before a ticket was drawn leaves no entry; a refusal after
     /// that leaves the ticket as skipped.
+    #[inline(always)]
     pub fn ask_node<L: Log>(
         &mut self,
         cell: &mut NodeCell<K, L>,

@@ -90,6 +90,7 @@ impl<K: Deployment, L: Log> NodeCell<K, L> {
     }
 
     /// Makes the node's step for an event that is no message, as [`Asks`](crate::Asks) has it made.
+    #[inline(always)]
     pub(crate) fn apply(&mut self, event: Event) -> Result<Entered<K>, StepFault>
         requires own { IsOwn event }
         ensures cluster { self.old.config ≡ K.config }
@@ -117,6 +118,7 @@ impl<K: Deployment, L: Log> NodeCell<K, L> {
         self.take_event(Event::Deliver(posted.into_message()))
     }
 
+    #[inline(always)]
     fn take_event(&mut self, event: Event) -> Result<Entered<K>, DeliveryFault>
         ensures cluster { self.old.config ≡ K.config }
         ensures number { self.old.node < length self.old.config.nodes }
@@ -255,6 +257,7 @@ fn comes_in_time(ticket: u64, event: &Event) -> bool
 }
 
 // Makes the step and enters it, or enters the ticket as skipped.
+#[inline(always)]
 fn advance<K: Deployment, L: Log>(
     core: &mut Core,
     log: &mut L,
@@ -300,6 +303,7 @@ fn advance<K: Deployment, L: Log>(
 }
 
 // Puts the messages of a step behind those that wait. There has to be room.
+#[inline(always)]
 fn put_out<K: Deployment>(outbox: &mut VecDeque<Sending<K>>, sent: Messages)
     requires room { deque_len outbox.old < deque_capacity outbox.old }
     requires sent { All (IsSent K.config) sent }

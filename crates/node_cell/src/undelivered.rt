@@ -8,6 +8,7 @@ use node_core::{Conn, Event, Releases};
 use resp_values::Reply;
 
 /// Adds the replies of the step for the event. A connection that it closed gets none any more. There has to be room.
+#[inline(always)]
 pub(crate) fn add_released(undelivered: &mut Vec<Releases>, event: &Event, released: Releases)
     requires { vec_len undelivered.old < vec_capacity undelivered.old }
     ensures { joined undelivered.new.items ≡ undelivered_after event.now (joined undelivered.old.items) released }

@@ -17,6 +17,7 @@ use std::alloc::AllocError;
 
 impl<S: SlotParts + SlotKeys, T: Stream> NodeParts<S, T> {
     /// Makes the change of a draft, puts what it writes behind the stream, sets the epoch, and promotes the node, if the draft says so.
+    #[inline(always)]
     pub fn apply(&mut self, draft: &mut Draft) -> Result<(), AllocError>
         requires { CanBeMade self.old draft.old.plan draft.old.change }
         ensures ok { OnOk result (IsApplied self.old draft.old self.new) }

@@ -63,6 +63,7 @@ impl Drop for Draft {
 }
 
 impl Draft {
+    #[inline(always)]
     fn put_reply(&mut self, why: Why, reply: Reply)
         ensures { self.new ≡ record self.old { response = Response.Replied (record { why = why; reply = reply }) } }
     {
@@ -75,6 +76,7 @@ impl Draft {
         self.bodies = bodies;
     }
 
+    #[inline(always)]
     fn put_change(&mut self, change: Change)
         ensures { self.new ≡ record self.old { change = change } }
     {
@@ -136,6 +138,7 @@ impl<S: SlotParts + SlotKeys, T: Stream> NodeParts<S, T> {
     }
 
     /// The same with messages.
+    #[inline(always)]
     pub fn write_reply_sending(
         &self,
         draft: &mut Draft,

@@ -169,6 +169,7 @@ impl Messages {
     }
 
     /// The messages that a node sends by the step of that ticket, each a body with the node that it is for.
+    #[inline(always)]
     pub fn stamped(
         alloc: Global,
         from: NodeNo,

@@ -12,12 +12,16 @@ use std::mem;
 use std::sync::{MutexGuard, Wait};
 
 /// One conversation's way to a node whose cell is in a `C`. The handle `rt` is the leave to wait for the node's lock.
+///
+/// It is released before it is dropped: else the thread that takes the node's messages isn't told of those that steps left.
 #[derive(Drop)]
 pub struct Gate<'n, C: HoldsCell, R: Wait> {
     rt: R,
     node: &'n SharedNode<C>,
     // The node with its lock, from a step on until others are let in.
     held: Option<MutexGuard<'n, C>>,
+    // Steps left messages, and the thread that takes them wasn't told.
+    has_left: bool,
     asks: Asks<C::Cluster>,
 }
 
@@ -30,6 +34,7 @@ impl<'n, C: HoldsCell + Drop, R: Wait> Gate<'n, C, R> {
             rt,
             node,
             held: None,
+            has_left: false,
             asks,
         }
     }
@@ -46,6 +51,36 @@ impl<'n, C: HoldsCell + Drop, R: Wait> Gate<'n, C, R> {
         match &self.held {
             Some(cell) => Some(&**cell),
             None => None,
+        }
+    }
+
+    /// Tells the conversations that wait of the replies that are kept there, as long as this one holds the node.
+    pub fn ring_for_replies(&self) {
+        if let Some(cell) = &self.held {
+            self.node.ring_for_replies(cell);
+        }
+    }
+
+    /// Lets others in, as [`release`](NodeGate::release) does, and tells nobody yet of the messages that steps left.
+    pub fn unlock(&mut self)
+        ensures { ⟦<Gate<'n, C, R> as NodeGate>⟧.asked self.new ≡ ⟦<Gate<'n, C, R> as NodeGate>⟧.asked self.old }
+    {
+        self.held = None;
+    }
+
+    /// Whether steps left messages of which nobody was told. Whoever calls this sees to them from now on.
+    pub fn take_left(&mut self) -> bool
+        ensures { ⟦<Gate<'n, C, R> as NodeGate>⟧.asked self.new ≡ ⟦<Gate<'n, C, R> as NodeGate>⟧.asked self.old }
+    {
+        mem::replace(&mut self.has_left, false)
+    }
+
+    /// Tells the thread that takes the node's messages, if steps left some of which it wasn't told.
+    pub fn tell(&mut self)
+        ensures { ⟦<Gate<'n, C, R> as NodeGate>⟧.asked self.new ≡ ⟦<Gate<'n, C, R> as NodeGate>⟧.asked self.old }
+    {
+        if self.take_left() {
+            self.node.ring_for_mail();
         }
     }
 
@@ -78,7 +113,16 @@ impl<'n, C: HoldsCell + Drop, R: Wait> Gate<'n, C, R> {
         found
     }
 
+    // Notes what a step left in the cell, and rings for replies.
+    fn note_left(&mut self, cell: &C)
+        ensures { self.new.asks ≡ self.old.asks }
+    {
+        self.node.ring_for_replies(cell);
+        self.has_left |= self.node.note_sent(cell);
+    }
+
     // The node with its lock, which is taken where this conversation doesn't hold it yet.
+    #[inline(always)]
     fn take_or_lock(&mut self) -> MutexGuard<'n, C>
         ensures { self.new.asks ≡ self.old.asks }
     {
@@ -105,23 +149,26 @@ impl<'n, C: HoldsCell + Drop, R: Wait> NodeGate for Gate<'n, C, R> {
 
     ghost may_give = { MayGive C.Cluster.config };
 
+    #[inline(always)]
     fn step(&mut self, event: Event) -> Result<Entered<C::Cluster>, StepFault> {
         let mut cell = self.take_or_lock();
         let answer = cell.ask(&mut self.asks, event);
-        self.node.ring(&cell);
+        self.note_left(&cell);
         self.held = Some(cell);
         answer
     }
 
     fn wait(&mut self, conn: Conn) -> Option<Reply> {
         let cell = self.take_or_lock();
+        self.tell();
         let reply = wait_at(&self.rt, self.node, cell, conn);
         self.asks.note_wait(conn, &reply);
         reply
     }
 
     fn release(&mut self) {
-        self.held = None;
+        self.unlock();
+        self.tell();
     }
 }
 

@@ -92,9 +92,7 @@ impl<C: HoldsCell + Drop> SharedNode<C> {
     /// Locks the node.
     pub fn lock<R: Wait>(&self, rt: &R) -> MutexGuard<'_, C> {
         for _ in 0..FEW_YIELDS {
-            if self.pressed.load(Ordering::SeqCst) == 0
-                && let Some(cell) = self.cell.try_lock()
-            {
+            if let Some(cell) = self.try_lock() {
                 return cell;
             }
             thread::yield_now();
@@ -116,13 +114,26 @@ impl<C: HoldsCell + Drop> SharedNode<C> {
         self.cell.lock(rt)
     }
 
+    /// Locks the node, if nobody has it or has waited long for it.
+    pub fn try_lock(&self) -> Option<MutexGuard<'_, C>> {
+        match self.pressed.load(Ordering::SeqCst) {
+            0 => self.cell.try_lock(),
+            _ => None,
+        }
+    }
+
     /// Tells those who wait what the last step left for them in the cell.
     pub fn ring(&self, cell: &C) {
         self.ring_for_replies(cell);
-        // Who was told before, and hasn't taken the messages of that step yet, takes these with them.
-        if cell.has_sent() && self.steps.fetch_add(1, Ordering::SeqCst) == 0 {
+        if self.note_sent(cell) {
             self.mail.notify_all();
         }
+    }
+
+    // Notes that the last step left messages, if it did, and says whether the thread that takes them is to be told. Who was told before,
+    // and hasn't taken the messages of that step yet, takes these with them.
+    pub(crate) fn note_sent(&self, cell: &C) -> bool {
+        cell.has_sent() && self.steps.fetch_add(1, Ordering::SeqCst) == 0
     }
 
     /// Tells the conversations that wait of the replies that are kept in the cell, if there are any.

@@ -10,7 +10,7 @@ use std::sync::{Mutex, Wait};
 /// served only while all of them are kept, and else closed, which returns its descriptor. So there is always one for each of these
 /// threads: the threads that take what another gave back are no more than what was kept.
 #[derive(Drop)]
-pub(crate) struct Spares {
+pub struct Spares {
     // Further handles of sockets that listen. Nobody uses them.
     kept: Mutex<Vec<TcpListener>>,
     wanted: usize,
@@ -18,7 +18,7 @@ pub(crate) struct Spares {
 
 impl Spares {
     /// None yet, of so many that are wanted.
-    pub(crate) fn new(alloc: Global, wanted: usize) -> Result<Spares, AllocError> {
+    pub fn new(alloc: Global, wanted: usize) -> Result<Spares, AllocError> {
         Ok(Spares {
             kept: Mutex::new(Vec::with_capacity(alloc, wanted)?),
             wanted,
@@ -26,7 +26,7 @@ impl Spares {
     }
 
     /// Keeps again what was given back, as far as the system has it, and says whether all are kept.
-    pub(crate) fn are_kept<R: Wait>(&self, rt: &R, listener: &TcpListener) -> bool {
+    pub fn are_kept<R: Wait>(&self, rt: &R, listener: &TcpListener) -> bool {
         let mut kept = self.kept.lock(rt);
         for _ in kept.len()..self.wanted {
             let Ok(spare) = listener.try_clone() else {
@@ -40,13 +40,13 @@ impl Spares {
     }
 
     /// Gives one back to the system, and says whether there was one.
-    pub(crate) fn give_one<R: Wait>(&self, rt: &R) -> bool {
+    pub fn give_one<R: Wait>(&self, rt: &R) -> bool {
         let mut kept = self.kept.lock(rt);
         kept.pop().is_some()
     }
 
     /// Gives all back.
-    pub(crate) fn give_all<R: Wait>(&self, rt: &R) {
+    pub fn give_all<R: Wait>(&self, rt: &R) {
         let mut kept = self.kept.lock(rt);
         kept.clear();
     }

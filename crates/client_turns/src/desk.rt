@@ -1,6 +1,6 @@
 //! Where the clients that come to a node wait for the thread that serves them in turn with others.
 
-use crate::clients::Refused;
+use shared_cluster::Refused;
 use std::alloc::{AllocError, Global};
 use std::collections::VecDeque;
 use std::net::TcpStream;
@@ -8,15 +8,16 @@ use std::sync::{Arc, Mutex, Wait};
 
 /// A client that no thread serves yet.
 #[derive(Drop)]
-pub(crate) struct Newcomer {
-    pub(crate) stream: Arc<TcpStream, Global>,
+pub struct Newcomer {
+    /// Its connection.
+    pub stream: Arc<TcpStream, Global>,
     /// By which it is removed from the clients of the cluster.
-    pub(crate) client: usize,
+    pub client: usize,
 }
 
 /// The newcomers that wait for one thread.
 #[derive(Drop)]
-pub(crate) struct Desk {
+pub struct Desk {
     waiting: Mutex<Waiting>,
 }
 
@@ -29,7 +30,7 @@ struct Waiting {
 
 impl Desk {
     /// One at which nobody waits.
-    pub(crate) fn new(alloc: Global) -> Desk {
+    pub fn new(alloc: Global) -> Desk {
         let waiting = Waiting {
             newcomers: VecDeque::new(alloc),
             is_closed: false,
@@ -40,7 +41,7 @@ impl Desk {
     }
 
     /// Has the newcomer wait for the thread.
-    pub(crate) fn put<R: Wait>(&self, rt: &R, newcomer: Newcomer) -> Result<(), Refused> {
+    pub fn put<R: Wait>(&self, rt: &R, newcomer: Newcomer) -> Result<(), Refused> {
         let mut waiting = self.waiting.lock(rt);
         if waiting.is_closed {
             return Err(Refused::Ended);
@@ -52,13 +53,13 @@ impl Desk {
     }
 
     /// The next newcomer, if one waits.
-    pub(crate) fn take<R: Wait>(&self, rt: &R) -> Option<Newcomer> {
+    pub fn take<R: Wait>(&self, rt: &R) -> Option<Newcomer> {
         let mut waiting = self.waiting.lock(rt);
         waiting.newcomers.pop_front()
     }
 
     /// Closes the desk, if nobody waits there, and says whether it is closed.
-    pub(crate) fn close<R: Wait>(&self, rt: &R) -> bool {
+    pub fn close<R: Wait>(&self, rt: &R) -> bool {
         let mut waiting = self.waiting.lock(rt);
         waiting.is_closed = waiting.newcomers.is_empty();
         waiting.is_closed

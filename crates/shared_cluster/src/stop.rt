@@ -16,7 +16,7 @@ pub struct NodeStop {
 
 /// How many ticks the node of that number makes before it is stopped. Of several stops the earliest counts, and a node that has none
 /// isn't stopped.
-pub(crate) fn most_ticks(stops: &[NodeStop], node: usize) -> u64 {
+pub fn most_ticks(stops: &[NodeStop], node: usize) -> u64 {
     let mut most = u64::MAX;
     for stop in stops {
         if stop.node == node {
@@ -28,13 +28,13 @@ pub(crate) fn most_ticks(stops: &[NodeStop], node: usize) -> u64 {
 
 /// Whether the cluster ends. All of its threads look at it, and those that sleep are woken by it.
 #[derive(Drop)]
-pub(crate) struct Stop {
+pub struct Stop {
     ended: AtomicBool,
     bell: Condvar,
 }
 
 impl Stop {
-    pub(crate) fn new() -> Stop {
+    pub fn new() -> Stop {
         Stop {
             ended: AtomicBool::new(false),
             bell: Condvar::new(),
@@ -42,18 +42,18 @@ impl Stop {
     }
 
     /// Ends the cluster.
-    pub(crate) fn end(&self) {
+    pub fn end(&self) {
         self.ended.store(true, Ordering::SeqCst);
         self.bell.notify_all();
     }
 
     /// Whether the cluster ends.
-    pub(crate) fn has_ended(&self) -> bool {
+    pub fn has_ended(&self) -> bool {
         self.ended.load(Ordering::SeqCst)
     }
 
     /// Sleeps for this time, or until the end if that comes first.
-    pub(crate) fn sleep<R: Wait>(&self, rt: &R, time: Duration) {
+    pub fn sleep<R: Wait>(&self, rt: &R, time: Duration) {
         let seen = self.bell.notifications();
         if !self.has_ended() {
             self.bell.sleep(rt, seen, time);
@@ -61,7 +61,7 @@ impl Stop {
     }
 
     /// Sleeps until the end.
-    pub(crate) fn wait<R: Wait>(&self, rt: &R) {
+    pub fn wait<R: Wait>(&self, rt: &R) {
         for _ in rt.forever() {
             if self.has_ended() {
                 return;

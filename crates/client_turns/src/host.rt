@@ -1,107 +1,48 @@
 //! A thread that serves many clients of a node in turn, each when its socket is ready.
 
-use crate::arrivals::SeeingGate;
-use crate::clients::Clients;
-use crate::desk::{Desk, Newcomer};
+use crate::desk::Newcomer;
 use crate::guest::Guest;
-use crate::node::Node;
-use crate::runtime::Runtime;
-use crate::server::ServeFault;
-use crate::witness::{Incident, Shortage};
-use mio::unix::SourceFd;
-use mio::{Events, Interest, Poll, Token, Waker};
+use crate::hall::{CALL, Hall};
+use mio::Token;
 use node_cell::{HoldsCell, NodeGate};
+use shared_cluster::{
+    HasLinks, Incident, Mail, Node, Runtime, SeeingGate, SharedCluster, Shortage,
+};
 use slab::Slab;
 use std::alloc::{AllocError, Global};
 use std::collections::VecDeque;
 use std::io;
 use std::net::TcpStream;
-use std::os::fd::AsRawFd;
 use std::sync::Arc;
 use std::time::Duration;
-
-// So many bytes are read at most from a client in its turn. All clients are read into the same room.
-const READ_SIZE: usize = 65_536;
-
-// The system tells of so many clients at most before those have their turn.
-const MOST_EVENTS: usize = 256;
-
-// By this the system tells that the thread was woken. No client has it as its number.
-const CALL: Token = Token(usize::MAX);
 
 // How many milliseconds pass at most before what wants memory is tried again where memory was refused.
 const PAUSE: u64 = 10;
 
-/// What a thread needs to serve clients in turn. It is made before the thread is started.
-#[derive(Drop)]
-pub(crate) struct Hall {
-    pub(crate) desk: Arc<Desk, Global>,
-    poll: Poll,
-    events: Events,
-    input: Vec<u8>,
-}
-
-impl Hall {
-    pub(crate) fn new<R: Runtime>(rt: &R, alloc: Global) -> Result<Hall, ServeFault> {
-        let desk = Arc::new(alloc, Desk::new(alloc)).map_err(AllocError::from)?;
-        let events = Events::with_capacity(alloc, MOST_EVENTS)?;
-        let input = vec![in alloc; 0u8; READ_SIZE]?;
-        let Ok(poll) = Poll::new(rt) else {
-            return Err(ServeFault::Thread);
-        };
-        Ok(Hall {
-            desk,
-            poll,
-            events,
-            input,
-        })
-    }
-
-    // Has the system tell of this client by that key.
-    fn register(&self, stream: &TcpStream, key: usize) -> io::Result<()> {
-        let fd = stream.as_raw_fd();
-        let both = Interest::READABLE | Interest::WRITABLE;
-        let registry = self.poll.registry();
-        registry.register(&mut SourceFd(&fd), Token(key), both)
-    }
-
-    // Has the system tell of this client no more.
-    fn deregister<C: HoldsCell + Drop>(&self, guest: &Guest<C>) {
-        let fd = guest.raw_fd();
-        let _told = self.poll.registry().deregister(&mut SourceFd(&fd));
-    }
-
-    /// What wakes the thread.
-    pub(crate) fn waker(&self) -> Result<Waker, ServeFault> {
-        match Waker::new(self.poll.registry(), CALL) {
-            Ok(waker) => Ok(waker),
-            Err(_) => Err(ServeFault::Thread),
-        }
-    }
-}
-
 /// Serves clients of the node of that number, those that come to the desk of the hall, until the node is closed and all of them have
 /// left.
-pub(crate) fn serve_guests<C: HoldsCell + Drop, R: Runtime>(
+pub fn serve_guests<C: HasLinks<R> + Drop, R: Runtime>(
     rt: R,
     alloc: Global,
+    cluster: &SharedCluster<C>,
     number: usize,
-    node: &Node<C>,
-    clients: &Clients,
     hall: Hall,
 ) {
-    let mut gate = node.seeing_gate(rt, &clients.witness, number);
-    let mut host = Host::new(rt, alloc, number, node, clients, hall);
+    let Some(node) = cluster.node(number) else {
+        return;
+    };
+    let mut gate = SeeingGate::new(rt, alloc, cluster, node, number, Mail::IsSent);
+    let mut host = Host::new(rt, alloc, cluster, node, number, hall);
     host.serve(&mut gate);
 }
 
 #[derive(Drop)]
-struct Host<'n, C: HoldsCell, R> {
+struct Host<'n, C: HasLinks<R>, R: Runtime> {
     rt: R,
     alloc: Global,
-    number: usize,
+    cluster: &'n SharedCluster<C>,
     node: &'n Node<C>,
-    clients: &'n Clients,
+    number: usize,
     hall: Hall,
     guests: Slab<Guest<C>, Global>,
     // The keys of those that have their turn, each once, and of those that wait for a reply. There is room for all in each list.
@@ -111,21 +52,21 @@ struct Host<'n, C: HoldsCell, R> {
     starved: usize,
 }
 
-impl<'n, C: HoldsCell + Drop, R: Runtime> Host<'n, C, R> {
+impl<'n, C: HasLinks<R> + Drop, R: Runtime> Host<'n, C, R> {
     fn new(
         rt: R,
         alloc: Global,
-        number: usize,
+        cluster: &'n SharedCluster<C>,
         node: &'n Node<C>,
-        clients: &'n Clients,
+        number: usize,
         hall: Hall,
     ) -> Host<'n, C, R> {
         Host {
             rt,
             alloc,
-            number,
+            cluster,
             node,
-            clients,
+            number,
             hall,
             guests: Slab::new(alloc),
             due: VecDeque::new(alloc),
@@ -160,6 +101,7 @@ impl<'n, C: HoldsCell + Drop, R: Runtime> Host<'n, C, R> {
         self.write();
         self.let_go();
         self.settle();
+        gate.send();
     }
 
     // Waits until there is something to be done, notes for whom, and says whether the thread was woken.
@@ -201,12 +143,12 @@ impl<'n, C: HoldsCell + Drop, R: Runtime> Host<'n, C, R> {
                 return;
             };
             if self.admit(stream, client).is_err() {
-                self.clients.remove(&rt, client);
+                self.cluster.clients.remove(&rt, client);
                 let refused = Incident::ClientRefused {
                     node: self.number,
                     shortage: Shortage::Memory,
                 };
-                self.clients.witness.see(&rt, refused);
+                self.cluster.witness().see(&rt, refused);
             }
         }
     }
@@ -265,14 +207,34 @@ impl<'n, C: HoldsCell + Drop, R: Runtime> Host<'n, C, R> {
         }
     }
 
+    // Has the node answer requests. Messages that these leave are sent behind the replies, or carried at once where a client waits for what others
+    // answer.
     fn ask(&mut self, gate: &mut SeeingGate<'n, C, R>) {
+        let mut is_awaited = false;
         for key in self.due.iter() {
             if let Some(guest) = self.guests.get_mut(*key) {
                 guest.ask(self.alloc, gate);
+                is_awaited |= guest.is_parked();
                 gate.let_others_in();
             }
         }
-        gate.release();
+        match is_awaited {
+            true => self.carry(gate),
+            false => gate.unlock(),
+        }
+    }
+
+    // Carries messages, and takes the replies that come of them at once.
+    fn carry(&mut self, gate: &mut SeeingGate<'n, C, R>) {
+        gate.carry();
+        for key in self.due.iter() {
+            if let Some(guest) = self.guests.get_mut(*key)
+                && guest.is_parked()
+            {
+                guest.listen(gate, false);
+            }
+        }
+        gate.leave_to_others();
     }
 
     fn write(&mut self) {
@@ -302,10 +264,10 @@ impl<'n, C: HoldsCell + Drop, R: Runtime> Host<'n, C, R> {
         if guest.is_listening {
             self.listening.retain(|other| *other != key);
         }
-        self.hall.deregister(&guest);
+        self.hall.deregister(guest.raw_fd());
         let client = guest.client;
         drop(guest);
-        self.clients.remove(&self.rt, client);
+        self.cluster.clients.remove(&self.rt, client);
     }
 
     // Keeps those in the lists that go on at once, and those that wait for a reply.

@@ -20,6 +20,12 @@ pub enum Shortage {
     Descriptor,
 }
 
+impl From<AllocError> for Shortage {
+    fn from(_refused: AllocError) -> Shortage {
+        Shortage::Memory
+    }
+}
+
 /// What happens. A node and a slot are named by their numbers.
 #[derive(Clone, Copy, PartialEq, Eq, Debug)]
 pub enum Incident {
@@ -112,12 +118,12 @@ impl Witness {
     }
 
     /// Whether somebody listens.
-    pub(crate) fn is_heard(&self) -> bool {
+    pub fn is_heard(&self) -> bool {
         self.begun.is_some()
     }
 
     /// Sees the incident. It waits for no listener, so it may be called behind the lock of a node.
-    pub(crate) fn see<R: Clock + Wait>(&self, rt: &R, incident: Incident) {
+    pub fn see<R: Clock + Wait>(&self, rt: &R, incident: Incident) {
         let Some(begun) = self.begun else {
             return;
         };

@@ -6,7 +6,7 @@ use node_cell::HoldsCell;
 use slot_state::Move;
 use std::alloc::Global;
 use std::rt::Clock;
-use std::sync::{Arc, Wait};
+use std::sync::Wait;
 
 /// Has the witness see each slot that leaves the node of that number, and that the node is promoted. Where nobody listens it looks at
 /// nothing but that.
@@ -14,8 +14,8 @@ use std::sync::{Arc, Wait};
 /// Both happen by a message, so it looks before each one and behind it, under one hold of the node's lock. A slot for which it has no
 /// memory isn't seen.
 #[derive(Drop)]
-pub(crate) struct Changes {
-    witness: Arc<Witness, Global>,
+pub(crate) struct Changes<'w> {
+    witness: &'w Witness,
     node: usize,
     // The slots that were on their way before the message.
     leaving: Vec<Leaving>,
@@ -30,9 +30,9 @@ struct Leaving {
     keys: usize,
 }
 
-impl Changes {
+impl<'w> Changes<'w> {
     /// Those in the node of that number.
-    pub(crate) fn new(alloc: Global, witness: Arc<Witness, Global>, node: usize) -> Changes {
+    pub(crate) fn new(alloc: Global, witness: &'w Witness, node: usize) -> Changes<'w> {
         Changes {
             witness,
             node,

@@ -9,11 +9,11 @@ use std::sync::{Arc, Condvar, Mutex, Wait};
 
 /// The connections that are open, at all nodes, so that they can be shut down at the end, and those to a node as it is stopped.
 #[derive(Drop)]
-pub(crate) struct Clients {
+pub struct Clients {
     /// The descriptors that are kept back.
-    pub(crate) spares: Spares,
+    pub spares: Spares,
     /// It sees who can't be served.
-    pub(crate) witness: Arc<Witness, Global>,
+    pub witness: Arc<Witness, Global>,
     streams: Mutex<Streams>,
     // It rings when a connection is removed.
     bell: Condvar,
@@ -35,7 +35,7 @@ struct Client {
 
 /// Why a client can't be served.
 #[derive(Clone, Copy, PartialEq, Eq, Debug)]
-pub(crate) enum Refused {
+pub enum Refused {
     /// There is none of this for it.
     Short(Shortage),
     /// The node is stopped, or the cluster ends.
@@ -50,7 +50,7 @@ impl From<AllocError> for Refused {
 
 impl Clients {
     /// No clients of so many nodes.
-    pub(crate) fn new(
+    pub fn new(
         alloc: Global,
         nodes: usize,
         witness: &Arc<Witness, Global>,
@@ -68,7 +68,7 @@ impl Clients {
     }
 
     /// Adds the connection to the node of that number, and gives the key by which it is removed.
-    pub(crate) fn add<R: Wait>(
+    pub fn add<R: Wait>(
         &self,
         rt: &R,
         node: usize,
@@ -86,7 +86,7 @@ impl Clients {
     }
 
     /// Removes the connection with the key.
-    pub(crate) fn remove<R: Wait>(&self, rt: &R, key: usize) {
+    pub fn remove<R: Wait>(&self, rt: &R, key: usize) {
         let mut streams = self.streams.lock(rt);
         let _stream = streams.open.try_remove(key);
         self.bell.notify_all();
@@ -94,7 +94,7 @@ impl Clients {
 
     /// Shuts all connections down for good, so that nobody reads or writes there any more, and waits until each is removed. The
     /// descriptors that were kept back are given up.
-    pub(crate) fn shut_down<R: Wait>(&self, rt: &R) {
+    pub fn shut_down<R: Wait>(&self, rt: &R) {
         self.spares.give_all(rt);
         let mut streams = self.streams.lock(rt);
         for node in 0..streams.are_shut.len() {
@@ -106,7 +106,7 @@ impl Clients {
     }
 
     /// Shuts the connections to the node of that number down for good. The threads that serve them may still be at work.
-    pub(crate) fn shut_down_at<R: Wait>(&self, rt: &R, node: usize) {
+    pub fn shut_down_at<R: Wait>(&self, rt: &R, node: usize) {
         let mut streams = self.streams.lock(rt);
         streams.shut_down_at(node);
     }

@@ -1,11 +1,11 @@
 //! A client that a thread serves in turn with others.
 
-use crate::arrivals::SeeingGate;
 use listener::{ConnFault, Farewell, Left, Next, Rest, Talk};
 use mio::event::Event;
 use node_cell::{Asks, Entered, HoldsCell, NodeGate};
 use resp_values::Reply;
 use resp2::Counting;
+use shared_cluster::{HasLinks, SeeingGate};
 use std::alloc::Global;
 use std::io::{ErrorKind, Read};
 use std::mem;
@@ -131,7 +131,14 @@ impl<C: HoldsCell + Drop> Guest<C> {
     }
 
     /// Has the node do what comes next: open the connection, answer some requests, or close the connection.
-    pub(crate) fn ask<R: Clock + Wait>(&mut self, alloc: Global, gate: &mut SeeingGate<'_, C, R>) {
+    pub(crate) fn ask<R: Clock + Wait + Copy>(
+        &mut self,
+        alloc: Global,
+        gate: &mut SeeingGate<'_, C, R>,
+    )
+    where
+        C: HasLinks<R>,
+    {
         gate.exchange(&mut self.asks);
         self.answer(gate);
         self.change_stage(alloc, gate);
@@ -182,11 +189,14 @@ impl<C: HoldsCell + Drop> Guest<C> {
 
     /// Takes the reply for which the client waits, if the node has it by now. Once the node is closed, none will come any more, and
     /// that ends the conversation.
-    pub(crate) fn listen<R: Clock + Wait>(
+    pub(crate) fn listen<R: Clock + Wait + Copy>(
         &mut self,
         gate: &mut SeeingGate<'_, C, R>,
         is_closed: bool,
-    ) {
+    )
+    where
+        C: HasLinks<R>,
+    {
         let Stage::Talking(talk) = &mut self.stage else {
             return;
         };

@@ -1,33 +1,52 @@
 //! The slots that arrive at a node by what its clients order.
 ghost use Rattle.std.specs.Prelude.{◌≡◌};
 
-use crate::witness::{Incident, Witness};
+use crate::carrying::{Replies, carry_at_once, send};
+use crate::linked::HasLinks;
+use crate::node::Node;
+use crate::shared::SharedCluster;
+use crate::witness::Incident;
 use command::{ClusterCommand, Command, SlotOrder, parse};
 use connections::Conn;
 use key_slot::Slot;
 use node_cell::{Asks, Entered, HoldsCell, NodeGate};
-use node_step::{Event, StepFault};
+use node_gate::Answered;
+use node_step::{Event, Response, StepFault};
 use resp_values::{Reply, Words};
 use shared_node::Gate;
 use slot_state::Move;
+use std::alloc::Global;
 use std::rt::Clock;
 use std::sync::Wait;
 
 // After so many steps a thread that serves several conversations lets others ask the node.
 const MOST_STEPS: u32 = 64;
 
-/// One conversation's way to the node of that number, at which the witness sees each slot that arrives by an order of its client.
+/// One conversation's way to the node of that number, by which its messages are carried where it waits for another node, and at which the
+/// witness sees each slot that arrives by an order of its client.
 ///
-/// It looks before the step and behind it, under one hold of the node's lock, and where nobody listens at nothing but that. What it
+/// It looks for slots before the step and behind it, under one hold of the node's lock, and where nobody listens at nothing but that. What it
 /// sees comes before all that others see of the slot then: nobody else has the node yet.
 #[derive(Drop)]
-pub(crate) struct SeeingGate<'n, C: HoldsCell, R: Wait> {
+pub struct SeeingGate<'n, C: HoldsCell, R: Wait> {
     rt: R,
+    alloc: Global,
     gate: Gate<'n, C, R>,
-    witness: &'n Witness,
-    node: usize,
+    cluster: &'n SharedCluster<C>,
+    number: usize,
+    mail: Mail,
     // How many steps were made since the node was last released.
     steps: u32,
+}
+
+/// Who sends the messages that a conversation's steps leave.
+#[derive(Clone, Copy, PartialEq, Eq)]
+pub enum Mail {
+    /// The thread that carries the node's messages. It is told of each step that leaves some, but for one whose reply comes later: what that one
+    /// leaves is carried by whoever waits for the reply.
+    IsFetched,
+    /// Whoever has the gate sends or carries them, once others are let in.
+    IsSent,
 }
 
 // A slot that comes to a node.
@@ -37,37 +56,85 @@ struct Arrival {
     from: usize,
 }
 
-impl<'n, C: HoldsCell + Drop, R: Clock + Wait> SeeingGate<'n, C, R> {
-    /// This way to the node of that number, which the witness watches.
-    pub(crate) fn new(
+impl<'n, C: HasLinks<R> + Drop, R: Clock + Wait + Copy> SeeingGate<'n, C, R> {
+    /// A new conversation's way to this node of the cluster, which has that number.
+    pub fn new(
         rt: R,
-        gate: Gate<'n, C, R>,
-        witness: &'n Witness,
-        node: usize,
+        alloc: Global,
+        cluster: &'n SharedCluster<C>,
+        node: &'n Node<C>,
+        number: usize,
+        mail: Mail,
     ) -> SeeingGate<'n, C, R> {
         SeeingGate {
             rt,
-            gate,
-            witness,
-            node,
+            alloc,
+            gate: Gate::new(rt, &node.shared, node.begin()),
+            cluster,
+            number,
+            mail,
             steps: 0,
         }
     }
 
     /// Changes places with the conversation that asked this, as [`Gate::exchange`] does.
-    pub(crate) fn exchange(&mut self, asks: &mut Asks<C::Cluster>) {
+    pub fn exchange(&mut self, asks: &mut Asks<C::Cluster>) {
         self.gate.exchange(asks);
     }
 
     /// Takes the reply to the connection, if the node has it by now, as [`Gate::look`] does.
-    pub(crate) fn look(&mut self, conn: Conn) -> Option<Reply> {
+    pub fn look(&mut self, conn: Conn) -> Option<Reply> {
         self.gate.look(conn)
     }
 
     /// Lets others ask the node, if many steps were made since the last time.
-    pub(crate) fn let_others_in(&mut self) {
+    pub fn let_others_in(&mut self) {
         if self.steps >= MOST_STEPS {
-            self.release();
+            self.unlock();
+        }
+    }
+
+    /// Tells other conversations of the replies that are kept for them, as long as this one holds the node, and lets them in.
+    pub fn leave_to_others(&mut self)
+        ensures { ⟦<Gate<'n, C, R> as NodeGate>⟧.asked self.new.gate ≡ ⟦<Gate<'n, C, R> as NodeGate>⟧.asked self.old.gate }
+    {
+        self.gate.ring_for_replies();
+        self.release();
+    }
+
+    /// Lets others in. What steps left is still to be sent.
+    pub fn unlock(&mut self)
+        ensures { ⟦<Gate<'n, C, R> as NodeGate>⟧.asked self.new.gate ≡ ⟦<Gate<'n, C, R> as NodeGate>⟧.asked self.old.gate }
+    {
+        self.steps = 0;
+        self.gate.unlock();
+    }
+
+    /// Lets others in and sends the messages that steps left, if there are some.
+    pub fn send(&mut self)
+        ensures { ⟦<Gate<'n, C, R> as NodeGate>⟧.asked self.new.gate ≡ ⟦<Gate<'n, C, R> as NodeGate>⟧.asked self.old.gate }
+    {
+        self.unlock();
+        if self.gate.take_left() {
+            let called = send(
+                &self.rt,
+                self.alloc,
+                self.cluster,
+                self.number,
+                Replies::AreTold,
+            );
+            self.cluster.call(called);
+        }
+    }
+
+    /// Lets others in and carries the messages that steps left, until other nodes that aren't locked have answered them. Replies that have come
+    /// by this are kept for those who look for them, and others are not told yet.
+    pub fn carry(&mut self)
+        ensures { ⟦<Gate<'n, C, R> as NodeGate>⟧.asked self.new.gate ≡ ⟦<Gate<'n, C, R> as NodeGate>⟧.asked self.old.gate }
+    {
+        self.unlock();
+        if self.gate.take_left() {
+            carry_at_once(&self.rt, self.alloc, self.cluster, self.number);
         }
     }
 
@@ -75,7 +142,7 @@ impl<'n, C: HoldsCell + Drop, R: Clock + Wait> SeeingGate<'n, C, R> {
     fn awaited(&mut self, event: &Event) -> Option<Arrival>
         ensures { ⟦<Gate<'n, C, R> as NodeGate>⟧.asked self.new.gate ≡ ⟦<Gate<'n, C, R> as NodeGate>⟧.asked self.old.gate }
     {
-        if !self.witness.is_heard() {
+        if !self.cluster.witness().is_heard() {
             return None;
         }
         let slot = given_by(event)?;
@@ -88,19 +155,19 @@ impl<'n, C: HoldsCell + Drop, R: Clock + Wait> SeeingGate<'n, C, R> {
         let Some(cell) = self.gate.held() else {
             return;
         };
-        if let Some(keys) = keys_at(cell, arrival.slot, self.node) {
+        if let Some(keys) = keys_at(cell, arrival.slot, self.number) {
             let arrived = Incident::SlotArrived {
-                node: self.node,
+                node: self.number,
                 slot: arrival.slot.get(),
                 from: arrival.from,
                 keys,
             };
-            self.witness.see(&self.rt, arrived);
+            self.cluster.witness().see(&self.rt, arrived);
         }
     }
 }
 
-impl<'n, C: HoldsCell + Drop, R: Clock + Wait> NodeGate for SeeingGate<'n, C, R> {
+impl<'n, C: HasLinks<R> + Drop, R: Clock + Wait + Copy> NodeGate for SeeingGate<'n, C, R> {
     type Answer = Entered<C::Cluster>;
 
     ghost use Rattle.shared_node.specs.Answers.{MayAnswer, MayGive, MayRefuse};
@@ -113,6 +180,7 @@ impl<'n, C: HoldsCell + Drop, R: Clock + Wait> NodeGate for SeeingGate<'n, C, R>
 
     ghost may_give = { MayGive C.Cluster.config };
 
+    #[inline(always)]
     fn step(&mut self, event: Event) -> Result<Entered<C::Cluster>, StepFault> {
         self.steps = self.steps.saturating_add(1);
         let awaited = self.awaited(&event);
@@ -120,17 +188,33 @@ impl<'n, C: HoldsCell + Drop, R: Clock + Wait> NodeGate for SeeingGate<'n, C, R>
         if let Some(arrival) = awaited {
             self.tell(arrival);
         }
+        if self.mail == Mail::IsFetched && !is_parked(&answer) {
+            self.gate.tell();
+        }
         answer
     }
 
     fn wait(&mut self, conn: Conn) -> Option<Reply> {
-        self.steps = 0;
-        self.gate.wait(conn)
+        self.carry();
+        let found = self.gate.look(conn);
+        self.leave_to_others();
+        match found {
+            Some(reply) => Some(reply),
+            None => self.gate.wait(conn),
+        }
     }
 
     fn release(&mut self) {
         self.steps = 0;
         self.gate.release();
+    }
+}
+
+// Whether the reply to the request comes later.
+fn is_parked<S: Answered>(answer: &Result<S, StepFault>) -> bool {
+    match answer {
+        Ok(step) => matches!(step.response(), Response::Parked),
+        Err(_) => false,
     }
 }
 

@@ -1,0 +1,103 @@
+//! The time of a node, which passes in ticks, and its end where it is stopped alone.
+
+use node_cell::{HoldsCell, NodeGate};
+use node_step::Event;
+use shared_cluster::{Node, SharedCluster, Stop};
+use shared_node::Gate;
+use std::net::Shutdown;
+use std::sync::Wait;
+use std::time::Duration;
+
+// How many milliseconds pass before a node that has no descriptor left to be stopped by is tried again.
+const PAUSE: u64 = 10;
+
+/// The ticks of a node.
+#[derive(Clone, Copy)]
+pub(crate) struct Timing {
+    /// How long one takes.
+    pub(crate) interval: Duration,
+    /// How many are counted at most.
+    pub(crate) most: u64,
+    /// How many of them the node makes. Then it is stopped, and the others are counted alone.
+    pub(crate) own: u64,
+}
+
+/// Lets the time of the node of that number pass, until the end or until all of its ticks are counted.
+pub(crate) fn pass_time<C: HoldsCell + Drop, R: Wait + Copy + Drop>(
+    rt: R,
+    cluster: &SharedCluster<C>,
+    number: usize,
+    timing: Timing,
+) {
+    let Some(node) = cluster.node(number) else {
+        return;
+    };
+    let Timing {
+        interval,
+        most,
+        own,
+    } = timing;
+    let stop = &cluster.stop;
+    let mut gate = Gate::new(rt, &node.shared, node.begin());
+    tick_at(&rt, &mut gate, stop, interval, own.min(most));
+    if own < most {
+        stop_node(&rt, cluster, number, node);
+        wait_for(&rt, stop, interval, most - own);
+    }
+}
+
+// Stops the node of that number, while the others are served on: it takes and sends no message any more, its connections are shut
+// down, and whoever connects to it is refused.
+fn stop_node<C: HoldsCell + Drop, R: Wait>(
+    rt: &R,
+    cluster: &SharedCluster<C>,
+    number: usize,
+    node: &Node<C>,
+) {
+    let clients = &cluster.clients;
+    let stop = &cluster.stop;
+    // The node is closed first: the thread that accepts looks for that as its socket is shut down.
+    node.shared.close(rt);
+    clients.shut_down_at(rt, number);
+    for _ in rt.forever() {
+        if stop.has_ended() {
+            return;
+        }
+        match node.listening() {
+            Ok(socket) => {
+                // A socket that listened is closed by this, whoever has another handle of it.
+                let _shut = socket.shutdown(Shutdown::Both);
+                return;
+            }
+            // No descriptor is left, so one that is kept back is given for it.
+            Err(_) if clients.spares.give_one(rt) => {}
+            Err(_) => stop.sleep(rt, Duration::from_millis(PAUSE)),
+        }
+    }
+}
+
+// Waits for so many intervals, or until the end.
+fn wait_for<R: Wait>(rt: &R, stop: &Stop, interval: Duration, count: u64) {
+    for _ in 0..count {
+        stop.sleep(rt, interval);
+        if stop.has_ended() {
+            return;
+        }
+    }
+}
+
+fn tick_at<G: NodeGate, R: Wait>(rt: &R, gate: &mut G, stop: &Stop, interval: Duration, most: u64) {
+    for _ in 0..most {
+        stop.sleep(rt, interval);
+        if stop.has_ended() {
+            return;
+        }
+        tick(gate);
+    }
+}
+
+// A tick for which there is no memory is no step.
+fn tick<G: NodeGate>(gate: &mut G) {
+    let _refused = gate.step(Event::Tick);
+    gate.release();
+}

@@ -1,0 +1,47 @@
+//! What has a node's cell and its links with all nodes.
+
+use links::{Station, Web};
+use node_cell::{Deployment, HoldsCell, Log};
+use std::alloc::AllocError;
+use std::sync::Wait;
+
+/// What has a node's cell and its links with all nodes.
+pub trait HasLinks<R: Wait>: HoldsCell {
+    /// Takes the next message from the node with that number, and says whether there was one. One for which there is no memory is lost,
+    /// as it may be on any network.
+    fn take_from(&mut self, from: usize) -> bool;
+
+    /// Takes the next message from that node off its link and loses it, and says whether there was one.
+    fn lose_from(&mut self, from: usize) -> bool;
+
+    /// Whether the link from that node is half full.
+    fn is_half_full(&mut self, from: usize) -> bool;
+
+    /// Whether messages wait for their links in too great numbers.
+    fn is_behind(&self) -> bool;
+
+    /// Sends messages to that node as far as there is room, and says whether there was one.
+    fn send_out(&mut self, rt: &R, to: usize) -> Result<bool, AllocError>;
+}
+
+impl<K: Deployment, W: Web, L: Log + Drop, R: Wait + Drop> HasLinks<R> for Station<K, W, L, R> {
+    fn take_from(&mut self, from: usize) -> bool {
+        self.receive(from).is_some()
+    }
+
+    fn lose_from(&mut self, from: usize) -> bool {
+        self.lose(from).is_some()
+    }
+
+    fn is_half_full(&mut self, from: usize) -> bool {
+        Station::is_half_full(self, from)
+    }
+
+    fn is_behind(&self) -> bool {
+        Station::is_behind(self)
+    }
+
+    fn send_out(&mut self, rt: &R, to: usize) -> Result<bool, AllocError> {
+        Station::send_out(self, rt, to)
+    }
+}

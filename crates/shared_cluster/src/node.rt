@@ -1,0 +1,56 @@
+//! A node of a cluster that is served.
+
+use node_cell::{Admission, Asks, HoldsCell};
+use shared_node::SharedNode;
+use std::io;
+use std::net::{Net, TcpListener, TcpStream};
+use std::os::fd::OwnedFd;
+use std::time::Duration;
+
+// How many milliseconds a connection may take that wakes a thread which accepts. Where too many others wait to be accepted it is
+// not made at all, and that thread needs no waking.
+const WAKING: u64 = 100;
+
+/// A node whose cell is in a `C`, and where its clients connect.
+#[derive(Drop)]
+pub struct Node<C: HoldsCell> {
+    /// The node behind its lock.
+    pub shared: SharedNode<C>,
+    admission: Admission<C::Cluster>,
+    /// Where its clients connect.
+    pub listener: TcpListener,
+}
+
+impl<C: HoldsCell + Drop> Node<C> {
+    /// The node with this cell, whose clients begin with this admission.
+    pub fn new(cell: C, admission: Admission<C::Cluster>, listener: TcpListener) -> Node<C> {
+        Node {
+            shared: SharedNode::new(cell),
+            admission,
+            listener,
+        }
+    }
+
+    /// The cell, once nobody serves the node.
+    pub fn into_cell(self) -> C {
+        self.shared.into_cell()
+    }
+
+    /// What is asked of the node by one conversation: nothing yet.
+    pub fn begin(&self) -> Asks<C::Cluster> {
+        self.admission.begin()
+    }
+
+    /// Wakes the thread that accepts clients.
+    pub fn wake<R: Net>(&self, rt: &R) {
+        if let Ok(address) = self.listener.local_addr() {
+            let _woken = TcpStream::connect_timeout(rt, &address, Duration::from_millis(WAKING));
+        }
+    }
+
+    /// A further handle of the socket that listens, by which it can be shut down. It is one descriptor more.
+    pub fn listening(&self) -> io::Result<TcpStream> {
+        let listener = self.listener.try_clone()?;
+        Ok(TcpStream::from(OwnedFd::from(listener)))
+    }
+}

@@ -1,0 +1,32 @@
+//! A cluster that is served.
+
+use crate::clients::Clients;
+use crate::node::Node;
+use crate::stop::Stop;
+use crate::witness::Witness;
+use node_cell::HoldsCell;
+use std::alloc::Global;
+use std::sync::Arc;
+
+/// A cluster that is served, as all of its threads share it.
+#[derive(Drop)]
+pub struct SharedCluster<C: HoldsCell> {
+    /// The nodes, by their numbers.
+    pub nodes: Vec<Node<C>>,
+    /// Who is connected to them.
+    pub clients: Arc<Clients, Global>,
+    /// Whether the cluster ends.
+    pub stop: Stop,
+}
+
+impl<C: HoldsCell> SharedCluster<C> {
+    /// The node of that number, if there is one.
+    pub fn node(&self, number: usize) -> Option<&Node<C>> {
+        self.nodes.get(number)
+    }
+
+    /// It sees what happens to the cluster.
+    pub fn witness(&self) -> &Witness {
+        &*self.clients.witness
+    }
+}
