@@ -2,6 +2,9 @@
 ghost use Rattle.std.specs.Prelude.{◌≡◌, IfOk, OnErr, Err};
 ghost use Rattle.std.specs.FinMap as fin_map;
 ghost use Rattle.connections.specs.Connections.{IsUsedUp};
+ghost use Rattle.keyspace.specs.Keyspace.{Keyspace};
+ghost use Rattle.keyspace.specs.Plan.{committed};
+ghost use Rattle.node_parts.specs.Drafts.{HasNothing};
 ghost use Rattle.node_step.specs.Numbers.{NoNumberLeft};
 ghost use Rattle.node_step.specs.State.{first_state, own_master};
 ghost use Rattle.node_step.specs.Step.{NodeStep};
@@ -16,7 +19,7 @@ use bus::{Message, Replaced};
 use cluster_config::Config;
 use connections::Conn;
 use key_slot::Slot;
-use node_parts::{NodeParts, plain};
+use node_parts::{Draft, NodeParts, plain};
 use node_step::{Event, Outputs, Recorder, Response, StepFault};
 use repl_stream::{Backlog, Replaces, Stream};
 use resp_values::Words;
@@ -148,7 +151,7 @@ impl<S: SlotParts + SlotKeys + Replaces, T: Stream> NodeCore<S, T> {
     }
 
     // Answers a request.
-    #[tactic(auto, using(crate::proofs::StepLemmas::answer_is_step, node_parts::proofs::ChangeLemmas::draft_can_be_made))]
+    #[inline(never)]
     fn answer<K: Recorder>(
         &mut self,
         ticket: u64,
@@ -160,12 +163,33 @@ impl<S: SlotParts + SlotKeys + Replaces, T: Stream> NodeCore<S, T> {
         ensures err { OnErr result (self.new ≡ self.old) }
         ensures exhausted { result ≡ Err Exhausted → NoNumberLeft self.old (Event.Request conn words.now) }
     {
-        let mut draft = self.parts.blank();
-        request(&self.parts, conn, words, &mut draft)?;
-        Ok(self.parts.make::<K>(ticket, &mut draft)?)
+        // A draft is large, and has a place of its own at each end of a function that lets it go. So this function has one end.
+        let draft = &mut self.parts.blank();
+        self.answer_by::<K>(ticket, conn, words, draft)
+    }
+
+    // Answers a request by a blank draft.
+    #[tactic(auto, using(crate::proofs::StepLemmas::answer_is_step, node_parts::proofs::ChangeLemmas::draft_can_be_made))]
+    fn answer_by<K: Recorder>(
+        &mut self,
+        ticket: u64,
+        conn: Conn,
+        words: &Words,
+        draft: &mut Draft,
+    ) -> Result<(Outputs, K::Record), StepFault>
+        requires nothing { HasNothing self.old draft.old }
+        requires plan { (keyspace : Keyspace) → committed keyspace draft.old.plan ≡ keyspace }
+        ensures step { IfOk result (λ made. NodeStep ticket self.old (Event.Request conn words.now) made.0 self.new) }
+        ensures recorded { IfOk result (λ made. K.recorded made.1 ≡ made.0) }
+        ensures err { OnErr result (self.new ≡ self.old) }
+        ensures exhausted { result ≡ Err Exhausted → NoNumberLeft self.old (Event.Request conn words.now) }
+    {
+        request(&self.parts, conn, words, draft)?;
+        Ok(self.parts.make::<K>(ticket, draft)?)
     }
 
     // Takes a message, if it is for this node. What it tells of the others is put back where it is refused.
+    #[inline(never)]
     fn deliver<K: Recorder>(
         &mut self,
         ticket: u64,
@@ -189,6 +213,7 @@ impl<S: SlotParts + SlotKeys + Replaces, T: Stream> NodeCore<S, T> {
     }
 
     // Lets a tick pass. What it counts is put back where it is refused.
+    #[inline(never)]
     fn tick<K: Recorder>(&mut self, ticket: u64) -> Result<(Outputs, K::Record), StepFault>
         ensures step { IfOk result (λ made. NodeStep ticket self.old Event.Tick made.0 self.new) }
         ensures recorded { IfOk result (λ made. K.recorded made.1 ≡ made.0) }

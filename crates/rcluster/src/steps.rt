@@ -1,6 +1,6 @@
 //! The steps of a script, as the help lists them, and what is wrong with a line that is none.
 
-use crate::shown::Shown;
+use client_tools::Shown;
 use redirection::first_word;
 use simulator::{FORMS, StepForm};
 use std::alloc::{AllocError, Global};

@@ -1,7 +1,7 @@
 //! `rcluster serve --stop`: nodes that are stopped while the others are served on.
 
-use crate::shown::Shown;
 use crate::verbs::MOST_TICKS;
+use client_tools::Shown;
 use cluster::NodeStop;
 use cluster_config::Config;
 use command_table::{count_in, positive_in};

@@ -1,7 +1,6 @@
 //! What standard error says of a call or a run that stopped: the node, and what it answered.
 
-use crate::failure::Failure;
-use crate::fault::ProgramFault;
+use crate::failure::{ToolFailure, ToolFault};
 use crate::shown::Shown;
 use crate::watched::Seen;
 use resharder::ReshardFault;
@@ -12,19 +11,19 @@ use std::fmt;
 use std::fmt::Write;
 
 /// Why a call stopped.
-pub fn call_failure(alloc: Global, fault: ClientFault, seen: &RefCell<Seen>) -> Failure {
-    let code = ProgramFault::Client(fault);
+pub(crate) fn call_failure(alloc: Global, fault: ClientFault, seen: &RefCell<Seen>) -> ToolFailure {
+    let code = ToolFault::Client(fault);
     let Ok(seen) = seen.try_borrow() else {
-        return Failure::from(code);
+        return ToolFailure::from(code);
     };
     match fault {
         ClientFault::NotConnected if seen.has_place() => {
-            Failure::new(code, no_connection_text(alloc, &seen))
+            ToolFailure::new(code, no_connection_text(alloc, &seen))
         }
         ClientFault::BadReply if seen.has_answer() => {
-            Failure::new(code, wrong_answer_text(alloc, &seen))
+            ToolFailure::new(code, wrong_answer_text(alloc, &seen))
         }
-        _ => Failure::from(code),
+        _ => ToolFailure::from(code),
     }
 }
 
@@ -44,29 +43,34 @@ fn wrong_answer_text(alloc: Global, seen: &Seen) -> Result<String, AllocError> {
 }
 
 /// Why a run stopped whose next slot is that one.
-pub fn run_failure(alloc: Global, fault: ReshardFault, seen: &RefCell<Seen>, slot: u16) -> Failure {
-    let code = ProgramFault::Reshard(fault);
+pub(crate) fn run_failure(
+    alloc: Global,
+    fault: ReshardFault,
+    seen: &RefCell<Seen>,
+    slot: u16,
+) -> ToolFailure {
+    let code = ToolFault::Reshard(fault);
     let Ok(seen) = seen.try_borrow() else {
-        return Failure::from(code);
+        return ToolFailure::from(code);
     };
     match fault {
         ReshardFault::TooOften if seen.has_answer() => {
-            Failure::new(code, too_often_text(alloc, &seen, slot))
+            ToolFailure::new(code, too_often_text(alloc, &seen, slot))
         }
         ReshardFault::NotReached if seen.has_answer() => {
-            Failure::new(code, answer_text(alloc, &seen, slot))
+            ToolFailure::new(code, answer_text(alloc, &seen, slot))
         }
         ReshardFault::NotReached if seen.has_place() => {
-            Failure::new(code, unreached_text(alloc, &seen, slot))
+            ToolFailure::new(code, unreached_text(alloc, &seen, slot))
         }
         ReshardFault::BadReply if seen.has_answer() => {
-            Failure::new(code, answer_text(alloc, &seen, slot))
+            ToolFailure::new(code, answer_text(alloc, &seen, slot))
         }
         ReshardFault::NoNextNumber => {
             let text = format!(in alloc; "slot {slot}: no next number of a move is left");
-            Failure::new(code, text)
+            ToolFailure::new(code, text)
         }
-        _ => Failure::from(code),
+        _ => ToolFailure::from(code),
     }
 }
 
@@ -89,17 +93,22 @@ fn unreached_text(alloc: Global, seen: &Seen, slot: u16) -> Result<String, Alloc
 }
 
 /// Why a run stopped of whose two ids one isn't listed.
-pub fn unlisted_failure(alloc: Global, seen: &RefCell<Seen>, from: &str, to: &str) -> Failure {
-    let code = ProgramFault::Reshard(ReshardFault::NotListed);
+pub(crate) fn unlisted_failure(
+    alloc: Global,
+    seen: &RefCell<Seen>,
+    from: &str,
+    to: &str,
+) -> ToolFailure {
+    let code = ToolFault::Reshard(ReshardFault::NotListed);
     let Ok(seen) = seen.try_borrow() else {
-        return Failure::from(code);
+        return ToolFailure::from(code);
     };
     let id = if seen.lists(from.as_bytes()) {
         to
     } else {
         from
     };
-    Failure::new(code, unlisted_text(alloc, &seen, id))
+    ToolFailure::new(code, unlisted_text(alloc, &seen, id))
 }
 
 fn unlisted_text(alloc: Global, seen: &Seen, id: &str) -> Result<String, AllocError> {

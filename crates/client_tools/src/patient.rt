@@ -9,7 +9,7 @@ use std::time::Duration;
 /// A way to the nodes for who asks the same again where a node refuses it: before each repetition others may run, and from the
 /// tenth on it waits.
 #[derive(Drop)]
-pub struct Patient<R: Drop, N: Network + Drop> {
+pub(crate) struct Patient<R: Drop, N: Network + Drop> {
     rt: R,
     network: N,
     // How many refusals came one after another.
@@ -18,7 +18,7 @@ pub struct Patient<R: Drop, N: Network + Drop> {
 
 impl<R: Drop, N: Network + Drop> Patient<R, N> {
     /// The same way, on which nothing was refused yet.
-    pub fn new(rt: R, network: N) -> Patient<R, N> {
+    pub(crate) fn new(rt: R, network: N) -> Patient<R, N> {
         Patient {
             rt,
             network,

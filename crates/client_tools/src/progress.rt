@@ -30,7 +30,7 @@ impl Terminals {
 ///
 /// The line is written over and over in one place, and taken away before anything else is printed there.
 #[derive(Drop)]
-pub struct Progress {
+pub(crate) struct Progress {
     terminals: Terminals,
     // How many slots are to be moved.
     slots: u64,
@@ -41,7 +41,7 @@ pub struct Progress {
 
 impl Progress {
     /// The progress of a run that began then, and that is to move so many slots.
-    pub fn new(terminals: Terminals, slots: u64, begun: Option<Instant>) -> Progress {
+    pub(crate) fn new(terminals: Terminals, slots: u64, begun: Option<Instant>) -> Progress {
         Progress {
             terminals,
             slots,
@@ -51,7 +51,7 @@ impl Progress {
     }
 
     /// Tells that so many slots are done, and how many keys were moved, where it is time to.
-    pub fn tell<R: Eprint + Clock>(&mut self, rt: &R, done: u64, keys: u64) {
+    pub(crate) fn tell<R: Eprint + Clock>(&mut self, rt: &R, done: u64, keys: u64) {
         let Some(told) = self.told else {
             return;
         };
@@ -71,14 +71,14 @@ impl Progress {
     }
 
     /// Takes the line away where the output is printed on a terminal, too, and may come to the same place.
-    pub fn make_room<R: Eprint>(&mut self, rt: &R) {
+    pub(crate) fn make_room<R: Eprint>(&mut self, rt: &R) {
         if self.terminals.has_output {
             self.end(rt);
         }
     }
 
     /// Takes the line away.
-    pub fn end<R: Eprint>(&mut self, rt: &R) {
+    pub(crate) fn end<R: Eprint>(&mut self, rt: &R) {
         if self.is_there {
             let _gone = eprint!(rt; "\r{:<70}\r", "");
             self.is_there = false;

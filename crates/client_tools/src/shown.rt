@@ -36,7 +36,7 @@ fn show<W: fmt::Write>(byte: u8, f: &mut fmt::Formatter<W>) -> fmt::Result {
 
 /// The words of a request, of which a sentence shows the first eight.
 #[derive(Clone, Copy)]
-pub struct ShownWords<'a>(pub &'a [ByteString]);
+pub(crate) struct ShownWords<'a>(pub(crate) &'a [ByteString]);
 
 impl fmt::Display for ShownWords<'_> {
     fn fmt<W: fmt::Write>(&self, f: &mut fmt::Formatter<W>) -> fmt::Result {

@@ -3,7 +3,7 @@ use Rattle.node_core.proofs.StepLemmas.{answer_is_step}
 use Rattle.node_step.specs.State.{NodeState}
 use Rattle.node_step.specs.Step.{NodeStep}
 use Rattle.node_step.specs.declared.event.Event.TheVariants.{Request}
-use Rattle.node_core.proofs.node.NodeCore.answer.Goals as goal
+use Rattle.node_core.proofs.node.NodeCore.answer_by.Goals as goal
 
 pub returns-clause-step : goal.returns-clause-step
 returns-clause-step g c =

@@ -14,21 +14,21 @@ use std::io;
 const MOST_MASTERS: usize = 16;
 
 /// What was asked last, and what was seen since the beginning. What there was no memory for is empty.
-pub struct Seen {
+pub(crate) struct Seen {
     /// The address of the node in use.
-    pub place: String,
+    pub(crate) place: String,
     /// The words that were sent to it last, or nothing where none were.
-    pub request: String,
+    pub(crate) request: String,
     /// Whether these are the command of a call, and no order that prepares the node for it.
-    pub has_sent_command: bool,
+    pub(crate) has_sent_command: bool,
     /// What it answered, or nothing where no answer came.
-    pub answer: String,
+    pub(crate) answer: String,
     /// Why it can't be reached, as the system says it, or nothing where it says nothing.
-    pub error: String,
+    pub(crate) error: String,
     /// How many slots were asked to come to another node.
-    pub imports: u64,
+    pub(crate) imports: u64,
     /// The ids of the masters that CLUSTER SLOTS listed.
-    pub masters: Vec<ByteString>,
+    pub(crate) masters: Vec<ByteString>,
     // Whether CLUSTER SLOTS was asked last.
     lists_masters: bool,
 }
@@ -51,7 +51,7 @@ impl Drop for Seen {
 
 impl Seen {
     /// Nothing yet.
-    pub fn new(alloc: Global) -> RefCell<Seen> {
+    pub(crate) fn new(alloc: Global) -> RefCell<Seen> {
         RefCell::new(Seen {
             place: String::new(alloc),
             request: String::new(alloc),
@@ -92,7 +92,7 @@ impl Seen {
     }
 
     /// Sees why the node can't be reached.
-    pub fn see_error(&mut self, error: &io::Error) {
+    pub(crate) fn see_error(&mut self, error: &io::Error) {
         note(&mut self.error, format_args!("{error}"));
     }
 
@@ -149,17 +149,17 @@ impl Seen {
     }
 
     /// Whether the node in use is known.
-    pub fn has_place(&self) -> bool {
+    pub(crate) fn has_place(&self) -> bool {
         !self.place.is_empty()
     }
 
     /// Whether the node in use is known, and what it was asked and answered.
-    pub fn has_answer(&self) -> bool {
+    pub(crate) fn has_answer(&self) -> bool {
         self.has_place() && !self.request.is_empty() && !self.answer.is_empty()
     }
 
     /// Whether CLUSTER SLOTS listed a master of this id.
-    pub fn lists(&self, id: &[u8]) -> bool {
+    pub(crate) fn lists(&self, id: &[u8]) -> bool {
         self.masters.iter().any(|master| master.as_slice() == id)
     }
 }
@@ -181,14 +181,14 @@ fn note<D: Display + Drop>(noted: &mut String, text: D) {
 
 /// A way to the nodes of which all is seen.
 #[derive(Drop)]
-pub struct Watched<'a, N: Network + Drop> {
+pub(crate) struct Watched<'a, N: Network + Drop> {
     network: N,
     seen: &'a RefCell<Seen>,
 }
 
 impl<'a, N: Network + Drop> Watched<'a, N> {
     /// The same way, on which all is seen from now on.
-    pub fn new(network: N, seen: &'a RefCell<Seen>) -> Watched<'a, N> {
+    pub(crate) fn new(network: N, seen: &'a RefCell<Seen>) -> Watched<'a, N> {
         Watched { network, seen }
     }
 }

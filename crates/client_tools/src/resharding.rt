@@ -1,7 +1,6 @@
 //! `rcluster reshard`: slots that move from one master to another.
 
-use crate::failure::Failure;
-use crate::fault::ProgramFault;
+use crate::failure::{ToolFailure, ToolFault};
 use crate::output::write;
 use crate::patient::Patient;
 use crate::progress::{Progress, Terminals};
@@ -57,7 +56,7 @@ impl<'a> Move<'a> {
 
 /// Moves the slots, and prints a line once a slot is at its new master. A node is asked the same so often again at most.
 /// Where standard error is a terminal it tells meanwhile how far it has come, and once all slots are moved what was done.
-pub fn reshard<R>(rt: R, wanted: Move, limit: u64, terminals: Terminals) -> Result<(), Failure>
+pub fn reshard<R>(rt: R, wanted: Move, limit: u64, terminals: Terminals) -> Result<(), ToolFailure>
 where
     R: AllocGlobal
         + Print
@@ -78,7 +77,7 @@ fn reshard_seen<R>(
     limit: u64,
     terminals: Terminals,
     seen: &RefCell<Seen>,
-) -> Result<(), Failure>
+) -> Result<(), ToolFailure>
 where
     R: AllocGlobal
         + Print
@@ -101,7 +100,7 @@ fn reshard_over<R, N>(
     limit: u64,
     terminals: Terminals,
     seen: &RefCell<Seen>,
-) -> Result<(), Failure>
+) -> Result<(), ToolFailure>
 where
     R: AllocGlobal + Print + Eprint + Clock,
     N: Network + Drop,
@@ -140,7 +139,7 @@ fn plan(
     to: &str,
     slots: SlotRange,
     limit: u64,
-) -> Result<Plan, Failure> {
+) -> Result<Plan, ToolFailure> {
     let from = id_in(alloc, from)?;
     let to = id_in(alloc, to)?;
     Ok(Plan::new(start, from, to, slots, limit))
@@ -177,7 +176,7 @@ fn move_all<R, N>(
     resharder: Resharder<N>,
     done: &mut Done,
     progress: &mut Progress,
-) -> Result<Result<(), ReshardFault>, Failure>
+) -> Result<Result<(), ReshardFault>, ToolFailure>
 where
     R: AllocGlobal + Print + Eprint + Clock,
     N: Network + Drop,
@@ -229,11 +228,11 @@ fn tell<R: Eprint + Clock>(rt: &R, done: &Done, moved: u64, begun: Option<Instan
 }
 
 // A text that can't be an id is listed by nobody.
-fn id_in(alloc: Global, text: &str) -> Result<NodeId, Failure> {
+fn id_in(alloc: Global, text: &str) -> Result<NodeId, ToolFailure> {
     match NodeId::new(Bytes::copy_from_slice(alloc, text.as_bytes())?) {
         Some(id) => Ok(id),
-        None => Err(Failure::new(
-            ProgramFault::Reshard(ReshardFault::NotListed),
+        None => Err(ToolFailure::new(
+            ToolFault::Reshard(ReshardFault::NotListed),
             format!(in alloc;
                 "\"{}\" is no id of a node: an id is 40 lowercase hexadecimal digits, as CLUSTER SLOTS lists them",
                 Shown(text.as_bytes())
@@ -271,7 +270,7 @@ fn slot_in(text: &str) -> Option<Slot> {
 }
 
 // It is written at once, so that a reader knows of each slot when it has moved.
-fn print<R: AllocGlobal + Print>(rt: &R, moved: &MovedSlot) -> Result<(), Failure> {
+fn print<R: AllocGlobal + Print>(rt: &R, moved: &MovedSlot) -> Result<(), ToolFailure> {
     let number = moved.number.map_or(0, MoveNo::get);
     let line = format!(in rt.alloc();
         "slot {} move {number} keys {}\n",

@@ -1,0 +1,19 @@
+//! What `rcluster cli` and `rcluster reshard` do: one command on a cluster, and slots that move from one of its masters to another.
+#![tactic(auto)]
+
+mod calling;
+mod failure;
+mod output;
+mod patient;
+mod progress;
+mod resharding;
+mod shown;
+mod sockets;
+mod telling;
+mod watched;
+
+pub use calling::{Request, call};
+pub use failure::{ToolFailure, ToolFault};
+pub use progress::Terminals;
+pub use resharding::{Move, reshard};
+pub use shown::Shown;
