@@ -164,8 +164,8 @@ impl<S: SlotParts + SlotKeys + Replaces, T: Stream> NodeCore<S, T> {
         ensures exhausted { result ≡ Err Exhausted → NoNumberLeft self.old (Event.Request conn words.now) }
     {
         // A draft is large, and has a place of its own at each end of a function that lets it go. So this function has one end.
-        let draft = &mut self.parts.blank();
-        self.answer_by::<K>(ticket, conn, words, draft)
+        let mut draft = self.parts.blank();
+        self.answer_by::<K>(ticket, conn, words, &mut draft)
     }
 
     // Answers a request by a blank draft.
