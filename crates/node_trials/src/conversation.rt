@@ -4,11 +4,11 @@ ghost use Rattle.tickets.specs.Tickets.{IsFresh};
 
 use crate::streams::{Pieces, Trickle, Written};
 use crate::turns::converse_in_turns;
-use cluster::{Gate, SharedNode};
 use cluster_config::Config;
 use listener::{ConnFault, serve_conn};
 use node_cell::{Admission, Asks, Deployment, Journal, NodeCell};
 use resp2::Counting;
+use shared_node::{Gate, SharedNode};
 use slot_table::NodeNo;
 use std::alloc::{AllocError, Global};
 use std::marker::Brand;

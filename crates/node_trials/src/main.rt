@@ -12,12 +12,9 @@ mod following;
 mod full_link;
 mod gates;
 mod growth;
-mod load;
 mod moves;
-mod moving;
 mod pace;
 mod refused;
-mod replay;
 mod rows;
 mod seats;
 mod second_tries;
@@ -29,7 +26,6 @@ mod writes;
 
 use anyhow::{Result, bail};
 use std::env;
-use std::net::{Net, TcpListener, TcpStream};
 use std::rt::Clock;
 use std::sync::Wait;
 use std::thread::Threads;
@@ -47,7 +43,6 @@ enum Trial {
     Callers,
     Locks,
     Links,
-    Load,
     Pace,
 }
 
@@ -74,7 +69,6 @@ fn trial_of(word: &str) -> Option<Trial> {
         "callers" => Some(Trial::Callers),
         "locks" => Some(Trial::Locks),
         "links" => Some(Trial::Links),
-        "load" => Some(Trial::Load),
         "pace" => Some(Trial::Pace),
         _ => None,
     }
@@ -82,17 +76,7 @@ fn trial_of(word: &str) -> Option<Trial> {
 
 fn try_out<R>(rt: R, trial: Trial) -> Result<()>
 where
-    R: AllocGlobal
-        + Net<Listener = TcpListener, Stream = TcpStream>
-        + Print
-        + Clock
-        + Threads
-        + Wait
-        + Copy
-        + Drop
-        + Send
-        + Sync
-        + 'static,
+    R: AllocGlobal + Print + Clock + Threads + Wait + Copy + Drop + Send + Sync + 'static,
 {
     match trial {
         Trial::Refused => refused::try_out(rt),
@@ -105,7 +89,6 @@ where
         Trial::Callers => callers::try_out(&rt),
         Trial::Locks => two_nodes::try_out(rt),
         Trial::Links => full_link::try_out(rt),
-        Trial::Load => load::try_out(rt),
         Trial::Pace => pace::measure(&rt),
     }
 }

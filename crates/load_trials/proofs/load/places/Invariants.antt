@@ -1,7 +1,7 @@
 use Rattle.std.proofs.Common.{◌≡◌, ◌+◌, ◌++◌, All, length, map, vec_len}
 use Rattle.std.specs.Vec.Iter.{into_iter_items}
 use Rattle.tickets.specs.Tickets.{IsFresh}
-use Rattle.node_trials.proofs.load.places.Given as goal
+use Rattle.load_trials.proofs.load.places.Given as goal
 
 -- each place so far has a seat that has drawn nothing and its node's ends, and so it is with the seats and the ends that are left
 abbrev pub invariant-loop-seat : goal.invariant-loop-seat

@@ -1,5 +1,5 @@
 use Rattle.tickets.specs.Tickets.{id_of}
-use Rattle.node_trials.proofs.load.try_out.Given as goal
+use Rattle.load_trials.proofs.load.try_out.Given as goal
 
 -- the cluster of three nodes
 abbrev pub ghosts-serve_under_load : goal.ghosts-serve_under_load

@@ -3,10 +3,9 @@ ghost use Rattle.std.specs.Prelude.{◌≡◌, All, IfOk, length, map, vec_len};
 ghost use Rattle.links.specs.Ends.{AreLinkedFrom};
 ghost use Rattle.tickets.specs.Tickets.{IsFresh, id_of};
 
-use crate::clusters::three_masters;
+use crate::masters::three_masters;
 use crate::moving::move_a_slot;
 use crate::replay::is_repeated;
-use crate::telling::say;
 use anyhow::{Context, Result, bail};
 use audit::{WorldRun, gather_stations};
 use cluster::{Course, Place, Runtime, Witness, serve_nodes};
@@ -70,6 +69,11 @@ pub fn try_out<R: Runtime + AllocGlobal + Print>(rt: R) -> Result<()> {
     let (table, seats) = open(rt.alloc(), 3)?;
     let seen = serve_under_load::<Brand, R>(rt, &config, &table, seats)?;
     Ok(tell(&rt, seen)?)
+}
+
+// Says whether this holds.
+fn say<R: Print>(rt: &R, what: &str, holds: bool) -> io::Result<()> {
+    println!(rt; "{what}: {holds}")
 }
 
 fn tell<R: Print>(rt: &R, seen: Seen) -> io::Result<()> {

@@ -3,8 +3,8 @@ use Rattle.std.proofs.lemmas.List.Elements.{All-head, All-push, All-same, All-ta
 use Rattle.std.specs.Vec.Iter.{into_iter_items}
 use Rattle.tickets.specs.Tickets.{IsFresh}
 use Rattle.tickets.specs.declared.seat.Seat.{Seat}
-use Rattle.node_trials.proofs.PlaceLemmas.{all_placed, one_more_place}
-use Rattle.node_trials.proofs.load.places.Goals as goal
+use Rattle.load_trials.proofs.PlaceLemmas.{all_placed, one_more_place}
+use Rattle.load_trials.proofs.load.places.Goals as goal
 
 pub loop-seat-preserved : goal.loop-seat-preserved
 loop-seat-preserved g c =

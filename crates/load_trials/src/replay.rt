@@ -1,6 +1,5 @@
 //! Journals that are played again.
 
-use crate::clusters::node_of;
 use anyhow::Result;
 use cluster_config::Config;
 use node_cell::{Entry, Journal};
@@ -15,7 +14,7 @@ pub fn is_repeated(
     number: NodeNo,
     journal: &[Entry],
 ) -> Result<bool> {
-    let mut node = node_of(alloc, config, number)?;
+    let mut node = Core::begin(alloc, config.clone()?, number)?;
     for entry in journal {
         if !is_repeated_by(alloc, &mut node, entry)? {
             return Ok(false);
