@@ -105,6 +105,7 @@ fn hold_in_turns_at<K: Deployment, R: Wait + Drop>(
     let mut gate = Gate::new(rt, &node, Admission::<K>::new(config).begin());
     let mut writer = Counting::new(writer);
     converse_in_turns(alloc, &mut gate, requests, &mut writer);
+    drop(gate);
     Ok(writer.into_inner().bytes)
 }
 
@@ -145,5 +146,7 @@ fn converse<K: Deployment, R: Wait + Drop>(
     writer: &mut Counting<Written>,
 ) -> Result<(), ConnFault> {
     let mut gate = Gate::new(rt, node, asks);
-    serve_conn(alloc, &mut gate, reader, writer)
+    let ended = serve_conn(alloc, &mut gate, reader, writer);
+    drop(gate);
+    ended
 }
