@@ -1,4 +1,5 @@
-use Rattle.std.proofs.Common.{rules, ◌≡◌, ◌+◌, vec_len}
+use Rattle.std.proofs.Common.{rules, ◌≡◌, ◌+◌, ap, vec_len, ◌∙◌}
+use Rattle.std.specs.List.{range_with_len}
 use Rattle.cluster.proofs.PlaceLemmas.{counted_one_more}
 use Rattle.cluster.proofs.server.add_stations.Goals as goal
 
@@ -9,3 +10,8 @@ loop-node-preserved g c =
       count = search rules;
       numbers = counted_one_more _ _ (vec_len c.loop-node.stations) _ grown (search rules) c.loop-node.invariant.numbers;
     }
+
+pub returns-clause-nodes : goal.returns-clause-nodes
+returns-clause-nodes g c =
+    let all : vec_len c.loop-node.stations ≡ vec_len c.args.nodes = search rules in
+    c.loop-node.invariant.numbers ∙ ap (range_with_len 0) all
