@@ -7,7 +7,7 @@ use std::alloc::AllocError;
 /// Why a tool stops.
 #[derive(Clone, Copy)]
 pub enum ToolFault {
-    /// Memory was refused, and nothing was sent yet.
+    /// Memory was refused. Of a call nothing was sent yet.
     Memory,
     /// The output can't be written.
     Output,

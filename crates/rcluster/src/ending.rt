@@ -4,7 +4,6 @@ use crate::failure::Failure;
 use crate::fault::ProgramFault;
 use clap::Error;
 use clap::error::ErrorKind;
-use client_tools::ToolFailure;
 use std::io;
 use std::process::ExitCode;
 
@@ -16,17 +15,6 @@ pub fn end(rt: &(impl Print + Eprint), outcome: Result<(), Failure>) -> io::Resu
     match outcome {
         Ok(()) => Ok(ExitCode::SUCCESS),
         Err(failure) => print_failure(rt, &failure),
-    }
-}
-
-/// The end of a tool.
-pub fn end_tool(
-    rt: &(impl Print + Eprint),
-    outcome: Result<(), ToolFailure>,
-) -> io::Result<ExitCode> {
-    match outcome {
-        Ok(()) => Ok(ExitCode::SUCCESS),
-        Err(failure) => print_failure(rt, &Failure::from(failure)),
     }
 }
 
