@@ -47,6 +47,8 @@ COUNT, OTHER_KEY = 100, b"bar"
 # ---- the table
 
 TABLE_TICKS, TABLE_TICK_MS = 140, 50
+# How often a row is played at most, until its first replica is elected.
+TRIES = 3
 # How long a client waits until it asks the same again, in seconds.
 PAUSE = 0.05
 # What is tried; how many masters there are, and how many replicas each of them has; after how many of their ticks which nodes are stopped; who
@@ -227,6 +229,15 @@ def judge_redis_cli(judge, ports, node):
 
 
 def play_row(judge, what, masters, replicas, stops, voters, taken):
+    """Plays a row until it comes as wanted. The first of two replicas may ask a voter too early, and then the second one is elected."""
+    for _ in range(TRIES):
+        if play_once(judge, what, masters, replicas, stops, voters, taken) == taken:
+            return
+    judge.true(f"{what}: the first replica is elected", False, f"in none of {TRIES} runs")
+
+
+def play_once(judge, what, masters, replicas, stops, voters, taken):
+    """Plays a row, judges what came by the order in which places were taken, and returns that order."""
     cluster = clusters.with_replicas(masters, replicas, voters=[node_id(it) for it in voters], tick_ms=TABLE_TICK_MS, node_timeout=NODE_TIMEOUT)
     ports = ports_of(cluster)
     told = [[] for _ in ports]
@@ -234,6 +245,8 @@ def play_row(judge, what, masters, replicas, stops, voters, taken):
     with judge.part(what), Server(cluster, "--ticks", str(TABLE_TICKS), *options) as server:
         with playing([functools.partial(ask_until_the_end, cluster, node, told[node]) for node in range(len(ports))]):
             judge_audit(judge, what, server, TABLE_TICKS, TABLE_TICK_MS)
+        others = [[(0, 3)]] if taken in ([(0, 2)], [(0, 2), (2, 3)]) else []
+        taken = next((it for it in others if answers_end(cluster, told, stops, it)), taken)
         # Places that are taken at once are taken in any order.
         known = [some for count in range(len(taken) + 1) for some in itertools.combinations(taken, count)]
         for node, answers in enumerate(told):
@@ -242,6 +255,12 @@ def play_row(judge, what, masters, replicas, stops, voters, taken):
             if node not in stops:
                 judge.equal(f"{what}: what node {node} says at the end", answers[-1][1], wanted[-1])
                 judge.least(f"{what}: seconds until node {node} was asked last", answers[-1][0] - server.begun, (TABLE_TICKS - 20) * TABLE_TICK_MS / 1000)
+    return taken
+
+
+def answers_end(cluster, told, stops, taken):
+    """Whether the nodes that aren't stopped answer at the end what they do once these places are taken."""
+    return all(told[node] and told[node][-1][1] == answer_at(cluster, node, taken) for node in range(len(told)) if node not in stops)
 
 
 def ask_until_the_end(cluster, node, answers):
