@@ -4,6 +4,7 @@ use crate::failure::{ToolFailure, ToolFault};
 use crate::output::write;
 use crate::patient::Patient;
 use crate::progress::{Progress, Terminals};
+use crate::runtime::ToolRuntime;
 use crate::shown::Shown;
 use crate::sockets::{Sockets, no_address};
 use crate::telling::{run_failure, unlisted_failure};
@@ -17,7 +18,6 @@ use resharder::{MovedSlot, Plan, ReshardFault, Resharder};
 use smart_client::{Connections, Network};
 use std::alloc::{AllocError, Global};
 use std::cell::RefCell;
-use std::net::{Net, TcpListener, TcpStream};
 use std::rt::Clock;
 use std::time::{Duration, Instant};
 
@@ -56,55 +56,38 @@ impl<'a> Move<'a> {
 
 /// Moves the slots, and prints a line once a slot is at its new master. A node is asked the same so often again at most.
 /// Where standard error is a terminal it tells meanwhile how far it has come, and once all slots are moved what was done.
-pub fn reshard<R>(rt: R, wanted: Move, limit: u64, terminals: Terminals) -> Result<(), ToolFailure>
-where
-    R: AllocGlobal
-        + Print
-        + Eprint
-        + Clock
-        + Net<Listener = TcpListener, Stream = TcpStream>
-        + Copy
-        + Drop,
-{
+pub fn reshard<R: ToolRuntime>(
+    rt: R,
+    wanted: Move,
+    limit: u64,
+    terminals: Terminals,
+) -> Result<(), ToolFailure> {
     let seen = Seen::new(rt.alloc());
     reshard_seen(rt, wanted, limit, terminals, &seen)
 }
 
 // The same, where it is seen what is asked and answered.
-fn reshard_seen<R>(
+fn reshard_seen<R: ToolRuntime>(
     rt: R,
     wanted: Move,
     limit: u64,
     terminals: Terminals,
     seen: &RefCell<Seen>,
-) -> Result<(), ToolFailure>
-where
-    R: AllocGlobal
-        + Print
-        + Eprint
-        + Clock
-        + Net<Listener = TcpListener, Stream = TcpStream>
-        + Copy
-        + Drop,
-{
+) -> Result<(), ToolFailure> {
     let connections = Connections::new(rt.alloc(), Sockets::new(rt, seen));
     let network = Watched::new(Patient::new(rt, connections), seen);
     reshard_over(&rt, network, wanted, limit, terminals, seen)
 }
 
 // The same, over this way to the nodes.
-fn reshard_over<R, N>(
+fn reshard_over<R: ToolRuntime, N: Network + Drop>(
     rt: &R,
     network: N,
     wanted: Move,
     limit: u64,
     terminals: Terminals,
     seen: &RefCell<Seen>,
-) -> Result<(), ToolFailure>
-where
-    R: AllocGlobal + Print + Eprint + Clock,
-    N: Network + Drop,
-{
+) -> Result<(), ToolFailure> {
     let alloc = rt.alloc();
     let begun = Instant::now(rt).ok();
     let Move {
@@ -171,16 +154,12 @@ impl Done {
 }
 
 // Moves one slot after another, prints a line for each, and tells how far it has come. It gives how the run ended.
-fn move_all<R, N>(
+fn move_all<R: ToolRuntime, N: Network + Drop>(
     rt: &R,
     resharder: Resharder<N>,
     done: &mut Done,
     progress: &mut Progress,
-) -> Result<Result<(), ReshardFault>, ToolFailure>
-where
-    R: AllocGlobal + Print + Eprint + Clock,
-    N: Network + Drop,
-{
+) -> Result<Result<(), ReshardFault>, ToolFailure> {
     let mut resharder = resharder;
     // A loop has to end, so this one counts the slots.
     'slots: for _ in 0..=Slot::COUNT {

@@ -15,7 +15,7 @@ use std::time::Duration;
 // How many milliseconds no client is accepted after one could not be, and no descriptor was kept back for that.
 const PAUSE: u64 = 10;
 
-// How many bytes of addresses the stack of a client's thread takes. It comes to use some 16 KiB of them. The system keeps a table of pages for
+// How many bytes of addresses the stack of a client's thread takes. It comes to use some 12 KiB of them. The system keeps a table of pages for
 // each 2 MiB, so that threads with larger stacks would cost 4 KiB more each.
 const STACK_SIZE: usize = 262_144;
 
@@ -34,111 +34,112 @@ where
     let Some(node) = cluster.node(number) else {
         return;
     };
-    let spares = &cluster.clients.spares;
-    let mut turn = 0;
-    // They are kept before the first client comes, as far as the system has them.
-    let _all = spares.are_kept(&rt, &node.listener);
-    for stream in node.listener.incoming() {
-        if node.shared.is_closed() {
-            return;
-        }
-        match stream {
-            Ok(stream) => {
-                admit(rt, alloc, cluster, number, node, stream, desks, turn);
-                turn = next_of(turn, desks.len());
-            }
-            Err(_) if spares.give_one(&rt) => {}
-            Err(_) => cluster.stop.sleep(&rt, Duration::from_millis(PAUSE)),
-        }
-    }
-}
-
-// The number behind this one, of so many. Behind the last one comes 0.
-fn next_of(number: usize, count: usize) -> usize {
-    match number.saturating_add(1) {
-        next if next < count => next,
-        _ => 0,
-    }
-}
-
-// Has a client served. One for which there is no memory, no thread or no descriptor is let go.
-fn admit<C: HasLinks<R> + Drop + Send + 'static, R: Runtime>(
-    rt: R,
-    alloc: Global,
-    cluster: &Arc<SharedCluster<C>, Global>,
-    number: usize,
-    node: &Node<C>,
-    stream: TcpStream,
-    desks: &[Arc<Desk, Global>],
-    desk: usize,
-)
-where
-    C::Cluster: Send + Sync + 'static,
-{
-    match begin(rt, alloc, cluster, number, node, stream, desks, desk) {
-        Ok(()) => node.shared.wake(desk),
-        Err(Refused::Short(shortage)) => {
-            let refused = Incident::ClientRefused {
-                node: number,
-                shortage,
-            };
-            cluster.witness().see(&rt, refused);
-        }
-        Err(Refused::Ended) => {}
-    }
-}
-
-// Has the client wait at the desk of that number, or starts its thread where there are no desks. Where that fails its connection is closed.
-fn begin<C: HasLinks<R> + Drop + Send + 'static, R: Runtime>(
-    rt: R,
-    alloc: Global,
-    cluster: &Arc<SharedCluster<C>, Global>,
-    number: usize,
-    node: &Node<C>,
-    stream: TcpStream,
-    desks: &[Arc<Desk, Global>],
-    desk: usize,
-) -> Result<(), Refused>
-where
-    C::Cluster: Send + Sync + 'static,
-{
-    let clients = &cluster.clients;
-    if !clients.spares.are_kept(&rt, &node.listener) {
-        return Err(Refused::Short(Shortage::Descriptor));
-    }
-    let stream = Arc::new(alloc, stream).map_err(AllocError::from)?;
-    let client = clients.add(&rt, number, &stream)?;
-    let newcomer = Newcomer { stream, client };
-    let begun = match desks.get(desk) {
-        Some(desk) => desk.put(&rt, newcomer),
-        None => start_client(rt, alloc, cluster, number, newcomer),
+    let mut entrance = Entrance {
+        rt,
+        alloc,
+        cluster,
+        node,
+        number,
+        desks,
+        turn: 0,
     };
-    if begun.is_err() {
-        clients.remove(&rt, client);
-    }
-    begun
+    entrance.accept_all();
 }
 
-fn start_client<C: HasLinks<R> + Drop + Send + 'static, R: Runtime>(
+// Where the clients of a node come in.
+#[derive(Drop)]
+struct Entrance<'a, C: HasLinks<R>, R: Runtime> {
     rt: R,
     alloc: Global,
-    cluster: &Arc<SharedCluster<C>, Global>,
+    cluster: &'a Arc<SharedCluster<C>, Global>,
+    node: &'a Node<C>,
     number: usize,
-    newcomer: Newcomer,
-) -> Result<(), Refused>
+    desks: &'a [Arc<Desk, Global>],
+    // The desk at which the next client waits, if there are desks.
+    turn: usize,
+}
+
+impl<'a, C: HasLinks<R> + Drop + Send + 'static, R: Runtime> Entrance<'a, C, R>
 where
     C::Cluster: Send + Sync + 'static,
 {
-    let Newcomer { stream, client } = newcomer;
-    let clients = Arc::try_clone(&cluster.clients)?;
-    let cluster = Arc::try_clone(cluster)?;
-    let started = Builder::new().stack_size(STACK_SIZE).spawn(&rt, move || {
-        serve_client(rt, alloc, cluster, number, &*stream);
-        clients.remove(&rt, client);
-    });
-    match started {
-        Ok(_thread) => Ok(()),
-        Err(_) => Err(Refused::Short(Shortage::Thread)),
+    // Accepts clients until the node is closed.
+    fn accept_all(&mut self) {
+        let (rt, node, spares) = (self.rt, self.node, &self.cluster.clients.spares);
+        // They are kept before the first client comes, as far as the system has them.
+        let _all = spares.are_kept(&rt, &node.listener);
+        for stream in node.listener.incoming() {
+            if node.shared.is_closed() {
+                return;
+            }
+            match stream {
+                Ok(stream) => self.admit(stream),
+                Err(_) if spares.give_one(&rt) => {}
+                Err(_) => self.cluster.stop.sleep(&rt, Duration::from_millis(PAUSE)),
+            }
+        }
+    }
+
+    // Has a client served. One for which there is no memory, no thread or no descriptor is let go.
+    fn admit(&mut self, stream: TcpStream) {
+        let desk = self.take_turn();
+        match self.begin(stream, desk) {
+            Ok(()) => self.node.shared.wake(desk),
+            Err(Refused::Short(shortage)) => {
+                let refused = Incident::ClientRefused {
+                    node: self.number,
+                    shortage,
+                };
+                self.cluster.witness().see(&self.rt, refused);
+            }
+            Err(Refused::Ended) => {}
+        }
+    }
+
+    // The number of the desk whose turn it is. Behind the last one comes the first.
+    fn take_turn(&mut self) -> usize {
+        let desk = self.turn;
+        self.turn = match desk.saturating_add(1) {
+            next if next < self.desks.len() => next,
+            _ => 0,
+        };
+        desk
+    }
+
+    // Has the client wait at the desk of that number, or starts its thread where there are no desks. Where that fails its connection is
+    // closed.
+    fn begin(&self, stream: TcpStream, desk: usize) -> Result<(), Refused> {
+        let clients = &self.cluster.clients;
+        if !clients.spares.are_kept(&self.rt, &self.node.listener) {
+            return Err(Refused::Short(Shortage::Descriptor));
+        }
+        let stream = Arc::new(self.alloc, stream).map_err(AllocError::from)?;
+        let client = clients.add(&self.rt, self.number, &stream)?;
+        let newcomer = Newcomer { stream, client };
+        let begun = match self.desks.get(desk) {
+            Some(desk) => desk.put(&self.rt, newcomer),
+            None => self.start(newcomer),
+        };
+        if begun.is_err() {
+            clients.remove(&self.rt, client);
+        }
+        begun
+    }
+
+    // Starts the thread of a client.
+    fn start(&self, newcomer: Newcomer) -> Result<(), Refused> {
+        let Newcomer { stream, client } = newcomer;
+        let (rt, alloc, number) = (self.rt, self.alloc, self.number);
+        let clients = Arc::try_clone(&self.cluster.clients)?;
+        let cluster = Arc::try_clone(self.cluster)?;
+        let started = Builder::new().stack_size(STACK_SIZE).spawn(&rt, move || {
+            serve_client(rt, alloc, cluster, number, &*stream);
+            clients.remove(&rt, client);
+        });
+        match started {
+            Ok(_thread) => Ok(()),
+            Err(_) => Err(Refused::Short(Shortage::Thread)),
+        }
     }
 }
 

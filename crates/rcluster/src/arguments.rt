@@ -15,22 +15,7 @@ const VERSION: &str = "0.1.0";
 #[derive(Drop)]
 pub enum Call<'a> {
     /// To serve a cluster.
-    Serve {
-        /// Where its nodes are told, or None where the words don't say it.
-        source: Option<Source<'a>>,
-        /// Whether the program checks the configuration, and serves nobody.
-        only_checks: bool,
-        /// After how many ticks of the first node the program ends, or None where it goes on.
-        ticks: Option<u64>,
-        /// Which nodes are stopped meanwhile, each as the node and its ticks.
-        stops: Vec<&'a str>,
-        /// How many threads of each node serve its clients in turn, or None where each client has a thread of its own.
-        loops: Option<u64>,
-        /// Whether each node keeps its journal in memory.
-        records_journal: bool,
-        /// Whether standard error is told what no client is.
-        is_logged: bool,
-    },
+    Serve(Service<'a>),
     /// To have a cluster execute one command.
     Cli {
         /// The address of the node to begin with.
@@ -41,18 +26,7 @@ pub enum Call<'a> {
         words: Vec<&'a str>,
     },
     /// To move slots from one master to another.
-    Reshard {
-        /// The address of the node that is asked who the masters are.
-        address: &'a str,
-        /// The id of the master that the slots leave.
-        from: &'a str,
-        /// The id of the master that they come to.
-        to: &'a str,
-        /// The slots, as the first and the last one.
-        slots: &'a str,
-        /// How often a node may be asked the same again.
-        limit: u64,
-    },
+    Reshard(Resharding<'a>),
     /// To play a script in a cluster that a file describes.
     Simulate {
         /// The path of the cluster's file.
@@ -60,6 +34,40 @@ pub enum Call<'a> {
         /// The path of the script.
         script: &'a str,
     },
+}
+
+/// A cluster that is to be served, as the words say it.
+#[derive(Drop)]
+pub struct Service<'a> {
+    /// Where its nodes are told, or None where the words don't say it.
+    pub source: Option<Source<'a>>,
+    /// Whether the program checks the configuration, and serves nobody.
+    pub only_checks: bool,
+    /// After how many ticks of the first node the program ends, or None where it goes on.
+    pub ticks: Option<u64>,
+    /// Which nodes are stopped meanwhile, each as the node and its ticks.
+    pub stops: Vec<&'a str>,
+    /// How many threads of each node serve its clients in turn, or None where each client has a thread of its own.
+    pub loops: Option<u64>,
+    /// Whether each node keeps its journal in memory.
+    pub records_journal: bool,
+    /// Whether standard error is told what no client is.
+    pub is_logged: bool,
+}
+
+/// Slots that are to be moved, as the words say it.
+#[derive(Clone, Copy)]
+pub struct Resharding<'a> {
+    /// The address of the node that is asked who the masters are.
+    pub address: &'a str,
+    /// The id of the master that the slots leave.
+    pub from: &'a str,
+    /// The id of the master that they come to.
+    pub to: &'a str,
+    /// The slots, as the first and the last one.
+    pub slots: &'a str,
+    /// How often a node may be asked the same again.
+    pub limit: u64,
 }
 
 /// Reads the words of a command line, the program's name first. The other text is what the help tells of scripts.
@@ -176,7 +184,7 @@ fn call_of<'a>(alloc: Global, matches: &ArgMatches<'a>) -> Result<Call<'a>, Erro
 
 fn serve_call<'a>(alloc: Global, serve: Option<&ArgMatches<'a>>) -> Result<Call<'a>, AllocError> {
     match serve {
-        Some(serve) => Ok(Call::Serve {
+        Some(serve) => Ok(Call::Serve(Service {
             source: source_of(serve),
             only_checks: serve.get_flag("check"),
             ticks: serve.get_one::<u64>("ticks"),
@@ -184,9 +192,9 @@ fn serve_call<'a>(alloc: Global, serve: Option<&ArgMatches<'a>>) -> Result<Call<
             loops: serve.get_one::<u64>("loops"),
             records_journal: serve.get_flag("journal"),
             is_logged: serve.get_flag("log"),
-        }),
+        })),
         // The command line has a verb, and it is none of the others.
-        None => Ok(Call::Serve {
+        None => Ok(Call::Serve(Service {
             source: None,
             only_checks: false,
             ticks: None,
@@ -194,7 +202,7 @@ fn serve_call<'a>(alloc: Global, serve: Option<&ArgMatches<'a>>) -> Result<Call<
             loops: None,
             records_journal: false,
             is_logged: false,
-        }),
+        })),
     }
 }
 
@@ -226,13 +234,13 @@ fn cli_call<'a>(alloc: Global, cli: &ArgMatches<'a>) -> Result<Call<'a>, AllocEr
 }
 
 fn reshard_call<'a>(reshard: &ArgMatches<'a>) -> Call<'a> {
-    Call::Reshard {
+    Call::Reshard(Resharding {
         address: text(reshard, "addr"),
         from: text(reshard, "from"),
         to: text(reshard, "to"),
         slots: text(reshard, "slots"),
         limit: reshard.get_one::<u64>("limit").unwrap_or(FEW_REPETITIONS),
-    }
+    })
 }
 
 // All texts of an option, or of the words behind the options.
