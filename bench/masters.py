@@ -31,7 +31,7 @@ def main(words):
 def one_node(report):
     report.say("\n## One node")
     with contextlib.ExitStack() as stack:
-        running = {name: stack.enter_context(servers.rcluster(*options, program=servers.PROGRAM)) for name, options in WAYS.items()}
+        running = {name: stack.enter_context(servers.rcluster(*options, program=servers.PROGRAM)) for name, options in servers.WAYS.items()}
         running["Redis"] = stack.enter_context(servers.redis())
         compare(report, "spread keys", {name: [it.port] for name, it in running.items()}, [""], ("Redis",))
         compare(report, "one slot", {name: [it.port] for name, it in running.items()}, ["{b}"], ("Redis",))
@@ -40,14 +40,11 @@ def one_node(report):
 def three_masters(report):
     report.say("\n## Three masters")
     with contextlib.ExitStack() as stack:
-        ports = {name: stack.enter_context(servers.three_masters(*options, program=servers.PROGRAM)).ports for name, options in WAYS.items()}
+        ports = {name: stack.enter_context(servers.three_masters(*options, program=servers.PROGRAM)).ports for name, options in servers.WAYS.items()}
         ports["Redis"] = [stack.enter_context(servers.redis()).port] * 3
         masters = nodes_at(next(iter(stack.enter_context(redis_cluster(5000, replicas=0)))))
         ports["Redis Cluster"] = [it["port"] for it in sorted(masters, key=lambda it: it["first"])]
         compare(report, "a slot at each of three masters", ports, ["{%s}" % tag for tag in TAGS], ("Redis", "Redis Cluster"))
-
-
-WAYS = {"a thread each": (), "`--loops 2`": ("--loops", "2")}
 
 
 def compare(report, name, ports, prefixes, rivals):

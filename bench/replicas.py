@@ -1,13 +1,15 @@
-"""Measures a master with one replica, beside a Redis with one, under the same load: SET and GET, the replica's lag at the end of a load, and memory.
+"""Measures a master with one replica, beside a Redis with one, under the same load: SET and GET, the replica's lag at the end of a load, what a
+request costs, and memory.
 
-usage: bench/replicas.py [PROGRAM]    by default the program that ./check built
+usage: bench/replicas.py [PROGRAM] [--out FILE]    by default the program that ./check built
 
-All of a part is of one run, in alternation. It needs Debian's redis-server and redis-tools. Both nodes of rcluster are in one process, and the
-two of Redis are two processes.
+Each load is sent to all in turn; clients of rcluster have a thread each, or two threads of each node serve them in turn. Both nodes of rcluster
+are in one process, and the two of Redis are two processes. It needs Debian's redis-server, redis-tools and valgrind. The report goes to the
+output, and to FILE.
 """
 
+import contextlib
 import json
-import os
 import re
 import statistics
 import subprocess
@@ -17,78 +19,79 @@ import time
 
 import load
 import servers
+from run import measure
 
 ROUNDS, KEYS, SIZE = 3, 100_000, 64
-# Connections and requests in a pipeline, and how many requests are sent.
-LOADS = ((1, 1, 40_000), (1, 16, 400_000), (50, 1, 200_000), (50, 16, 1_000_000))
+# Connections and pipelines, how many requests are sent, and by how many threads.
+LOADS = ((1, 1, 40_000, 1), (1, 16, 400_000, 1), (50, 1, 200_000, 2), (50, 16, 1_000_000, 3))
 # Of a run that ends under load: how many ticks of how many milliseconds, and how often it is made.
 TICKS, TICK_MS, ENDS = 20, 50, 3
 AT_THE_END = re.compile(r"rcluster: node 1 had (\d+) of the (\d+) bytes of the stream of node 0\n")
+# Of what a request costs: how many are sent, over how many keys, with values of how many bytes.
+COUNTED, COUNTED_KEYS, COUNTED_SIZE = 40_000, 20_000, 16
+CALLGRIND = ("valgrind", "--tool=callgrind", "--callgrind-out-file=/dev/null")
 # Of the run that shows memory: how many SETs over how many keys, and how often it is looked at.
 MANY, FEW_KEYS, LOOKS = 10_000_000, 1_000, 10
 
 
 def main(words):
-    if words:
-        servers.PROGRAM = os.path.abspath(words[0])
-    rates()
-    lags()
-    memory()
+    measure(words, "a master with a replica", rates, lags, costs, memory)
 
 
-def rates():
-    print("| Load | Command | Pipeline | rcluster | Redis | of Redis |\n| --- | --- | --- | --- | --- | --- |")
-    with pair_of_nodes(()) as ours, redis_with_replica() as (theirs, _replica):
-        for port in (ours.port, theirs.port):
-            load.benchmark(port, "set", KEYS, KEYS, 16, SIZE, 20)
-        for connections, pipeline, count in LOADS:
-            for command in ("set", "get"):
-                mine, other = zip(*(in_turn(ours, theirs, command, connections, pipeline, count) for _ in range(ROUNDS)))
-                of_redis = statistics.median(a / b for a, b in zip(mine, other))
-                name = "1 connection" if connections == 1 else f"{connections} connections"
-                print(f"| {name} | {command.upper()} | {pipeline} | {statistics.median(mine):,.0f} | {statistics.median(other):,.0f} | {of_redis:.2f} |", flush=True)
+def rates(report):
+    report.say("\n## Requests a second")
+    report.say(f"\n{KEYS:,} keys, values of {SIZE} bytes. Rates and milliseconds are medians of {ROUNDS} rounds, and so are the quotients by Redis in the same round.")
+    report.table("Load", "Pipeline", "Command", "Served by", "Requests a second", "of Redis", "p99, ms", "slowest, ms")
+    with contextlib.ExitStack() as stack:
+        ports = {name: stack.enter_context(pair_of_nodes(options)).port for name, options in servers.WAYS.items()}
+        ports["Redis"] = stack.enter_context(redis_with_replica()).port
+        for port in ports.values():
+            load.benchmark(port, "set", 3 * KEYS, KEYS, 16, SIZE, 20)
+        for connections, pipeline, count, threads in LOADS:
+            for command in ("SET", "GET"):
+                rounds = [{name: load.latencies(port, command.lower(), count, KEYS, pipeline, SIZE, connections, threads) for name, port in ports.items()} for _ in range(ROUNDS)]
+                for name in ports:
+                    rate, p99, slowest = (statistics.median(each[name][what] for each in rounds) for what in ("rate", "p99", "max"))
+                    of_redis = statistics.median(each[name]["rate"] / each["Redis"]["rate"] for each in rounds)
+                    report.row("1 connection" if connections == 1 else f"{connections} connections", pipeline, command, name, f"{rate:,.0f}", f"{of_redis:.2f}", f"{p99:.2f}", f"{slowest:.1f}")
 
 
-def in_turn(ours, theirs, command, connections, pipeline, count):
-    return tuple(load.benchmark(it.port, command, count, KEYS, pipeline, SIZE, connections) for it in (ours, theirs))
-
-
-def pair_of_nodes(options, tick_ms=100, **more):
+def pair_of_nodes(options, tick_ms=100, under=()):
     """A master with all slots, and its replica."""
     ports = [servers.free_port() for _ in range(2)]
     nodes = [{"id": "%040x" % it, "host": "127.0.0.1", "port": port} for it, port in enumerate(ports)]
     nodes[0]["slots"] = [[0, 16383]]
     nodes[1]["replica_of"] = nodes[0]["id"]
     with tempfile.NamedTemporaryFile("w", suffix=".json", prefix="bench-", delete=False) as file:
-        json.dump({"tick_ms": tick_ms, "node_timeout": 1000, "nodes": nodes, "voters": [nodes[0]["id"]], **more}, file)
-    return servers.Server("rcluster", [servers.PROGRAM, "serve", "--config", file.name, *options], ports[0])
+        json.dump({"tick_ms": tick_ms, "node_timeout": 1000, "nodes": nodes, "voters": [nodes[0]["id"]]}, file)
+    return servers.Server("rcluster", [servers.PROGRAM, "serve", "--config", file.name, *options], ports[0], under)
 
 
-class redis_with_replica:
+@contextlib.contextmanager
+def redis_with_replica():
     """A Redis with a replica that follows it."""
-
-    def __enter__(self):
-        self.master = servers.redis().__enter__()
-        self.replica = servers.redis().__enter__()
-        subprocess.run(["redis-cli", "-p", str(self.replica.port), "REPLICAOF", "127.0.0.1", str(self.master.port)], check=True, stdout=subprocess.DEVNULL)
-        while "master_link_status:up" not in subprocess.run(["redis-cli", "-p", str(self.replica.port), "INFO", "replication"], check=True, capture_output=True, text=True).stdout:
+    with servers.redis() as master, servers.redis() as replica:
+        subprocess.run(["redis-cli", "-p", str(replica.port), "REPLICAOF", "127.0.0.1", str(master.port)], check=True, stdout=subprocess.DEVNULL)
+        while "master_link_status:up" not in subprocess.run(["redis-cli", "-p", str(replica.port), "INFO", "replication"], check=True, capture_output=True, text=True).stdout:
             time.sleep(0.1)
-        return self.master, self.replica
-
-    def __exit__(self, *error):
-        self.replica.__exit__(*error)
-        self.master.__exit__(*error)
+        yield master
 
 
-def lags():
-    """The bytes that the replica lacks when the cluster ends under load, and when the load ended some ticks before."""
-    for quiet in (0, 2):
-        missing, written = zip(*(lag_at_the_end(quiet) for _ in range(ENDS)))
-        print(f"load until {quiet} ticks before the end: bytes that the replica lacks, median {statistics.median(missing):,.0f}, most {max(missing):,}; bytes written, median {statistics.median(written):,.0f}", flush=True)
+# ---- what the replica lacks
 
 
-def lag_at_the_end(quiet):
-    with pair_of_nodes(("--ticks", str(TICKS), "--log"), TICK_MS) as server:
+def lags(report):
+    report.say("\n## What the replica lacks")
+    report.say(f"\nThe bytes of its master's stream that the replica lacks when the cluster ends, after {TICKS} ticks of {TICK_MS} ms under SETs of 20 connections with pipelines of 16; {ENDS} runs.")
+    report.table("Served by", "Load until so many ticks before the end", "Bytes it lacks, median", "most", "Bytes written, median")
+    for name, options in servers.WAYS.items():
+        for quiet in (0, 2):
+            missing, written = zip(*(lag_at_the_end(options, quiet) for _ in range(ENDS)))
+            report.row(name, quiet, f"{statistics.median(missing):,.0f}", f"{max(missing):,}", f"{statistics.median(written):,.0f}")
+
+
+def lag_at_the_end(options, quiet):
+    with pair_of_nodes(("--ticks", str(TICKS), "--log", *options), TICK_MS) as server:
         begun = time.monotonic()
         sending = load.start(server.port, "set", 100_000_000, KEYS, 16, SIZE, 20)
         if quiet:
@@ -102,15 +105,39 @@ def lag_at_the_end(quiet):
     return written - had, written
 
 
-def memory():
-    """The memory of both nodes as many SETs go to few keys."""
-    with pair_of_nodes(()) as server:
-        sizes = [server.resident_bytes()]
-        for _ in range(LOOKS):
-            load.benchmark(server.port, "set", MANY // LOOKS, FEW_KEYS, 16, SIZE, 20)
-            sizes.append(server.resident_bytes())
-    print(f"{MANY:,} SETs over {FEW_KEYS:,} keys: MiB at the start and after each tenth: {', '.join(f'{it / 2**20:.1f}' for it in sizes)}")
+# ---- what a request costs
+
+
+def costs(report):
+    report.say("\n## Instructions of a SET")
+    report.say(f"\nOne connection, pipelines of 16, {COUNTED_KEYS:,} random keys that are there, values of {COUNTED_SIZE} bytes, counted by valgrind. What a replica in the same process does counts, too.")
+    report.table("Nodes", "Instructions")
+    for name, make in (("a master alone", servers.rcluster), ("a master and its replica", lambda under: pair_of_nodes((), under=under))):
+        report.row(name, f"{(counted(make, 2) - counted(make, 1)) / COUNTED:,.0f}")
+
+
+def counted(make, times):
+    with make(under=CALLGRIND) as server:
+        load.benchmark(server.port, "set", 3 * COUNTED_KEYS, COUNTED_KEYS, 16, COUNTED_SIZE)
+        load.benchmark(server.port, "set", times * COUNTED, COUNTED_KEYS, 16, COUNTED_SIZE)
+        time.sleep(1)
+    return int(re.search(r"Collected : (\d+)", server.said)[1])
+
+
+# ---- memory
+
+
+def memory(report):
+    report.say("\n## Memory")
+    report.say(f"\nThe resident memory of both nodes, in MiB, at the start and after each tenth of {MANY:,} SETs over {FEW_KEYS:,} keys.")
+    for name, options in servers.WAYS.items():
+        with pair_of_nodes(options) as server:
+            sizes = [server.resident_bytes()]
+            for _ in range(LOOKS):
+                load.benchmark(server.port, "set", MANY // LOOKS, FEW_KEYS, 16, SIZE, 20)
+                sizes.append(server.resident_bytes())
+        report.say(f"\n{name}: {', '.join(f'{it / 2**20:.1f}' for it in sizes)}.")
 
 
 if __name__ == "__main__":
-    main(sys.argv[1:])
+    sys.exit(main(sys.argv[1:]))

@@ -14,6 +14,8 @@ ROOT = os.path.dirname(os.path.dirname(os.path.abspath(__file__)))
 PROGRAM = os.environ.get("RCLUSTER") or os.path.join(ROOT, "crates", "rcluster", "out", "rcluster")
 # How long a server may take until it listens, in seconds: under valgrind that is long.
 PATIENCE = 60
+# The ways in which the program serves its clients, by their names in a report, each with the options of `serve`.
+WAYS = {"a thread each": (), "`--loops 2`": ("--loops", "2")}
 
 
 def free_port():

@@ -7,6 +7,7 @@ descriptors. The report goes to the output, and to FILE.
 """
 
 import contextlib
+import functools
 import resource
 import socket
 import statistics
@@ -17,7 +18,6 @@ import load
 import servers
 from run import measure
 
-LOOPS = ("--loops", "2")
 KEYS, SIZE, ROUNDS = 100_000, 16, 3
 # Connections and pipelines, how many requests of each are sent, and by how many threads.
 LOADS = [(50, 1, 500_000, 2), (50, 16, 1_000_000, 3), (200, 1, 500_000, 2), (200, 16, 1_000_000, 3), (1000, 1, 500_000, 2)]
@@ -33,12 +33,8 @@ def main(words):
 
 def all_servers():
     """Returns what makes each server, by its name."""
-    program = servers.PROGRAM
-    return {
-        "a thread each": lambda: servers.rcluster(program=program),
-        "`--loops 2`": lambda: servers.rcluster(*LOOPS, program=program),
-        "Redis": servers.redis,
-    }
+    ours = {name: functools.partial(servers.rcluster, *options, program=servers.PROGRAM) for name, options in servers.WAYS.items()}
+    return {**ours, "Redis": servers.redis}
 
 
 # ---- rates and latencies
