@@ -1,3 +1,4 @@
+#!/usr/bin/env python3
 """Measures how long a failover takes, beside a Redis Cluster of six nodes with the same timeout, and what nodes cost that nobody asks.
 
 usage: bench/failover.py [PROGRAM] [--out FILE]    by default the program that ./check built
@@ -6,7 +7,6 @@ A failover lasts from the end of a master to the first write that the promoted n
 there. A client asks the replica each millisecond. It needs Debian's redis-server and redis-tools. The report goes to the output, and to FILE.
 """
 
-import contextlib
 import json
 import signal
 import socket
@@ -122,22 +122,12 @@ def idle_nodes(report):
 
 def idle_share(options):
     """The share of a processor that these nodes take."""
-    port = free_ports(16)
+    port = servers.free_ports(16)
     with servers.Server("rcluster", [servers.PROGRAM, "serve", *options, "--port", str(port)], port) as server:
         time.sleep(SETTLED)
         before, begun = server.processor_seconds(), time.monotonic()
         time.sleep(IDLE)
         return (server.processor_seconds() - before) / (time.monotonic() - begun)
-
-
-def free_ports(count):
-    """The first of so many ports in a row that are free."""
-    while True:
-        first = servers.free_port()
-        with contextlib.ExitStack() as stack, contextlib.suppress(OSError):
-            for port in range(first, first + count):
-                stack.enter_context(socket.socket()).bind(("127.0.0.1", port))
-            return first
 
 
 if __name__ == "__main__":

@@ -39,7 +39,11 @@ def children_seconds():
 
 def latencies(port, test, count, keys, pipeline, size, connections, threads):
     """Lets redis-benchmark send so many requests by so many threads. Returns the rate, and milliseconds: `p50`, `p99` and `max`."""
-    row = row_of(start(port, test, count, keys, pipeline, size, connections, threads))
+    return latencies_of(start(port, test, count, keys, pipeline, size, connections, threads))
+
+
+def latencies_of(process):
+    row = row_of(process)
     return {"rate": float(row[1]), "p50": float(row[4]), "p99": float(row[6]), "max": float(row[7])}
 
 

@@ -1,53 +1,65 @@
+#!/usr/bin/env python3
 """Measures how fast keys move from one node to another: a slot of 10,000 keys by one `rcluster reshard`, and eight slots of 10,000 keys each by
 eight of them at once.
 
-usage: bench/moves.py [--loops N] [PROGRAM]    by default the program that ./check built, with a thread for each client
+usage: bench/moves.py [PROGRAM] [--out FILE]    by default the program that ./check built
 
 Both nodes are served by one process, and nobody else asks them. Each key takes two messages between the nodes: its copy and the
-acknowledgement.
+acknowledgement. The report goes to the output, and to FILE.
 """
 
-import os
+import contextlib
 import re
-import socket
 import statistics
 import subprocess
 import sys
 import time
 
-HERE = os.path.dirname(os.path.abspath(__file__))
-PROGRAM = os.path.join(HERE, "..", "crates", "rcluster", "out", "rcluster")
+import load
+import servers
+from run import measure
+
 KEYS, ROUNDS, AT_ONCE = 10_000, 5, 8
-PORTS = (17000, 17001)
+# The last slot of the first master, of two.
+LAST = 8191
 
 
 def main(words):
-    loops, words = (words[:2], words[2:]) if words[:1] == ["--loops"] else ([], words)
-    program = os.path.abspath(words[0] if words else PROGRAM)
-    with subprocess.Popen([program, "serve", "--masters", "2", "--port", str(PORTS[0]), *loops], stdout=subprocess.PIPE) as server:
-        try:
-            for _ in PORTS:
-                server.stdout.readline()
-            measure(program)
-        finally:
-            server.kill()
+    measure(words, "keys that move", moves)
 
 
-def measure(program):
+def moves(report):
     slots = tagged_slots(AT_ONCE)
-    for tag in slots.values():
-        fill(tag)
-    ids = ["%040x" % it for it in range(2)]
-    alone = [moved(program, ids[it % 2], ids[1 - it % 2], next(iter(slots))) for it in range(2 * ROUNDS)]
-    print(f"a slot of {KEYS} keys: {statistics.median(alone):.3f} s, from {min(alone):.3f} to {max(alone):.3f}")
-    together = []
-    for it in range(2 * ROUNDS):
-        begun = time.monotonic()
-        runs = [start(program, ids[it % 2], ids[1 - it % 2], slot) for slot in slots]
-        for run in runs:
+    report.say("\n## Keys that move")
+    report.say(f"\nTwo masters. {ROUNDS} times the slots go to the other master and come back; medians, and between them the least and the most.")
+    report.table("What", *servers.WAYS)
+    alone, together = zip(*(measured(options, slots) for options in servers.WAYS.values()))
+    report.row(f"A slot of {KEYS:,} keys, seconds", *[spread(it, "{:.3f}") for it in alone])
+    report.row(f"{AT_ONCE} such slots at once, messages a second between the nodes", *[spread(it, "{:,.0f}") for it in together])
+
+
+def spread(figures, form):
+    least, middle, most = (form.format(it) for it in (min(figures), statistics.median(figures), max(figures)))
+    return f"{middle} ({least} to {most})"
+
+
+def measured(options, slots):
+    """How many seconds one slot took each time, and how many messages a second all of them had."""
+    port = servers.free_ports(2)
+    with servers.Server("rcluster", [servers.PROGRAM, "serve", "--masters", "2", "--port", str(port), *options], port) as server:
+        for tag in slots.values():
+            load.send_all(server.port, (load.encode(b"SET", b"{%b}%d" % (tag, it), b"value") for it in range(KEYS)), b"+OK\r\n")
+        first = next(iter(slots))
+        alone = [ended(start(server, turn, first)) for turn in range(2 * ROUNDS)]
+        return alone, [messages_a_second(server, turn, slots) for turn in range(2 * ROUNDS)]
+
+
+def messages_a_second(server, turn, slots):
+    begun = time.monotonic()
+    with contextlib.ExitStack() as stack:
+        for run in [stack.enter_context(start(server, turn, slot)) for slot in slots]:
             ended(run)
-        together.append(2 * KEYS * AT_ONCE / (time.monotonic() - begun))
-    print(f"{AT_ONCE} slots at once: {statistics.median(together):,.0f} messages a second between the nodes, from {min(together):,.0f} to {max(together):,.0f}")
+    return 2 * KEYS * len(slots) / (time.monotonic() - begun)
 
 
 def tagged_slots(count):
@@ -56,7 +68,7 @@ def tagged_slots(count):
     for it in range(100_000):
         tag = b"%d" % it
         slot = slot_of(tag)
-        if slot < 8192 and slot not in found:
+        if slot <= LAST and slot not in found:
             found[slot] = tag
         if len(found) == count:
             return found
@@ -72,17 +84,10 @@ def slot_of(key):
     return crc & 16383
 
 
-def fill(tag):
-    with socket.create_connection(("127.0.0.1", PORTS[0])) as client:
-        sets = [b"*3\r\n$3\r\nSET\r\n$%d\r\n%b\r\n$5\r\nvalue\r\n" % (len(key), key) for key in (b"{%b}%d" % (tag, it) for it in range(KEYS))]
-        client.sendall(b"".join(sets))
-        left = len(b"+OK\r\n") * KEYS
-        while left:
-            left -= len(client.recv(65536))
-
-
-def start(program, source, target, slot):
-    words = [program, "reshard", "--addr", f"127.0.0.1:{PORTS[0]}", "--from", source, "--to", target, "--slots", f"{slot}-{slot}"]
+def start(server, turn, slot):
+    """A run that moves the slot, in turn from the first master to the second and back."""
+    source, target = ("%040x" % it for it in (turn % 2, 1 - turn % 2))
+    words = [servers.PROGRAM, "reshard", "--addr", f"127.0.0.1:{server.port}", "--from", source, "--to", target, "--slots", f"{slot}-{slot}"]
     return subprocess.Popen(words, stdout=subprocess.DEVNULL, stderr=subprocess.PIPE)
 
 
@@ -93,10 +98,6 @@ def ended(run):
     if run.returncode or not told or int(told[1]) != KEYS:
         sys.exit(f"a run failed: {error!r}")
     return float(told[2])
-
-
-def moved(program, source, target, slot):
-    return ended(start(program, source, target, slot))
 
 
 if __name__ == "__main__":

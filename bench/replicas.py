@@ -1,3 +1,4 @@
+#!/usr/bin/env python3
 """Measures a master with one replica, beside a Redis with one, under the same load: SET and GET, the replica's lag at the end of a load, what a
 request costs, and memory.
 
@@ -41,7 +42,7 @@ def main(words):
 def rates(report):
     report.say("\n## Requests a second")
     report.say(f"\n{KEYS:,} keys, values of {SIZE} bytes. Rates and milliseconds are medians of {ROUNDS} rounds, and so are the quotients by Redis in the same round.")
-    report.table("Load", "Pipeline", "Command", "Served by", "Requests a second", "of Redis", "p99, ms", "slowest, ms")
+    report.table("Connections", "Pipeline", "Command", "Served by", "Requests a second", "of Redis", "p50, ms", "p99, ms", "slowest, ms")
     with contextlib.ExitStack() as stack:
         ports = {name: stack.enter_context(pair_of_nodes(options)).port for name, options in servers.WAYS.items()}
         ports["Redis"] = stack.enter_context(redis_with_replica()).port
@@ -51,9 +52,9 @@ def rates(report):
             for command in ("SET", "GET"):
                 rounds = [{name: load.latencies(port, command.lower(), count, KEYS, pipeline, SIZE, connections, threads) for name, port in ports.items()} for _ in range(ROUNDS)]
                 for name in ports:
-                    rate, p99, slowest = (statistics.median(each[name][what] for each in rounds) for what in ("rate", "p99", "max"))
+                    rate, p50, p99, slowest = (statistics.median(each[name][what] for each in rounds) for what in ("rate", "p50", "p99", "max"))
                     of_redis = statistics.median(each[name]["rate"] / each["Redis"]["rate"] for each in rounds)
-                    report.row("1 connection" if connections == 1 else f"{connections} connections", pipeline, command, name, f"{rate:,.0f}", f"{of_redis:.2f}", f"{p99:.2f}", f"{slowest:.1f}")
+                    report.row(connections, pipeline, command, name, f"{rate:,.0f}", f"{of_redis:.2f}", f"{p50:.2f}", f"{p99:.2f}", f"{slowest:.1f}")
 
 
 def pair_of_nodes(options, tick_ms=100, under=()):
@@ -128,15 +129,16 @@ def counted(make, times):
 
 
 def memory(report):
-    report.say("\n## Memory")
-    report.say(f"\nThe resident memory of both nodes, in MiB, at the start and after each tenth of {MANY:,} SETs over {FEW_KEYS:,} keys.")
+    report.say("\n## Memory of both nodes")
+    report.say(f"\nResident memory in MiB, at the start and after each tenth of {MANY:,} SETs over {FEW_KEYS:,} keys.")
+    report.table("Served by", "At the start", *[f"{MANY // LOOKS * it:,}" for it in range(1, LOOKS + 1)])
     for name, options in servers.WAYS.items():
         with pair_of_nodes(options) as server:
             sizes = [server.resident_bytes()]
             for _ in range(LOOKS):
                 load.benchmark(server.port, "set", MANY // LOOKS, FEW_KEYS, 16, SIZE, 20)
                 sizes.append(server.resident_bytes())
-        report.say(f"\n{name}: {', '.join(f'{it / 2**20:.1f}' for it in sizes)}.")
+        report.row(name, *[f"{it / 2**20:.1f}" for it in sizes])
 
 
 if __name__ == "__main__":

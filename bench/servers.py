@@ -1,5 +1,6 @@
 """Servers on free ports of this machine: the built program, and a Redis beside it."""
 
+import contextlib
 import json
 import os
 import random
@@ -27,6 +28,16 @@ def free_port():
                 return port
             except OSError:
                 continue
+
+
+def free_ports(count):
+    """The first of so many ports in a row that are free."""
+    while True:
+        first = free_port()
+        with contextlib.ExitStack() as stack, contextlib.suppress(OSError):
+            for port in range(first, first + count):
+                stack.enter_context(socket.socket()).bind(("127.0.0.1", port))
+            return first
 
 
 class Server:

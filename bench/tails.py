@@ -1,3 +1,4 @@
+#!/usr/bin/env python3
 """Measures many connections with a thread for each of them and with threads that serve them in turn, beside Redis.
 
 usage: bench/tails.py [PROGRAM] [--out FILE]    by default the program that ./check built
@@ -43,7 +44,7 @@ def all_servers():
 def tails(report):
     report.say("\n## Rates and latencies")
     report.say(f"\nOne node with all slots, {KEYS:,} keys, values of {SIZE} bytes. Rates and milliseconds are medians of {ROUNDS} rounds, and so are the quotients by Redis in the same round.")
-    heads = ("Connections", "Pipeline", "Command", "Served by", "Requests a second", "of Redis", "p50", "p99", "of Redis", "slowest", "of Redis")
+    heads = ("Connections", "Pipeline", "Command", "Served by", "Requests a second", "of Redis", "p50, ms", "p99, ms", "of Redis", "slowest, ms", "of Redis")
     report.table(*heads)
     with contextlib.ExitStack() as stack:
         running = {name: stack.enter_context(make()) for name, make in all_servers().items()}

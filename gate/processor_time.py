@@ -15,10 +15,11 @@ OF_EDIT = "/rt-edit-"
 
 
 class ProcessorTime(threading.Thread):
-    """Looks at the checks below this process until it is asked for the table."""
+    """Looks at the checks below the process of that number until it is asked for the table."""
 
-    def __init__(self):
+    def __init__(self, top=None):
         super().__init__(daemon=True)
+        self.top = str(top or os.getpid())
         self.checks = {}
         self.ended = threading.Event()
 
@@ -27,32 +28,20 @@ class ProcessorTime(threading.Thread):
             self.look()
 
     def look(self):
-        parents = {}
-        for pid in filter(str.isdigit, os.listdir("/proc")):
-            try:
-                with open(f"/proc/{pid}/stat", encoding="utf-8", errors="replace") as file:
-                    parents[pid] = file.read().rpartition(")")[2].split()
-            except OSError:
-                continue
-        for pid, stat in parents.items():
-            try:
-                self.note(pid, stat, parents)
-            except OSError:
-                # It has ended.
-                continue
-
-    def note(self, pid, stat, parents):
-        with open(f"/proc/{pid}/cmdline", "rb") as file:
-            crate = CRATE.search(file.read())
-        if crate and is_below(pid, str(os.getpid()), parents):
-            kind = "edits" if OF_EDIT in os.readlink(f"/proc/{pid}/cwd") else "proof"
-            own = sum(int(it) for it in stat[11:15]) / TICKS
-            self.checks[pid, stat[19]] = crate[1].decode(), kind, own
+        processes = Processes()
+        for pid in processes.below(self.top):
+            crate, kind = crate_of(pid), kind_of(pid)
+            # What a check has others do for it counts with it.
+            if crate and kind and not crate_of(processes.parent(pid)):
+                self.checks[pid, processes.start(pid)] = crate, kind, processes.seconds(pid)
 
     def table(self):
         """Ends the looking. Returns lines with each crate's seconds, the dearest first."""
         self.ended.set()
         self.join()
+        return self.lines()
+
+    def lines(self):
         seconds = collections.defaultdict(collections.Counter)
         for crate, kind, own in self.checks.values():
             seconds[crate][kind] += own
@@ -62,13 +51,57 @@ class ProcessorTime(threading.Thread):
         return lines
 
 
-def is_below(pid, top, parents):
-    """Whether the process was begun by the process `top`, or by one that was."""
-    while pid in parents:
-        if pid == top:
-            return True
-        pid = parents[pid][1]
-    return False
+class Processes:
+    """The processes of the machine, as the system tells of them at one moment."""
+
+    def __init__(self):
+        # Of each its parent, and so on: what its `stat` tells behind its name.
+        self.stats = {}
+        self.children = collections.defaultdict(list)
+        for pid in filter(str.isdigit, os.listdir("/proc")):
+            stat = told("/proc/%s/stat" % pid).rpartition(b")")[2].split()
+            if stat:
+                self.stats[pid] = stat
+                self.children[self.parent(pid)].append(pid)
+
+    def parent(self, pid):
+        return self.stats[pid][1].decode()
+
+    def start(self, pid):
+        return self.stats[pid][19]
+
+    def below(self, pid):
+        for child in self.children[pid]:
+            yield child
+            yield from self.below(child)
+
+    def seconds(self, pid):
+        """How long it had a processor, with those that it began."""
+        ticks = sum(int(it) for it in self.stats[pid][11:15])
+        return ticks / TICKS + sum(self.seconds(child) for child in self.children[pid])
+
+
+def crate_of(pid):
+    """The crate that this process checks, if it is a check."""
+    crate = CRATE.search(told(f"/proc/{pid}/cmdline"))
+    return crate and crate[1].decode()
+
+
+def kind_of(pid):
+    """Whether this process works on an edit or on a proof, unless it has ended."""
+    try:
+        return "edits" if OF_EDIT in os.readlink(f"/proc/{pid}/cwd") else "proof"
+    except OSError:
+        return None
+
+
+def told(path):
+    """What stands there, or nothing where the process has ended."""
+    try:
+        with open(path, "rb") as file:
+            return file.read()
+    except OSError:
+        return b""
 
 
 def ended_seconds():
