@@ -4,19 +4,26 @@ use crate::changes::Changes;
 use crate::linked::HasLinks;
 use crate::node::Node;
 use crate::shared::SharedCluster;
+use links::MOST_MESSAGES;
 use node_cell::HoldsCell;
 use slot_table::NodeNo;
 use std::alloc::Global;
 use std::mem;
 use std::rt::Clock;
 use std::sync::Wait;
-use std::time::Duration;
+use std::time::{Duration, Instant};
 
 // How many seconds the thread sleeps at most before it looks for messages again. It is told of each, so they may be many.
 const LONG: u64 = 3600;
 
 // How many messages of a node are taken at most under one hold of the lock, before clients are let in.
 const MOST_TAKEN: u32 = 64;
+
+// Once they took so many milliseconds no more of them are taken under that hold.
+const LONG_HOLD: u64 = 10;
+
+// A message that took so many milliseconds made the node copy all of its keys for a replica.
+const LONG_STEP: u64 = 100;
 
 // How many milliseconds it sleeps where memory was refused for messages that wait for their links.
 const PAUSE: u64 = 10;
@@ -260,7 +267,7 @@ fn receive_from_all<C: HasLinks<R> + Drop, R: Clock + Wait>(
     most
 }
 
-// Takes the next messages from the other node, and says how many there were.
+// Takes the next messages from the other node, and says how many there were: as many as are taken at once also where these took long.
 fn receive_all<C: HasLinks<R> + Drop, R: Clock + Wait>(
     rt: &R,
     cell: &mut C,
@@ -268,12 +275,41 @@ fn receive_all<C: HasLinks<R> + Drop, R: Clock + Wait>(
     changes: &mut Changes<'_>,
     called: &mut Called,
 ) -> u32 {
+    let begun = Instant::now(rt).ok();
     for taken in 0..MOST_TAKEN {
         if !receive_from(rt, cell, number, changes, called) {
             return taken;
         }
+        let took = time_since(rt, begun);
+        if took >= Duration::from_millis(LONG_STEP) {
+            lose_late(cell, number, called);
+        }
+        if took >= Duration::from_millis(LONG_HOLD) {
+            return MOST_TAKEN;
+        }
     }
     MOST_TAKEN
+}
+
+// Nothing where there is no clock.
+fn time_since<R: Clock>(rt: &R, begun: Option<Instant>) -> Duration {
+    begun
+        .and_then(|begun| begun.elapsed(rt).ok())
+        .unwrap_or(Duration::ZERO)
+}
+
+// Has a master lose what its replica sent while the master copied all of its keys for it. The replica asks anew at each tick, and each time
+// would get them all once more: where that takes longer than a tick nothing else would ever be done.
+fn lose_late<C: HasLinks<R> + Drop, R: Wait>(cell: &mut C, number: usize, called: &mut Called) {
+    if cell.core().own_master().is_some() {
+        return;
+    }
+    for _ in 0..MOST_MESSAGES {
+        if !cell.lose_from(number) {
+            return;
+        }
+        note_room(cell, number, called);
+    }
 }
 
 // Takes the next message from the other node, and says whether there was one.
