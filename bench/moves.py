@@ -31,7 +31,7 @@ def main(words):
 def moves(report):
     slots = tagged_slots(AT_ONCE)
     report.say("\n## Keys that move")
-    report.say(f"\nTwo masters. {ROUNDS} times the slots go to the other master and come back; medians, and between them the least and the most.")
+    report.say(f"\nTwo masters. {ROUNDS} times the slots go to the other master and come back; medians, with the least and the most in brackets.")
     report.table("What", *servers.WAYS)
     alone, together = zip(*(measured(options, slots) for options in servers.WAYS.values()))
     report.row(f"A slot of {KEYS:,} keys, seconds", *[spread(it, "{:.3f}") for it in alone])
