@@ -4,17 +4,18 @@ ghost use Rattle.tickets.specs.Tickets.{IsFresh};
 
 use crate::acts::push_response;
 use crate::clusters::three_masters;
+use crate::dealing::deal_one;
+use crate::nodes::cell_of;
 use crate::telling::say;
-use anyhow::{Context, Result};
+use anyhow::Result;
 use byte_string::ByteString;
 use cluster_config::Config;
 use keyspace::{Store, TreeStore, Value};
 use node_cell::{Admission, Asks, Deployment, Entered, Journal, NodeCell};
 use node_core::StepFault;
-use slot_table::NodeNo;
 use std::alloc::{AllocError, Global};
 use std::marker::Brand;
-use tickets::{Seat, open};
+use tickets::Seat;
 use uses::{all_requests, exact_answers, set_both, set_then_get, shared_slot, turn_about};
 
 // Two requests, and the beginning of one.
@@ -95,8 +96,7 @@ fn has<S: Store>(store: &S, key: u8, value: &[u8]) -> bool {
 // What was set is got in the third step.
 fn gets<R: AllocGlobal>(rt: &R) -> Result<bool> {
     let config = three_masters(rt.alloc())?;
-    let (_table, mut seats) = open(rt.alloc(), 1)?;
-    let seat = seats.pop().context("there is no seat")?;
+    let seat = deal_one(rt.alloc())?;
     gets_at::<Brand>(rt.alloc(), &config, seat)
 }
 
@@ -105,8 +105,7 @@ fn gets_at<K: Deployment>(alloc: Global, config: &Config, seat: Seat) -> Result<
     requires cluster { config.now ≡ K.config }
     requires seat { IsFresh K.table K.seats seat }
 {
-    let node = NodeNo::new(2).context("there is no such node")?;
-    let mut cell = NodeCell::<K, Journal>::new(alloc, config, node, seat)?;
+    let mut cell = cell_of::<K, Journal>(alloc, config, 2, seat)?;
     let mut asks = Admission::<K>::new(config).begin();
     got_of(alloc, &mut asks, &mut cell)
 }

@@ -1,23 +1,27 @@
 //! A node with its journal: what it is asked, in order, and what is left of it.
-ghost use Rattle.std.specs.Prelude.{◌≡◌, ◌<◌, length};
+ghost use Rattle.std.specs.Prelude.{◌≡◌, length};
 ghost use Rattle.node_gate.specs.Asks.{IsOwn};
 ghost use Rattle.tickets.specs.Tickets.{IsFresh};
 
 use crate::acts::Act::{Ask, Close, Open, Tick};
 use crate::acts::{Act, conn_of, push_outputs, push_response, words_of};
 use crate::cells::Call::{Apply, Deliver, TakeReply, TakeSent};
-use crate::clusters::three_masters;
+use crate::clusters::{node_of, three_masters};
+use crate::dealing::{Two, deal_two};
+use crate::nodes::cell_of;
 use crate::telling::tell;
 use anyhow::{Context, Result};
 use cluster_config::Config;
-use node_cell::{Admission, Asks, Deployment, Entered, Entry, Journal, NodeCell, Posted, Sending};
-use node_core::Event;
+use node_cell::{
+    Admission, Asks, Deployment, Entered, Entry, GhostJournal, Journal, NodeCell, Posted, Sending,
+};
+use node_core::{Core, Event};
 use resp2::append_reply;
 use slot_table::NodeNo;
 use std::alloc::{AllocError, Global};
 use std::collections::VecDeque;
 use std::marker::Brand;
-use tickets::{Seat, open};
+use tickets::Seat;
 
 // The node that has the slots of `foo` and `x`.
 const NODE: u8 = 2;
@@ -45,18 +49,30 @@ struct Cells<K: Deployment> {
 
 impl<K: Deployment> Cells<K> {
     // Both as they begin.
-    fn new(alloc: Global, config: &Config, seat: Seat, other_seat: Seat) -> Result<Cells<K>>
+    fn new(
+        alloc: Global,
+        config: &Config,
+        seat: Seat,
+        other_seat: Seat,
+    ) -> Result<Cells<K>, AllocError>
         requires three { length config.now.nodes ≡ 3 }
         requires cluster { config.now ≡ K.config }
         requires seat { IsFresh K.table K.seats seat }
         requires other { IsFresh K.table K.seats other_seat }
     {
-        Ok(Cells {
-            cell: cell_of(alloc, config, NODE, seat)?,
-            other: cell_of(alloc, config, OTHER, other_seat)?,
-            asks: Admission::new(config).begin(),
-            posted: VecDeque::new(alloc),
-        })
+        let cell = cell_of::<K, Journal>(alloc, config, NODE, seat)?;
+        match cell_of(alloc, config, OTHER, other_seat) {
+            Ok(other) => Ok(Cells {
+                cell,
+                other,
+                asks: Admission::new(config).begin(),
+                posted: VecDeque::new(alloc),
+            }),
+            Err(refused) => {
+                drop(cell);
+                Err(refused)
+            }
+        }
     }
 
     // What the cell did that was asked.
@@ -161,10 +177,12 @@ fn other_answer<R: AllocGlobal>(rt: &R, config: &Config) -> Result<Option<String
 fn given_by<R: AllocGlobal>(rt: &R, config: &Config, calls: &[Call]) -> Result<Vec<u8>>
     requires three { length config.now.nodes ≡ 3 }
 {
-    let (_table, mut seats) = open(rt.alloc(), 2)?;
-    let seat = seats.pop().unwrap();
-    let other_seat = seats.pop().unwrap();
-    given_at::<Brand>(rt.alloc(), config, seat, other_seat, calls)
+    let Two {
+        table: _,
+        first,
+        second,
+    } = deal_two(rt.alloc())?;
+    given_at::<Brand>(rt.alloc(), config, first, second, calls)
 }
 
 fn given_at<K: Deployment>(
@@ -181,23 +199,9 @@ fn given_at<K: Deployment>(
 {
     let mut cells = Cells::<K>::new(alloc, config, seat, other_seat)?;
     let mut given = make_all(alloc, &mut cells, calls)?;
-    push_journal(&mut given, cells.into_entries().as_slice())?;
+    let entries = cells.into_entries();
+    push_journal(alloc, config, &mut given, entries.as_slice())?;
     Ok(given)
-}
-
-fn cell_of<K: Deployment>(
-    alloc: Global,
-    config: &Config,
-    number: u8,
-    seat: Seat,
-) -> Result<NodeCell<K, Journal>>
-    requires number { number < 3 }
-    requires three { length config.now.nodes ≡ 3 }
-    requires cluster { config.now ≡ K.config }
-    requires seat { IsFresh K.table K.seats seat }
-{
-    let node = NodeNo::new(number).unwrap();
-    Ok(NodeCell::new(alloc, config, node, seat)?)
 }
 
 fn make_all<K: Deployment>(alloc: Global, cells: &mut Cells<K>, calls: &[Call]) -> Result<Vec<u8>> {
@@ -305,14 +309,32 @@ fn keep<K: Deployment>(
     Ok(())
 }
 
-// The entries: their tickets, and all that came out of each step.
-fn push_journal(text: &mut Vec<u8>, entries: &[Entry]) -> Result<(), AllocError> {
-    text.extend_from_slice(b"journal ")?;
-    for entry in entries {
-        push_number(text, entry.ticket() as usize)?;
-        push_entry(text, entry)?;
+// The entries, and what comes of their events at a new node where that is something else.
+fn push_journal(
+    alloc: Global,
+    config: &Config,
+    given: &mut Vec<u8>,
+    entries: &[Entry],
+) -> Result<()> {
+    let journal = text_of(alloc, entries)?;
+    let again = text_played_again(alloc, config, entries)?;
+    given.extend_from_slice(b"journal ")?;
+    given.extend_from_slice(journal.as_slice())?;
+    if again != journal {
+        given.extend_from_slice(b"played again ")?;
+        given.extend_from_slice(again.as_slice())?;
     }
     Ok(())
+}
+
+// The tickets of the entries, and all that came out of each step.
+fn text_of(alloc: Global, entries: &[Entry]) -> Result<Vec<u8>, AllocError> {
+    let mut text = Vec::new(alloc);
+    for entry in entries {
+        push_number(&mut text, entry.ticket() as usize)?;
+        push_entry(&mut text, entry)?;
+    }
+    Ok(text)
 }
 
 fn push_entry(text: &mut Vec<u8>, entry: &Entry) -> Result<(), AllocError> {
@@ -320,6 +342,31 @@ fn push_entry(text: &mut Vec<u8>, entry: &Entry) -> Result<(), AllocError> {
         Entry::Skipped { ticket: _ } => text.extend_from_slice(b"skipped "),
         Entry::Step { event: _, outputs } => push_outputs(text, outputs),
     }
+}
+
+// The same, where a node is led through the events from its beginning on.
+fn text_played_again(alloc: Global, config: &Config, entries: &[Entry]) -> Result<Vec<u8>> {
+    let mut node = node_of(alloc, config, NodeNo::new(NODE).unwrap())?;
+    let mut text = Vec::new(alloc);
+    for entry in entries {
+        push_number(&mut text, entry.ticket() as usize)?;
+        push_again(&mut node, &mut text, entry)?;
+    }
+    Ok(text)
+}
+
+fn push_again(node: &mut Core, text: &mut Vec<u8>, entry: &Entry) -> Result<()> {
+    match entry {
+        Entry::Skipped { ticket: _ } => Ok(text.extend_from_slice(b"skipped ")?),
+        Entry::Step { event, outputs } => push_step(node, text, outputs.ticket, event),
+    }
+}
+
+fn push_step(node: &mut Core, text: &mut Vec<u8>, ticket: u64, event: &Event) -> Result<()> {
+    let (outputs, _recorded) = node.step::<GhostJournal>(ticket, event)?;
+    let pushed = push_outputs(text, &outputs);
+    drop(outputs);
+    Ok(pushed?)
 }
 
 fn push_number(text: &mut Vec<u8>, number: usize) -> Result<(), AllocError> {

@@ -6,7 +6,19 @@ use node_core::Core;
 use slot_table::NodeNo;
 use std::alloc::{AllocError, Global};
 
-// Three masters with a third of the slots each. A node ticks every 10 ms.
+// Two masters with half of the slots each.
+const TWO_MASTERS: &[u8] = b"{\"tick_ms\":10,\"node_timeout\":20,\"nodes\":[\
+{\"id\":\"0000000000000000000000000000000000000000\",\"host\":\"127.0.0.1\",\"port\":7000,\"slots\":[[0,8191]]},\
+{\"id\":\"0000000000000000000000000000000000000001\",\"host\":\"127.0.0.1\",\"port\":7001,\"slots\":[[8192,16383]]}],\
+\"voters\":[\"0000000000000000000000000000000000000000\"]}";
+
+// A master and its replica, and streams of which the last 64 bytes are kept.
+const ONE_REPLICA: &[u8] = b"{\"tick_ms\":10,\"node_timeout\":20,\"backlog\":64,\"nodes\":[\
+{\"id\":\"0000000000000000000000000000000000000000\",\"host\":\"127.0.0.1\",\"port\":7000,\"slots\":[[0,16383]]},\
+{\"id\":\"0000000000000000000000000000000000000001\",\"host\":\"127.0.0.1\",\"port\":7001,\"replica_of\":\"0000000000000000000000000000000000000000\"}],\
+\"voters\":[\"0000000000000000000000000000000000000000\"]}";
+
+// Three masters with a third of the slots each.
 const THREE_MASTERS: &[u8] = b"{\"tick_ms\":10,\"node_timeout\":20,\"nodes\":[\
 {\"id\":\"0000000000000000000000000000000000000000\",\"host\":\"127.0.0.1\",\"port\":7000,\"slots\":[[0,5460]]},\
 {\"id\":\"0000000000000000000000000000000000000001\",\"host\":\"127.0.0.1\",\"port\":7001,\"slots\":[[5461,10922]]},\
@@ -32,15 +44,36 @@ const WITH_ELECTIONS: &[u8] = b"{\"tick_ms\":10,\"node_timeout\":1,\"backlog\":6
 {\"id\":\"0000000000000000000000000000000000000003\",\"host\":\"127.0.0.1\",\"port\":7003,\"replica_of\":\"0000000000000000000000000000000000000000\"}],\
 \"voters\":[\"0000000000000000000000000000000000000000\",\"0000000000000000000000000000000000000001\",\"0000000000000000000000000000000000000002\"]}";
 
+/// Two masters with half of the slots each.
+pub fn two_masters(alloc: Global) -> Result<Config, ConfigFault>
+    ensures { IfOk result (λ config. length config.nodes ≡ 2) }
+{
+    config_of(alloc, TWO_MASTERS, 2)
+}
+
+/// A master, which is node 0, and its replica. A node keeps the last 64 bytes of its stream.
+pub fn one_replica(alloc: Global) -> Result<Config, ConfigFault>
+    ensures { IfOk result (λ config. length config.nodes ≡ 2) }
+{
+    config_of(alloc, ONE_REPLICA, 2)
+}
+
 /// Three masters with a third of the slots each.
 pub fn three_masters(alloc: Global) -> Result<Config, ConfigFault>
     ensures { IfOk result (λ config. length config.nodes ≡ 3) }
 {
-    let config = read_config(alloc, THREE_MASTERS)?;
-    match config.nodes().len() {
-        3 => Ok(config),
-        _ => Err(ConfigFault::Syntax),
+    config_of(alloc, THREE_MASTERS, 3)
+}
+
+// The cluster that the text describes, which has so many nodes.
+fn config_of(alloc: Global, text: &[u8], nodes: usize) -> Result<Config, ConfigFault>
+    ensures { IfOk result (λ config. length config.nodes ≡ nodes) }
+{
+    let config = read_config(alloc, text)?;
+    if config.nodes().len() != nodes {
+        return Err(ConfigFault::Syntax);
     }
+    Ok(config)
 }
 
 /// The same with a replica of each. Node 5 is the replica of node 2. A node keeps the last 64 bytes of its stream.

@@ -2,18 +2,19 @@
 ghost use Rattle.std.specs.Prelude.{◌≡◌, length};
 ghost use Rattle.tickets.specs.Tickets.{IsFresh};
 
-use crate::streams::{Pieces, Trickle, Written};
+use crate::dealing::deal_one;
+use crate::in_memory::{Pieces, Trickle, Written};
+use crate::nodes::cell_of;
 use crate::turns::converse_in_turns;
 use cluster_config::Config;
 use listener::{ConnFault, serve_conn};
 use node_cell::{Admission, Asks, Deployment, Journal, NodeCell};
 use resp2::Counting;
 use shared_node::{Gate, SharedNode};
-use slot_table::NodeNo;
 use std::alloc::{AllocError, Global};
 use std::marker::Brand;
 use std::sync::Wait;
-use tickets::{Seat, open};
+use tickets::Seat;
 
 // The node that has the slots of `a`, `h` and `x`.
 const NODE: u8 = 2;
@@ -53,8 +54,7 @@ pub fn hold<R: Wait + Drop>(
 ) -> Result<Held, AllocError>
     requires three { length config.now.nodes ≡ 3 }
 {
-    let (_table, mut seats) = open(alloc, 1)?;
-    let seat = seats.pop().unwrap();
+    let seat = deal_one(alloc)?;
     let reader = Pieces {
         pieces: client.pieces,
         at: 0,
@@ -79,8 +79,7 @@ pub fn hold_in_turns<R: Wait + Drop>(
 ) -> Result<Vec<u8>, AllocError>
     requires three { length config.now.nodes ≡ 3 }
 {
-    let (_table, mut seats) = open(alloc, 1)?;
-    let seat = seats.pop().unwrap();
+    let seat = deal_one(alloc)?;
     let writer = Trickle {
         bytes: Vec::with_capacity(alloc, reserved)?,
         is_full: false,
@@ -100,8 +99,7 @@ fn hold_in_turns_at<K: Deployment, R: Wait + Drop>(
     requires cluster { config.now ≡ K.config }
     requires seat { IsFresh K.table K.seats seat }
 {
-    let node = NodeNo::new(NODE).unwrap();
-    let node = SharedNode::new(NodeCell::<K, Journal>::new(alloc, config, node, seat)?);
+    let node = SharedNode::new(cell_of::<K, Journal>(alloc, config, NODE, seat)?);
     let mut gate = Gate::new(rt, &node, Admission::<K>::new(config).begin());
     let mut writer = Counting::new(writer);
     converse_in_turns(alloc, &mut gate, requests, &mut writer);
@@ -121,8 +119,7 @@ fn hold_at<K: Deployment, R: Wait + Drop>(
     requires cluster { config.now ≡ K.config }
     requires seat { IsFresh K.table K.seats seat }
 {
-    let node = NodeNo::new(NODE).unwrap();
-    let node = SharedNode::new(NodeCell::<K, Journal>::new(alloc, config, node, seat)?);
+    let node = SharedNode::new(cell_of::<K, Journal>(alloc, config, NODE, seat)?);
     node.close(&rt);
     let asks = Admission::<K>::new(config).begin();
     let mut reader = Counting::new(reader);

@@ -1,36 +1,53 @@
-//! Trials of nodes: what no clause says of them, and what no script and no socket reaches. Each argument names a trial, which
-//! prints a line or more.
+//! Trials of nodes: what no clause says of them, and what no script and no client of the program reaches. A trial prints a line or
+//! more. The words name the trials that are played; without a word all of them are.
 #![tactic(auto)]
 
 mod acts;
+mod audited_cells;
+mod audited_stations;
+mod audits;
 mod callers;
 mod cells;
 mod clusters;
 mod conversation;
+mod copies;
+mod dealing;
 mod failover;
 mod following;
 mod full_link;
 mod gates;
 mod growth;
+mod in_memory;
+mod key_move;
+mod mail;
 mod moves;
+mod nodes;
 mod pace;
+mod playing;
 mod refused;
 mod rows;
+mod runtime;
 mod seats;
 mod second_tries;
+mod socket_clients;
+mod stream_lines;
+mod stream_node;
 mod streams;
+mod syncs;
 mod telling;
 mod turns;
 mod two_nodes;
 mod writes;
 
 use anyhow::{Result, bail};
+use runtime::Runtime;
 use std::env;
+use std::net::{Net, TcpListener, TcpStream};
 use std::rt::Clock;
 use std::sync::Wait;
 use std::thread::Threads;
 
-// Which trial an argument names.
+// What a word names.
 #[derive(Clone, Copy)]
 enum Trial {
     Refused,
@@ -43,12 +60,69 @@ enum Trial {
     Callers,
     Locks,
     Links,
+    Syncs,
+    Streams,
+    Audit,
+    Copies,
     Pace,
 }
 
+// The words of the trials, in the order in which they are played.
+const TRIALS: [(&str, Trial); 14] = [
+    ("refused", Trial::Refused),
+    ("moves", Trial::Moves),
+    ("following", Trial::Following),
+    ("failover", Trial::Failover),
+    ("writes", Trial::Writes),
+    ("cells", Trial::Cells),
+    ("seats", Trial::Seats),
+    ("callers", Trial::Callers),
+    ("locks", Trial::Locks),
+    ("links", Trial::Links),
+    ("syncs", Trial::Syncs),
+    ("streams", Trial::Streams),
+    ("audit", Trial::Audit),
+    ("copies", Trial::Copies),
+];
+
+// It measures, and is played by its word alone.
+const PACE: &str = "pace";
+
 fn main(rt: HostRuntime) -> Result<()> {
     let words: Vec<String> = env::args(&rt)?.collect(rt.alloc())?;
-    for word in words.iter().skip(1) {
+    play(rt, words.as_slice())
+}
+
+// Plays the trials that the words behind the program's name ask for, or all.
+fn play<R>(rt: R, words: &[String]) -> Result<()>
+where
+    R: AllocGlobal
+        + Print
+        + Clock
+        + Threads
+        + Wait
+        + Net<Listener = TcpListener, Stream = TcpStream>
+        + Copy
+        + Drop
+        + Send
+        + Sync
+        + 'static,
+{
+    match words {
+        [] | [_] => try_all(rt),
+        [_, named @ ..] => try_named(rt, named),
+    }
+}
+
+fn try_all<R: Runtime>(rt: R) -> Result<()> {
+    for (_, trial) in &TRIALS {
+        try_out(rt, *trial)?;
+    }
+    Ok(())
+}
+
+fn try_named<R: Runtime>(rt: R, words: &[String]) -> Result<()> {
+    for word in words {
         let Some(trial) = trial_of(word.as_str()) else {
             bail!("no such trial");
         };
@@ -58,26 +132,18 @@ fn main(rt: HostRuntime) -> Result<()> {
 }
 
 fn trial_of(word: &str) -> Option<Trial> {
-    match word {
-        "refused" => Some(Trial::Refused),
-        "moves" => Some(Trial::Moves),
-        "following" => Some(Trial::Following),
-        "failover" => Some(Trial::Failover),
-        "writes" => Some(Trial::Writes),
-        "cells" => Some(Trial::Cells),
-        "seats" => Some(Trial::Seats),
-        "callers" => Some(Trial::Callers),
-        "locks" => Some(Trial::Locks),
-        "links" => Some(Trial::Links),
-        "pace" => Some(Trial::Pace),
-        _ => None,
+    if word == PACE {
+        return Some(Trial::Pace);
     }
+    for (name, trial) in &TRIALS {
+        if *name == word {
+            return Some(*trial);
+        }
+    }
+    None
 }
 
-fn try_out<R>(rt: R, trial: Trial) -> Result<()>
-where
-    R: AllocGlobal + Print + Clock + Threads + Wait + Copy + Drop + Send + Sync + 'static,
-{
+fn try_out<R: Runtime>(rt: R, trial: Trial) -> Result<()> {
     match trial {
         Trial::Refused => refused::try_out(rt),
         Trial::Moves => moves::try_out(&rt),
@@ -89,6 +155,10 @@ where
         Trial::Callers => callers::try_out(&rt),
         Trial::Locks => two_nodes::try_out(rt),
         Trial::Links => full_link::try_out(rt),
+        Trial::Syncs => syncs::try_out(rt),
+        Trial::Streams => streams::try_out(&rt),
+        Trial::Audit => audits::try_out(rt),
+        Trial::Copies => playing::try_out(rt),
         Trial::Pace => pace::measure(&rt),
     }
 }

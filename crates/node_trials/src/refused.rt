@@ -1,5 +1,6 @@
 //! A conversation that judges itself. Whichever allocation is refused, the client reads what it would read otherwise, up to
 //! the line that tells of refused memory, or to the end of the connection.
+ghost use Rattle.std.specs.Prelude.{◌≡◌, length};
 
 use crate::clusters::three_masters;
 use crate::conversation::{Client, hold, hold_in_turns};
@@ -7,6 +8,8 @@ use crate::growth::{hash_is_unchanged, map_is_unchanged};
 use crate::second_tries::{buffer_is_unchanged, reader_loses_nothing};
 use crate::telling::tell;
 use anyhow::{Result, bail};
+use cluster_config::Config;
+use std::alloc::{AllocError, Global};
 use std::sync::Wait;
 
 const REQUESTS: &[u8] = b"*3\r\n$3\r\nSET\r\n$1\r\na\r\n$1\r\n1\r\n\
@@ -52,35 +55,56 @@ pub fn try_out<R: Wait + AllocGlobal + Print + Copy + Drop>(rt: R) -> Result<()>
 }
 
 fn other_answer<R: Wait + AllocGlobal + Copy + Drop>(rt: R) -> Result<Option<String>> {
-    if !reader_loses_nothing(rt.alloc()) {
-        bail!("a reader lost a request");
-    }
-    if matches!(buffer_is_unchanged(rt.alloc()), Ok(false)) {
-        bail!("a reply that was refused changed a buffer");
-    }
-    if matches!(hash_is_unchanged(rt.alloc()), Ok(false)) {
-        bail!("a field that was refused changed a hash");
-    }
-    if matches!(map_is_unchanged(rt.alloc()), Ok(false)) {
-        bail!("a key that was refused changed a map");
-    }
-    let answers = answers(rt)?;
-    if !may_be_read(answers.as_slice()) {
-        return Ok(Some(String::from_utf8(answers)?));
-    }
+    try_again(rt.alloc())?;
+    // Nothing is read where memory is refused before.
     let config = three_masters(rt.alloc())?;
-    let answers = hold_in_turns(rt, rt.alloc(), &config, REQUESTS, CLIENT.reserved)?;
-    if !may_be_read(answers.as_slice()) {
-        return Ok(Some(String::from_utf8(answers)?));
+    match judged(answers(rt, &config)?)? {
+        None => judged(answers_in_turns(rt, &config)?),
+        other => Ok(other),
     }
-    Ok(None)
 }
 
-// Nothing is read where memory is refused before.
-fn answers<R: Wait + AllocGlobal + Copy + Drop>(rt: R) -> Result<Vec<u8>> {
-    let config = three_masters(rt.alloc())?;
-    let held = hold(rt, rt.alloc(), &config, CLIENT)?;
+// What was refused once succeeds at a second try.
+fn try_again(alloc: Global) -> Result<()> {
+    if !reader_loses_nothing(alloc) {
+        bail!("a reader lost a request");
+    }
+    if matches!(buffer_is_unchanged(alloc), Ok(false)) {
+        bail!("a reply that was refused changed a buffer");
+    }
+    if matches!(hash_is_unchanged(alloc), Ok(false)) {
+        bail!("a field that was refused changed a hash");
+    }
+    if matches!(map_is_unchanged(alloc), Ok(false)) {
+        bail!("a key that was refused changed a map");
+    }
+    Ok(())
+}
+
+fn answers<R: Wait + AllocGlobal + Drop>(rt: R, config: &Config) -> Result<Vec<u8>, AllocError>
+    requires three { length config.now.nodes ≡ 3 }
+{
+    let alloc = rt.alloc();
+    let held = hold(rt, alloc, config, CLIENT)?;
     Ok(held.written.bytes)
+}
+
+fn answers_in_turns<R: Wait + AllocGlobal + Drop>(
+    rt: R,
+    config: &Config,
+) -> Result<Vec<u8>, AllocError>
+    requires three { length config.now.nodes ≡ 3 }
+{
+    let alloc = rt.alloc();
+    hold_in_turns(rt, alloc, config, REQUESTS, CLIENT.reserved)
+}
+
+// The answers, where they are others than the client may read.
+fn judged(answers: Vec<u8>) -> Result<Option<String>> {
+    if may_be_read(answers.as_slice()) {
+        return Ok(None);
+    }
+    Ok(Some(String::from_utf8(answers)?))
 }
 
 // Whether the bytes are the first replies, perhaps with the line behind them that tells of refused memory.

@@ -31,7 +31,14 @@ pub fn other_answer(alloc: Global, config: &Config, cases: &[Rows]) -> Result<Op
 }
 
 fn other_answer_in(alloc: Global, config: &Config, rows: &[&str]) -> Result<Option<String>> {
-    let mut world = World::begin(alloc, config)?;
+    let mut world = World::new(alloc);
+    world.open_all(alloc, config)?;
+    let other = other_answer_at(alloc, &mut world, rows);
+    drop(world);
+    other
+}
+
+fn other_answer_at(alloc: Global, world: &mut World, rows: &[&str]) -> Result<Option<String>> {
     for row in rows {
         let (step, wanted) = row.split_once(" | ").context("a step without an answer")?;
         let given = world.make(alloc, step)?;
@@ -43,23 +50,36 @@ fn other_answer_in(alloc: Global, config: &Config, rows: &[&str]) -> Result<Opti
 }
 
 // Nodes, and the messages that they sent.
-#[derive(Drop)]
 struct World {
     nodes: Vec<Core>,
     messages: Vec<Message>,
 }
 
+// It does what the derive would. Written out it is one call wherever a world is let go.
+impl Drop for World {
+    fn drop(self) {
+        let World {
+            nodes: _,
+            messages: _,
+        } = self;
+    }
+}
+
 impl World {
-    // Each node has its connections.
-    fn begin(alloc: Global, config: &Config) -> Result<World> {
-        let mut nodes = Vec::new(alloc);
-        for place in 0..config.nodes().len() {
-            nodes.push(open_node(alloc, config, place as u8)?)?;
-        }
-        Ok(World {
-            nodes,
+    // No node yet, and no message.
+    fn new(alloc: Global) -> World {
+        World {
+            nodes: Vec::new(alloc),
             messages: Vec::new(alloc),
-        })
+        }
+    }
+
+    // All nodes as they begin, each with its connections.
+    fn open_all(&mut self, alloc: Global, config: &Config) -> Result<()> {
+        for place in 0..config.nodes().len() {
+            self.nodes.push(open_node(alloc, config, place as u8)?)?;
+        }
+        Ok(())
     }
 
     // What comes out of the step.
@@ -73,7 +93,9 @@ impl World {
 
     fn ask_node(&mut self, alloc: Global, node: usize, act: &str) -> Result<Vec<u8>> {
         let event = act_of(act).event(alloc)?;
-        self.step(alloc, node, &event)
+        let given = self.step(alloc, node, &event);
+        drop(event);
+        given
     }
 
     fn deliver(&mut self, alloc: Global, number: usize) -> Result<Vec<u8>> {
@@ -84,13 +106,17 @@ impl World {
             .context("there is no such message")?;
         let node = usize::from(message.to.get());
         let event = Event::Deliver(message.clone()?);
-        self.step(alloc, node, &event)
+        let given = self.step(alloc, node, &event);
+        drop(event);
+        given
     }
 
     fn step(&mut self, alloc: Global, node: usize, event: &Event) -> Result<Vec<u8>> {
         let node = self.nodes.get_mut(node).context("there is no such node")?;
         let outputs = outputs_of(node, event)?;
-        Ok(self.take_outputs(alloc, &outputs)?)
+        let given = self.take_outputs(alloc, &outputs);
+        drop(outputs);
+        Ok(given?)
     }
 
     // Keeps the messages, and tells the outputs.
@@ -118,13 +144,18 @@ fn act_of(text: &str) -> Act<'_> {
 pub fn open_node(alloc: Global, config: &Config, number: u8) -> Result<Core> {
     let number = NodeNo::new(number).context("there are too many nodes")?;
     let mut node = node_of(alloc, config, number)?;
-    open_all(&mut node)?;
-    Ok(node)
+    match open_connections(&mut node) {
+        Ok(()) => Ok(node),
+        Err(fault) => {
+            drop(node);
+            Err(fault.into())
+        }
+    }
 }
 
-fn open_all(node: &mut Core) -> Result<(), StepFault> {
+fn open_connections(node: &mut Core) -> Result<(), StepFault> {
     for _ in 0..CONNECTIONS {
-        let _opened = outputs_of(node, &Event::Open)?;
+        drop(outputs_of(node, &Event::Open)?);
     }
     Ok(())
 }
@@ -135,6 +166,7 @@ pub fn outputs_of(node: &mut Core, event: &Event) -> Result<Outputs, StepFault> 
         Err(StepFault::Memory) => node.step::<Journal>(0, event),
         outcome => outcome,
     };
-    let (outputs, _recorded) = outcome?;
+    let (outputs, recorded) = outcome?;
+    drop(recorded);
     Ok(outputs)
 }

@@ -1,6 +1,6 @@
 //! A conversation that is held in turns.
 
-use crate::streams::Trickle;
+use crate::in_memory::Trickle;
 use listener::{ConnFault, Farewell, Left, Next, Rest, Talk};
 use node_gate::{Answered, NodeGate};
 use resp2::Counting;

@@ -1,9 +1,12 @@
 //! A request that is held up at one node, and one that is asked at another node meanwhile.
-ghost use Rattle.std.specs.Prelude.{◌≡◌, ◌<◌, length};
+ghost use Rattle.std.specs.Prelude.{◌≡◌, length};
 ghost use Rattle.tickets.specs.Tickets.{IsFresh};
 
 use crate::clusters::three_masters;
+use crate::dealing::{Two, deal_two};
 use crate::gates::{HoldingGate, OneLockGate, Signals, TellingGate};
+use crate::nodes::{Shared, shared_node_of};
+use crate::runtime::Runtime;
 use crate::telling::say;
 use anyhow::Result;
 use cluster_config::Config;
@@ -11,14 +14,13 @@ use listener::serve_conn;
 use node_cell::{Admission, Asks, Deployment, GhostJournal, NodeCell, NodeGate};
 use resp2::Counting;
 use shared_node::{Gate, SharedNode};
-use slot_table::NodeNo;
 use std::alloc::{AllocError, Global};
 use std::marker::Brand;
 use std::sync::atomic::Ordering;
 use std::sync::{Arc, Mutex, Wait};
 use std::thread;
-use std::thread::Threads;
-use tickets::{Seat, open};
+use std::thread::JoinHandle;
+use tickets::Seat;
 
 // For the second node of three, and for the third one.
 const SET_C: &[u8] = b"*3\r\n$3\r\nSET\r\n$1\r\nc\r\n$1\r\n1\r\n";
@@ -35,10 +37,7 @@ enum Locks {
 }
 
 /// Says whether a node answers a request while another node's lock is held, and whether it does where one lock is round both.
-pub fn try_out<R>(rt: R) -> Result<()>
-where
-    R: AllocGlobal + Print + Threads + Wait + Copy + Drop + Send + Sync + 'static,
-{
+pub fn try_out<R: Runtime>(rt: R) -> Result<()> {
     let config = three_masters(rt.alloc())?;
     say(
         &rt,
@@ -53,75 +52,84 @@ where
 }
 
 // Whether a node answers a request while another node's lock is held.
-fn answers<R>(rt: R, config: &Config, locks: Locks) -> Result<bool>
+fn answers<R: Runtime>(rt: R, config: &Config, locks: Locks) -> Result<bool>
 where
-    R: AllocGlobal + Threads + Wait + Copy + Drop + Send + Sync + 'static,
     requires three { length config.now.nodes ≡ 3 }
 {
-    let (_table, mut seats) = open(rt.alloc(), 2)?;
-    let second = seats.pop().unwrap();
-    let third = seats.pop().unwrap();
-    Ok(answers_meanwhile::<Brand, R>(rt, rt.alloc(), config, second, third, locks)?)
+    let Two {
+        table: _,
+        first,
+        second,
+    } = deal_two(rt.alloc())?;
+    Ok(answers_at::<Brand, R>(rt, config, first, second, locks)?)
 }
 
-fn answers_meanwhile<
-    K: Deployment + Send + Sync + 'static,
-    R: Threads + Wait + Copy + Drop + Send + Sync + 'static,
->(
+// The seats are those of nodes 1 and 2.
+fn answers_at<K: Deployment + Send + Sync + 'static, R: Runtime>(
     rt: R,
-    alloc: Global,
     config: &Config,
-    second_seat: Seat,
-    third_seat: Seat,
+    first: Seat,
+    second: Seat,
     locks: Locks,
 ) -> Result<bool, AllocError>
+where
     requires three { length config.now.nodes ≡ 3 }
     requires cluster { config.now ≡ K.config }
-    requires second { IsFresh K.table K.seats second_seat }
-    requires third { IsFresh K.table K.seats third_seat }
+    requires first { IsFresh K.table K.seats first }
+    requires second { IsFresh K.table K.seats second }
 {
-    let second = node::<K>(alloc, config, 1, second_seat)?;
-    let third = Arc::new(alloc, node::<K>(alloc, config, 2, third_seat)?)?;
-    let admission = Admission::<K>::new(config);
-    ask_both(rt, alloc, &admission, &second, third, locks)
+    let node = shared_node_of::<K>(rt.alloc(), config, 1, first)?;
+    let answered = answers_beside(rt, config, &node, second, locks);
+    drop(node);
+    answered
 }
 
-fn node<K: Deployment>(
-    alloc: Global,
+// Whether node 2 answers while the request to this one is held up.
+fn answers_beside<K: Deployment + Send + Sync + 'static, R: Runtime>(
+    rt: R,
     config: &Config,
-    number: u8,
+    node: &Shared<K>,
     seat: Seat,
-) -> Result<SharedNode<NodeCell<K, GhostJournal>>, AllocError>
-    requires number { number < 3 }
+    locks: Locks,
+) -> Result<bool, AllocError>
+where
     requires three { length config.now.nodes ≡ 3 }
     requires cluster { config.now ≡ K.config }
     requires seat { IsFresh K.table K.seats seat }
 {
-    let number = NodeNo::new(number).unwrap();
-    Ok(SharedNode::new(NodeCell::new(alloc, config, number, seat)?))
+    let other = shared_node_of::<K>(rt.alloc(), config, 2, seat)?;
+    let admission = Admission::<K>::new(config);
+    ask_both(rt, &admission, node, other, locks)
 }
 
 // Two conversations at once: whether the second one was answered while the first was held up.
-fn ask_both<
-    K: Deployment + Send + Sync + 'static,
-    R: Threads + Wait + Copy + Drop + Send + Sync + 'static,
->(
+fn ask_both<K: Deployment + Send + Sync + 'static, R: Runtime>(
     rt: R,
-    alloc: Global,
     admission: &Admission<K>,
-    second: &SharedNode<NodeCell<K, GhostJournal>>,
-    third: Arc<SharedNode<NodeCell<K, GhostJournal>>>,
+    node: &Shared<K>,
+    other: Shared<K>,
     locks: Locks,
 ) -> Result<bool, AllocError> {
-    let signals = Arc::new(alloc, Signals::new())?;
+    let signals = Arc::new(rt.alloc(), Signals::new())?;
     let theirs = Arc::try_clone(&signals)?;
-    let asks = admission.begin();
-    let other = thread::spawn(&rt, move || {
-        ask_meanwhile(rt, alloc, &*third, asks, &*theirs, locks);
-    })?;
-    hold_up(rt, alloc, second, admission.begin(), &*signals, locks);
-    other.join(&rt);
+    let asked = start_asking(rt, other, admission.begin(), theirs, locks)?;
+    hold_up(rt, rt.alloc(), &**node, admission.begin(), &*signals, locks);
+    asked.join(&rt);
     Ok(!signals.ran_out.load(Ordering::SeqCst))
+}
+
+// Has a thread ask the other node.
+fn start_asking<K: Deployment + Send + Sync + 'static, R: Runtime>(
+    rt: R,
+    node: Shared<K>,
+    asks: Asks<K>,
+    signals: Arc<Signals, Global>,
+    locks: Locks,
+) -> Result<JoinHandle<()>, AllocError> {
+    let started = thread::spawn(&rt, move || {
+        ask_meanwhile(rt, rt.alloc(), &*node, asks, &*signals, locks);
+    })?;
+    Ok(started)
 }
 
 // A conversation whose request is held up at its node.
