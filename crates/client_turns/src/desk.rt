@@ -1,6 +1,5 @@
 //! Where the clients that come to a node wait for the thread that serves them in turn with others.
 
-use shared_cluster::Refused;
 use std::alloc::{AllocError, Global};
 use std::collections::VecDeque;
 use std::net::TcpStream;
@@ -28,6 +27,21 @@ struct Waiting {
     is_closed: bool,
 }
 
+/// Why a newcomer can't wait at a desk.
+#[derive(Clone, Copy, PartialEq, Eq, Debug)]
+pub enum DeskFault {
+    /// Memory was refused.
+    Memory,
+    /// The thread has ended.
+    Closed,
+}
+
+impl From<AllocError> for DeskFault {
+    fn from(_refused: AllocError) -> DeskFault {
+        DeskFault::Memory
+    }
+}
+
 impl Desk {
     /// One at which nobody waits.
     pub fn new(alloc: Global) -> Desk {
@@ -41,14 +55,14 @@ impl Desk {
     }
 
     /// Has the newcomer wait for the thread.
-    pub fn put<R: Wait>(&self, rt: &R, newcomer: Newcomer) -> Result<(), Refused> {
+    pub fn put<R: Wait>(&self, rt: &R, newcomer: Newcomer) -> Result<(), DeskFault> {
         let mut waiting = self.waiting.lock(rt);
         if waiting.is_closed {
-            return Err(Refused::Ended);
+            return Err(DeskFault::Closed);
         }
         match waiting.newcomers.push_back(newcomer) {
             Ok(()) => Ok(()),
-            Err(refused) => Err(Refused::from(AllocError::from(refused))),
+            Err(refused) => Err(DeskFault::from(AllocError::from(refused))),
         }
     }
 

@@ -1,18 +1,17 @@
 //! A client that a thread serves in turn with others.
 
-use listener::{ConnFault, Farewell, Left, Next, Rest, Talk};
+use crate::lingering::{Lingering, is_told};
+use listener::{ConnFault, Farewell, Left, Next, Rest, SharedGate, Talk};
 use mio::event::Event;
-use node_cell::{Asks, Entered, HoldsCell, NodeGate};
-use resp_values::Reply;
-use resp2::Counting;
-use shared_cluster::{HasLinks, SeeingGate};
+use resp2::{Counting, Reply};
 use std::alloc::Global;
 use std::io::{ErrorKind, Read};
 use std::mem;
-use std::net::TcpStream;
+use std::net::{Shutdown, TcpStream};
 use std::os::fd::{AsRawFd, RawFd};
 use std::rt::Clock;
-use std::sync::{Arc, Wait};
+use std::sync::Arc;
+use std::time::Duration;
 
 // After so many of its requests the other clients have their turn.
 const MOST_ANSWERED: u32 = 64;
@@ -21,13 +20,12 @@ const MOST_ANSWERED: u32 = 64;
 ///
 /// When it has its turn it is read, has requests answered, and is written to, each once at most. It is read only once all that it sent
 /// before is answered and all replies are written, so a client that doesn't read costs one batch of them.
-#[derive(Drop)]
-pub(crate) struct Guest<C: HoldsCell> {
+pub(crate) struct Guest<G: SharedGate> {
     stream: Arc<TcpStream, Global>,
     /// By which it is removed from the clients of the cluster.
     pub(crate) client: usize,
-    asks: Asks<C::Cluster>,
-    stage: Stage<Entered<C::Cluster>>,
+    asks: G::Asks,
+    stage: Stage<G::Answer>,
     // What comes next in the conversation, once nothing is left to be written.
     next: Next,
     left: Left,
@@ -39,6 +37,27 @@ pub(crate) struct Guest<C: HoldsCell> {
     pub(crate) is_due: bool,
     /// It is in the list of those that wait for a reply.
     pub(crate) is_listening: bool,
+    /// It is in the list of those that were told why their conversation ended, and are still read.
+    pub(crate) is_lingering: bool,
+}
+
+// It does what the derive would. Written out it is one call wherever a client is let go.
+impl<G: SharedGate> Drop for Guest<G> {
+    fn drop(self) {
+        let Guest {
+            stream: _,
+            client: _,
+            asks: _,
+            stage: _,
+            next: _,
+            left: _,
+            may_read: _,
+            has_hung_up: _,
+            is_due: _,
+            is_listening: _,
+            is_lingering: _,
+        } = self;
+    }
 }
 
 /// How far a conversation has come.
@@ -49,19 +68,20 @@ enum Stage<S> {
     Talking(Talk<S>),
     /// It has ended so, and the node hasn't closed the connection yet.
     Ended(Talk<S>, Result<Rest, ConnFault>),
-    /// The connection is closed, and the client is still to be sent this.
-    Parting(Farewell<S>),
+    /// The node has closed the connection, and the client is still to be sent this, perhaps with a line that tells it why.
+    Parting {
+        farewell: Farewell<S>,
+        is_told: bool,
+    },
+    /// The client was sent that line. What it goes on to send is read and forgotten, so that it comes to read the line.
+    Leaving(Lingering),
     /// Nothing more is done for the client.
     Over,
 }
 
-impl<C: HoldsCell + Drop> Guest<C> {
+impl<G: SharedGate> Guest<G> {
     /// A client that has just come, and begins to ask with this.
-    pub(crate) fn new(
-        stream: Arc<TcpStream, Global>,
-        client: usize,
-        asks: Asks<C::Cluster>,
-    ) -> Guest<C> {
+    pub(crate) fn new(stream: Arc<TcpStream, Global>, client: usize, asks: G::Asks) -> Guest<G> {
         Guest {
             stream,
             client,
@@ -73,6 +93,7 @@ impl<C: HoldsCell + Drop> Guest<C> {
             has_hung_up: false,
             is_due: false,
             is_listening: false,
+            is_lingering: false,
         }
     }
 
@@ -91,25 +112,29 @@ impl<C: HoldsCell + Drop> Guest<C> {
 
     /// Reads once what the client has sent, if that is what comes next.
     pub(crate) fn read(&mut self, input: &mut [u8]) {
-        if self.may_read && self.left == Left::Nothing && self.next == Next::Read {
+        if self.may_read && self.is_to_be_read() {
             if let Err(ended) = self.read_once(input) {
                 self.end(ended);
             }
         }
     }
 
+    fn is_to_be_read(&self) -> bool {
+        match &self.stage {
+            Stage::Talking(_) => self.left == Left::Nothing && self.next == Next::Read,
+            Stage::Leaving(_) => true,
+            Stage::New | Stage::Ended(_, _) | Stage::Parting { .. } | Stage::Over => false,
+        }
+    }
+
     // Reads once. An error is how the conversation ended.
     fn read_once(&mut self, input: &mut [u8]) -> Result<(), Result<Rest, ConnFault>> {
-        let Stage::Talking(talk) = &mut self.stage else {
-            return Ok(());
-        };
         let mut stream = &*self.stream;
         match stream.read(input) {
             Ok(0) => Err(Ok(Rest::Unfinished)),
             Ok(count) => {
                 self.may_read = self.has_hung_up || count == input.len();
-                self.next = Next::Answer;
-                talk.read(&input[..count]).map_err(Err)
+                self.take(&input[..count])
             }
             Err(error) => match error.kind() {
                 ErrorKind::WouldBlock => {
@@ -122,23 +147,32 @@ impl<C: HoldsCell + Drop> Guest<C> {
         }
     }
 
-    // The conversation has ended so.
-    fn end(&mut self, ended: Result<Rest, ConnFault>) {
-        match mem::replace(&mut self.stage, Stage::Over) {
-            Stage::Talking(talk) => self.stage = Stage::Ended(talk, ended),
-            stage => self.stage = stage,
+    // Takes what the client has sent. An error is how the conversation ends by that.
+    fn take(&mut self, bytes: &[u8]) -> Result<(), Result<Rest, ConnFault>> {
+        match &mut self.stage {
+            Stage::Talking(talk) => {
+                self.next = Next::Answer;
+                talk.read(bytes).map_err(Err)
+            }
+            Stage::Leaving(lingering) => match lingering.note_read(bytes.len()) {
+                true => Ok(()),
+                false => Err(Ok(Rest::Unfinished)),
+            },
+            Stage::New | Stage::Ended(_, _) | Stage::Parting { .. } | Stage::Over => Ok(()),
         }
     }
 
+    // The conversation has ended so, or the client has left behind that.
+    fn end(&mut self, ended: Result<Rest, ConnFault>) {
+        self.stage = match mem::replace(&mut self.stage, Stage::Over) {
+            Stage::Talking(talk) => Stage::Ended(talk, ended),
+            Stage::Leaving(_) => Stage::Over,
+            stage => stage,
+        };
+    }
+
     /// Has the node do what comes next: open the connection, answer some requests, or close the connection.
-    pub(crate) fn ask<R: Clock + Wait + Copy>(
-        &mut self,
-        alloc: Global,
-        gate: &mut SeeingGate<'_, C, R>,
-    )
-    where
-        C: HasLinks<R>,
-    {
+    pub(crate) fn ask(&mut self, alloc: Global, gate: &mut G) {
         gate.exchange(&mut self.asks);
         self.answer(gate);
         self.change_stage(alloc, gate);
@@ -146,7 +180,7 @@ impl<C: HoldsCell + Drop> Guest<C> {
     }
 
     // Has the node answer some requests, if that is what comes next.
-    fn answer<G: NodeGate<Answer = Entered<C::Cluster>>>(&mut self, gate: &mut G) {
+    fn answer(&mut self, gate: &mut G) {
         if self.left != Left::Nothing || !matches!(self.next, Next::Answer | Next::Write) {
             return;
         }
@@ -161,20 +195,22 @@ impl<C: HoldsCell + Drop> Guest<C> {
     }
 
     // Opens the connection of a client that has just come, or closes one whose conversation has ended.
-    fn change_stage<G: NodeGate<Answer = Entered<C::Cluster>>>(
-        &mut self,
-        alloc: Global,
-        gate: &mut G,
-    ) {
+    fn change_stage(&mut self, alloc: Global, gate: &mut G) {
         if !matches!(&self.stage, Stage::New | Stage::Ended(_, _)) {
             return;
         }
         self.stage = match mem::replace(&mut self.stage, Stage::Over) {
             Stage::New => match Talk::begin(alloc, gate) {
                 Ok(talk) => Stage::Talking(talk),
-                Err(fault) => Stage::Parting(Farewell::to_refused(alloc, fault)),
+                Err(fault) => Stage::Parting {
+                    farewell: Farewell::to_refused(alloc, fault),
+                    is_told: is_told(Err(fault)),
+                },
             },
-            Stage::Ended(talk, ended) => Stage::Parting(talk.end(gate, ended)),
+            Stage::Ended(talk, ended) => Stage::Parting {
+                farewell: talk.end(gate, ended),
+                is_told: is_told(ended),
+            },
             stage => stage,
         };
     }
@@ -183,20 +219,17 @@ impl<C: HoldsCell + Drop> Guest<C> {
     pub(crate) fn is_parked(&self) -> bool {
         match &self.stage {
             Stage::Talking(talk) => talk.is_parked(),
-            Stage::New | Stage::Ended(_, _) | Stage::Parting(_) | Stage::Over => false,
+            Stage::New
+            | Stage::Ended(_, _)
+            | Stage::Parting { .. }
+            | Stage::Leaving(_)
+            | Stage::Over => false,
         }
     }
 
     /// Takes the reply for which the client waits, if the node has it by now. Once the node is closed, none will come any more, and
     /// that ends the conversation.
-    pub(crate) fn listen<R: Clock + Wait + Copy>(
-        &mut self,
-        gate: &mut SeeingGate<'_, C, R>,
-        is_closed: bool,
-    )
-    where
-        C: HasLinks<R>,
-    {
+    pub(crate) fn listen(&mut self, gate: &mut G, is_closed: bool) {
         let Stage::Talking(talk) = &mut self.stage else {
             return;
         };
@@ -223,34 +256,48 @@ impl<C: HoldsCell + Drop> Guest<C> {
     }
 
     /// Writes once to the client.
-    pub(crate) fn write(&mut self) {
+    pub(crate) fn write<R: Clock>(&mut self, rt: &R) {
         if self.left == Left::Blocked {
             return;
         }
         let mut writer = Counting::new(&*self.stream);
         let written = match &mut self.stage {
             Stage::Talking(talk) => talk.finish(&mut writer),
-            Stage::Parting(farewell) => farewell.finish(&mut writer),
-            Stage::New | Stage::Ended(_, _) | Stage::Over => return,
+            Stage::Parting { farewell, .. } => farewell.finish(&mut writer),
+            Stage::New | Stage::Ended(_, _) | Stage::Leaving(_) | Stage::Over => return,
         };
         match written {
-            Ok(left) => self.note_left(left),
+            Ok(left) => self.note_left(rt, left),
             Err(fault) => self.give_up(fault),
         }
     }
 
-    fn note_left(&mut self, left: Left) {
+    fn note_left<R: Clock>(&mut self, rt: &R, left: Left) {
         self.left = left;
-        if let Stage::Parting(_) = self.stage
-            && left == Left::Nothing
+        if left == Left::Nothing
+            && let Stage::Parting { is_told, .. } = &self.stage
         {
-            self.stage = Stage::Over;
+            self.stage = match *is_told {
+                true => self.behind_line(rt),
+                false => Stage::Over,
+            };
+        }
+    }
+
+    // What comes behind the last line: the client sees that nothing more comes, and is read for a moment.
+    fn behind_line<R: Clock>(&self, rt: &R) -> Stage<G::Answer> {
+        if self.stream.shutdown(Shutdown::Write).is_err() {
+            return Stage::Over;
+        }
+        match Lingering::begin(rt) {
+            Some(lingering) => Stage::Leaving(lingering),
+            None => Stage::Over,
         }
     }
 
     // The client can't be written to.
     fn give_up(&mut self, fault: ConnFault) {
-        if let Stage::Parting(_) = self.stage {
+        if let Stage::Parting { .. } = self.stage {
             self.stage = Stage::Over;
         }
         self.left = Left::Nothing;
@@ -261,6 +308,7 @@ impl<C: HoldsCell + Drop> Guest<C> {
     pub(crate) fn goes_on(&self) -> bool {
         match self.left {
             _ if self.is_ended() => true,
+            _ if self.is_leaving() => self.may_read,
             Left::More | Left::NoMemory => true,
             Left::Blocked => false,
             Left::Nothing => match self.next {
@@ -279,6 +327,30 @@ impl<C: HoldsCell + Drop> Guest<C> {
     /// Whether all that is to be done for the client wants memory that was refused.
     pub(crate) fn is_starved(&self) -> bool {
         self.left == Left::NoMemory && !self.is_ended()
+    }
+
+    /// Whether the client was told why its conversation ended, and is still read.
+    pub(crate) fn is_leaving(&self) -> bool {
+        matches!(&self.stage, Stage::Leaving(_))
+    }
+
+    /// How much time is left in which the client is still read, if there is any.
+    pub(crate) fn time_left<R: Clock>(&self, rt: &R) -> Option<Duration> {
+        match &self.stage {
+            Stage::Leaving(lingering) => lingering.time_left(rt),
+            Stage::New
+            | Stage::Talking(_)
+            | Stage::Ended(_, _)
+            | Stage::Parting { .. }
+            | Stage::Over => None,
+        }
+    }
+
+    /// Reads the client no more, which was told why its conversation ended.
+    pub(crate) fn stop_lingering(&mut self) {
+        if self.is_leaving() {
+            self.stage = Stage::Over;
+        }
     }
 
     /// Whether nothing more is done for the client.

@@ -3,10 +3,9 @@
 use crate::desk::Desk;
 use mio::unix::SourceFd;
 use mio::{Events, Interest, Poll, Token, Waker};
-use shared_cluster::{Runtime, Shortage};
 use std::alloc::{AllocError, Global};
 use std::io;
-use std::net::TcpStream;
+use std::net::{Net, TcpStream};
 use std::os::fd::{AsRawFd, RawFd};
 use std::sync::Arc;
 
@@ -20,7 +19,6 @@ const MOST_EVENTS: usize = 256;
 pub(crate) const CALL: Token = Token(usize::MAX);
 
 /// What a thread needs to serve clients in turn. It is made before the thread is started.
-#[derive(Drop)]
 pub struct Hall {
     /// Where clients wait for the thread.
     pub desk: Arc<Desk, Global>,
@@ -29,14 +27,41 @@ pub struct Hall {
     pub(crate) input: Vec<u8>,
 }
 
+// It does what the derive would. Written out it is one call wherever a hall is let go.
+impl Drop for Hall {
+    fn drop(self) {
+        let Hall {
+            desk: _,
+            poll: _,
+            events: _,
+            input: _,
+        } = self;
+    }
+}
+
+/// What there is none of for a hall.
+#[derive(Clone, Copy, PartialEq, Eq, Debug)]
+pub enum HallFault {
+    /// Memory was refused.
+    Memory,
+    /// The system gives no descriptor.
+    Descriptor,
+}
+
+impl From<AllocError> for HallFault {
+    fn from(_refused: AllocError) -> HallFault {
+        HallFault::Memory
+    }
+}
+
 impl Hall {
-    /// A hall with nobody in it. An error says what there is none of.
-    pub fn new<R: Runtime>(rt: &R, alloc: Global) -> Result<Hall, Shortage> {
+    /// A hall with nobody in it. It takes memory, and descriptors of the system.
+    pub fn new<R: Net>(rt: &R, alloc: Global) -> Result<Hall, HallFault> {
         let desk = Arc::new(alloc, Desk::new(alloc)).map_err(AllocError::from)?;
         let events = Events::with_capacity(alloc, MOST_EVENTS)?;
         let input = vec![in alloc; 0u8; READ_SIZE]?;
         let Ok(poll) = Poll::new(rt) else {
-            return Err(Shortage::Thread);
+            return Err(HallFault::Descriptor);
         };
         Ok(Hall {
             desk,
@@ -60,10 +85,10 @@ impl Hall {
     }
 
     /// What wakes the thread.
-    pub fn waker(&self) -> Result<Waker, Shortage> {
+    pub fn waker(&self) -> Result<Waker, HallFault> {
         match Waker::new(self.poll.registry(), CALL) {
             Ok(waker) => Ok(waker),
-            Err(_) => Err(Shortage::Thread),
+            Err(_) => Err(HallFault::Descriptor),
         }
     }
 }

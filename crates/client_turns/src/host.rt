@@ -3,110 +3,104 @@
 use crate::desk::Newcomer;
 use crate::guest::Guest;
 use crate::hall::{CALL, Hall};
+use crate::register::Register;
+use listener::SharedGate;
 use mio::Token;
-use node_cell::{HoldsCell, NodeGate};
-use shared_cluster::{
-    HasLinks, Incident, Mail, Node, Runtime, SeeingGate, SharedCluster, Shortage,
-};
 use slab::Slab;
 use std::alloc::{AllocError, Global};
 use std::collections::VecDeque;
 use std::io;
 use std::net::TcpStream;
-use std::sync::Arc;
+use std::rt::Clock;
+use std::sync::Wait;
 use std::time::Duration;
 
 // How many milliseconds pass at most before what wants memory is tried again where memory was refused.
 const PAUSE: u64 = 10;
 
-/// Serves clients of the node of that number, those that come to the desk of the hall, until the node is closed and all of them have
-/// left.
-pub fn serve_guests<C: HasLinks<R> + Drop, R: Runtime>(
-    rt: R,
+/// Serves the clients that come to the desk of the hall at the node of the gate, until the node is closed and all of them have left. The register
+/// is told of each that leaves.
+pub fn serve_guests<G: SharedGate, L: Register, R: Clock + Wait>(
+    rt: &R,
     alloc: Global,
-    cluster: &SharedCluster<C>,
-    number: usize,
+    gate: &mut G,
+    register: &L,
     hall: Hall,
 ) {
-    let Some(node) = cluster.node(number) else {
-        return;
-    };
-    let mut gate = SeeingGate::new(rt, alloc, cluster, node, number, Mail::IsSent);
-    let mut host = Host::new(rt, alloc, cluster, node, number, hall);
-    host.serve(&mut gate);
+    let mut host = Host::new(alloc, hall);
+    for _ in rt.forever() {
+        host.turn(rt, gate, register);
+        if gate.is_closed() && host.is_alone(rt) {
+            return;
+        }
+    }
 }
 
-#[derive(Drop)]
-struct Host<'n, C: HasLinks<R>, R: Runtime> {
-    rt: R,
+struct Host<G: SharedGate> {
     alloc: Global,
-    cluster: &'n SharedCluster<C>,
-    node: &'n Node<C>,
-    number: usize,
     hall: Hall,
-    guests: Slab<Guest<C>, Global>,
+    guests: Slab<Guest<G>, Global>,
     // The keys of those that have their turn, each once, and of those that wait for a reply. There is room for all in each list.
     due: VecDeque<usize>,
     listening: VecDeque<usize>,
+    // The keys of those that were told why their conversation ended, and are still read for a moment, in the order in which they began that.
+    // There is room for all here, too.
+    lingering: VecDeque<usize>,
     // How many of those that have their turn only wait for memory.
     starved: usize,
 }
 
-impl<'n, C: HasLinks<R> + Drop, R: Runtime> Host<'n, C, R> {
-    fn new(
-        rt: R,
-        alloc: Global,
-        cluster: &'n SharedCluster<C>,
-        node: &'n Node<C>,
-        number: usize,
-        hall: Hall,
-    ) -> Host<'n, C, R> {
+// It does what the derive would. Written out it is one call wherever a host is let go.
+impl<G: SharedGate> Drop for Host<G> {
+    fn drop(self) {
+        let Host {
+            alloc: _,
+            hall: _,
+            guests: _,
+            due: _,
+            listening: _,
+            lingering: _,
+            starved: _,
+        } = self;
+    }
+}
+
+impl<G: SharedGate> Host<G> {
+    fn new(alloc: Global, hall: Hall) -> Host<G> {
         Host {
-            rt,
             alloc,
-            cluster,
-            node,
-            number,
             hall,
             guests: Slab::new(alloc),
             due: VecDeque::new(alloc),
             listening: VecDeque::new(alloc),
+            lingering: VecDeque::new(alloc),
             starved: 0,
-        }
-    }
-
-    fn serve(&mut self, gate: &mut SeeingGate<'n, C, R>) {
-        let rt = self.rt;
-        for _ in rt.forever() {
-            self.turn(gate);
-            if self.has_ended() {
-                return;
-            }
         }
     }
 
     // A turn of all clients for whom there is something to be done. They are read and written to while others may have the node, and
     // ask it one behind another.
-    fn turn(&mut self, gate: &mut SeeingGate<'n, C, R>) {
-        let is_called = self.wait();
-        let is_closed = self.node.shared.is_closed();
+    fn turn<L: Register, R: Clock + Wait>(&mut self, rt: &R, gate: &mut G, register: &L) {
+        let is_called = self.wait(rt, gate.is_closed());
+        let is_closed = gate.is_closed();
         if is_called {
-            self.welcome();
+            self.welcome(rt, gate, register);
         }
         if is_called || is_closed {
             self.listen(gate, is_closed);
         }
         self.read();
         self.ask(gate);
-        self.write();
-        self.let_go();
+        self.write(rt);
+        self.end_lingering(rt);
+        self.let_go(register);
         self.settle();
         gate.send();
     }
 
     // Waits until there is something to be done, notes for whom, and says whether the thread was woken.
-    fn wait(&mut self) -> bool {
-        let patience = self.patience();
+    fn wait<R: Clock>(&mut self, rt: &R, is_closed: bool) -> bool {
+        let patience = self.patience(rt, is_closed);
         let _waited = self.hall.poll.poll(&mut self.hall.events, patience);
         let mut is_called = false;
         for event in self.hall.events.iter() {
@@ -123,49 +117,57 @@ impl<'n, C: HasLinks<R> + Drop, R: Runtime> Host<'n, C, R> {
     }
 
     // How long there is nothing to do if nothing comes.
-    fn patience(&self) -> Option<Duration> {
+    fn patience<R: Clock>(&self, rt: &R, is_closed: bool) -> Option<Duration> {
         // Nobody wakes the thread for those that wait for a reply once the node is closed.
-        let wait_in_vain = self.node.shared.is_closed() && !self.listening.is_empty();
+        let wait_in_vain = is_closed && !self.listening.is_empty();
         if wait_in_vain || self.due.len() > self.starved {
             return Some(Duration::ZERO);
         }
-        match self.starved {
+        let pause = match self.starved {
             0 => None,
             _ => Some(Duration::from_millis(PAUSE)),
-        }
+        };
+        shorter(pause, self.lingering_left(rt))
+    }
+
+    // For how long the first of those is read that are still read for a moment.
+    fn lingering_left<R: Clock>(&self, rt: &R) -> Option<Duration> {
+        let guest = self.guests.get(*self.lingering.front()?)?;
+        Some(guest.time_left(rt).unwrap_or(Duration::ZERO))
     }
 
     // Takes those in that wait at the desk.
-    fn welcome(&mut self) {
-        let rt = self.rt;
+    fn welcome<L: Register, R: Wait>(&mut self, rt: &R, gate: &G, register: &L) {
         for _ in rt.forever() {
-            let Some(Newcomer { stream, client }) = self.hall.desk.take(&rt) else {
+            let Some(newcomer) = self.hall.desk.take(rt) else {
                 return;
             };
-            if self.admit(stream, client).is_err() {
-                self.cluster.clients.remove(&rt, client);
-                let refused = Incident::ClientRefused {
-                    node: self.number,
-                    shortage: Shortage::Memory,
-                };
-                self.cluster.witness().see(&rt, refused);
+            let client = newcomer.client;
+            if !self.admit(gate, newcomer) {
+                register.note_refused(client);
             }
         }
     }
 
-    // Takes a client in. An error is that there is no memory for it, here or in the system.
-    fn admit(&mut self, stream: Arc<TcpStream, Global>, client: usize) -> io::Result<()> {
+    // Takes a client in, and says whether there was memory for it, here and in the system.
+    fn admit(&mut self, gate: &G, newcomer: Newcomer) -> bool {
+        let Newcomer { stream, client } = newcomer;
+        if self.prepare(&*stream).is_err() {
+            return false;
+        }
+        self.add(Guest::new(stream, client, gate.begin())).is_ok()
+    }
+
+    // Prepares all for a client on this connection. An error is that there is no memory for it, here or in the system.
+    fn prepare(&mut self, stream: &TcpStream) -> io::Result<()> {
         self.make_room()?;
         stream.set_nonblocking(true)?;
         // A reply is one write, so nothing is gained by waiting for more.
         let _nodelay = stream.set_nodelay(true);
-        let key = self.guests.vacant_key();
-        self.hall.register(&*stream, key)?;
-        self.add(Guest::new(stream, client, self.node.begin()))?;
-        Ok(())
+        self.hall.register(stream, self.guests.vacant_key())
     }
 
-    fn add(&mut self, mut guest: Guest<C>) -> Result<(), AllocError> {
+    fn add(&mut self, mut guest: Guest<G>) -> Result<(), AllocError> {
         let key = self.guests.vacant_key();
         add_due(&mut self.due, key, &mut guest);
         let _key = self.guests.insert(guest).map_err(AllocError::from)?;
@@ -177,11 +179,12 @@ impl<'n, C: HasLinks<R> + Drop, R: Runtime> Host<'n, C, R> {
         let count = self.guests.len().saturating_add(1);
         self.due.reserve(count)?;
         self.listening.reserve(count)?;
+        self.lingering.reserve(count)?;
         self.guests.reserve(1)
     }
 
     // Takes replies that came later.
-    fn listen(&mut self, gate: &mut SeeingGate<'n, C, R>, is_closed: bool) {
+    fn listen(&mut self, gate: &mut G, is_closed: bool) {
         for _ in 0..self.listening.len() {
             let Some(key) = self.listening.pop_front() else {
                 break;
@@ -209,7 +212,7 @@ impl<'n, C: HasLinks<R> + Drop, R: Runtime> Host<'n, C, R> {
 
     // Has the node answer requests. Messages that these leave are sent behind the replies, or carried at once where a client waits for what others
     // answer.
-    fn ask(&mut self, gate: &mut SeeingGate<'n, C, R>) {
+    fn ask(&mut self, gate: &mut G) {
         let mut is_awaited = false;
         for key in self.due.iter() {
             if let Some(guest) = self.guests.get_mut(*key) {
@@ -225,7 +228,7 @@ impl<'n, C: HasLinks<R> + Drop, R: Runtime> Host<'n, C, R> {
     }
 
     // Carries messages, and takes the replies that come of them at once.
-    fn carry(&mut self, gate: &mut SeeingGate<'n, C, R>) {
+    fn carry(&mut self, gate: &mut G) {
         gate.carry();
         for key in self.due.iter() {
             if let Some(guest) = self.guests.get_mut(*key)
@@ -237,40 +240,62 @@ impl<'n, C: HasLinks<R> + Drop, R: Runtime> Host<'n, C, R> {
         gate.leave_to_others();
     }
 
-    fn write(&mut self) {
+    fn write<R: Clock>(&mut self, rt: &R) {
         for key in self.due.iter() {
             if let Some(guest) = self.guests.get_mut(*key) {
-                guest.write();
+                guest.write(rt);
             }
         }
     }
 
+    // Reads those no more that were read long enough. They have their turn, in which they are let go.
+    fn end_lingering<R: Clock>(&mut self, rt: &R) {
+        for _ in 0..self.lingering.len() {
+            let Some(key) = self.lingering.front().copied() else {
+                break;
+            };
+            let Some(guest) = self.guests.get_mut(key) else {
+                break;
+            };
+            if guest.time_left(rt).is_some() {
+                break;
+            }
+            guest.stop_lingering();
+            guest.is_lingering = false;
+            add_due(&mut self.due, key, guest);
+            let _first = self.lingering.pop_front();
+        }
+    }
+
     // Lets those go for whom nothing more is done.
-    fn let_go(&mut self) {
+    fn let_go<L: Register>(&mut self, register: &L) {
         for index in 0..self.due.len() {
             let Some(key) = self.due.get(index).copied() else {
                 break;
             };
             if self.guests.get(key).is_some_and(|guest| guest.is_over()) {
-                self.remove(key);
+                self.remove(key, register);
             }
         }
     }
 
-    fn remove(&mut self, key: usize) {
+    fn remove<L: Register>(&mut self, key: usize, register: &L) {
         let Some(guest) = self.guests.try_remove(key) else {
             return;
         };
         if guest.is_listening {
             self.listening.retain(|other| *other != key);
         }
+        if guest.is_lingering {
+            self.lingering.retain(|other| *other != key);
+        }
         self.hall.deregister(guest.raw_fd());
         let client = guest.client;
         drop(guest);
-        self.cluster.clients.remove(&self.rt, client);
+        register.note_left(client);
     }
 
-    // Keeps those in the lists that go on at once, and those that wait for a reply.
+    // Keeps those in the lists that go on at once, those that wait for a reply, and those that are still read for a moment.
     fn settle(&mut self) {
         self.starved = 0;
         for _ in 0..self.due.len() {
@@ -283,6 +308,9 @@ impl<'n, C: HasLinks<R> + Drop, R: Runtime> Host<'n, C, R> {
             if guest.is_parked() {
                 add_listening(&mut self.listening, key, guest);
             }
+            if guest.is_leaving() {
+                add_lingering(&mut self.lingering, key, guest);
+            }
             guest.is_due = false;
             if guest.goes_on() {
                 add_due(&mut self.due, key, guest);
@@ -291,26 +319,38 @@ impl<'n, C: HasLinks<R> + Drop, R: Runtime> Host<'n, C, R> {
         }
     }
 
-    // Whether the node is closed and all clients have left. None comes any more then.
-    fn has_ended(&self) -> bool {
-        self.node.shared.is_closed() && self.guests.is_empty() && self.hall.desk.close(&self.rt)
+    // Whether all clients have left, and none waits at the desk, which takes none from then on.
+    fn is_alone<R: Wait>(&self, rt: &R) -> bool {
+        self.guests.is_empty() && self.hall.desk.close(rt)
     }
 }
 
 // Gives a client its turn.
-fn add_due<C: HoldsCell + Drop>(due: &mut VecDeque<usize>, key: usize, guest: &mut Guest<C>) {
+fn add_due<G: SharedGate>(due: &mut VecDeque<usize>, key: usize, guest: &mut Guest<G>) {
     if !guest.is_due {
         guest.is_due = due.push_back(key).is_ok();
     }
 }
 
 // Has a client wait for a reply.
-fn add_listening<C: HoldsCell + Drop>(
-    listening: &mut VecDeque<usize>,
-    key: usize,
-    guest: &mut Guest<C>,
-) {
+fn add_listening<G: SharedGate>(listening: &mut VecDeque<usize>, key: usize, guest: &mut Guest<G>) {
     if !guest.is_listening {
         guest.is_listening = listening.push_back(key).is_ok();
+    }
+}
+
+// Has a client be read for a moment that was told why its conversation ended.
+fn add_lingering<G: SharedGate>(lingering: &mut VecDeque<usize>, key: usize, guest: &mut Guest<G>) {
+    if !guest.is_lingering {
+        guest.is_lingering = lingering.push_back(key).is_ok();
+    }
+}
+
+// The shorter one of these times, where None has no end.
+fn shorter(one: Option<Duration>, other: Option<Duration>) -> Option<Duration> {
+    match (one, other) {
+        (Some(one), Some(other)) => Some(one.min(other)),
+        (Some(time), None) | (None, Some(time)) => Some(time),
+        (None, None) => None,
     }
 }

@@ -5,7 +5,11 @@ mod desk;
 mod guest;
 mod hall;
 mod host;
+mod lingering;
+mod register;
 
-pub use desk::{Desk, Newcomer};
-pub use hall::Hall;
+pub use desk::{Desk, DeskFault, Newcomer};
+pub use hall::{Hall, HallFault};
 pub use host::serve_guests;
+pub use lingering::{Lingering, is_told};
+pub use register::Register;

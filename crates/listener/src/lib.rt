@@ -8,6 +8,7 @@ mod fault;
 mod input;
 mod outgoing;
 mod requests;
+mod shared_gate;
 mod talk;
 
 pub use connection::serve_conn;
@@ -15,4 +16,5 @@ pub use farewell::Farewell;
 pub use fault::ConnFault;
 pub use outgoing::Left;
 pub use requests::{Next, Rest};
+pub use shared_gate::SharedGate;
 pub use talk::Talk;

@@ -4,7 +4,6 @@ use crate::changes::Changes;
 use crate::linked::HasLinks;
 use crate::node::Node;
 use crate::shared::SharedCluster;
-use links::MOST_MESSAGES;
 use node_cell::HoldsCell;
 use slot_table::NodeNo;
 use std::alloc::Global;
@@ -13,17 +12,20 @@ use std::rt::Clock;
 use std::sync::Wait;
 use std::time::{Duration, Instant};
 
-// How many seconds the thread sleeps at most before it looks for messages again. It is told of each, so they may be many.
+// How many seconds the thread sleeps at most before it looks for messages again. Only a safety net: the thread is woken for every message.
 const LONG: u64 = 3600;
 
 // How many messages of a node are taken at most under one hold of the lock, before clients are let in.
 const MOST_TAKEN: u32 = 64;
 
-// Once they took so many milliseconds no more of them are taken under that hold.
-const LONG_HOLD: u64 = 10;
+// Once they took so many microseconds no more of them are taken under that hold.
+const LONG_HOLD: u64 = 500;
 
-// A message that took so many milliseconds made the node copy all of its keys for a replica.
-const LONG_STEP: u64 = 100;
+// The clock is read once for so many messages.
+const MESSAGES_A_READING: u32 = 8;
+
+// For so many microseconds the thread leaves the node to those who have waited long for it, where it has more messages for it.
+const TURN: u64 = 200;
 
 // How many milliseconds it sleeps where memory was refused for messages that wait for their links.
 const PAUSE: u64 = 10;
@@ -49,6 +51,8 @@ pub fn carry<C: HasLinks<R> + Drop, R: Clock + Wait>(
         cluster.call(round.called);
         if !round.has_received {
             node.shared.wait_for_mail(rt, seen, round.rest());
+        } else if round.is_unfinished() && node.shared.is_pressed() {
+            cluster.stop.sleep(rt, Duration::from_micros(TURN));
         }
     }
 }
@@ -174,7 +178,7 @@ impl Called {
 #[derive(Clone, Copy)]
 struct Round {
     has_received: bool,
-    // As many messages of a node were taken as are taken at once, so more may have come.
+    // As many messages were taken as are taken at once, so more may have come.
     has_more: bool,
     // There was memory for the messages that wait for their links.
     are_sorted: bool,
@@ -222,12 +226,15 @@ fn exchange<C: HasLinks<R> + Drop, R: Clock + Wait>(
     if node.shared.is_closed() {
         return lose_each::<C, R>(cell, count, called);
     }
-    let most = receive_from_all(rt, cell, count, changes, &mut called);
+    // What steps have left is on its way before a replica is heard that lacks it.
+    let has_sent = cell.has_sent() && send_to_all(rt, cell, count, &mut called).has_sent;
+    let taking = receive_from_all(rt, cell, node, count, changes, &mut called);
     let sending = send_to_all(rt, cell, count, &mut called);
-    node.shared.note_pace(cell.is_behind(), sending.has_sent);
+    node.shared
+        .note_pace(cell.is_behind(), has_sent || sending.has_sent);
     Round {
-        has_received: most > 0,
-        has_more: most == MOST_TAKEN,
+        has_received: taking.has_received,
+        has_more: taking.has_more,
         are_sorted: sending.are_sorted,
         called,
     }
@@ -252,64 +259,87 @@ fn lose_each<C: HasLinks<R> + Drop, R: Wait>(cell: &mut C, count: usize, called:
     }
 }
 
-// Takes the next messages from each node. It gives how many were taken from the one of which most were.
+// What came of one look at the messages that have come.
+#[derive(Clone, Copy)]
+struct Taking {
+    // When it began. Without a clock it isn't known.
+    begun: Option<Instant>,
+    has_received: bool,
+    // As many were taken as are taken at once, so more may have come.
+    has_more: bool,
+}
+
+impl Taking {
+    fn begin<R: Clock>(rt: &R) -> Taking {
+        Taking {
+            begun: Instant::now(rt).ok(),
+            has_received: false,
+            has_more: false,
+        }
+    }
+
+    // Notes how many messages of a node were taken.
+    fn note(&mut self, taken: u32) {
+        self.has_received |= taken > 0;
+        self.has_more |= taken == MOST_TAKEN;
+    }
+
+    // Whether it has taken long. Without a clock it hasn't.
+    fn is_long<R: Clock>(&self, rt: &R) -> bool {
+        let Some(passed) = self.begun.and_then(|begun| begun.elapsed(rt).ok()) else {
+            return false;
+        };
+        passed >= Duration::from_micros(LONG_HOLD)
+    }
+}
+
+// Takes the next messages from each node, until that has taken long. The next time the node behind the last one is the first.
 fn receive_from_all<C: HasLinks<R> + Drop, R: Clock + Wait>(
     rt: &R,
     cell: &mut C,
+    node: &Node<C>,
     count: usize,
     changes: &mut Changes<'_>,
     called: &mut Called,
-) -> u32 {
-    let mut most = 0;
-    for number in 0..count {
-        most = receive_all(rt, cell, number, changes, called).max(most);
+) -> Taking {
+    let first = node.first_sender().min(count);
+    let mut taking = Taking::begin(rt);
+    for number in first..count {
+        if !receive_all(rt, cell, number, &mut taking, changes, called) {
+            node.note_first_sender(number + 1);
+            return taking;
+        }
     }
-    most
+    for number in 0..first {
+        if !receive_all(rt, cell, number, &mut taking, changes, called) {
+            node.note_first_sender(number + 1);
+            return taking;
+        }
+    }
+    taking
 }
 
-// Takes the next messages from the other node, and says how many there were: as many as are taken at once also where these took long.
+// Takes the next messages from the other node, and says whether there is time for those of others.
 fn receive_all<C: HasLinks<R> + Drop, R: Clock + Wait>(
     rt: &R,
     cell: &mut C,
     number: usize,
+    taking: &mut Taking,
     changes: &mut Changes<'_>,
     called: &mut Called,
-) -> u32 {
-    let begun = Instant::now(rt).ok();
+) -> bool {
     for taken in 0..MOST_TAKEN {
+        if taken % MESSAGES_A_READING == MESSAGES_A_READING - 1 && taking.is_long(rt) {
+            taking.note(MOST_TAKEN);
+            return false;
+        }
         if !receive_from(rt, cell, number, changes, called) {
-            return taken;
-        }
-        let took = time_since(rt, begun);
-        if took >= Duration::from_millis(LONG_STEP) {
-            lose_late(cell, number, called);
-        }
-        if took >= Duration::from_millis(LONG_HOLD) {
-            return MOST_TAKEN;
+            taking.note(taken);
+            return true;
         }
     }
-    MOST_TAKEN
-}
-
-// Nothing where there is no clock.
-fn time_since<R: Clock>(rt: &R, begun: Option<Instant>) -> Duration {
-    begun
-        .and_then(|begun| begun.elapsed(rt).ok())
-        .unwrap_or(Duration::ZERO)
-}
-
-// Has a master lose what its replica sent while the master copied all of its keys for it. The replica asks anew at each tick, and each time
-// would get them all once more: where that takes longer than a tick nothing else would ever be done.
-fn lose_late<C: HasLinks<R> + Drop, R: Wait>(cell: &mut C, number: usize, called: &mut Called) {
-    if cell.core().own_master().is_some() {
-        return;
-    }
-    for _ in 0..MOST_MESSAGES {
-        if !cell.lose_from(number) {
-            return;
-        }
-        note_room(cell, number, called);
-    }
+    taking.note(MOST_TAKEN);
+    !taking.is_long(rt)
 }
 
 // Takes the next message from the other node, and says whether there was one.

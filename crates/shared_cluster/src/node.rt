@@ -1,10 +1,13 @@
 //! A node of a cluster that is served.
+ghost use Rattle.std.specs.Prelude.{◌≡◌, []};
 
 use node_cell::{Admission, Asks, HoldsCell};
 use shared_node::SharedNode;
+use slot_table::NodeNo;
 use std::io;
 use std::net::{Net, TcpListener, TcpStream};
 use std::os::fd::OwnedFd;
+use std::sync::atomic::{AtomicU64, Ordering};
 use std::time::Duration;
 
 // How many milliseconds a connection may take that wakes a thread which accepts. Where too many others wait to be accepted it is
@@ -19,6 +22,8 @@ pub struct Node<C: HoldsCell> {
     admission: Admission<C::Cluster>,
     /// Where its clients connect.
     pub listener: TcpListener,
+    // The node whose messages are taken first the next time.
+    first_sender: AtomicU64,
 }
 
 impl<C: HoldsCell + Drop> Node<C> {
@@ -28,6 +33,7 @@ impl<C: HoldsCell + Drop> Node<C> {
             shared: SharedNode::new(cell),
             admission,
             listener,
+            first_sender: AtomicU64::new(0),
         }
     }
 
@@ -37,8 +43,19 @@ impl<C: HoldsCell + Drop> Node<C> {
     }
 
     /// What is asked of the node by one conversation: nothing yet.
-    pub fn begin(&self) -> Asks<C::Cluster> {
+    pub fn begin(&self) -> Asks<C::Cluster>
+        ensures { result ≡ [] }
+    {
         self.admission.begin()
+    }
+
+    // The number of the node whose messages are taken first. It may be greater than that of the last node.
+    pub(crate) fn first_sender(&self) -> usize {
+        self.first_sender.load(Ordering::Relaxed) as usize % NodeNo::COUNT
+    }
+
+    pub(crate) fn note_first_sender(&self, number: usize) {
+        self.first_sender.store(number as u64, Ordering::Relaxed);
     }
 
     /// Wakes the thread that accepts clients.

@@ -60,8 +60,28 @@ pub enum Incident {
         epoch: u64,
         offset: u64,
     },
+    /// The node's clients have waited for each other for some time.
+    ClientsCrowd {
+        node: usize,
+    },
     /// So many incidents found too many others waiting.
     Missed(u64),
+}
+
+impl Incident {
+    // Whether it is for whoever runs the cluster, in place of for its log.
+    fn is_advice(&self) -> bool {
+        matches!(self, Incident::ClientsCrowd { .. })
+    }
+}
+
+/// What somebody wants to hear.
+#[derive(Clone, Copy, PartialEq, Eq, Debug)]
+pub enum Hearing {
+    /// All incidents.
+    All,
+    /// What is well to know for whoever runs the cluster, and nothing else.
+    Advice,
 }
 
 /// An incident, and how long after the beginning it happened.
@@ -75,8 +95,8 @@ pub struct Heard {
 /// something, however slow the listener is.
 #[derive(Drop)]
 pub struct Witness {
-    // The beginning, where somebody listens.
-    begun: Option<Instant>,
+    // What somebody wants to hear, and the beginning, where somebody listens.
+    heard: Option<(Hearing, Instant)>,
     seen: Mutex<Seen>,
     // It rings where something waits to be heard, and at the end.
     bell: Condvar,
@@ -97,13 +117,14 @@ impl Witness {
         Witness::over(None, VecDeque::new(alloc))
     }
 
-    /// One to which somebody listens. Now is the beginning, where there is a clock.
-    pub fn heard<R: Clock>(rt: &R, alloc: Global) -> Result<Witness, AllocError> {
+    /// One to which somebody listens who wants to hear this. Now is the beginning, where there is a clock.
+    pub fn heard<R: Clock>(rt: &R, alloc: Global, hearing: Hearing) -> Result<Witness, AllocError> {
         let waiting = VecDeque::with_capacity(alloc, MOST_WAITING)?;
-        Ok(Witness::over(Instant::now(rt).ok(), waiting))
+        let heard = Instant::now(rt).ok().map(|begun| (hearing, begun));
+        Ok(Witness::over(heard, waiting))
     }
 
-    fn over(begun: Option<Instant>, waiting: VecDeque<Heard>) -> Witness {
+    fn over(heard: Option<(Hearing, Instant)>, waiting: VecDeque<Heard>) -> Witness {
         let seen = Seen {
             waiting,
             missed: 0,
@@ -111,20 +132,29 @@ impl Witness {
             has_ended: false,
         };
         Witness {
-            begun,
+            heard,
             seen: Mutex::new(seen),
             bell: Condvar::new(),
         }
     }
 
-    /// Whether somebody listens.
+    /// Whether somebody listens who wants to hear all.
     pub fn is_heard(&self) -> bool {
-        self.begun.is_some()
+        matches!(self.heard, Some((Hearing::All, _)))
+    }
+
+    // When the beginning was, if somebody wants to hear this.
+    fn begun_for(&self, incident: Incident) -> Option<Instant> {
+        match self.heard? {
+            (Hearing::All, begun) => Some(begun),
+            (Hearing::Advice, begun) if incident.is_advice() => Some(begun),
+            (Hearing::Advice, _) => None,
+        }
     }
 
     /// Sees the incident. It waits for no listener, so it may be called behind the lock of a node.
     pub fn see<R: Clock + Wait>(&self, rt: &R, incident: Incident) {
-        let Some(begun) = self.begun else {
+        let Some(begun) = self.begun_for(incident) else {
             return;
         };
         // The times of incidents rise as they are told, so the clock is read behind the lock.

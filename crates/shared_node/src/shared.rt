@@ -13,6 +13,9 @@ const MOST_STEPS: u64 = 4096;
 // How many milliseconds a client's thread waits at most before its next step, where its node's messages wait in too great numbers.
 const PACE: u64 = 10;
 
+// And where none of them can be sent, because the node that they are for takes none.
+const LONG_PACE: u64 = 100;
+
 // How often a thread lets others run before it counts as one that waits long. Newcomers don't try to lock the node while there are
 // such threads, so that these come first.
 const FEW_YIELDS: u32 = 5;
@@ -27,6 +30,8 @@ pub struct SharedNode<C: HoldsCell> {
     cell: Mutex<C>,
     // How many threads wait long for the lock.
     pressed: AtomicU64,
+    // How often a thread has slept until the lock was free.
+    sleeps: AtomicU64,
     // It rings where replies are kept for connections that wait.
     replies: Condvar,
     // It rings where messages are to be sent, or may have come.
@@ -39,6 +44,8 @@ pub struct SharedNode<C: HoldsCell> {
     steps: AtomicU64,
     // Those that were taken wait for their links in too great numbers.
     are_many: AtomicBool,
+    // None of these was sent as they were last looked at.
+    are_stuck: AtomicBool,
     // Once it is closed, nobody waits here for a reply any more.
     is_closed: AtomicBool,
 }
@@ -49,12 +56,14 @@ impl<C: HoldsCell + Drop> SharedNode<C> {
         SharedNode {
             cell: Mutex::new(cell),
             pressed: AtomicU64::new(0),
+            sleeps: AtomicU64::new(0),
             replies: Condvar::new(),
             mail: Condvar::new(),
             sent: Condvar::new(),
             wakers: OnceLock::new(),
             steps: AtomicU64::new(0),
             are_many: AtomicBool::new(false),
+            are_stuck: AtomicBool::new(false),
             is_closed: AtomicBool::new(false),
         }
     }
@@ -111,15 +120,26 @@ impl<C: HoldsCell + Drop> SharedNode<C> {
             }
             thread::yield_now();
         }
+        self.sleeps.fetch_add(1, Ordering::Relaxed);
         self.cell.lock(rt)
+    }
+
+    /// How often a thread has waited so long for the node's lock that it slept.
+    pub fn sleeps(&self) -> u64 {
+        self.sleeps.load(Ordering::Relaxed)
     }
 
     /// Locks the node, if nobody has it or has waited long for it.
     pub fn try_lock(&self) -> Option<MutexGuard<'_, C>> {
-        match self.pressed.load(Ordering::SeqCst) {
-            0 => self.cell.try_lock(),
-            _ => None,
+        match self.is_pressed() {
+            true => None,
+            false => self.cell.try_lock(),
         }
+    }
+
+    /// Whether threads have waited long for the node's lock.
+    pub fn is_pressed(&self) -> bool {
+        self.pressed.load(Ordering::SeqCst) > 0
     }
 
     /// Tells those who wait what the last step left for them in the cell.
@@ -150,6 +170,8 @@ impl<C: HoldsCell + Drop> SharedNode<C> {
         let was_behind = self.is_behind();
         self.steps.store(0, Ordering::SeqCst);
         self.are_many.store(are_many, Ordering::SeqCst);
+        self.are_stuck
+            .store(are_many && !has_sent, Ordering::SeqCst);
         if was_behind && has_sent {
             self.sent.notify_all();
         }
@@ -164,7 +186,15 @@ impl<C: HoldsCell + Drop> SharedNode<C> {
     pub(crate) fn keep_pace<R: Wait>(&self, rt: &R) {
         let seen = self.sent.notifications();
         if self.is_behind() {
-            self.sent.sleep(rt, seen, Duration::from_millis(PACE));
+            self.sent.sleep(rt, seen, self.pace());
+        }
+    }
+
+    // For how long a client's thread waits at most.
+    fn pace(&self) -> Duration {
+        match self.are_stuck.load(Ordering::SeqCst) {
+            true => Duration::from_millis(LONG_PACE),
+            false => Duration::from_millis(PACE),
         }
     }
 
@@ -195,7 +225,7 @@ impl<C: HoldsCell + Drop> SharedNode<C> {
     /// Ends all waits for replies, and those that would begin.
     pub fn close<R: Wait>(&self, rt: &R) {
         self.is_closed.store(true, Ordering::SeqCst);
-        // Whoever has looked at the flag before sleeps by now, or has left.
+        // Taking the lock once waits for any thread that saw the old flag: it sleeps by now and hears the bell, or has left.
         drop(self.cell.lock(rt));
         self.replies.notify_all();
         self.mail.notify_all();

@@ -1,0 +1,45 @@
+//! Why an input can't be taken.
+
+use cluster_config::ConfigFault;
+use std::alloc::AllocError;
+
+/// Why an input can't be taken.
+#[derive(Clone, Copy)]
+pub enum InputFault {
+    /// The file can't be read.
+    Unreadable,
+    /// It describes no cluster.
+    Config(ConfigFault),
+    /// The line of the script is no step. Lines are counted from 1.
+    Script(u64),
+    /// Memory was refused.
+    Memory,
+}
+
+/// Why an input can't be taken: the fault, and a sentence that says what is wrong and where.
+#[derive(Drop)]
+pub struct InputFailure {
+    /// The fault.
+    pub fault: InputFault,
+    /// What is wrong and where, or None where the fault says enough, or where there was no memory for more.
+    pub detail: Option<String>,
+}
+
+impl InputFailure {
+    /// The fault, with what is wrong and where.
+    pub(crate) fn new(fault: InputFault, detail: Result<String, AllocError>) -> InputFailure {
+        InputFailure {
+            fault,
+            detail: detail.ok(),
+        }
+    }
+}
+
+impl From<AllocError> for InputFailure {
+    fn from(_refused: AllocError) -> InputFailure {
+        InputFailure {
+            fault: InputFault::Memory,
+            detail: None,
+        }
+    }
+}

@@ -1,0 +1,96 @@
+//! The files that the program reads.
+ghost use Rattle.std.specs.Prelude.{◌≤◌, length};
+
+use crate::failure::{InputFailure, InputFault};
+use crate::steps::NoStep;
+use client_tools::Shown;
+use cluster_config::{Config, ConfigFault, read_config};
+use config_report::report;
+use simulator::{ScriptFault, read_script};
+use std::alloc::{AllocError, Global};
+use std::fs;
+use std::io::ErrorKind;
+use std::rt::Files;
+use world::Step;
+
+/// The cluster that the file describes.
+pub fn read_cluster<R: Files + AllocGlobal>(rt: &R, path: &str) -> Result<Config, InputFailure> {
+    let alloc = rt.alloc();
+    let text = read(rt, path)?;
+    match read_config(alloc, text.as_slice()) {
+        Ok(config) => Ok(config),
+        Err(fault) => {
+            let detail = report_in(alloc, path, text.as_slice(), fault);
+            Err(InputFailure::new(InputFault::Config(fault), detail))
+        }
+    }
+}
+
+/// The steps of the script in the file.
+pub fn read_steps<R: Files + AllocGlobal>(rt: &R, path: &str) -> Result<Vec<Step>, InputFailure> {
+    let alloc = rt.alloc();
+    let text = read(rt, path)?;
+    match read_script(alloc, text.as_slice()) {
+        Ok(steps) => Ok(steps),
+        Err(ScriptFault::Memory) => Err(InputFailure::from(AllocError)),
+        Err(ScriptFault::Line(line)) => {
+            let detail = report_line(alloc, path, line, line_of(text.as_slice(), line));
+            Err(InputFailure::new(InputFault::Script(line), detail))
+        }
+    }
+}
+
+fn read<R: Files + AllocGlobal>(rt: &R, path: &str) -> Result<Vec<u8>, InputFailure> {
+    match fs::read(rt, path) {
+        Ok(text) => Ok(text),
+        Err(error) if error.kind() == ErrorKind::OutOfMemory => {
+            Err(InputFailure::from(AllocError))
+        }
+        Err(error) => {
+            let detail = format!(in rt.alloc(); "{path} can't be read: {error}");
+            Err(InputFailure::new(InputFault::Unreadable, detail))
+        }
+    }
+}
+
+// What is wrong with the text of the file, and where.
+fn report_in(
+    alloc: Global,
+    path: &str,
+    text: &[u8],
+    fault: ConfigFault,
+) -> Result<String, AllocError> {
+    let wrong = report(alloc, text, fault)?;
+    format!(in alloc; "{path}: {wrong}")
+}
+
+// The line of that number, from 1 on, without its end.
+fn line_of(text: &[u8], number: u64) -> &[u8] {
+    let mut rest = text;
+    for _ in 1..number {
+        rest = behind_newline(rest);
+    }
+    &rest[..end_of_line(rest)]
+}
+
+fn behind_newline(text: &[u8]) -> &[u8] {
+    match text.get(end_of_line(text)..) {
+        Some([_, behind @ ..]) => behind,
+        _ => &[],
+    }
+}
+
+fn end_of_line(text: &[u8]) -> usize
+    ensures { result ≤ length text.now }
+{
+    text.iter()
+        .position(|byte| *byte == b'\n')
+        .unwrap_or(text.len())
+}
+
+// Why the line is no step, and what it is.
+fn report_line(alloc: Global, path: &str, number: u64, line: &[u8]) -> Result<String, AllocError> {
+    let why = NoStep::of(line);
+    let line = Shown(line);
+    format!(in alloc; "{path}: line {number} is no step, since {why}: \"{line}\"")
+}
