@@ -74,8 +74,15 @@ class Server:
         return (int(fields[11]) + int(fields[12])) / os.sysconf("SC_CLK_TCK")
 
     def resident_bytes(self):
+        return self.bytes_of("VmRSS")
+
+    def most_bytes(self):
+        """The most resident memory that the process had so far."""
+        return self.bytes_of("VmHWM")
+
+    def bytes_of(self, name):
         with open(f"/proc/{self.process.pid}/status", encoding="utf-8") as file:
-            return int(re.search(r"VmRSS:\s+(\d+) kB", file.read())[1]) * 1024
+            return int(re.search(rf"{name}:\s+(\d+) kB", file.read())[1]) * 1024
 
 
 def rcluster(*options, under=(), program=PROGRAM):

@@ -64,7 +64,13 @@ def run(is_refused, has_output, has_errors=True):
     answers = [state(b"foreign", ID[TARGET], 0, 3), OK] * SLOTS
     masters.nodes[SOURCE] = Slow(SOURCE, masters.asked, *(answers[:-2] + [REFUSED] if is_refused else answers))
     masters.nodes[0].answers[0] = slots_of([it.port for it in masters.nodes])
-    words = words_of(masters.ports[0], f"{SLOT}-{SLOT + SLOTS - 1}", limit=MOST_REPETITIONS)
+    outcome = on_terminals(words_of(masters.ports[0], f"{SLOT}-{SLOT + SLOTS - 1}", limit=MOST_REPETITIONS), has_output, has_errors)
+    masters.close()
+    return outcome
+
+
+def on_terminals(words, has_output=True, has_errors=True):
+    """The same of the program with these words."""
     controller, terminal = pty.openpty()
     # Nothing is changed on the way.
     tty.setraw(terminal)
@@ -81,7 +87,6 @@ def run(is_refused, has_output, has_errors=True):
         piped = pipe.read() if pipe else b""
     patience.cancel()
     os.close(controller)
-    masters.close()
     return process.returncode, piped, screen, time.monotonic() - begun
 
 

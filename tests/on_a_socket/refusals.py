@@ -5,12 +5,14 @@ with the program's and the file's name and end with the code.
 """
 
 import json
+import os
 import socket
+from unittest import mock
 
 import clusters
 import program
 from clusters import node_id, ports_of
-from wire import NIL, PING, PONG, array, bulk, moved, number, slot_of, spelled, talk
+from wire import NIL, PING, PONG, array, ask, bulk, connect, moved, number, slot_of, spelled, talk
 
 SERVE = ("serve", "--config", program.FILE)
 KEY = b"foo"
@@ -38,7 +40,9 @@ def play(judge):
     play_faulty_files(judge)
     play_scripts(judge)
     play_masters(judge)
+    play_backlogs(judge)
     play_reach(judge)
+    play_pace(judge)
     play_taken_ports(judge)
     play_words(judge)
 
@@ -102,8 +106,50 @@ def play_masters(judge):
         ("masters up to the last port", ("--masters", "3", "--port", "65533")),
         ("masters and replicas", ("--masters", "4", "--replicas", "3")),
         ("masters and replicas up to the last port", ("--masters", "2", "--replicas", "1", "--port", "65532")),
+        ("masters with the least backlog", ("--masters", "2", "--backlog", "1")),
+        ("masters and replicas with the greatest backlog", ("--masters", "2", "--replicas", "1", "--backlog", "16777216")),
     ]:
         judge.equal(f"{what}, checked alone", program.run("serve", *words, "--check"), (0, b"", b""))
+
+
+def play_backlogs(judge):
+    """How many bytes of its stream a node keeps: by an option, as the configuration has it, or else 16 MiB where there are replicas."""
+    for backlog in ("0", "16777217", "18446744073709551615"):
+        sentence = f"rcluster: backlog: {backlog} isn't from 1 to 16777216 (K8)\n"
+        for more in ((), ("--check",)):
+            came = program.run("serve", "--masters", "1", "--backlog", backlog, *more)
+            judge.equal(f"{' '.join(('a backlog of', backlog, *more))}", came, (1, b"fault K8\n", sentence.encode()))
+    least = addresses("--replicas", "1", "--backlog", "1")
+    for what, options, wanted in [
+        ("a replica, and nothing said", ("--replicas", "1"), 16),
+        ("a replica, and a backlog", ("--replicas", "1", "--backlog", str(4 << 20)), 4),
+    ]:
+        judge.equal(f"{what}: MiB that each node keeps", round((addresses(*options) - least) / 2 / (1 << 20)), wanted)
+    least = addresses("--backlog", "1")
+    judge.equal("no replica, and nothing said: MiB that the node keeps", round((addresses() - least) / (1 << 20)), 1)
+
+
+def addresses(*options):
+    """How many bytes of addresses a master that is served with these options takes, beside the stacks of its threads and small blocks."""
+    port = free_row(2)
+    # Without this the system's library has addresses for each thread, and for some of them more than for others.
+    with mock.patch.dict(os.environ, MALLOC_ARENA_MAX="1"):
+        server = program.Server({"nodes": range(2 if "--replicas" in options else 1)}, source=("--masters", "1", "--port", str(port), *options))
+        with server, connect(port) as client:
+            ask(client, PING, PONG)
+            with open(f"/proc/{server.process.pid}/maps", encoding="ascii") as file:
+                return sum(large_blocks(file))
+
+
+def large_blocks(maps):
+    """The sizes of the mappings that have no name. A stack is one, too, and stands behind a page that nobody may touch."""
+    guard = None
+    for line in maps:
+        place, rights, *_, name = [*line.split(), ""] if len(line.split()) == 5 else line.split()
+        first, behind = (int(it, 16) for it in place.split("-"))
+        if rights == "rw-p" and not name and first != guard:
+            yield behind - first
+        guard = behind if rights == "---p" else None
 
 
 def free_row(count):
@@ -126,6 +172,21 @@ def play_reach(judge):
             f"and whoever reaches port {port} reads and writes all keys\n"
         )
         judge.equal(f"a node at {host}: status and standard error", (status, error.decode()), (0, sentence if is_told else ""))
+
+
+def play_pace(judge):
+    """Where ticks are shorter than what the nodes do at one, that is told, and is no fault."""
+    for nodes, tick_ms, cost in [(16, 1, 5), (16, 4, 5), (16, 5, None), (10, 1, 2), (10, 2, None), (6, 1, None), (1, 1, None)]:
+        cluster = clusters.masters(nodes, tick_ms=tick_ms)
+        sentence = (
+            f"rcluster: ticks of {tick_ms} ms are too short for {nodes} nodes: what these tell each other at each tick "
+            f"takes a processor for some {cost} ms, and clients wait meanwhile\n"
+        )
+        wanted = sentence.encode() if cost else b""
+        what = f"{nodes} nodes with ticks of {tick_ms} ms"
+        judge.equal(f"{what}, checked alone", program.run(*SERVE, "--check", text=json.dumps(cluster)), (0, b"", wanted))
+        status, _, error = program.run(*SERVE, "--ticks", "2", text=json.dumps(cluster))
+        judge.equal(f"{what}: status and standard error", (status, error), (0, wanted))
 
 
 def play_taken_ports(judge):
@@ -191,6 +252,12 @@ def faulty_words():
     for replicas in ("16", "x"):
         yield ("serve", "--masters", "1", "--replicas", replicas), f"invalid value '{replicas}' for '--replicas <R>'"
     yield ("serve", "--masters", "1", "--replicas", "-1"), "unexpected argument '-1'"
+    yield ("serve", "--backlog", "1"), "were not provided:\n  --masters <M>\n\n"
+    yield (*SERVE, "--backlog", "1"), "cannot be used with '--backlog <N>'"
+    yield ("serve", "--masters", "1", "--backlog"), "a value is required for '--backlog <N>'"
+    yield ("serve", "--masters", "1", "--backlog", "-1"), "unexpected argument '-1'"
+    for backlog in ("x", "1.5", "18446744073709551616"):
+        yield ("serve", "--masters", "1", "--backlog", backlog), f"invalid value '{backlog}' for '--backlog <N>'"
     for count, replicas in (("2", "8"), ("9", "1"), ("16", "1"), ("4", "4"), ("2", "15")):
         yield ("serve", "--masters", count, "--replicas", replicas), "make more than 16 nodes"
 
@@ -205,7 +272,7 @@ def play_words(judge):
     judge.equal("--version", program.run("--version"), (0, b"rcluster 0.1.0\n", b""))
     status, output, error = program.run("serve", "--help")
     judge.equal("serve --help: status, and nothing on standard error", (status, error), (0, b""))
-    for option in (b"--config <FILE>", b"--masters <M>", b"--replicas <R>", b"--port <P>", b"--check", b"--ticks <N>", b"--stop <N@TICKS>", b"--loops <N>", b"--journal", b"--log"):
+    for option in (b"--config <FILE>", b"--masters <M>", b"--replicas <R>", b"--port <P>", b"--backlog <N>", b"--check", b"--ticks <N>", b"--stop <N@TICKS>", b"--loops <N>", b"--journal", b"--log"):
         judge.within(f"serve --help tells {option.decode()}", option, output)
     for verb, codes in [
         ("serve", ["F1", "F2", "F3", *(f"K{it}" for it in range(1, 9))]),

@@ -46,8 +46,11 @@ def reshard_patiently(port, *slots, **more):
 
 
 def done(error):
-    """What the line on standard error says that a run has done: the slots and keys that were moved, and the slots that were there before."""
-    told = re.fullmatch(rb"rcluster: slots moved: (\d+), keys moved: (\d+), slots that were there before: (\d+), seconds: \d+\.\d{3}\n", error)
+    """What the line on standard error says that a run has done: the slots and keys that were moved, and the slots that were there before.
+
+    On a busy machine the run may have waited for long before, and told so.
+    """
+    told = re.fullmatch(rb"(?:rcluster: waiting for .*\n)*rcluster: slots moved: (\d+), keys moved: (\d+), slots that were there before: (\d+), seconds: \d+\.\d{3}\n", error)
     return tuple(map(int, told.groups())) if told else error
 
 

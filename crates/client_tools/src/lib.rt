@@ -10,7 +10,9 @@ mod resharding;
 mod runtime;
 mod shown;
 mod sockets;
+mod target;
 mod telling;
+mod waiting;
 mod watched;
 
 pub use calling::{Request, call};

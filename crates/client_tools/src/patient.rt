@@ -1,33 +1,38 @@
 //! A way to the nodes that waits before the same is asked again.
 
+use crate::waiting::tell_wait;
+use crate::watched::Seen;
 use resp2::Reply;
 use smart_client::{Action, Event, Network};
+use std::cell::RefCell;
 use std::rt::Clock;
 use std::thread::{sleep, yield_now};
 use std::time::Duration;
 
 /// A way to the nodes for who asks the same again where a node refuses it: before each repetition others may run, and from the
-/// tenth on it waits.
+/// tenth on it waits. Waits that are long are told. Each request begins with a connection.
 #[derive(Drop)]
-pub(crate) struct Patient<R: Drop, N: Network + Drop> {
+pub(crate) struct Patient<'a, R: Drop, N: Network + Drop> {
     rt: R,
     network: N,
+    seen: &'a RefCell<Seen>,
     // How many refusals came one after another.
     refusals: u64,
 }
 
-impl<R: Drop, N: Network + Drop> Patient<R, N> {
+impl<'a, R: Drop, N: Network + Drop> Patient<'a, R, N> {
     /// The same way, on which nothing was refused yet.
-    pub(crate) fn new(rt: R, network: N) -> Patient<R, N> {
+    pub(crate) fn new(rt: R, network: N, seen: &'a RefCell<Seen>) -> Patient<'a, R, N> {
         Patient {
             rt,
             network,
+            seen,
             refusals: 0,
         }
     }
 }
 
-impl<R: Clock + Drop, N: Network + Drop> Network for Patient<R, N> {
+impl<R: Eprint + Clock + Drop, N: Network + Drop> Network for Patient<'_, R, N> {
     ghost deeds = { λ patient. N.deeds patient.network };
 
     ghost pool = { λ patient. N.pool patient.network };
@@ -35,16 +40,26 @@ impl<R: Clock + Drop, N: Network + Drop> Network for Patient<R, N> {
     ghost wires = { λ patient. N.wires patient.network };
 
     fn perform(&mut self, action: Action) -> Event {
-        if matches!(&action, Action::Send(_)) {
+        if self.refusals > 0 && matches!(&action, Action::Connect(_)) {
+            tell_wait(&self.rt, self.seen);
             pause(&self.rt, self.refusals);
         }
         let event = self.network.perform(action);
         self.refusals = refusals_after(self.refusals, &event);
+        if self.refusals == 0 {
+            end_wait(&self.rt, self.seen);
+        }
         event
     }
 
     fn close(&mut self) {
         self.network.close();
+    }
+}
+
+fn end_wait<R: Clock>(rt: &R, seen: &RefCell<Seen>) {
+    if let Ok(mut seen) = seen.try_borrow_mut() {
+        seen.waiting.end(rt);
     }
 }
 
@@ -57,9 +72,6 @@ fn refusals_after(refusals: u64, event: &Event) -> u64 {
 }
 
 fn pause<R: Clock>(rt: &R, refusals: u64) {
-    if refusals == 0 {
-        return;
-    }
     yield_now();
     let milliseconds = wait_before(refusals);
     if milliseconds > 0 {

@@ -29,7 +29,7 @@ impl Terminals {
 /// How far a run has come that moves slots, as standard error tells it where that is a terminal.
 ///
 /// The line is written over and over in one place, and taken away before anything else is printed there.
-#[derive(Drop)]
+#[derive(Clone, Copy)]
 pub(crate) struct Progress {
     terminals: Terminals,
     // How many slots are to be moved.

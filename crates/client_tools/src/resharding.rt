@@ -8,6 +8,7 @@ use crate::runtime::ToolRuntime;
 use crate::shown::Shown;
 use crate::sockets::{Sockets, no_address};
 use crate::telling::{run_failure, unlisted_failure};
+use crate::waiting::Waiting;
 use crate::watched::{Seen, Watched};
 use bytes::Bytes;
 use cluster_config::NodeId;
@@ -56,62 +57,47 @@ impl<'a> Move<'a> {
 
 /// Moves the slots, and prints a line once a slot is at its new master. A node is asked the same so often again at most.
 /// Where standard error is a terminal it tells meanwhile how far it has come, and once all slots are moved what was done.
+/// Where it waits for long it tells for what. A target that refuses connections ends the run.
 pub fn reshard<R: ToolRuntime>(
     rt: R,
     wanted: Move,
     limit: u64,
     terminals: Terminals,
 ) -> Result<(), ToolFailure> {
-    let seen = Seen::new(rt.alloc());
-    reshard_seen(rt, wanted, limit, terminals, &seen)
-}
-
-// The same, where it is seen what is asked and answered.
-fn reshard_seen<R: ToolRuntime>(
-    rt: R,
-    wanted: Move,
-    limit: u64,
-    terminals: Terminals,
-    seen: &RefCell<Seen>,
-) -> Result<(), ToolFailure> {
-    let connections = Connections::new(rt.alloc(), Sockets::new(rt, seen));
-    let network = Watched::new(Patient::new(rt, connections), seen);
-    reshard_over(&rt, network, wanted, limit, terminals, seen)
-}
-
-// The same, over this way to the nodes.
-fn reshard_over<R: ToolRuntime, N: Network + Drop>(
-    rt: &R,
-    network: N,
-    wanted: Move,
-    limit: u64,
-    terminals: Terminals,
-    seen: &RefCell<Seen>,
-) -> Result<(), ToolFailure> {
-    let alloc = rt.alloc();
-    let begun = Instant::now(rt).ok();
     let Move {
         start,
         from,
         to,
         slots,
     } = wanted;
-    let mut done = Done::new(slots.first);
-    let mut progress = Progress::new(terminals, count_of(&slots), begun);
-    let plan = plan(alloc, start, from, to, slots, limit)?;
-    let resharder = Resharder::new(alloc, network, plan);
-    let ended = move_all(rt, resharder, &mut done, &mut progress);
-    progress.end(rt);
-    match ended? {
-        Ok(()) => {
-            if from == to {
-                tell_of_one_master(rt);
-            }
-            tell(rt, &done, imports_of(seen), begun);
+    let begun = Instant::now(&rt).ok();
+    let mut done = Done::new(&slots, terminals, begun);
+    let plan = plan(rt.alloc(), start, from, to, slots, limit)?;
+    let seen = Seen::new(rt.alloc(), Waiting::new(terminals, begun));
+    let outcome = match run(rt, plan, &seen, &mut done) {
+        Ok(Ok(())) => {
+            done.tell(&rt, &seen, from == to);
             Ok(())
         }
-        Err(ReshardFault::NotListed) => Err(unlisted_failure(alloc, seen, from, to)),
-        Err(fault) => Err(run_failure(alloc, fault, seen, done.next)),
+        Ok(Err(fault)) => Err(failure_of(rt.alloc(), fault, &seen, done.next, from, to)),
+        Err(failure) => Err(failure),
+    };
+    drop(seen);
+    outcome
+}
+
+// Why the run stopped at that slot.
+fn failure_of(
+    alloc: Global,
+    fault: ReshardFault,
+    seen: &RefCell<Seen>,
+    slot: u16,
+    from: &str,
+    to: &str,
+) -> ToolFailure {
+    match fault {
+        ReshardFault::NotListed => unlisted_failure(alloc, seen, from, to),
+        fault => run_failure(alloc, fault, seen, slot),
     }
 }
 
@@ -128,53 +114,100 @@ fn plan(
     Ok(Plan::new(start, from, to, slots, limit))
 }
 
-// What a run has done so far.
-#[derive(Clone, Copy)]
-struct Done {
-    // The slot that it moves next, or moves now.
-    next: u16,
-    slots: u64,
-    keys: u64,
+// Does what is planned, and gives how that ended.
+fn run<R: ToolRuntime>(
+    rt: R,
+    plan: Plan,
+    seen: &RefCell<Seen>,
+    done: &mut Done,
+) -> Result<Result<(), ReshardFault>, ToolFailure> {
+    let connections = Connections::new(rt.alloc(), Sockets::new(rt, seen));
+    let network = Patient::new(rt, Watched::new(connections, seen), seen);
+    run_over(&rt, network, plan, done)
 }
 
-impl Done {
-    fn new(first: Slot) -> Done {
-        Done {
-            next: first.get(),
-            slots: 0,
-            keys: 0,
-        }
-    }
-
-    fn add(&mut self, moved: &MovedSlot) {
-        self.next = moved.slot.get().saturating_add(1);
-        self.slots = self.slots.saturating_add(1);
-        self.keys = self.keys.saturating_add(moved.keys);
-    }
+// The same, over this way to the nodes.
+fn run_over<R: ToolRuntime, N: Network + Drop>(
+    rt: &R,
+    network: N,
+    plan: Plan,
+    done: &mut Done,
+) -> Result<Result<(), ReshardFault>, ToolFailure> {
+    let mut resharder = Resharder::new(rt.alloc(), network, plan);
+    let ended = move_all(rt, &mut resharder, done);
+    drop(resharder);
+    done.progress.end(rt);
+    ended
 }
 
 // Moves one slot after another, prints a line for each, and tells how far it has come. It gives how the run ended.
 fn move_all<R: ToolRuntime, N: Network + Drop>(
     rt: &R,
-    resharder: Resharder<N>,
+    resharder: &mut Resharder<N>,
     done: &mut Done,
-    progress: &mut Progress,
 ) -> Result<Result<(), ReshardFault>, ToolFailure> {
-    let mut resharder = resharder;
     // A loop has to end, so this one counts the slots.
     'slots: for _ in 0..=Slot::COUNT {
         match resharder.move_next() {
             Ok(Some(moved)) => {
-                progress.make_room(rt);
+                done.progress.make_room(rt);
                 print(rt, &moved)?;
-                done.add(&moved);
-                progress.tell(rt, done.slots, done.keys);
+                done.add(rt, &moved);
             }
             Ok(None) => return Ok(Ok(())),
             Err(fault) => return Ok(Err(fault)),
         }
     }
     Ok(Ok(()))
+}
+
+// What a run has done so far.
+#[derive(Clone, Copy)]
+struct Done {
+    begun: Option<Instant>,
+    // The slot that it moves next, or moves now.
+    next: u16,
+    slots: u64,
+    keys: u64,
+    progress: Progress,
+}
+
+impl Done {
+    fn new(slots: &SlotRange, terminals: Terminals, begun: Option<Instant>) -> Done {
+        Done {
+            begun,
+            next: slots.first.get(),
+            slots: 0,
+            keys: 0,
+            progress: Progress::new(terminals, count_of(slots), begun),
+        }
+    }
+
+    fn add<R: Eprint + Clock>(&mut self, rt: &R, moved: &MovedSlot) {
+        self.next = moved.slot.get().saturating_add(1);
+        self.slots = self.slots.saturating_add(1);
+        self.keys = self.keys.saturating_add(moved.keys);
+        self.progress.tell(rt, self.slots, self.keys);
+    }
+
+    // Where it can't be told what was done, it is done all the same.
+    fn tell<R: Eprint + Clock>(&self, rt: &R, seen: &RefCell<Seen>, is_one_master: bool) {
+        if is_one_master {
+            tell_of_one_master(rt);
+        }
+        let moved = imports_of(seen);
+        let before = self.slots.saturating_sub(moved);
+        let took = self
+            .begun
+            .and_then(|begun| begun.elapsed(rt).ok())
+            .unwrap_or(Duration::ZERO);
+        let _told = eprintln!(rt;
+            "rcluster: slots moved: {moved}, keys moved: {}, slots that were there before: {before}, seconds: {}.{:03}",
+            self.keys,
+            took.as_secs(),
+            took.subsec_millis()
+        );
+    }
 }
 
 // Each slot that this run moves is asked once to come to its new master.
@@ -189,20 +222,6 @@ fn imports_of(seen: &RefCell<Seen>) -> u64 {
 fn tell_of_one_master<R: Eprint>(rt: &R) {
     let _told = eprintln!(rt;
         "rcluster: --from and --to are the same master, so no slot was to be moved"
-    );
-}
-
-// Where it can't be told what was done, it is done all the same.
-fn tell<R: Eprint + Clock>(rt: &R, done: &Done, moved: u64, begun: Option<Instant>) {
-    let before = done.slots.saturating_sub(moved);
-    let took = begun
-        .and_then(|begun| begun.elapsed(rt).ok())
-        .unwrap_or(Duration::ZERO);
-    let _told = eprintln!(rt;
-        "rcluster: slots moved: {moved}, keys moved: {}, slots that were there before: {before}, seconds: {}.{:03}",
-        done.keys,
-        took.as_secs(),
-        took.subsec_millis()
     );
 }
 

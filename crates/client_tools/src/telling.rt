@@ -143,7 +143,24 @@ impl fmt::Display for Answered<'_> {
     }
 }
 
-// That the node in use can't be reached, or not any more.
+/// What a run waits for: an answer, or another one than it got last.
+#[derive(Clone, Copy)]
+pub(crate) struct Awaited<'a> {
+    /// What was seen.
+    pub(crate) seen: &'a Seen,
+}
+
+impl fmt::Display for Awaited<'_> {
+    fn fmt<W: fmt::Write>(&self, f: &mut fmt::Formatter<W>) -> fmt::Result {
+        let seen = self.seen;
+        if seen.answer.is_empty() {
+            return write!(f, "{} hasn't answered {} yet", seen.place, seen.request);
+        }
+        write!(f, "{}, and is asked again", Answered { seen })
+    }
+}
+
+// That the node in use can't be reached, or not any more, or that it can't reach the one to which it is to move a key.
 #[derive(Clone, Copy)]
 struct Unreached<'a> {
     seen: &'a Seen,
@@ -153,6 +170,13 @@ impl fmt::Display for Unreached<'_> {
     fn fmt<W: fmt::Write>(&self, f: &mut fmt::Formatter<W>) -> fmt::Result {
         let place = &self.seen.place;
         let error = &self.seen.error;
+        if self.seen.has_lost_target {
+            let target = &self.seen.target;
+            return write!(
+                f,
+                "{place} can't move a key to {target}, which can't be reached: {error}"
+            );
+        }
         if !self.seen.request.is_empty() {
             return write!(f, "the connection to {place} failed");
         }

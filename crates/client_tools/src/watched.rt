@@ -1,6 +1,7 @@
 //! A way to the nodes on which is seen what was asked last, of which node, and what came of it.
 
 use crate::shown::{Shown, ShownWords};
+use crate::waiting::Waiting;
 use byte_string::ByteString;
 use redirection::Address;
 use resp2::{Array, Element, Reply, Words};
@@ -29,8 +30,16 @@ pub(crate) struct Seen {
     pub(crate) imports: u64,
     /// The ids of the masters that CLUSTER SLOTS listed.
     pub(crate) masters: Vec<ByteString>,
+    /// The address of the node to which the one in use was asked to move a key, or nothing where it was asked something else.
+    pub(crate) target: String,
+    /// Whether that node refuses connections.
+    pub(crate) has_lost_target: bool,
+    /// How long the run has waited for the same.
+    pub(crate) waiting: Waiting,
     // Whether CLUSTER SLOTS was asked last.
     lists_masters: bool,
+    // Whether the last reply was that a key which was to be moved isn't acknowledged by the target.
+    lacks_acknowledgement: bool,
 }
 
 // It does what the derive would. Written out it is one call wherever what was seen is let go.
@@ -44,14 +53,18 @@ impl Drop for Seen {
             error: _error,
             imports: _imports,
             masters: _masters,
+            target: _target,
+            has_lost_target: _has_lost_target,
+            waiting: _waiting,
             lists_masters: _lists_masters,
+            lacks_acknowledgement: _lacks_acknowledgement,
         } = self;
     }
 }
 
 impl Seen {
-    /// Nothing yet.
-    pub(crate) fn new(alloc: Global) -> RefCell<Seen> {
+    /// Nothing yet, by a tool that waits so.
+    pub(crate) fn new(alloc: Global, waiting: Waiting) -> RefCell<Seen> {
         RefCell::new(Seen {
             place: String::new(alloc),
             request: String::new(alloc),
@@ -60,7 +73,11 @@ impl Seen {
             error: String::new(alloc),
             imports: 0,
             masters: Vec::new(alloc),
+            target: String::new(alloc),
+            has_lost_target: false,
+            waiting,
             lists_masters: false,
+            lacks_acknowledgement: false,
         })
     }
 
@@ -89,6 +106,31 @@ impl Seen {
         if is_word(words, 3, b"IMPORTING") {
             self.imports = self.imports.saturating_add(1);
         }
+        self.see_target(words);
+    }
+
+    // `MIGRATE host port ..` names the node to which a key is to be moved.
+    fn see_target(&mut self, words: &[ByteString]) {
+        self.target.clear();
+        if is_word(words, 0, b"MIGRATE")
+            && let [_, host, port, ..] = words
+        {
+            note(
+                &mut self.target,
+                format_args!("{}:{}", Shown(host.as_slice()), Shown(port.as_slice())),
+            );
+        }
+    }
+
+    /// Sees that the target refuses connections.
+    pub(crate) fn see_no_target(&mut self, error: &io::Error) {
+        self.has_lost_target = true;
+        self.see_error(error);
+    }
+
+    /// Whether a key is to be moved whose last copy the target didn't acknowledge.
+    pub(crate) fn doubts_target(&self) -> bool {
+        self.lacks_acknowledgement && !self.target.is_empty()
     }
 
     /// Sees why the node can't be reached.
@@ -109,6 +151,7 @@ impl Seen {
     }
 
     fn see_reply(&mut self, reply: &Reply) {
+        self.lacks_acknowledgement = is_not_acknowledged(reply);
         match reply {
             Reply::Simple(text) | Reply::Error(text) => note(
                 &mut self.answer,
@@ -161,6 +204,13 @@ impl Seen {
     /// Whether CLUSTER SLOTS listed a master of this id.
     pub(crate) fn lists(&self, id: &[u8]) -> bool {
         self.masters.iter().any(|master| master.as_slice() == id)
+    }
+}
+
+fn is_not_acknowledged(reply: &Reply) -> bool {
+    match reply {
+        Reply::Error(text) => text.as_slice().starts_with(b"IOERR"),
+        _ => false,
     }
 }
 

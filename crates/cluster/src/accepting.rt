@@ -1,11 +1,8 @@
 //! Clients that are accepted at a node, each for a thread of its own or for one that serves many in turn.
 
-use client_turns::{Desk, Newcomer};
-use listener::serve_conn;
-use resp2::Counting;
-use shared_cluster::{
-    HasLinks, Incident, Mail, Node, Refused, Runtime, SeeingGate, SharedCluster, Shortage,
-};
+use crate::one_client::serve_client;
+use client_turns::{Desk, DeskFault, Newcomer};
+use shared_cluster::{HasLinks, Incident, Node, Refused, Runtime, SharedCluster, Shortage};
 use std::alloc::{AllocError, Global};
 use std::net::TcpStream;
 use std::sync::Arc;
@@ -117,7 +114,7 @@ where
         let client = clients.add(&self.rt, self.number, &stream)?;
         let newcomer = Newcomer { stream, client };
         let begun = match self.desks.get(desk) {
-            Some(desk) => desk.put(&self.rt, newcomer),
+            Some(desk) => desk.put(&self.rt, newcomer).map_err(refused_by),
             None => self.start(newcomer),
         };
         if begun.is_err() {
@@ -143,21 +140,10 @@ where
     }
 }
 
-// Serves one client, and is then done with the cluster. What ends the conversation concerns this client alone.
-fn serve_client<C: HasLinks<R> + Drop, R: Runtime>(
-    rt: R,
-    alloc: Global,
-    cluster: Arc<SharedCluster<C>, Global>,
-    number: usize,
-    stream: &TcpStream,
-) {
-    let Some(node) = cluster.node(number) else {
-        return;
-    };
-    // A reply is one write, so nothing is gained by waiting for more.
-    let _nodelay = stream.set_nodelay(true);
-    let mut gate = SeeingGate::new(rt, alloc, &*cluster, node, number, Mail::IsFetched);
-    let mut reader = Counting::new(stream);
-    let mut writer = Counting::new(stream);
-    let _ended = serve_conn(alloc, &mut gate, &mut reader, &mut writer);
+// Why a client can't be served that can't wait at a desk.
+fn refused_by(fault: DeskFault) -> Refused {
+    match fault {
+        DeskFault::Memory => Refused::Short(Shortage::Memory),
+        DeskFault::Closed => Refused::Ended,
+    }
 }

@@ -1,12 +1,14 @@
 //! The time of a node, which passes in ticks, and its end where it is stopped alone.
 
+use crate::crowd::Crowd;
 use node_cell::{HoldsCell, NodeGate};
 use node_step::Event;
-use shared_cluster::{Node, SharedCluster, Stop};
+use shared_cluster::{Incident, Node, SharedCluster, Stop};
 use shared_node::Gate;
 use std::net::Shutdown;
+use std::rt::Clock;
 use std::sync::Wait;
-use std::time::Duration;
+use std::time::{Duration, Instant};
 
 // How many milliseconds pass before a node that has no descriptor left to be stopped by is tried again.
 const PAUSE: u64 = 10;
@@ -20,10 +22,12 @@ pub(crate) struct Timing {
     pub(crate) most: u64,
     /// How many of them the node makes. Then it is stopped, and the others are counted alone.
     pub(crate) own: u64,
+    /// Whether each client of the node has a thread of its own.
+    pub(crate) has_threads: bool,
 }
 
 /// Lets the time of the node of that number pass, until the end or until all of its ticks are counted.
-pub(crate) fn pass_time<C: HoldsCell + Drop, R: Wait + Copy + Drop>(
+pub(crate) fn pass_time<C: HoldsCell + Drop, R: Clock + Wait + Copy + Drop>(
     rt: R,
     cluster: &SharedCluster<C>,
     number: usize,
@@ -36,10 +40,24 @@ pub(crate) fn pass_time<C: HoldsCell + Drop, R: Wait + Copy + Drop>(
         interval,
         most,
         own,
+        has_threads,
     } = timing;
     let stop = &cluster.stop;
     let mut gate = Gate::new(rt, &node.shared, node.begin());
-    tick_at(&rt, &mut gate, stop, interval, own.min(most));
+    let mut crowd = Crowd::watched(has_threads, interval);
+    let mut rest = interval;
+    for _ in 0..own.min(most) {
+        stop.sleep(&rt, rest);
+        if stop.has_ended() {
+            return;
+        }
+        // Behind a tick that took long, because others had the node or its processor, these have the node for as long once more.
+        rest = interval.max(time_of_tick(&rt, &mut gate));
+        if crowd.has_come(node.shared.sleeps()) {
+            let node = number;
+            cluster.witness().see(&rt, Incident::ClientsCrowd { node });
+        }
+    }
     if own < most {
         stop_node(&rt, cluster, number, node);
         wait_for(&rt, stop, interval, most - own);
@@ -86,14 +104,13 @@ fn wait_for<R: Wait>(rt: &R, stop: &Stop, interval: Duration, count: u64) {
     }
 }
 
-fn tick_at<G: NodeGate, R: Wait>(rt: &R, gate: &mut G, stop: &Stop, interval: Duration, most: u64) {
-    for _ in 0..most {
-        stop.sleep(rt, interval);
-        if stop.has_ended() {
-            return;
-        }
-        tick(gate);
-    }
+// Makes a tick, and says how long it took. Without a clock that counts as no time.
+fn time_of_tick<G: NodeGate, R: Clock>(rt: &R, gate: &mut G) -> Duration {
+    let begun = Instant::now(rt).ok();
+    tick(gate);
+    begun
+        .and_then(|begun| begun.elapsed(rt).ok())
+        .unwrap_or(Duration::ZERO)
 }
 
 // A tick for which there is no memory is no step.

@@ -48,7 +48,6 @@ impl From<AllocError> for ServeFault {
 }
 
 /// Where a node of the cluster `K` is served. The first place is that of the first node, and so on.
-#[derive(Drop)]
 pub struct Place<K: Deployment, R: Wait> {
     /// Its seat at the tickets.
     pub seat: Seat,
@@ -56,6 +55,32 @@ pub struct Place<K: Deployment, R: Wait> {
     pub ends: NodeEnds<Posted<K>, R>,
     /// Where its clients connect.
     pub listener: TcpListener,
+}
+
+// It does what the derive would. Written out it is one call wherever a place is let go.
+impl<K: Deployment, R: Wait + Drop> Drop for Place<K, R> {
+    fn drop(self) {
+        let Place {
+            seat: _,
+            ends: _,
+            listener: _,
+        } = self;
+    }
+}
+
+impl<K: Deployment, R: Wait + Drop> Place<K, R> {
+    // What is there.
+    fn into_parts(self) -> (Seat, NodeEnds<Posted<K>, R>, TcpListener)
+        ensures seat { result.0 ≡ self.seat }
+        ensures ends { result.1 ≡ self.ends }
+    {
+        let Place {
+            seat,
+            ends,
+            listener,
+        } = self;
+        (seat, ends, listener)
+    }
 }
 
 /// How long a cluster is served, and how.
@@ -129,6 +154,7 @@ impl Times<'_> {
             interval: self.interval,
             most,
             own: most_ticks(self.course.stops, node),
+            has_threads: self.course.loops.is_none(),
         }
     }
 
@@ -281,11 +307,7 @@ fn node_at<K: Deployment, W: Web, L: Log + Drop, R: Runtime>(
 {
     let _at_most_16 = config.nodes();
     let number = NodeNo::new(number as u8).unwrap();
-    let Place {
-        seat,
-        ends,
-        listener,
-    } = place;
+    let (seat, ends, listener) = place.into_parts();
     let station = station_at::<K, W, L, R>(alloc, config, number, seat, ends)?;
     Ok(Node::new(station, Admission::new(config), listener))
 }

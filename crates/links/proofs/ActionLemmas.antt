@@ -6,7 +6,8 @@ use Rattle.std.proofs.lemmas.List.{get_or_default, set-get_or}
 use Rattle.atomic_table.specs.Seated.{TableId}
 use Rattle.bus.specs.declared.message.Message.{Message}
 use Rattle.links.specs.Ports.{HasMore, PortView, with_received}
-use Rattle.links.specs.Stations.{IsStation, Loses, OnlySends, Receives, SendsNothing, StationView, port_at}
+use Rattle.links.specs.Stations.{Arrives, IsStation, Loses, OnlySends, Receives, SendsNothing, StationView, port_at, said_of}
+use Rattle.links.specs.declared.not_taken.NotTaken.{NotTaken}
 use Rattle.links.proofs.StationLemmas.{with_one_sorted}
 use Rattle.node_cell.specs.Journal.{CellView, EnteredView, Enters, IsNotTaken}
 use Rattle.node_cell.specs.declared.delivery.DeliveryFault.{DeliveryFault}
@@ -71,3 +72,14 @@ receives_so old from there port message delivered cell within is received ok err
   ok = ok;
   err = err;
 }
+
+-- a message that was delivered has arrived
+pub arrives_so : (old : StationView) (from : ℕ) (message : Message) (delivered : Result EnteredView DeliveryFault) (new : StationView)
+    → Receives old from message delivered new → Arrives old from message (said_of delivered) new
+arrives_so old from message (Ok entered) new received = received
+arrives_so old from message (Err fault) new received = received
+
+pub arrives_as : (old : StationView) (from : ℕ) (message : Message) (delivered : Result EnteredView DeliveryFault) (said : Result EnteredView NotTaken) (new : StationView)
+    → said ≡ said_of delivered → Receives old from message delivered new → Arrives old from message said new
+arrives_as old from message delivered said new is received =
+    subst (λ (said : Result EnteredView NotTaken). Arrives old from message said new) (sym is) (arrives_so old from message delivered new received)

@@ -4,5 +4,6 @@ pub mod Ends
 pub mod Joining
 pub mod Pace
 pub mod Ports
+pub mod Syncs
 pub mod Stations
 pub mod Comparing

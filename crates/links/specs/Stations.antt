@@ -1,10 +1,13 @@
 -- A node with its ends of the links to all nodes (ours).
-use Rattle.std.specs.Prelude.{◌≡◌, ◌==◌, ◌++◌, ◌∷◌, ◌<◌, ℕ, List, [], Contains, IfErr, IfOk, Result, length, map, slice_index_or, slice_set}
+use Rattle.std.specs.Prelude.{◌≡◌, ◌==◌, ◌++◌, ◌∷◌, ◌<◌, ℕ, List, [], Contains, IfErr, IfOk, IsTrue, Result, Ok, Err, length, map, slice_index_or, slice_set}
 use Rattle.std.specs.List.{filter, flat_map}
 use Rattle.atomic_table.specs.Seated.{TableId}
 use Rattle.bus.specs.declared.message.Message.{Message}
 use Rattle.links.specs.Ends.{EndView}
 use Rattle.links.specs.Ports.{PortView, with_received}
+use Rattle.links.specs.Syncs.{is_sync}
+use Rattle.links.specs.declared.not_taken.NotTaken.{NotTaken}
+use Rattle.links.specs.declared.not_taken.NotTaken.TheVariants.{Refused, Needless}
 use Rattle.node_cell.specs.Journal.{CellView, EnteredView, Enters, IsNotTaken}
 use Rattle.node_cell.specs.declared.delivery.DeliveryFault.{DeliveryFault}
 use Rattle.node_cell.specs.declared.entry.Entry.{Entry}
@@ -93,3 +96,14 @@ pub record Receives (old : StationView) (from : ℕ) (message : Message) (delive
   pub unsorted : new.unsorted ≡ old.unsorted
   pub ok : IfOk delivered (λ entered. Enters old.cell (Deliver message) entered new.cell)
   pub err : IfErr delivered (λ fault. IsNotTaken old.cell (Deliver message) fault new.cell)
+
+-- what is said of a message that was delivered so
+abbrev pub said_of : Result EnteredView DeliveryFault → Result EnteredView NotTaken
+said_of (Ok entered) = Ok entered
+said_of (Err fault) = Err (Refused fault)
+
+-- a message came from the node: it is delivered to the cell, or it is a sync that needs no answer
+abbrev pub Arrives : StationView → ℕ → Message → Result EnteredView NotTaken → StationView → Type 0
+Arrives old from message (Ok entered) new = Receives old from message (Ok entered) new
+Arrives old from message (Err (Refused fault)) new = Receives old from message (Err fault) new
+Arrives old from message (Err Needless) new = Loses old from message new × IsTrue (is_sync message.body)

@@ -55,6 +55,13 @@ impl<T: Drop, R: Wait + Drop> LinkEnd<T, R> {
         self.sender.send(&self.rt, message)
     }
 
+    /// How many messages were sent to the other end and not received there yet.
+    pub fn on_the_way(&mut self) -> usize
+        ensures { self.new ≡ self.old }
+    {
+        self.sender.len(&self.rt)
+    }
+
     /// The first message that waits, if one does.
     pub fn try_receive(&mut self) -> Option<T>
         ensures received { IfSome result (λ message. self.new ≡ record self.old { received = self.old.received ++ message ∷ [] }) }

@@ -86,6 +86,13 @@ impl<T: Drop> Sender<T> {
     {
         self.queue.push_as::<Sends, R>(rt, &mut self.pass, message)
     }
+
+    /// How many messages were sent and not received yet.
+    pub fn len<R: Wait>(&mut self, rt: &R) -> usize
+        ensures { self.new ≡ self.old }
+    {
+        self.queue.len_as::<Sends, R>(rt, &mut self.pass)
+    }
 }
 
 impl<T: Drop> Receiver<T> {

@@ -1,11 +1,14 @@
 //! A node's end of its link with another node, with the messages that found no room there yet.
-ghost use Rattle.std.specs.Prelude.{◌≡◌, ◌++◌, ◌∷◌, ◌⊎◌, [], true, false, IfNone, IfSome, OnErr, OnOk};
+ghost use Rattle.std.specs.Prelude.{◌≡◌, ◌++◌, ◌∷◌, ◌⊎◌, [], true, false, IfNone, IfSome, IsTrue, OnErr, OnOk};
 ghost use Rattle.links.specs.Halves.{WasFull};
 ghost use Rattle.links.specs.Pace.{are_many};
+ghost use Rattle.links.specs.Syncs.{is_sync};
 ghost use Rattle.links.specs.Ports.{HasMore, HasSent, HasSentOne, with_received};
 
 use crate::end::LinkEnd;
 use crate::pace::are_many;
+use crate::sync_filter::{Progress, SyncFilter};
+use bus::Body;
 use node_cell::{Deployment, Posted, Sending};
 use std::alloc::{AllocError, Global};
 use std::collections::VecDeque;
@@ -16,6 +19,10 @@ use std::sync::Wait;
 pub(crate) struct Port<K: Deployment, R: Wait> {
     end: LinkEnd<Posted<K>, R>,
     waiting: VecDeque<Posted<K>>,
+    // How many messages were sent.
+    sent: u64,
+    // Of the syncs of the other node, if it is a replica of this one.
+    filter: SyncFilter,
 }
 
 impl<K: Deployment, R: Wait> Model for Port<K, R> {
@@ -28,7 +35,12 @@ impl<K: Deployment, R: Wait> Model for Port<K, R> {
 
 impl<K: Deployment, R: Wait + Drop> Drop for Port<K, R> {
     fn drop(self) {
-        let Port { end: _, waiting: _ } = self;
+        let Port {
+            end: _,
+            waiting: _,
+            sent: _,
+            filter: _,
+        } = self;
     }
 }
 
@@ -40,6 +52,8 @@ impl<K: Deployment, R: Wait + Drop> Port<K, R> {
         Port {
             end,
             waiting: VecDeque::new(alloc),
+            sent: 0,
+            filter: SyncFilter::Fresh,
         }
     }
 
@@ -57,11 +71,14 @@ impl<K: Deployment, R: Wait + Drop> Port<K, R> {
         Ok(())
     }
 
-    /// Sends as many of the messages that wait as the link has room for, and says whether there was one.
+    /// Sends as many of the messages that wait as the link has room for, and says whether there was one. No message that steps have left for
+    /// the other node is elsewhere then.
     pub(crate) fn send_all(&mut self) -> bool
         ensures sent { HasSent self.old self.new }
         ensures none { result ≡ false → self.new ≡ self.old }
     {
+        let posted = self.posted();
+        self.filter.note_posted(posted);
         let mut has_sent = false;
         for _ in 0..self.waiting.len() {
             if !self.send_first() {
@@ -81,7 +98,10 @@ impl<K: Deployment, R: Wait + Drop> Port<K, R> {
             return false;
         };
         match self.end.send(posted) {
-            Ok(()) => true,
+            Ok(()) => {
+                self.sent = self.sent.saturating_add(1);
+                true
+            }
             Err(posted) => {
                 let Ok(()) = self.waiting.push_front(posted) else {
                     unreachable!();
@@ -97,6 +117,36 @@ impl<K: Deployment, R: Wait + Drop> Port<K, R> {
         ensures none { IfNone result (self.new ≡ self.old) }
     {
         self.end.try_receive()
+    }
+
+    /// Whether the message, which came from the other node, is a sync that needs no answer.
+    pub(crate) fn is_needless(&mut self, posted: &Posted<K>) -> bool
+        ensures port { self.new ≡ self.old }
+        ensures sync { result ≡ true → IsTrue (is_sync posted.now.body) }
+    {
+        match &posted.message().body {
+            Body::Sync(sync) => {
+                let progress = self.progress();
+                !self.filter.needs_answer(sync, &progress)
+            }
+            _ => false,
+        }
+    }
+
+    // How far the messages for the other node have come.
+    fn progress(&mut self) -> Progress
+        ensures { self.new ≡ self.old }
+    {
+        let on_the_way = self.end.on_the_way() as u64;
+        Progress {
+            posted: self.posted(),
+            taken: self.sent.saturating_sub(on_the_way),
+        }
+    }
+
+    // How many messages there were for the other node.
+    fn posted(&self) -> u64 {
+        self.sent.saturating_add(self.waiting.len() as u64)
     }
 
     /// Whether the link from the other node is half full.
@@ -117,7 +167,12 @@ impl<K: Deployment, R: Wait + Drop> Port<K, R> {
     pub(crate) fn into_end(self) -> LinkEnd<Posted<K>, R>
         ensures { result ≡ record { to = self.to; from = self.from; sent = self.sent; received = self.received } }
     {
-        let Port { end, waiting: _ } = self;
+        let Port {
+            end,
+            waiting: _,
+            sent: _,
+            filter: _,
+        } = self;
         end
     }
 }

@@ -6,9 +6,10 @@ ghost use Rattle.links.specs.Ends.{AreEndsOf};
 ghost use Rattle.links.specs.Halves.{WasFull};
 ghost use Rattle.links.specs.Pace.{are_many};
 ghost use Rattle.links.specs.Ports.{PortView};
-ghost use Rattle.links.specs.Stations.{IsStation, Loses, OnlySends, Receives, SendsNothing, end_of, port_at, port_of};
+ghost use Rattle.links.specs.Stations.{Arrives, IsStation, Loses, OnlySends, SendsNothing, end_of, port_at, port_of, said_of};
 
 use crate::end::LinkEnd;
+use crate::not_taken::NotTaken;
 use crate::port::Port;
 use crate::web::Web;
 use cluster_config::Config;
@@ -96,13 +97,19 @@ impl<K: Deployment, W: Web, L: Log + Drop, R: Wait + Drop> Station<K, W, L, R> {
         self.cell.number()
     }
 
-    /// Receives the next message from the node with that number, if one has come, and delivers it to the cell.
-    pub fn receive(&mut self, from: usize) -> Option<Result<Entered<K>, DeliveryFault>>
-        ensures some { IfSome result (λ delivered. (message : Message) × Receives self.old from message delivered self.new) }
+    /// Receives the next message from the node with that number, if one has come, and delivers it to the cell. A sync of a replica that needs
+    /// no answer is lost instead, as any message may be.
+    pub fn receive(&mut self, from: usize) -> Option<Result<Entered<K>, NotTaken>>
+        ensures some { IfSome result (λ received. (message : Message) × Arrives self.old from message received self.new) }
         ensures none { IfNone result (self.new ≡ self.old) }
     {
-        let posted = self.ports.get_mut(from)?.try_receive()?;
-        Some(self.cell.deliver(posted))
+        let port = self.ports.get_mut(from)?;
+        let posted = port.try_receive()?;
+        if port.is_needless(&posted) {
+            return Some(Err(NotTaken::Needless));
+        }
+        let delivered = self.cell.deliver(posted);
+        Some(said_of(delivered))
     }
 
     /// Receives the next message from the node with that number, if one has come, and delivers it to nobody: the node loses it, as
@@ -233,6 +240,18 @@ impl<K: Deployment, W: Web, L: Log + Drop, R: Wait + Drop> Station<K, W, L, R> {
         } = self;
         let ends = ends_of(alloc, ports)?;
         Ok((cell, ends))
+    }
+}
+
+// What is said of a message that was delivered so.
+fn said_of<K: Deployment>(
+    delivered: Result<Entered<K>, DeliveryFault>,
+) -> Result<Entered<K>, NotTaken>
+    ensures { result ≡ said_of delivered }
+{
+    match delivered {
+        Ok(entered) => Ok(entered),
+        Err(fault) => Err(NotTaken::Refused(fault)),
     }
 }
 

@@ -1,9 +1,10 @@
 //! `rcluster serve --log`: a line on standard error for each thing that happens to a cluster and that no client is told, and for each
-//! slot that arrives at a node or leaves it, and each node that is promoted.
+//! slot that arrives at a node or leaves it, and each node that is promoted. Without a log there is only the advice for whoever runs the
+//! cluster.
 
 use crate::failure::Failure;
 use crate::fault::ProgramFault;
-use cluster::{Heard, Incident, Shortage, Witness};
+use cluster::{Heard, Hearing, Incident, Shortage, Witness};
 use std::alloc::{AllocError, Global};
 use std::rt::Clock;
 use std::sync::{Arc, Wait};
@@ -20,20 +21,20 @@ pub struct Logging {
 }
 
 impl Logging {
-    /// Begins the log where it is wanted.
-    pub fn begin<R>(rt: R, is_wanted: bool) -> Result<Logging, Failure>
+    /// Begins the log of what is wanted.
+    pub fn begin<R>(rt: R, wanted: Option<Hearing>) -> Result<Logging, Failure>
     where
         R: AllocGlobal + Eprint + Clock + Threads + Wait + Copy + Drop + Send + Sync + 'static,
     {
         let alloc = rt.alloc();
-        if !is_wanted {
+        let Some(hearing) = wanted else {
             let witness = Arc::new(alloc, Witness::unheard(alloc)).map_err(AllocError::from)?;
             return Ok(Logging {
                 witness,
                 thread: None,
             });
-        }
-        let witness = Witness::heard(&rt, alloc)?;
+        };
+        let witness = Witness::heard(&rt, alloc, hearing)?;
         let witness = Arc::new(alloc, witness).map_err(AllocError::from)?;
         let thread = Some(start_writing(rt, &witness)?);
         Ok(Logging { witness, thread })
@@ -115,6 +116,10 @@ impl fmt::Display for Line {
             } => write!(
                 f,
                 "node {node}: promoted in place of node {master}, epoch: {epoch}, bytes of its stream: {offset}"
+            ),
+            Incident::ClientsCrowd { node } => write!(
+                f,
+                "node {node}: its clients wait for each other, because each has a thread of its own; with --loops N it has N threads, which serve all clients in turn"
             ),
             Incident::Missed(count) => write!(f, "lines that are missing before this one: {count}"),
         }

@@ -1,126 +1,101 @@
--- Maps that are put into one, key by key, and slot by slot.
-use Rattle.std.proofs.Common.{◌≡◌, ◌<◌, ◌+◌, ◌==◌, ◌||◌, ◌⊎◌, ℕ, Bool, true, false, cond, List, [], ◌∷◌, length, take, get_or, Option, Some, None, inl, inr, refl, sym, ap, ◌∙◌, nat_eq}
-use Rattle.std.proofs.lemmas.Bool.Decides.{eqb_tells}
-use Rattle.std.proofs.lemmas.Cmp.{nat_list_cmp_total}
-use Rattle.std.proofs.lemmas.List.Folds.{list_any_more}
-use Rattle.std.proofs.lemmas.Map.Made.{is_some-lookup}
-use Rattle.std.specs.FinMap as map
+-- Slot by slot: what is gathered so far is in the slots so far.
+use Rattle.std.proofs.Common.{◌≡◌, ◌<◌, ◌+◌, ◌==◌, ◌||◌, ◌&&◌, ◌++◌, ℕ, Bool, true, false, not, cond, List, [], ◌∷◌, length, take, get_or, filter, refl, sym, ap, subst, ◌∙◌, nat_eq, nat_lt, arith}
+use Rattle.std.proofs.Math.Nat.{mod-lt}
+use Rattle.std.proofs.lemmas.Bool.Decides.{nat_tests}
+use Rattle.std.proofs.lemmas.List.Folds.{list_any-append, list_any_more}
+use Rattle.std.proofs.lemmas.List.Sorted.{IsPermutation-append_left, IsPermutation-filter_both, IsPermutation-refl, IsPermutation-sym, IsPermutation-trans}
+use Rattle.std.proofs.lemmas.Map.Views.{any-filter_same}
 use Rattle.std.specs.List.{list_any}
-use Rattle.std.specs.Map.{keys_of, lookup}
-use Rattle.std.specs.Prelude.{is_some}
+use Rattle.std.specs.List.Sorted.{IsPermutation}
+use Rattle.key_map.specs.KeyMap.{is_key}
+use Rattle.key_slot.specs.Crc16.{crc}
+use Rattle.key_slot.specs.HashTag.{hash_tag}
 use Rattle.key_slot.specs.Slot.{hash_slot}
-use Rattle.keyspace.proofs.Applied.{is_key, is_key-same, same}
-use Rattle.keyspace.proofs.Maps.{get_seen}
-use Rattle.keyspace.proofs.Parts.{get_part}
-use Rattle.keyspace.specs.Keyspace.{Keyspace, keyspace_of}
-use Rattle.keyspace.specs.Parts.{part}
+use Rattle.keyspace.proofs.Applied.{is_key-same}
 use Rattle.keyspace.specs.declared.value.Value.{Value}
-use Rattle.slot_pairs.specs.Several.{IsJoined, first_of, is_in_one, with_found}
-use Rattle.slot_store.specs.InSlot.{in_slot}
+use Rattle.slot_pairs.specs.Several.{HaveSameKeys, is_in_one}
+use Rattle.slot_store.specs.InSlot.{is_in_slot}
 
--- ---- key by key
+-- ---- pairs
 
--- the value at a key once one was added
-get_found : (m : Keyspace) (k : List ℕ) (found : Option Value) (q : List ℕ) → map.get (with_found m k found) q ≡ cond (is_key q k) (first_of found (map.get m q)) (map.get m q)
-get_found m k None q = elim (is_key q k) as (λ b. map.get m q ≡ cond b (map.get m q) (map.get m q)) [ true ↦ refl | false ↦ refl ]
-get_found m k (Some v) q = map.get-insert nat_list_cmp_total m k v q
+-- the key's slot is below that one
+abbrev pub is_below : ℕ → List ℕ × Value → Bool
+is_below slot entry = nat_lt (hash_slot entry.0) slot
 
--- what is at a key in the end
-abbrev pub joined : Keyspace → Keyspace → List ℕ → Option Value
-joined from old q = first_of (map.get from q) (map.get old q)
+filter_all : {X : Type 0} (p : X → Bool) (xs : List X) → ((x : X) → p x ≡ true) → filter p xs ≡ xs
+filter_all p [] all = refl
+filter_all p (x ∷ xs) all = ap (λ b. cond b (x ∷ filter p xs) (filter p xs)) (all x) ∙ ap (λ ys. x ∷ ys) (filter_all p xs all)
 
--- so far: as it was, or as it will be; and as it will be at each key that isn't left
-pub record JoinsAt (from old now : Keyspace) (left : List (List ℕ)) (q : List ℕ) : Type 0 where
-  pub either : (map.get now q ≡ map.get old q) ⊎ (map.get now q ≡ joined from old q)
-  pub done : list_any (is_key q) left ≡ false → map.get now q ≡ joined from old q
+filter_none : {X : Type 0} (p : X → Bool) (xs : List X) → ((x : X) → p x ≡ false) → filter p xs ≡ []
+filter_none p [] none = refl
+filter_none p (x ∷ xs) none = ap (λ b. cond b (x ∷ filter p xs) (filter p xs)) (none x) ∙ filter_none p xs none
 
-abbrev pub Joins : Keyspace → Keyspace → Keyspace → List (List ℕ) → Type 0
-Joins from old now left = (q : List ℕ) → JoinsAt from old now left q
+-- of those that pass one test, those that pass another
+filter_within : {X : Type 0} (p q r : X → Bool) (xs : List X) → ((x : X) → (q x && p x) ≡ r x) → filter p (filter q xs) ≡ filter r xs
+filter_within p q r [] is = refl
+filter_within p q r (x ∷ xs) is =
+    elim (q x) as (λ b. (b && p x) ≡ r x → filter p (cond b (x ∷ filter q xs) (filter q xs)) ≡ cond (r x) (x ∷ filter r xs) (filter r xs)) [
+      | true ↦ λ same. ap (λ b. cond b (x ∷ filter p (filter q xs)) (filter p (filter q xs))) same ∙ ap (λ ys. cond (r x) (x ∷ ys) ys) (filter_within p q r xs is)
+      | false ↦ λ same. filter_within p q r xs is ∙ ap (λ b. cond b (x ∷ filter r xs) (filter r xs)) same
+    ] (is x)
 
-none_there : (entries : List (List ℕ × Value)) (q : List ℕ) → list_any (is_key q) (keys_of entries) ≡ false → map.get (keyspace_of entries) q ≡ None
-none_there entries q none = get_seen nat_list_cmp_total entries q ∙ is_none (lookup (is_key q) entries) (is_some-lookup (is_key q) entries ∙ none)
+pub pairs_none : (entries : List (List ℕ × Value)) → IsPermutation [] (filter (is_below 0) entries)
+pairs_none entries = subst (IsPermutation []) (sym (filter_none (is_below 0) entries (λ entry. grind (arith, nat_tests)))) (IsPermutation-refl [])
+
+pub pairs_more : (entries so_far added after : List (List ℕ × Value)) (index slot : ℕ) → slot ≡ index → added ≡ filter (λ entry. is_in_slot slot entry.0) entries → after ≡ so_far ++ added
+    → IsPermutation so_far (filter (is_below index) entries) → IsPermutation after (filter (is_below (index + 1)) entries)
+pairs_more entries so_far added after index slot at is more before =
+    let more_below = filter (is_below (index + 1)) entries in
+    let below = filter_within (is_below index) (is_below (index + 1)) (is_below index) entries (λ entry. first (hash_slot entry.0)) in
+    let here = filter_within (λ entry. not (is_below index entry)) (is_below (index + 1)) (λ entry. is_in_slot slot entry.0) entries (λ entry. second (hash_slot entry.0)) in
+    let parted = IsPermutation-filter_both (is_below index) (λ entry. not (is_below index entry)) (λ entry. refl) more_below in
+    let joined : IsPermutation more_below (filter (is_below index) entries ++ added) = subst (IsPermutation more_below) (λ i. below i ++ (here ∙ sym is) i) parted in
+    subst (λ (xs : List (List ℕ × Value)). IsPermutation xs more_below) (sym more)
+    (IsPermutation-trans _ _ _ (IsPermutation-append_left added so_far (filter (is_below index) entries) before) (IsPermutation-sym _ _ joined))
   where
-    is_none : (value : Option Value) → is_some value ≡ false → value ≡ None
-    is_none None is = refl
-    is_none (Some v) is = absurd (cc)
+    first : (hash : ℕ) → (nat_lt hash (index + 1) && nat_lt hash index) ≡ nat_lt hash index
+    first hash = grind (arith, nat_tests)
 
--- at the start
-pub joins_none : (entries : List (List ℕ × Value)) (old : Keyspace) → Joins (keyspace_of entries) old old (keys_of entries)
-joins_none entries old q = record {
-  either = inl refl;
-  done = λ none. sym (ap (λ v. first_of v (map.get old q)) (none_there entries q none));
-}
+    second : (hash : ℕ) → (nat_lt hash (index + 1) && not (nat_lt hash index)) ≡ nat_eq hash slot
+    second hash = grind (arith, nat_tests)
 
-first_twice : (value old : Option Value) → first_of value (first_of value old) ≡ first_of value old
-first_twice None old = refl
-first_twice (Some v) old = refl
+hash_slot_small : (key : List ℕ) → hash_slot key < 16384
+unfolding hash_slot
+hash_slot_small key = mod-lt (crc (hash_tag key)) (omega arith)
 
-module _ (from old now : Keyspace) (key : List ℕ) (left : List (List ℕ)) (before : Joins from old now (key ∷ left)) (q : List ℕ) where
-  abbrev after : Keyspace
-  after = with_found now key (map.get from key)
+pub pairs_all : (entries found : List (List ℕ × Value)) (index : ℕ) → index ≡ 16384 → IsPermutation found (filter (is_below index) entries) → IsPermutation found entries
+pairs_all entries found index at so_far = subst (IsPermutation found) (filter_all (is_below index) entries (λ entry. all (hash_slot entry.0) (hash_slot_small entry.0))) so_far
+  where
+    all : (hash : ℕ) → hash < 16384 → nat_lt hash index ≡ true
+    all hash small = grind (arith, nat_tests)
 
-  -- at the key
-  at_key : is_key q key ≡ true → map.get after q ≡ joined from old q
-  at_key is =
-      get_found now key (map.get from key) q ∙ ap (λ b. cond b (first_of (map.get from key) (map.get now q)) (map.get now q)) is
-      ∙ ap (λ k. first_of (map.get from k) (map.get now q)) (sym (is_key-same q key is))
-      ∙ elim ((before q).either) [
-        | inl same ↦ ap (first_of (map.get from q)) same
-        | inr there ↦ ap (first_of (map.get from q)) there ∙ first_twice (map.get from q) (map.get old q)
-      ]
+-- ---- keys
 
-  -- at another one
-  beside : is_key q key ≡ false → map.get after q ≡ map.get now q
-  beside is = get_found now key (map.get from key) q ∙ ap (λ b. cond b (first_of (map.get from key) (map.get now q)) (map.get now q)) is
+pub keys_none : (keys : List (List ℕ)) → HaveSameKeys [] (filter (is_in_one []) keys)
+keys_none keys key = sym (any-filter_same (is_key key) (is_in_one []) false (λ k same. refl) keys)
 
-  by_test : (test : Bool) → is_key q key ≡ test → JoinsAt from old after left q
-  by_test true is = record { either = inr (at_key is); done = λ none. at_key is }
-  by_test false is = record {
-    either = elim ((before q).either) [
-      | inl kept ↦ inl (beside is ∙ kept)
-      | inr there ↦ inr (beside is ∙ there)
-    ];
-    done = λ none. beside is ∙ (before q).done (ap (λ b. b || list_any (is_key q) left) is ∙ none);
-  }
+-- a key is among those that pass a test where it passes and is there
+any_passes : (p : List ℕ → Bool) (keys : List (List ℕ)) (key : List ℕ) → list_any (is_key key) (filter p keys) ≡ (p key && list_any (is_key key) keys)
+any_passes p keys key = any-filter_same (is_key key) p (p key) (λ k same. ap p (sym (is_key-same key k same))) keys
 
-  pub joins_next : JoinsAt from old after left q
-  joins_next = by_test (is_key q key) refl
+pub keys_more : (keys so_far added after : List (List ℕ)) (slots : List ℕ) (index slot : ℕ) → index < length slots → slot ≡ get_or slots index slot → added ≡ filter (is_in_slot slot) keys → after ≡ so_far ++ added
+    → HaveSameKeys so_far (filter (is_in_one (take index slots)) keys) → HaveSameKeys after (filter (is_in_one (take (index + 1) slots)) keys)
+keys_more keys so_far added after slots index slot within at is more before key =
+    let there = list_any (is_key key) keys in
+    ap (list_any (is_key key)) more ∙ list_any-append (is_key key) so_far added
+    ∙ ap (λ b. b || list_any (is_key key) added) (before key ∙ any_passes (is_in_one (take index slots)) keys key)
+    ∙ ap (λ b. (is_in_one (take index slots) key && there) || b) (ap (list_any (is_key key)) is ∙ any_passes (is_in_slot slot) keys key)
+    ∙ either (is_in_one (take index slots) key) (nat_eq (hash_slot key) slot) there
+    ∙ ap (λ b. (is_in_one (take index slots) key || b) && there) (swapped (hash_slot key) slot ∙ ap (λ s. s == hash_slot key) at)
+    ∙ ap (λ b. b && there) (sym (list_any_more (λ s. s == hash_slot key) slots index slot within))
+    ∙ sym (any_passes (is_in_one (take (index + 1) slots)) keys key)
+  where
+    either : (a b c : Bool) → ((a && c) || (b && c)) ≡ ((a || b) && c)
+    either true true true = refl
+    either true true false = refl
+    either true false true = refl
+    either true false false = refl
+    either false b c = refl
 
--- at the end
-pub joins_all : (from old now : Keyspace) → Joins from old now [] → IsJoined from old now
-joins_all from old now joins q = (joins q).done refl
-
--- ---- slot by slot
-
-eqb-sym : (a b : ℕ) → (a == b) ≡ (b == a)
-eqb-sym a b =
-    elim (eqb_tells a b) [
-      | inl same_number ↦ ap (λ x. x == b) same_number.1 ∙ sym (ap (λ x. b == x) same_number.1)
-      | inr other ↦ elim (eqb_tells b a) [
-        | inl same_number ↦ absurd (other.1 (sym same_number.1))
-        | inr apart ↦ other.0 ∙ sym apart.0
-      ]
-    ]
-
-one_or_other : (a b : Bool) (v : Option Value) → first_of (cond a v None) (cond b v None) ≡ cond (b || a) v None
-one_or_other true true None = refl
-one_or_other true true (Some v) = refl
-one_or_other true false None = refl
-one_or_other true false (Some v) = refl
-one_or_other false true v = refl
-one_or_other false false v = refl
-
-pub gathered_none : (m : Keyspace) → keyspace_of [] ≡ part (is_in_one []) m
-gathered_none m = same _ _ (λ q. get_seen nat_list_cmp_total [] q ∙ sym (get_part (is_in_one []) m q))
-
-pub gathered_more : (m found now : Keyspace) (slots : List ℕ) (i slot : ℕ) → i < length slots → slot ≡ get_or slots i slot → found ≡ part (is_in_one (take i slots)) m
-    → IsJoined (in_slot slot m) found now → now ≡ part (is_in_one (take (i + 1) slots)) m
-gathered_more m found now slots i slot within is so_far joins =
-    same _ _ (λ q.
-    joins q ∙ ap (λ v. first_of v (map.get found q)) (get_part (λ key. nat_eq (hash_slot key) slot) m q)
-    ∙ ap (λ k. first_of (cond (nat_eq (hash_slot q) slot) (map.get m q) None) (map.get k q)) so_far
-    ∙ ap (first_of (cond (nat_eq (hash_slot q) slot) (map.get m q) None)) (get_part (is_in_one (take i slots)) m q)
-    ∙ one_or_other (nat_eq (hash_slot q) slot) (is_in_one (take i slots) q) (map.get m q)
-    ∙ ap (λ b. cond (is_in_one (take i slots) q || b) (map.get m q) None) (eqb-sym (hash_slot q) slot ∙ ap (λ s. s == hash_slot q) is)
-    ∙ ap (λ b. cond b (map.get m q) None) (sym (list_any_more (λ s. s == hash_slot q) slots i slot within))
-    ∙ sym (get_part (is_in_one (take (i + 1) slots)) m q))
+    swapped : (a b : ℕ) → (a == b) ≡ (b == a)
+    swapped a b = grind (arith, nat_tests)

@@ -1,2 +1,3 @@
 mod GatheringLemmas
 mod ListingLemmas
+pub mod PartLemmas

@@ -1,0 +1,78 @@
+//! A client that is served by a thread of its own.
+
+use client_turns::{Lingering, is_told};
+use listener::{ConnFault, Rest, serve_conn};
+use resp2::Counting;
+use shared_cluster::{HasLinks, Mail, Runtime, SeeingGate, SharedCluster};
+use std::alloc::Global;
+use std::io::{ErrorKind, Read};
+use std::net::{Shutdown, TcpStream};
+use std::rt::Clock;
+use std::sync::Arc;
+
+// So many bytes are read at once of a client that was told why its conversation ended. They lie on the stack of its thread.
+const ROOM: usize = 4_096;
+
+/// Serves one client, and is then done with the cluster. What ends the conversation concerns this client alone.
+pub(crate) fn serve_client<C: HasLinks<R> + Drop, R: Runtime>(
+    rt: R,
+    alloc: Global,
+    cluster: Arc<SharedCluster<C>, Global>,
+    number: usize,
+    stream: &TcpStream,
+) {
+    let ended = converse(rt, alloc, &*cluster, number, stream);
+    drop(cluster);
+    // A bad byte isn't told from the client's own end here. Behind that end there is nothing to read.
+    if is_told(ended.map(|_| Rest::BadByte)) {
+        linger(&rt, stream);
+    }
+}
+
+fn converse<C: HasLinks<R> + Drop, R: Runtime>(
+    rt: R,
+    alloc: Global,
+    cluster: &SharedCluster<C>,
+    number: usize,
+    stream: &TcpStream,
+) -> Result<(), ConnFault> {
+    let Some(node) = cluster.node(number) else {
+        return Err(ConnFault::Unanswered);
+    };
+    // A reply is one write, so nothing is gained by waiting for more.
+    let _nodelay = stream.set_nodelay(true);
+    let mut gate = SeeingGate::new(rt, alloc, cluster, node, number, Mail::IsFetched);
+    let mut reader = Counting::new(stream);
+    let mut writer = Counting::new(stream);
+    serve_conn(alloc, &mut gate, &mut reader, &mut writer)
+}
+
+// Reads what a client goes on to send that was told why its conversation ended, for a moment, and forgets it.
+fn linger<R: Clock>(rt: &R, stream: &TcpStream) {
+    let Some(mut lingering) = Lingering::begin(rt) else {
+        return;
+    };
+    if stream.shutdown(Shutdown::Write).is_err() {
+        return;
+    }
+    let mut room = [0u8; ROOM];
+    for _ in 0..u64::MAX {
+        let left = lingering.time_left(rt);
+        if left.is_none() || stream.set_read_timeout(left).is_err() {
+            return;
+        }
+        if !reads_on(stream, &mut room, &mut lingering) {
+            return;
+        }
+    }
+}
+
+// Reads once, and says whether more may be read.
+fn reads_on(stream: &TcpStream, room: &mut [u8], lingering: &mut Lingering) -> bool {
+    let mut stream = stream;
+    match stream.read(room) {
+        Ok(0) => false,
+        Ok(count) => lingering.note_read(count),
+        Err(error) => error.kind() == ErrorKind::Interrupted,
+    }
+}
