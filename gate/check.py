@@ -1,25 +1,29 @@
 """Passes everything: proofs, edits that must be refused, programs, and test scripts.
 
 usage: ./check [--anew]             with --anew the kit takes nothing from what it passed on this machine before
+       ./check --quick              builds the programs without their proofs, in some minutes, and runs them and the test scripts
        ./check --wrong [NAME ..]    tries the wrong bodies in crates/NAME/wrong, those of all crates if none is named
 """
 
 import os
+import signal
 import subprocess
 import sys
 import time
 
 import kit
+from processes import end_in_order, started
 from processor_time import ProcessorTime, ended_seconds
-from report import Report
-from sources import PROGRAM, ROOT, note_built, program_of
+from quick_check import build_programs, is_run_right
+from report import Progress, known_seconds
+from sources import PROGRAM, ROOT, crate_names, note_built, program_of, unproved_program
 from wrong import try_wrong_bodies
 
 # The test scripts, each with the program that it runs, if it runs one, and the words before that.
 SCRIPTS = [
     ("tests/refused_memory", "node_trials"),
     ("tests/refused_moves", "node_trials"),
-    ("tests/refused_audit", "audit_trials"),
+    ("tests/refused_audit", "node_trials"),
     ("tests/refused_calls", "rcluster"),
     ("tests/simulated/run", "rcluster"),
     ("tests/drawings/run", "rcluster"),
@@ -33,51 +37,77 @@ LOG = os.path.join(ROOT, "check.log")
 
 
 def main(words):
+    end_in_order()
+    os.chdir(ROOT)
+    if words in ([], ["--anew"]):
+        return check(words)
+    if words == ["--quick"]:
+        return check_quickly()
     if words[:1] == ["--wrong"] and not any(it.startswith("-") for it in words[1:]):
         return try_wrong_bodies(words[1:])
-    if words not in ([], ["--anew"]):
-        print(__doc__, end="", file=sys.stderr)
-        return 2
+    print(__doc__, end="", file=sys.stderr)
+    return 2
+
+
+def check(words):
     begun = time.monotonic()
-    os.chdir(ROOT)
     passed, failed = pass_crates(words)
     if not failed:
-        note_built(program_of(PROGRAM))
-    for script, program, *options in SCRIPTS:
-        is_well = run_script(script, program, options)
-        passed, failed = passed + is_well, failed + (not is_well)
+        note_built(program_of(PROGRAM), PROGRAM)
+    are_well = [run_script(program_of, *it) for it in SCRIPTS]
+    passed, failed = passed + are_well.count(True), failed + are_well.count(False)
     print(f"in {time.monotonic() - begun:.0f} s on {os.cpu_count()} cores, {ended_seconds():.0f} s of a processor")
     print(f"{passed} passed, {failed} failed")
     return 1 if failed or not passed else 0
+
+
+def check_quickly():
+    """Builds the programs that the test scripts run, without proofs, and runs them and the scripts."""
+    begun = time.monotonic()
+    programs = sorted({script[1] for script in SCRIPTS if script[1]})
+    built = build_programs(programs)
+    for it in programs:
+        if it not in built:
+            print(f"{it}: it isn't built, so each script that runs it has FAILED", flush=True)
+    are_well = [it in built and is_run_right(it) for it in programs]
+    are_well += [it[1] in (None, *built) and run_script(unproved_program, *it) for it in SCRIPTS]
+    print(f"in {time.monotonic() - begun:.0f} s on {os.cpu_count()} cores")
+    print(f"{are_well.count(True)} passed, {are_well.count(False)} failed; nothing was proved")
+    return 0 if all(are_well) else 1
 
 
 def pass_crates(words):
     """Passes the kit's gate. Returns how much passed and how much failed."""
     try:
         running = kit.version()
-        print(f"the kit is {running}", flush=True)
         words = words if kit.keeps_what_passed() else []
-        gate = subprocess.Popen(["rt", "ci", *words], stdout=subprocess.PIPE, stderr=subprocess.STDOUT, text=True, errors="replace")
-    except (OSError, kit.NoKit) as error:
+    except kit.NoKit as error:
         print(error, file=sys.stderr)
         return 0, 1
-    report = Report(kit.warning(running))
+    proofs, edits = known_seconds(crate_names())
+    seconds = sum(proofs.values()) + sum(edits.values())
+    print(f"the kit is {running}", flush=True)
+    print(f"{len(proofs)} crates took {seconds:,} s of a processor, as docs/GATE.md tells. What is kept takes none", flush=True)
     taken = ProcessorTime()
     taken.start()
-    with gate, open(LOG, "w", encoding="utf-8") as log:
+    report = Progress(proofs, edits, kit.warning(running), taken.of_edits)
+    how = {"stdout": subprocess.PIPE, "stderr": subprocess.STDOUT, "text": True, "errors": "replace"}
+    with started(["rt", "ci", *words], **how) as gate, open(LOG, "w", encoding="utf-8") as log:
         for line in gate.stdout:
             log.write(line)
             log.flush()
             report.hear(line.rstrip("\n"))
         log.writelines(f"{line}\n" for line in taken.table())
-    # A gate that failed without a count is one failure.
-    return report.passed, max(report.failed, int(gate.returncode != 0))
+        # A gate that failed without a count is one failure.
+        return report.passed, max(report.failed, int(gate.wait() != 0))
 
 
-def run_script(script, program, options):
+def run_script(place, script, program, *options):
+    """Runs a test script with the program that lies in that place, and returns whether all is well."""
     begun = time.monotonic()
     words = [script, *options]
-    is_well = subprocess.run([*words, *([program_of(program)] if program else [])], check=False).returncode == 0
+    with started([*words, *([place(program)] if program else [])], by=signal.SIGINT) as running:
+        is_well = running.wait() == 0
     print(f"{' '.join(words)}: {'passed' if is_well else 'FAILED'} in {time.monotonic() - begun:.0f} s", flush=True)
     return is_well
 

@@ -1,12 +1,26 @@
 """A copy of the repository's crates in a folder of its own, for the kit to work on."""
 
+import contextlib
 import os
 import shutil
 
-from sources import PARTS, ROOT, crate_names
+from processes import temporary_folder
+from sources import PARTS, ROOT, crate_names, folder_of
 
 # What the kit runs a program on.
 RUN = ("stdin", "stdout", "args", "status", "data")
+
+
+@contextlib.contextmanager
+def workplace(prefix):
+    """Gives a folder for a copy, and one for the temporary files of a command there. Both are removed behind the block."""
+    with temporary_folder(prefix) as room:
+        copy, temporary = os.path.join(room, "copy"), os.path.join(room, "temporary")
+        for it in (room, copy, temporary):
+            os.makedirs(it, exist_ok=True)
+            # As root the kit runs programs there as nobody.
+            os.chmod(it, 0o711)
+        yield copy, temporary
 
 
 def copy_crates(to, names=None, edits_of=None):
@@ -19,7 +33,7 @@ def copy_crates(to, names=None, edits_of=None):
     with open(os.path.join(ROOT, "crates.txt"), encoding="utf-8") as file, open(os.path.join(to, "crates.txt"), "w", encoding="utf-8") as copy:
         copy.writelines(line for line in file if is_wanted(line, names))
     for name in names:
-        crate = os.path.join(ROOT, "crates", name)
+        crate = folder_of(name)
         for part in (*PARTS, *RUN):
             copy_part(os.path.join(crate, part), os.path.join(to, "crates", name, part))
         if name in (edits_of or ()):

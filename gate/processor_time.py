@@ -41,6 +41,10 @@ class ProcessorTime(threading.Thread):
         self.join()
         return self.lines()
 
+    def of_edits(self, crate):
+        """Returns how many seconds the edits of the crate took so far."""
+        return sum(own for name, kind, own in [*self.checks.values()] if (name, kind) == (crate, "edits"))
+
     def lines(self):
         seconds = collections.defaultdict(collections.Counter)
         for crate, kind, own in self.checks.values():

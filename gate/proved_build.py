@@ -3,12 +3,13 @@
 import os
 import shutil
 import subprocess
-import tempfile
+import sys
 
 import kit
-from copies import copy_crates
-from report import Progress
-from sources import PROGRAM, below, note_built, program_of
+from copies import copy_crates, workplace
+from processes import started, with_temporary
+from report import Progress, known_seconds
+from sources import PROGRAM, SPARING_CI, below, note_built, program_of
 
 
 def build():
@@ -18,17 +19,18 @@ def build():
     isn't proved again by the gate.
     """
     names = below(PROGRAM)
-    with tempfile.TemporaryDirectory(prefix="proved-build-") as copy:
+    with workplace("proved-build-") as (copy, temporary):
         copy_crates(copy, names)
-        gate = subprocess.Popen(["rt", "ci"], cwd=copy, stdout=subprocess.PIPE, stderr=subprocess.STDOUT, text=True, errors="replace")
-        report = Progress(names, kit.warning(kit.version()))
-        with gate:
+        proofs, _edits = known_seconds(names)
+        report = Progress(proofs, {}, kit.warning(kit.version()))
+        how = {"cwd": copy, "env": with_temporary(temporary), "stderr": subprocess.STDOUT, "text": True, "errors": "replace"}
+        with started([sys.executable, "-B", SPARING_CI], stdout=subprocess.PIPE, **how) as gate:
             for line in gate.stdout:
                 report.hear(line.rstrip("\n"))
-        if gate.returncode:
-            return False
+            if gate.wait():
+                return False
         program = program_of(PROGRAM)
         os.makedirs(os.path.dirname(program), exist_ok=True)
         shutil.copy(os.path.join(copy, "crates", PROGRAM, "out", PROGRAM), program)
-    note_built(program)
+    note_built(program, PROGRAM)
     return True

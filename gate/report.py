@@ -1,10 +1,17 @@
 """What the kit's gate says, as it is shown."""
 
+import os
 import re
 import time
 
+from sources import ROOT, libraries
+
 COUNTS = re.compile(r"(\d+) passed, (\d+) failed")
-PROVED = re.compile(r"rt: (\w+) (?:proved$|is kept:)")
+PROVED = re.compile(r"(\w+) (?:proved$|(is kept:))")
+# A row of the table in docs/GATE.md: a crate, the seconds of its proof, its edits, and their seconds.
+ROW = re.compile(r"\| (\w+) \| (\d+) \| \d* \| (\d*) \|")
+# How many of the crates that are left are named.
+MOST_NAMES = 4
 
 
 class Report:
@@ -46,17 +53,37 @@ class Report:
 
 
 class Progress(Report):
-    """The same, where each crate's line says how many are left."""
+    """The same, where each crate's line says which are left to prove, and how many seconds of a processor are left."""
 
-    def __init__(self, crates, warning=None):
+    def __init__(self, proofs, edits, warning=None, spent=lambda crate: 0):
+        """The seconds of each crate's proof and of its edits, lowest first, and a call that tells those spent on its edits so far."""
         super().__init__(warning)
-        self.left = set(crates)
+        self.proofs, self.edits, self.spent = dict(proofs), dict(edits), spent
 
     def tell(self, text):
-        crate = PROVED.match(f"rt: {text}")
-        if crate:
-            self.left.discard(crate[1])
-            last = f"; {len(self.left)} crates are left" if self.left else ""
-            self.say(f"{crate[1]} is proved{last}")
-        elif not text.startswith(("fn ", "struct ", "note: ")):
+        crate = PROVED.match(text)
+        if not crate:
             self.say(text)
+            return
+        self.proofs.pop(crate[1], None)
+        if crate[2]:
+            self.edits.pop(crate[1], None)
+        self.say(f"{crate[1]} is {'kept' if crate[2] else 'proved'}; {self.rest()}")
+
+    def rest(self):
+        seconds = sum(self.proofs.values()) + sum(max(0, it - self.spent(crate)) for crate, it in self.edits.items())
+        if not self.proofs:
+            return f"no proof is left, but some {seconds:,.0f} s of edits" if seconds else "no crate is left"
+        names = [*self.proofs]
+        more = " .." if names[MOST_NAMES:] else ""
+        return f"{len(names)} left, some {seconds:,.0f} s: {', '.join(names[:MOST_NAMES])}{more}"
+
+
+def known_seconds(crates):
+    """Returns the seconds of a processor that the proofs of these crates took as docs/GATE.md tells, and those of their edits, lowest first."""
+    with open(os.path.join(ROOT, "docs", "GATE.md"), encoding="utf-8") as file:
+        rows = {row[1]: row for row in map(ROW.match, file) if row}
+    names = [it for it in libraries() if it in crates]
+    proofs = {it: int(rows[it][2]) if it in rows else 0 for it in names}
+    edits = {it: int(rows[it][3] or 0) for it in names if it in rows}
+    return proofs, edits

@@ -11,9 +11,9 @@ import time
 import kit
 import proved_build
 import quick_build
-from sources import PROGRAM, ROOT, is_built, note_built, program_of, unproved_program
+from processes import end_in_order
+from sources import PROGRAM, ROOT, folder_of, is_built, program_of, unproved_program
 
-CRATE = os.path.join(ROOT, "crates", PROGRAM)
 EXAMPLE = os.path.join(ROOT, "examples", "six_nodes.json")
 # How long the kit's own way without proofs serves at most.
 SECONDS = "3600"
@@ -25,6 +25,7 @@ def main():
     if not os.path.isfile(file):
         print(f"there is no file {file}", file=sys.stderr)
         return 1
+    end_in_order()
     try:
         return (serve_proved if asked.proved else serve)(file, asked.loops)
     except kit.NoKit as error:
@@ -41,21 +42,21 @@ def arguments():
 
 
 def serve(file, loops):
-    if is_built(program_of(PROGRAM)):
+    if is_built(program_of(PROGRAM), PROGRAM):
         return start(program_of(PROGRAM), file, loops)
-    program = unproved_program()
-    if not is_built(program):
-        try:
-            build_unproved(program)
-        except quick_build.Failed as failed:
-            return serve_slowly(file, loops, failed)
+    if not is_built(unproved_program(PROGRAM), PROGRAM):
+        print("The program is built without its proofs, which takes some three minutes. The next start takes a second.", flush=True)
+    try:
+        program = quick_build.build(PROGRAM)
+    except quick_build.Failed as failed:
+        return serve_slowly(file, loops, failed)
     print("This build was not proved on this machine: ./check does that.", flush=True)
     return start(program, file, loops)
 
 
 def serve_proved(file, loops):
     program = program_of(PROGRAM)
-    if not is_built(program):
+    if not is_built(program, PROGRAM):
         begun = time.monotonic()
         print("The program is not proved on this machine yet. What is proved once isn't proved again.", flush=True)
         if not proved_build.build():
@@ -65,19 +66,11 @@ def serve_proved(file, loops):
     return start(program, file, loops)
 
 
-def build_unproved(program):
-    begun = time.monotonic()
-    print("The program is built without its proofs, which takes some three minutes. The next start takes a second.", flush=True)
-    quick_build.build(CRATE, program)
-    note_built(program)
-    print(f"It is built, in {time.monotonic() - begun:.0f} s.", flush=True)
-
-
 def serve_slowly(file, loops, failed):
     print(f"The program can't be built quickly with this kit: {failed}", file=sys.stderr)
     print("So the kit's own way without proofs serves it, a tenth as fast, for an hour. ./check proves it.", flush=True)
     words = ["rt", "try", "--seconds", SECONDS, "--data", f"cluster.json={file}", "--", "serve", "--config", "cluster.json", "--loops", loops]
-    os.chdir(CRATE)
+    os.chdir(folder_of(PROGRAM))
     os.execvp(words[0], words)
 
 

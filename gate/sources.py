@@ -2,58 +2,81 @@
 
 import hashlib
 import os
+import re
 
 import kit
 
 ROOT = os.path.dirname(os.path.dirname(os.path.abspath(__file__)))
 PROGRAM = "rcluster"
+SPARING_CI = os.path.join(ROOT, "gate", "sparing_ci.py")
 PARTS = ("src", "specs", "proofs")
+STATUS = re.compile(r"\bstatus=(\d+)")
+
+
+def folder_of(crate):
+    return os.path.join(ROOT, "crates", crate)
 
 
 def program_of(crate):
     """Returns where the proved program of a crate is built."""
-    return os.path.join(ROOT, "crates", crate, "out", crate)
+    return os.path.join(folder_of(crate), "out", crate)
 
 
-def unproved_program():
-    """Returns where the program is built without its proofs."""
-    return program_of(PROGRAM) + ".unproved"
+def unproved_program(crate):
+    """Returns where the program of a crate is built without its proofs."""
+    return program_of(crate) + ".unproved"
 
 
-def is_built(program):
-    """Whether the program lies there as it was built from these files, with this kit."""
+def is_built(program, crate):
+    """Whether the program of the crate lies there as it was built from these files, with this kit."""
     try:
         with open(note_of(program), encoding="utf-8") as file:
-            return file.read() == sum_of_all(program)
+            return file.read() == sum_of_build(program, crate)
     except (OSError, kit.NoKit):
         return False
 
 
-def note_built(program):
-    """Notes that the program was built from these files, with this kit."""
+def note_built(program, crate):
+    """Notes that the program of the crate was built from these files, with this kit."""
     with open(note_of(program), "w", encoding="utf-8") as file:
-        file.write(sum_of_all(program))
+        file.write(sum_of_build(program, crate))
 
 
 def note_of(program):
     return program + ".built"
 
 
-def sum_of_all(program):
+def sum_of_build(program, crate):
     """Returns a sum of the program, of the kit and of all files that the kit reads for it."""
     total = hashlib.sha256()
-    for path in (program, os.path.join(kit.folder(), "KIT-ID"), *sorted(sources())):
+    for path in (program, os.path.join(kit.folder(), "KIT-ID")):
         with open(path, "rb") as file:
-            total.update(f"{path}\0{hashlib.sha256(file.read()).hexdigest()}\0".encode())
+            total.update(hashlib.sha256(file.read()).digest())
+    total.update(sum_of_files(sources(crate)).encode())
     return total.hexdigest()
 
 
-def sources():
+def sum_of_files(paths):
+    """Returns a sum of what these files hold and of their names, from the root of the repository on."""
+    total = hashlib.sha256()
+    for path in sorted(paths):
+        with open(path, "rb") as file:
+            total.update(f"{os.path.relpath(path, ROOT)}\0{hashlib.sha256(file.read()).hexdigest()}\n".encode())
+    return total.hexdigest()
+
+
+def sources(crate):
+    """The files that a build of the crate's program reads."""
     yield from (os.path.join(ROOT, "crates.txt"), os.path.join(ROOT, "HANDLES"))
-    for crate in crate_names():
-        for part in PARTS:
-            for at, _, names in os.walk(os.path.join(ROOT, "crates", crate, part)):
-                yield from (os.path.join(at, it) for it in names)
+    for name in below(crate):
+        yield from files_of(name, PARTS)
+
+
+def files_of(crate, parts):
+    """The files in these folders of a crate."""
+    for part in parts:
+        for at, _, names in os.walk(os.path.join(folder_of(crate), part)):
+            yield from (os.path.join(at, it) for it in names)
 
 
 def crate_names():
@@ -62,14 +85,23 @@ def crate_names():
 
 
 def libraries():
-    """Returns for each crate the names of those that its line of crates.txt cites, the kit's too."""
-    found = {}
+    """Returns for each crate the names of those that its line of crates.txt cites, the kit's too, lowest first."""
+    return {head.split()[0]: cited.split() for head, cited in lines()}
+
+
+def status_of(crate):
+    """Returns the status with which the crate's program ends as it is run by the gate."""
+    found = next((STATUS.search(head) for head, _ in lines() if head.split()[0] == crate), None)
+    return int(found[1]) if found else 0
+
+
+def lines():
+    """The lines of crates.txt: what stands before the colon and what behind it."""
     with open(os.path.join(ROOT, "crates.txt"), encoding="utf-8") as file:
         for line in file:
             head, colon, cited = line.partition("#")[0].partition(":")
             if colon:
-                found[head.split()[0]] = cited.split()
-    return found
+                yield head, cited
 
 
 def below(crate):
