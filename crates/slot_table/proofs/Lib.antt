@@ -3,3 +3,5 @@ pub mod RunsOfLemmas
 pub mod TableLemmas
 pub mod MergeLemmas
 pub mod JoinLemmas
+pub mod SameLemmas
+pub mod RememberedLemmas

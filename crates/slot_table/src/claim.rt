@@ -11,7 +11,7 @@ use std::sync::Arc;
 /// The slots that a node claims for itself, each in the epoch of its claim. It doesn't say which node that is.
 ///
 /// A copy shares the runs, and takes no memory for them.
-#[derive(Debug, Drop)]
+#[derive(Debug)]
 pub struct Claim {
     runs: Arc<Vec<Run<Epoch>>>,
 }
@@ -27,6 +27,12 @@ impl Model for Claim {
     ghost view = { λ claim. claim.runs.value.items };
 
     ghost invariant = { λ claim. IsRising claim.runs.value.items };
+}
+
+impl Drop for Claim {
+    fn drop(self) {
+        let Claim { runs: _ } = self;
+    }
 }
 
 impl Claim {

@@ -1,12 +1,12 @@
 //! The table of all slots with their owners.
-ghost use Rattle.std.specs.Prelude.{◌≡◌, ◌<◌, ℕ, length, IfOk, OnOk, OnErr, Some, None, slice_set, if◌then◌else◌};
+ghost use Rattle.std.specs.Prelude.{◌≡◌, ◌<◌, ℕ, true, replicate, length, IfOk, IfSome, OnOk, OnErr, Some, None, slice_set, if◌then◌else◌};
 ghost use Rattle.slot_table.specs.Table.{entry_at, owner_at, claim_at, first_table, HasFirstEntries};
 ghost use Rattle.key_slot.specs.SlotRange.{is_in};
 ghost use Rattle.slot_table.specs.Runs.{runs_of};
 ghost use Rattle.slot_table.specs.Claims.{merged, changed};
 
 use crate::claim::Claim;
-use crate::entry::SlotEntry;
+use crate::entry::{Epoch, SlotEntry};
 use crate::merging::{take_all, taken_slots};
 use crate::node_no::NodeNo;
 use crate::runs::{ClaimOf, Owner, Run, runs_of};
@@ -18,17 +18,22 @@ use std::marker::Model;
 #[derive(Debug, Drop)]
 pub struct SlotTable {
     entries: Vec<Option<SlotEntry>>,
+    // The claim of a node, if it was asked for and no entry has changed since.
+    kept: Option<(NodeNo, Claim)>,
+    // Of each node the last claim that was taken over. It says nothing new any more.
+    known: Vec<Option<Claim>>,
 }
 
 impl Model for SlotTable {
     ghost use Rattle.std.specs.Prelude.{◌≡◌, List, Option, length};
     ghost use Rattle.slot_table.specs.declared.entry.SlotEntry.{SlotEntry};
+    ghost use Rattle.slot_table.specs.Remembered.{IsWhole};
 
     ghost Value = { List (Option SlotEntry) };
 
     ghost view = { λ table. table.entries.items };
 
-    ghost invariant = { λ table. length table.entries.items ≡ 16384 };
+    ghost invariant = { λ table. IsWhole table.entries.items table.kept table.known.items };
 }
 
 impl SlotTable {
@@ -41,7 +46,12 @@ impl SlotTable {
         ensures value { IfOk result (λ table. table ≡ first_table owners.now) }
     {
         let entries = first_entries(alloc, owners)?;
-        Ok(SlotTable { entries })
+        let known = none_known(alloc)?;
+        Ok(SlotTable {
+            entries,
+            kept: None,
+            known,
+        })
     }
 
     /// What is known of the owner of the slot. It takes no memory and one look into the table.
@@ -66,7 +76,40 @@ impl SlotTable {
     }
 
     /// All slots of the node with their epochs, as the longest runs of one epoch, in rising order.
+    ///
+    /// It looks at all slots, but for a claim that [`keep_claim_of`](SlotTable::keep_claim_of) keeps.
     pub fn claim_of(&self, alloc: Global, node: NodeNo) -> Result<Claim, AllocError>
+        ensures { IfOk result (λ claim. claim ≡ runs_of (claim_at self.now node)) }
+    {
+        match self.kept_claim(node) {
+            Some(claim) => claim.clone(),
+            None => self.made_claim(alloc, node),
+        }
+    }
+
+    /// Keeps the claim of the node until an entry changes. Meanwhile [`claim_of`](SlotTable::claim_of) shares it, and looks at no slot.
+    ///
+    /// A table keeps the claim of one node.
+    pub fn keep_claim_of(&mut self, alloc: Global, node: NodeNo) -> Result<(), AllocError>
+        ensures { self.new ≡ self.old }
+    {
+        if self.kept_claim(node).is_none() {
+            let claim = self.made_claim(alloc, node)?;
+            self.kept = Some((node, claim));
+        }
+        Ok(())
+    }
+
+    // The claim of the node, if it is kept.
+    fn kept_claim(&self, node: NodeNo) -> Option<&Claim>
+        ensures { IfSome result (λ claim. claim.now ≡ runs_of (claim_at self.now node)) }
+    {
+        let (of, claim) = self.kept.as_ref()?;
+        if *of == node { Some(claim) } else { None }
+    }
+
+    // The claim of the node, from all entries.
+    fn made_claim(&self, alloc: Global, node: NodeNo) -> Result<Claim, AllocError>
         ensures { IfOk result (λ claim. claim ≡ runs_of (claim_at self.now node)) }
     {
         let runs = runs_of(alloc, self.entries.as_slice(), ClaimOf(node))?;
@@ -78,7 +121,8 @@ impl SlotTable {
     /// entry changed, in rising order.
     ///
     /// Of two claims to a slot that of the greater epoch counts, and of two in one epoch that of the greater owner.
-    /// A refusal of memory leaves the table as it was. It looks at the slots of the claim alone.
+    /// A refusal of memory leaves the table as it was. It looks at the slots of the claim alone, and at none where the claim is the
+    /// last one of its owner that was taken over.
     pub fn merge(
         &mut self,
         alloc: Global,
@@ -103,6 +147,9 @@ impl SlotTable {
     ) -> Result<Vec<Slot>, AllocError>
         ensures { IfOk result (λ slots. slots.items ≡ changed self.now (merged self.now claim.now owner)) }
     {
+        if self.is_known(owner, claim) {
+            return Ok(Vec::new(alloc));
+        }
         taken_slots(alloc, self.entries.as_slice(), claim.runs(), owner)
     }
 
@@ -110,7 +157,23 @@ impl SlotTable {
     pub fn take(&mut self, owner: NodeNo, claim: &Claim)
         ensures { self.new ≡ merged self.old claim.now owner }
     {
+        if self.is_known(owner, claim) {
+            return;
+        }
+        let known = shared(claim);
         take_all(self.entries.as_mut_slice(), claim.runs(), owner);
+        self.kept = None;
+        self.known[owner.index()] = known;
+    }
+
+    // Whether the claim is the last one of the owner that was taken over.
+    fn is_known(&self, owner: NodeNo, claim: &Claim) -> bool
+        ensures { result ≡ true → merged self.now claim.now owner ≡ self.now }
+    {
+        match &self.known[owner.index()] {
+            Some(known) => are_same(known.runs(), claim.runs()),
+            None => false,
+        }
     }
 
     /// Gives the slot this entry, or none. It takes no memory.
@@ -118,6 +181,8 @@ impl SlotTable {
         ensures { self.new ≡ slice_set self.old slot entry }
     {
         self.entries[slot.index()] = entry;
+        self.kept = None;
+        self.known.fill(None);
     }
 }
 
@@ -127,8 +192,37 @@ impl Clone for SlotTable {
     /// A copy takes memory for all entries.
     fn clone(&self) -> Result<SlotTable, AllocError> {
         let entries = self.entries.clone()?;
-        Ok(SlotTable { entries })
+        let known = none_known(*self.entries.allocator())?;
+        Ok(SlotTable {
+            entries,
+            kept: None,
+            known,
+        })
     }
+}
+
+// No claim of any node is known.
+fn none_known(alloc: Global) -> Result<Vec<Option<Claim>>, AllocError>
+    ensures { IfOk result (λ known. known.items ≡ replicate 16 None) }
+{
+    Vec::from_elem(alloc, None, NodeNo::COUNT)
+}
+
+// The claim once more, or none where that takes memory that isn't there.
+fn shared(claim: &Claim) -> Option<Claim>
+    ensures { IfSome result (λ shared. shared ≡ claim.now) }
+{
+    match claim.clone() {
+        Ok(shared) => Some(shared),
+        Err(_) => None,
+    }
+}
+
+// Whether they are the same runs in the same order.
+fn are_same(runs: &[Run<Epoch>], others: &[Run<Epoch>]) -> bool
+    ensures { result ≡ true → runs.now ≡ others.now }
+{
+    runs == others
 }
 
 // For each slot its entry at the start.

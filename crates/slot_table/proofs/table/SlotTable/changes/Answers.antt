@@ -1,7 +1,12 @@
 use Rattle.std.proofs.Common.{◌≡◌, ◌∙◌, ap₂, subst, ℕ, List, IfOk}
 use Rattle.slot_table.specs.Claims.{taken, merged, changed}
 use Rattle.slot_table.proofs.MergeLemmas.{taken_changes}
+use Rattle.slot_table.proofs.RememberedLemmas.{none_changes}
 use Rattle.slot_table.proofs.table.SlotTable.changes.Goals as goal
+
+pub returns-then-is_known : goal.returns-then-is_known
+returns-then-is_known c =
+    c.new.ensures.items ∙ none_changes c.args.self.now (merged c.args.self.now c.args.claim.now c.args.owner) (c.is_known.ensures c.if-is_known.true)
 
 pub returns : goal.returns
 returns c =

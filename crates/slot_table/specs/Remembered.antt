@@ -1,0 +1,23 @@
+-- What a table remembers beside its entries. Nobody sees it: it spares a look at each slot where nothing has changed.
+use Rattle.std.specs.Prelude.{◌≡◌, ℕ, ⊤, List, Option, Some, None, length, get_or}
+use Rattle.slot_table.specs.declared.entry.SlotEntry.{SlotEntry}
+use Rattle.slot_table.specs.declared.runs.Run.{Run}
+use Rattle.slot_table.specs.Claims.{merged}
+use Rattle.slot_table.specs.Runs.{runs_of}
+use Rattle.slot_table.specs.Table.{claim_at}
+
+-- the claim of a node, as the table has it
+abbrev pub IsKept : List (Option SlotEntry) → Option (ℕ × List (Run ℕ)) → Type 0
+IsKept table None = ⊤
+IsKept table (Some kept) = kept.1 ≡ runs_of (claim_at table kept.0)
+
+-- of each node a claim, if there is one, that says nothing new
+abbrev pub AreKnown : List (Option SlotEntry) → List (Option (List (Run ℕ))) → Type 0
+AreKnown table known = (owner : ℕ) (claim : List (Run ℕ)) → get_or known owner None ≡ Some claim → merged table claim owner ≡ table
+
+-- a table of all slots, and what it remembers
+pub record IsWhole (table : List (Option SlotEntry)) (own : Option (ℕ × List (Run ℕ))) (known : List (Option (List (Run ℕ)))) : Type 0 where
+  pub slots : length table ≡ 16384
+  pub nodes : length known ≡ 16
+  pub kept : IsKept table own
+  pub says : AreKnown table known
