@@ -10,7 +10,7 @@ use std::sync::Arc;
 
 /// A hash in a block of its own, which its copies share: what holds it takes no more room than a pointer, and to copy it
 /// takes no memory.
-#[derive(Debug, Drop)]
+#[derive(Debug)]
 pub struct SharedHash {
     hash: Arc<Hash>,
 }
@@ -21,6 +21,12 @@ impl Model for SharedHash {
     ghost Value = { Pairs };
 
     ghost view = { λ shared. shared.hash.value };
+}
+
+impl Drop for SharedHash {
+    fn drop(self) {
+        let SharedHash { hash: _ } = self;
+    }
 }
 
 impl SharedHash {

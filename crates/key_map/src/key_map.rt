@@ -19,7 +19,6 @@ use std::marker::Model;
 ///
 /// Up to eight lie in a list that has room for no more than the most that it had, and more lie in a tree. A tree stays
 /// one until it is cleared.
-#[derive(Drop)]
 pub struct KeyMap<V> {
     form: Form<V>,
     alloc: Global,
@@ -36,6 +35,12 @@ impl<V> Model for KeyMap<V> {
     ghost view = { λ map. record { entries = entries_of map.form } };
 
     ghost invariant = { λ map. IsRising (entries_of map.form) };
+}
+
+impl<V: Drop> Drop for KeyMap<V> {
+    fn drop(self) {
+        let KeyMap { form: _, alloc: _ } = self;
+    }
 }
 
 impl<V> KeyMap<V> {

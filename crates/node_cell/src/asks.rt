@@ -43,7 +43,6 @@ impl Model for Asking {
 ///
 /// Nobody asks a node but by this, and it begins with an [`Admission`](crate::Admission) alone. So a gate that says what was asked
 /// through it says all that it asked.
-#[derive(Drop)]
 pub struct Asks<K: Deployment> {
     asked: History<Asking>,
     cluster: PhantomData<K>,
@@ -56,6 +55,15 @@ impl<K: Deployment> Model for Asks<K> {
     ghost Value = { List Asked };
 
     ghost view = { λ asks. asks.asked };
+}
+
+impl<K: Deployment> Drop for Asks<K> {
+    fn drop(self) {
+        let Asks {
+            asked: _,
+            cluster: _,
+        } = self;
+    }
 }
 
 impl<K: Deployment> Asks<K> {

@@ -29,7 +29,6 @@ use std::snapshot::Snapshot;
 use tickets::Seat;
 
 /// A node of the cluster `K`, with all that it ever did in the log `L`: an entry a step.
-#[derive(Drop)]
 pub struct NodeCell<K: Deployment, L: Log> {
     config: Config,
     node: NodeNo,
@@ -61,6 +60,21 @@ impl<K: Deployment, L: Log> Model for NodeCell<K, L> {
         × All (IsGiven (L.entries cell.log)) (joined cell.undelivered.items)
         × (cell.config ≡ K.config) × (table_of cell.seat ≡ K.table) × (seats_of cell.seat ≡ K.seats)
         × (cell.node < length cell.config.nodes) };
+}
+
+impl<K: Deployment, L: Log + Drop> Drop for NodeCell<K, L> {
+    fn drop(self) {
+        let NodeCell {
+            config: _,
+            node: _,
+            core: _,
+            log: _,
+            undelivered: _,
+            outbox: _,
+            seat: _,
+            cluster: _,
+        } = self;
+    }
 }
 
 impl<K: Deployment, L: Log> NodeCell<K, L> {

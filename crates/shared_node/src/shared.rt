@@ -25,7 +25,6 @@ const FEW_YIELDS: u32 = 5;
 const MOST_YIELDS: u32 = 500;
 
 /// A node behind its lock, whose cell is in a `C`, with the bells that ring for those who wait there.
-#[derive(Drop)]
 pub struct SharedNode<C: HoldsCell> {
     cell: Mutex<C>,
     // How many threads wait long for the lock.
@@ -50,6 +49,24 @@ pub struct SharedNode<C: HoldsCell> {
     is_closed: AtomicBool,
 }
 
+impl<C: HoldsCell + Drop> Drop for SharedNode<C> {
+    fn drop(self) {
+        let SharedNode {
+            cell: _,
+            pressed: _,
+            sleeps: _,
+            replies: _,
+            mail: _,
+            sent: _,
+            wakers: _,
+            steps: _,
+            are_many: _,
+            are_stuck: _,
+            is_closed: _,
+        } = self;
+    }
+}
+
 impl<C: HoldsCell + Drop> SharedNode<C> {
     /// The node with this cell.
     pub fn new(cell: C) -> SharedNode<C> {
@@ -70,7 +87,20 @@ impl<C: HoldsCell + Drop> SharedNode<C> {
 
     /// The cell, once nobody shares the node any more.
     pub fn into_cell(self) -> C {
-        self.cell.into_inner()
+        let SharedNode {
+            cell,
+            pressed: _,
+            sleeps: _,
+            replies: _,
+            mail: _,
+            sent: _,
+            wakers: _,
+            steps: _,
+            are_many: _,
+            are_stuck: _,
+            is_closed: _,
+        } = self;
+        cell.into_inner()
     }
 
     /// Has these wake the loops that serve the node's clients, by the loops' numbers. Further ones are dropped.

@@ -12,7 +12,6 @@ use std::alloc::{AllocError, Global};
 use std::marker::Model;
 
 /// Keys and values, those of each slot in a map of their own, in the byte order of the keys.
-#[derive(Drop)]
 pub struct SlotStore {
     // One map for each slot, at the slot's number. A key lies in the map of its slot.
     maps: Vec<TreeStore>,
@@ -34,6 +33,12 @@ impl Model for SlotStore {
     ghost view = { λ store. map.from_entries (all_entries store.maps.items) };
 
     ghost invariant = { λ store. (length store.maps.items ≡ 16384) × ArePlaced store.maps.items };
+}
+
+impl Drop for SlotStore {
+    fn drop(self) {
+        let SlotStore { maps: _ } = self;
+    }
 }
 
 impl SlotStore {
