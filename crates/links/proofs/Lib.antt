@@ -5,7 +5,6 @@ pub mod FacingLemmas
 pub mod JoiningLemmas
 pub mod LastLemmas
 pub mod NamingLemmas
-pub mod PaceLemmas
 pub mod RuleLemmas
 pub mod StationLemmas
 pub mod TogetherLemmas

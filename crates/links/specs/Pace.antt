@@ -1,19 +1,31 @@
 -- Messages that wait for a link in greater numbers than they should (ours).
-use Rattle.std.specs.Prelude.{◌+◌, ◌||◌, ℕ, Bool, List, [], ◌∷◌, length, nat_lt}
+use Rattle.std.specs.Prelude.{◌+◌, ◌||◌, ℕ, Bool, List, length, nat_lt, sum_by}
 use Rattle.bus.specs.declared.message.Body.{Body}
-use Rattle.bus.specs.declared.message.Body.TheVariants.{Piece}
+use Rattle.bus.specs.declared.message.Body.TheVariants.{Copy, Piece}
 use Rattle.bus.specs.declared.message.Message.{Message}
+use Rattle.hash.specs.Size.{size_of}
+use Rattle.keyspace.specs.declared.value.Value.{Value}
+use Rattle.keyspace.specs.declared.value.Value.TheVariants.{Str, Hash}
 use Rattle.links.specs.declared.pace.TheConstants.{MOST_WAITING, MOST_WAITING_BYTES}
 
--- the bytes of a stream that a message brings
-abbrev pub piece_len : Body → ℕ
-piece_len (Piece piece) = length piece.bytes
-piece_len body = 0
+-- the bytes of a string, or those that the pairs of a hash take in a request
+abbrev pub value_bytes : Value → ℕ
+value_bytes (Str bytes) = length bytes
+value_bytes (Hash pairs) = size_of pairs
 
-abbrev pub piece_lens : List Message → ℕ
-piece_lens [] = 0
-piece_lens (message ∷ messages) = piece_len message.body + piece_lens messages
+-- the bytes of a key and its value
+abbrev pub pair_bytes : List ℕ × Value → ℕ
+pair_bytes pair = length pair.0 + value_bytes pair.1
 
--- they are many, or long
+-- the bytes of a stream that a message brings, or those of keys that move. The keys of a snapshot aren't counted
+abbrev pub brought_bytes : Body → ℕ
+brought_bytes (Piece piece) = length piece.bytes
+brought_bytes (Copy slot number copy pairs) = sum_by pair_bytes pairs
+brought_bytes body = 0
+
+abbrev pub waiting_bytes : List Message → ℕ
+waiting_bytes waiting = sum_by (λ message. brought_bytes message.body) waiting
+
+-- they are many, or bring many bytes
 abbrev pub are_many : List Message → Bool
-are_many waiting = nat_lt MOST_WAITING (length waiting) || nat_lt MOST_WAITING_BYTES (piece_lens waiting)
+are_many waiting = nat_lt MOST_WAITING (length waiting) || nat_lt MOST_WAITING_BYTES (waiting_bytes waiting)

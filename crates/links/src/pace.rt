@@ -1,53 +1,78 @@
 //! Messages that wait in greater numbers than they should.
-ghost use Rattle.std.specs.Prelude.{◌≡◌, ◌||◌, length, nat_lt};
-ghost use Rattle.links.specs.Pace.{are_many, piece_len, piece_lens};
+ghost use Rattle.std.specs.Prelude.{◌≡◌, ◌≤◌, ◌-◌, ◌||◌, length, nat_lt, sum_by, SomeIff};
+ghost use Rattle.links.specs.Pace.{are_many, brought_bytes, pair_bytes, value_bytes, waiting_bytes};
 
 use bus::Body;
+use keyspace::Value;
 use node_cell::{Deployment, Posted};
 use std::collections::VecDeque;
+use stream_values::Pair;
 
 /// So many messages may wait for a link before whoever makes more should wait, too.
 pub const MOST_WAITING: usize = 4096;
 
-/// And so many bytes of streams.
+/// And so many bytes may they bring, of streams and of keys that move.
 pub const MOST_WAITING_BYTES: usize = 67_108_864;
 
-/// Whether more messages wait than that, or more bytes of streams.
+/// Whether more messages wait than that, or bring more bytes.
 pub(crate) fn are_many<K: Deployment>(waiting: &VecDeque<Posted<K>>) -> bool
     ensures { result ≡ are_many waiting.now.items }
 {
     waiting.len() > MOST_WAITING || are_long(waiting)
 }
 
-// Whether they bring more than so many bytes of streams.
+// Whether they bring more than so many bytes.
 fn are_long<K: Deployment>(waiting: &VecDeque<Posted<K>>) -> bool
-    ensures { result ≡ nat_lt MOST_WAITING_BYTES (piece_lens waiting.now.items) }
+    ensures { result ≡ nat_lt MOST_WAITING_BYTES (waiting_bytes waiting.now.items) }
 {
-    let mut len = 0;
+    let mut room = MOST_WAITING_BYTES as u128;
     for place in 0..waiting.len() {
-        let more = piece_len(&waiting[place].message().body);
-        if more > MOST_WAITING_BYTES - len {
-            return true;
+        match room_after(room, &waiting[place].message().body) {
+            Some(left) => room = left,
+            None => return true,
         }
-        len += more;
     }
     false
 }
 
-// How many bytes of a stream a message brings.
-fn piece_len(body: &Body) -> usize
-    ensures { result ≡ piece_len body.now }
+// What is left of the room once a message has brought its bytes, or None where they are more.
+//
+// A snapshot has all keys of a node. They aren't counted, since they would be walked under the node's lock.
+fn room_after(room: u128, body: &Body) -> Option<u128>
+    ensures { SomeIff result (brought_bytes body.now ≤ room) (room - brought_bytes body.now) }
 {
     match body {
-        Body::Piece(piece) => piece.bytes().len(),
-        Body::Copy { .. }
-        | Body::Ack { .. }
+        Body::Piece(piece) => room.checked_sub(piece.bytes().len() as u128),
+        Body::Copy { pairs, .. } => room_after_pairs(room, pairs.as_slice()),
+        Body::Ack { .. }
         | Body::Drained { .. }
         | Body::Claim(_, _)
         | Body::Report(_)
         | Body::Request(_)
         | Body::Grant(_)
         | Body::Sync(_)
-        | Body::Snapshot(_) => 0,
+        | Body::Snapshot(_) => Some(room),
+    }
+}
+
+// The same for keys with their values. They share long strings, so their sum may pass what 128 bits hold: it isn't made.
+fn room_after_pairs(room: u128, pairs: &[Pair]) -> Option<u128>
+    ensures { SomeIff result (sum_by pair_bytes pairs.now ≤ room) (room - sum_by pair_bytes pairs.now) }
+{
+    let mut left = room;
+    for pair in pairs {
+        left = left.checked_sub(pair.key().len() as u128)?;
+        left = left.checked_sub(value_bytes(pair.value()))?;
+    }
+    Some(left)
+}
+
+// The bytes of a value. A hash keeps their number, so its fields aren't walked.
+fn value_bytes(value: &Value) -> u128
+    ensures { result ≡ value_bytes value.now }
+{
+    match value {
+        Value::Str(bytes) => bytes.len() as u128,
+        Value::Hash(hash) => hash.get().size(),
     }
 }
