@@ -23,6 +23,8 @@ NOT_ACKNOWLEDGED = b"-IOERR copy not acknowledged\r\n"
 NOT_DRAINED = b"-ERR slot is not drained\r\n"
 REFUSED = b"-ERR no\r\n"
 LAST_MOVE = 9223372036854775807
+# The most bytes of a word, and of a request with all its marks.
+MOST_WORD_BYTES, MOST_REQUEST_BYTES = 8388608, 16777216
 # The greatest limit that the program takes, for runs that have to wait until a node's thread goes on.
 MOST_REPETITIONS = 1000000
 
@@ -62,6 +64,7 @@ def line(count, slot=SLOT, move=1):
 def play(judge):
     play_words(judge)
     play_requests(judge)
+    play_long_keys(judge)
     play_waits(judge)
     play_replies(judge)
     play_at_once(judge)
@@ -163,8 +166,8 @@ def ends(*move):
     return [sets(it, b"NODE", TARGET, *move) for it in (TARGET, SOURCE, 0)]
 
 
-def migrates(ports, key):
-    return SOURCE, [b"MIGRATE", b"127.0.0.1", b"%d" % ports[TARGET], key, b"0", b"100"]
+def migrates(ports, *some):
+    return SOURCE, [b"MIGRATE", b"127.0.0.1", b"%d" % ports[TARGET], b"", b"0", b"100", b"KEYS", *some]
 
 
 def play_requests(judge):
@@ -175,11 +178,11 @@ def play_requests(judge):
         judge.equal(f"{what}: what the nodes were asked", masters.asked, requests(masters.ports))
         masters.close()
 
-    def one_key(ports):
-        return [LISTS_KEYS, migrates(ports, b"foo"), LISTS_KEYS]
-
-    asks("a key is moved", (0, line(1)), lambda ports: READS + takes(b"1") + one_key(ports) + ends(b"1"),
+    asks("a key is moved", (0, line(1)), lambda ports: READS + takes(b"1") + [LISTS_KEYS, migrates(ports, b"foo"), LISTS_KEYS] + ends(b"1"),
          [OK], [FOREIGN, OK, OK], [OWNED, OK, keys(b"foo"), OK, keys(), OK])
+    many = [b"foo%d" % it for it in range(16)]
+    asks("keys are moved at once", (0, line(16)), lambda ports: READS + takes(b"1") + [LISTS_KEYS, migrates(ports, *many), LISTS_KEYS] + ends(b"1"),
+         [OK], [FOREIGN, OK, OK], [OWNED, OK, keys(*many), OK, keys(), OK])
     asks("the number behind the greater one", (0, line(0, move=8)), lambda ports: READS + takes(b"8") + [LISTS_KEYS] + ends(b"8"),
          [OK], [state(b"foreign", ID[SOURCE], 0, 7), OK, OK], [state(b"owned", ID[SOURCE], 0, 4), OK, keys(), OK])
     asks("a move under way keeps its number", (0, line(0, move=5)), lambda ports: READS + takes(b"5") + [LISTS_KEYS] + ends(b"5"),
@@ -190,14 +193,31 @@ def play_requests(judge):
          [OK], [state(b"owned", ID[TARGET], 0, 3)], [state(b"foreign", ID[TARGET], 0, 3), OK])
     asks("it was there before any move", (0, line(0, move=0)), lambda ports: READS + ends()[1:],
          [OK], [state(b"owned", ID[TARGET], 0, 0)], [state(b"foreign", ID[TARGET], 0, 0), OK])
-    asks("what is asked again", (0, line(1)),
-         lambda ports: READS + takes(b"1") + [LISTS_KEYS] + [migrates(ports, b"foo")] * 3 + [LISTS_KEYS] + ends(b"1")[:1] * 3 + ends(b"1")[1:2] * 2 + ends(b"1")[2:] * 3,
-         [AGAIN, AGAIN, OK], [FOREIGN, OK, NOT_DRAINED, NOT_DRAINED, OK], [OWNED, OK, keys(b"foo"), AGAIN, NOT_ACKNOWLEDGED, OK, keys(), AGAIN, OK], limit=2)
+    asks("what is asked again", (0, line(2)),
+         lambda ports: READS + takes(b"1") + [LISTS_KEYS] + [migrates(ports, b"foo", b"")] * 3 + [LISTS_KEYS] + ends(b"1")[:1] * 3 + ends(b"1")[1:2] * 2 + ends(b"1")[2:] * 3,
+         [AGAIN, AGAIN, OK], [FOREIGN, OK, NOT_DRAINED, NOT_DRAINED, OK], [OWNED, OK, keys(b"foo", b""), AGAIN, NOT_ACKNOWLEDGED, OK, keys(), AGAIN, OK], limit=2)
     asks("what is asked again often", (0, line(1)), lambda ports: READS + takes(b"1") + [LISTS_KEYS] + [migrates(ports, b"foo")] * 21 + [LISTS_KEYS] + ends(b"1"),
          [OK], [FOREIGN, OK, OK], [OWNED, OK, keys(b"foo"), *[AGAIN, NOT_ACKNOWLEDGED] * 10, OK, keys(), OK])
-    asks("keys that are gone, and a key that comes", (0, line(2)),
-         lambda ports: READS + takes(b"1") + [LISTS_KEYS] + [migrates(ports, it) for it in (b"a", b"b")] + [LISTS_KEYS, migrates(ports, b"c"), LISTS_KEYS] + ends(b"1"),
-         [OK], [FOREIGN, OK, OK], [OWNED, OK, keys(b"a", b"b"), OK, b"+NOKEY\r\n", keys(b"c"), OK, keys(), OK])
+    asks("keys that are gone, and keys that come", (0, line(3)),
+         lambda ports: READS + takes(b"1") + [LISTS_KEYS, migrates(ports, b"a", b"b"), LISTS_KEYS, migrates(ports, b"c"), LISTS_KEYS, migrates(ports, b"d"), LISTS_KEYS] + ends(b"1"),
+         [OK], [FOREIGN, OK, OK], [OWNED, OK, keys(b"a", b"b"), OK, keys(b"c"), b"+NOKEY\r\n", keys(b"d"), OK, keys(), OK])
+
+
+def play_long_keys(judge):
+    """As many of the listed keys, from the front, as keep the order within the bytes of a request are moved at once, and the others later."""
+    for what, byte_more in [("as long as a request may be", 0), ("a byte too long", 1)]:
+        masters = Masters([OK], [FOREIGN, OK, OK], [OWNED, OK])
+        first = b"a" * MOST_WORD_BYTES
+        around = len(spelled(*migrates(masters.ports, first, b"b" * 1000000)[1])) - 1000000
+        second = b"b" * (MOST_REQUEST_BYTES - around + byte_more)
+        moves = [[first], [second]] if byte_more else [[first, second]]
+        lists = [[first, second], *moves[1:], []]
+        masters.nodes[SOURCE].answers += [answer for some in lists[:-1] for answer in (keys(*some), OK)] + [keys(), OK]
+        judge.equal(f"keys of which the order is {what}: status and output", reshard(masters.ports[0]), (0, line(2)))
+        asked = [(node, words) for node, words in masters.asked if words[0] == b"MIGRATE" or words[1] == b"GETKEYSINSLOT"]
+        wanted = [it for some in moves for it in (LISTS_KEYS, migrates(masters.ports, *some))] + [LISTS_KEYS]
+        judge.true(f"keys of which the order is {what}: what the source was asked", asked == wanted, repr([[len(it) for it in words] for _, words in asked]))
+        masters.close()
 
 
 def play_waits(judge):
@@ -225,7 +245,9 @@ def play_replies(judge):
 
     begun = [OWNED, OK]
     stops("MIGRATE is asked again, and may not be: said", b"V1", [], [FOREIGN, OK], [*begun, keys(b"foo"), AGAIN], limit=0,
-          said='slot 12182: {2} answered "TRYAGAIN Key is being moved" to MIGRATE 127.0.0.1 {port} foo 0 100 more often than --limit allows')
+          said='slot 12182: {2} answered "TRYAGAIN Key is being moved" to MIGRATE 127.0.0.1 {port} "" 0 100 KEYS foo more often than --limit allows')
+    stops("a MIGRATE of many keys is asked again, and may not be: said", b"V1", [], [FOREIGN, OK], [*begun, keys(b"foo", b"foo2"), AGAIN], limit=0,
+          said='slot 12182: {2} answered "TRYAGAIN Key is being moved" to MIGRATE 127.0.0.1 {port} "" 0 100 KEYS foo .. more often than --limit allows')
     stops("an id that isn't listed: said", b"V2", [], [], [], target="f" * 40,
           said=f"no master with slots has the id {'f' * 40}, and one without slots isn't listed; {{0}} lists {node_id(0)}, {node_id(1)}, {node_id(2)}")
     stops("the connection ends: said", b"V2", [], [FOREIGN], [OWNED],
@@ -252,6 +274,7 @@ def play_replies(judge):
     stops("MIGRATING is refused", b"V3", [], [FOREIGN, OK], [OWNED, REFUSED])
     stops("MIGRATING is asked again", b"V3", [], [FOREIGN, OK], [OWNED, AGAIN])
     stops("no list of keys", b"V3", [], [FOREIGN, OK], [*begun, number(1)])
+    stops("a key that is too long for a request", b"V3", [], [FOREIGN, OK], [*begun, keys(b"foo", b"a" * (MOST_WORD_BYTES + 1))])
     stops("MIGRATE is refused", b"V3", [], [FOREIGN, OK], [*begun, keys(b"foo"), b"-OOM out of memory\r\n"])
     stops("NODE is refused", b"V3", [], [FOREIGN, OK, REFUSED], [*begun, keys()])
     stops("no next number", b"V3", [], [state(b"foreign", ID[SOURCE], 0, LAST_MOVE)], [OWNED])
@@ -471,13 +494,13 @@ def play_cuts(judge):
     wanted = None
     count, first, second, wanted = run(None)
     judge.equal("an undisturbed run", (first, second), ((0, line(3)), (0, line(0))))
-    judge.least("how many requests it takes", count, 13)
+    judge.least("how many requests it takes", count, 11)
     for cut in range(1, count + 1):
         made, first, second, found = run(cut)
         # A node may have heard sooner that its slot is drained, so that a run repeats less, and ends before the cut.
         is_cut = made >= cut
         judge.equal(f"cut off behind request {cut}", first, (1, b"fault V2\n") if is_cut else (0, line(3)))
-        judge.true(f"cut off behind request {cut}: no run makes fewer than 13 requests", is_cut or made >= 13, str(made))
+        judge.true(f"cut off behind request {cut}: no run makes fewer than 11 requests", is_cut or made >= 11, str(made))
         judge.equal(f"begun again behind request {cut}: status", second[0], 0)
         judge.true(f"begun again behind request {cut}: line", second[1] in [line(it) for it in range(4)], repr(second[1]))
         judge.equal(f"begun again behind request {cut}: tables", found, wanted)

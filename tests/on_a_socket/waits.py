@@ -84,7 +84,7 @@ def told_of(error):
 
 
 def about_migrate(ports):
-    return f"127.0.0.1:{ports[SOURCE]} hasn't answered MIGRATE 127.0.0.1 {ports[TARGET]} foo 0 100 yet"
+    return f"127.0.0.1:{ports[SOURCE]} hasn't answered MIGRATE 127.0.0.1 {ports[TARGET]} \"\" 0 100 KEYS foo yet"
 
 
 def judge_told(judge, what, told, ports):

@@ -34,7 +34,7 @@ fn show<W: fmt::Write>(byte: u8, f: &mut fmt::Formatter<W>) -> fmt::Result {
     }
 }
 
-/// The words of a request, of which a sentence shows the first eight.
+/// The words of a request, of which a sentence shows the first eight. An empty one is shown as `""`.
 #[derive(Clone, Copy)]
 pub(crate) struct ShownWords<'a>(pub(crate) &'a [ByteString]);
 
@@ -44,11 +44,18 @@ impl fmt::Display for ShownWords<'_> {
             if number > 0 {
                 write!(f, " ")?;
             }
-            write!(f, "{}", Shown(word.as_slice()))?;
+            show_word(word.as_slice(), f)?;
         }
         if self.0.len() > MOST_WORDS {
             write!(f, " ..")?;
         }
         Ok(())
     }
+}
+
+fn show_word<W: fmt::Write>(word: &[u8], f: &mut fmt::Formatter<W>) -> fmt::Result {
+    if word.is_empty() {
+        return write!(f, "\"\"");
+    }
+    write!(f, "{}", Shown(word))
 }

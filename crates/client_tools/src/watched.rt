@@ -30,7 +30,7 @@ pub(crate) struct Seen {
     pub(crate) imports: u64,
     /// The ids of the masters that CLUSTER SLOTS listed.
     pub(crate) masters: Vec<ByteString>,
-    /// The address of the node to which the one in use was asked to move a key, or nothing where it was asked something else.
+    /// The address of the node to which the one in use was asked to move keys, or nothing where it was asked something else.
     pub(crate) target: String,
     /// Whether that node refuses connections.
     pub(crate) has_lost_target: bool,
@@ -38,7 +38,7 @@ pub(crate) struct Seen {
     pub(crate) waiting: Waiting,
     // Whether CLUSTER SLOTS was asked last.
     lists_masters: bool,
-    // Whether the last reply was that a key which was to be moved isn't acknowledged by the target.
+    // Whether the last reply was that keys which were to be moved aren't acknowledged by the target.
     lacks_acknowledgement: bool,
 }
 
@@ -109,7 +109,7 @@ impl Seen {
         self.see_target(words);
     }
 
-    // `MIGRATE host port ..` names the node to which a key is to be moved.
+    // `MIGRATE host port ..` names the node to which keys are to be moved.
     fn see_target(&mut self, words: &[ByteString]) {
         self.target.clear();
         if is_word(words, 0, b"MIGRATE")
@@ -128,7 +128,7 @@ impl Seen {
         self.see_error(error);
     }
 
-    /// Whether a key is to be moved whose last copy the target didn't acknowledge.
+    /// Whether keys are to be moved whose last copy the target didn't acknowledge.
     pub(crate) fn doubts_target(&self) -> bool {
         self.lacks_acknowledgement && !self.target.is_empty()
     }

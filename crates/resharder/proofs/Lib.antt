@@ -1,4 +1,6 @@
 pub mod EntryLemmas
+pub mod FrontLemmas
+pub mod MigrationLemmas
 pub mod RequestLemmas
 pub mod RunLemmas
 pub mod StepLemmas

@@ -1,12 +1,12 @@
 -- A run waits for what it asked for last.
-use Rattle.std.proofs.Common.{◌==◌, ℕ, Bool, true, false, cond, List, [], ◌∷◌, Option, Some, None, Result, Ok, Err, inl, inr, refl, ap, sym, subst}
+use Rattle.std.proofs.Common.{◌==◌, ℕ, Bool, true, false, cond, List, [], ◌∷◌, length, Option, Some, None, Result, Ok, Err, inl, inr, refl, ap, sym, subst}
 use Rattle.std.specs.Prelude.{⊤, nat_le, slice_get}
 use Rattle.redirection.specs.Address.{Place}
 use Rattle.resp_values.specs.declared.reply.Reply.{Reply}
 use Rattle.resharder.specs.Nodes.{KnownNodes}
 use Rattle.resharder.specs.Replies.{answer_of, keys_in, nodes_in, owns, report_in}
 use Rattle.resharder.specs.State.{RunState}
-use Rattle.resharder.specs.Step.{Follows, IsWaiting, Steps, Turn, again, answered, begins_at, counted, destination_read, ended_at, ended_at_destination, found, key_moved, keys_listed, next_key, next_other, number_of, numbered, replied, source_read, started, then_takes, turn}
+use Rattle.resharder.specs.Step.{Follows, IsWaiting, Steps, Turn, again, answered, begins_at, destination_read, ended_at, ended_at_destination, found, keys_listed, keys_moved, next_other, number_of, numbered, replied, source_read, started, then_takes, turn}
 use Rattle.resharder.specs.Step.Turn.{Goes, Ends, Reads}
 use Rattle.resharder.specs.declared.action.Action.{Action}
 use Rattle.resharder.specs.declared.action.Event.{Event}
@@ -21,7 +21,7 @@ use Rattle.resharder.specs.declared.stage.Source.{Source}
 use Rattle.resharder.specs.declared.stage.Stage.{Stage}
 use Rattle.resharder.specs.declared.stage.Stage.TheVariants.{Begins, Finds, Works, Prints, Over}
 use Rattle.resharder.specs.declared.stage.Step.{Step}
-use Rattle.resharder.specs.declared.stage.Step.TheVariants.{ReadsSource, ReadsDestination, Imports, Migrates, ListsKeys, MovesKey, EndsAtDestination, EndsAtSource, EndsAtOther}
+use Rattle.resharder.specs.declared.stage.Step.TheVariants.{ReadsSource, ReadsDestination, Imports, Migrates, ListsKeys, MovesKeys, EndsAtDestination, EndsAtSource, EndsAtOther}
 use Rattle.resharder.specs.declared.stage.Work.{Work}
 
 -- behind this turn it does
@@ -64,22 +64,18 @@ then_waits plan work step answer.NotAcknowledged = tt
 then_waits plan work step answer.NotDrained = tt
 then_waits plan work step answer.Other = tt
 
-next_waits : (plan : Plan) (work : Work) (keys : List (List ℕ)) → Waits (next_key plan work keys)
-next_waits plan work [] = tt
-next_waits plan work (key ∷ keys) = tt
-
 listed_waits : (plan : Plan) (work : Work) (keys : Option (List (List ℕ))) → Waits (keys_listed plan work keys)
 listed_waits plan work None = tt
 listed_waits plan work (Some []) = tt
 listed_waits plan work (Some (key ∷ keys)) = tt
 
-moved_waits : (plan : Plan) (work : Work) (kind : Answer) → Waits (key_moved plan work kind)
-moved_waits plan work answer.Done = next_waits plan (counted work) work.waiting
-moved_waits plan work answer.NoKey = next_waits plan work work.waiting
-moved_waits plan work answer.TryAgain = again_waits plan work
-moved_waits plan work answer.NotAcknowledged = again_waits plan work
-moved_waits plan work answer.NotDrained = tt
-moved_waits plan work answer.Other = tt
+moved_waits : (plan : Plan) (work : Work) (moved : ℕ) (kind : Answer) → Waits (keys_moved plan work moved kind)
+moved_waits plan work moved answer.Done = tt
+moved_waits plan work moved answer.NoKey = tt
+moved_waits plan work moved answer.TryAgain = again_waits plan work
+moved_waits plan work moved answer.NotAcknowledged = again_waits plan work
+moved_waits plan work moved answer.NotDrained = tt
+moved_waits plan work moved answer.Other = tt
 
 destination_ended_waits : (plan : Plan) (work : Work) (kind : Answer) → Waits (ended_at_destination plan work kind)
 destination_ended_waits plan work answer.Done = tt
@@ -107,7 +103,7 @@ replied_waits plan work (ReadsDestination source) reply = destination_waits plan
 replied_waits plan work Imports reply = then_waits plan work Migrates (answer_of reply)
 replied_waits plan work Migrates reply = then_waits plan work ListsKeys (answer_of reply)
 replied_waits plan work ListsKeys reply = listed_waits plan work (keys_in reply)
-replied_waits plan work (MovesKey key) reply = moved_waits plan work (answer_of reply)
+replied_waits plan work (MovesKeys moved) reply = moved_waits plan work (length moved.keys) (answer_of reply)
 replied_waits plan work EndsAtDestination reply = destination_ended_waits plan work (answer_of reply)
 replied_waits plan work EndsAtSource reply = ended_waits plan work 0 (answer_of reply)
 replied_waits plan work (EndsAtOther at next) reply = ended_waits plan work next (answer_of reply)

@@ -1,4 +1,5 @@
 pub mod Faults
+pub mod Migration
 pub mod Nodes
 pub mod Orders
 pub mod Replies

@@ -4,7 +4,6 @@ use Rattle.std.specs.Prelude.{ℕ, ◌≤◌, List, [], ◌∷◌, Option, Some,
 use Rattle.command_table.specs.declared.command.SlotOrder.{SlotOrder}
 use Rattle.command_table.specs.declared.command.SlotOrder.TheVariants.{Importing, Migrating, Node}
 use Rattle.redirection.specs.Address.{Place}
-use Rattle.resp_values.specs.declared.words.TheConstants.{MOST_WORD_BYTES}
 
 -- which masters there are
 abbrev pub slots_words : List (List ℕ)
@@ -32,11 +31,12 @@ number_words (Some number) = decimal number ∷ []
 abbrev pub set_words : SlotOrder → ℕ → List ℕ → Option ℕ → List (List ℕ)
 set_words order slot id number = codes "CLUSTER" ∷ codes "SETSLOT" ∷ decimal slot ∷ order_word order ∷ id ∷ number_words number
 
--- the key is to be moved to the node there, into the only database, within 100 ticks
-abbrev pub migrate_words : Place → List ℕ → List (List ℕ)
-migrate_words place key = codes "MIGRATE" ∷ place.host ∷ decimal place.port ∷ key ∷ codes "0" ∷ codes "100" ∷ []
+-- the keys are to be moved to the node there, into the only database, within 100 ticks. The empty word stands where MIGRATE of one key
+-- names it
+abbrev pub migrate_words : Place → List (List ℕ) → List (List ℕ)
+migrate_words place keys = codes "MIGRATE" ∷ place.host ∷ decimal place.port ∷ [] ∷ codes "0" ∷ codes "100" ∷ codes "KEYS" ∷ keys
 
--- each word is short enough for a request
+-- each word is short
 abbrev pub AreShort : List (List ℕ) → Type 0
 AreShort [] = ⊤
-AreShort (word ∷ words) = (length word ≤ MOST_WORD_BYTES) × AreShort words
+AreShort (word ∷ words) = (length word ≤ 40) × AreShort words

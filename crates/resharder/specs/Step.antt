@@ -1,11 +1,12 @@
 -- What a run does with each event (Redis Cluster specification, "Moving hash slots", "Cluster live reconfiguration": the destination is
 -- set to importing, the source to migrating, the keys are moved, and then the nodes are told the new owner, the destination first).
 -- SLOTSTATE, the numbers of moves, and what is asked again are ours.
-use Rattle.std.specs.Prelude.{◌≡◌, ◌⊎◌, ◌+◌, ◌-◌, ◌==◌, ℕ, min, max, nat_le, Bool, true, false, List, [], ◌∷◌, Option, Some, None, Result, Ok, Err, slice_get, if◌then◌else◌, IsTrue, ⊤}
+use Rattle.std.specs.Prelude.{◌≡◌, ◌⊎◌, ◌+◌, ◌-◌, ◌==◌, ℕ, min, max, nat_le, Bool, true, false, List, [], ◌∷◌, length, Option, Some, None, Result, Ok, Err, slice_get, if◌then◌else◌, IsTrue, ⊤}
 use Rattle.std.specs.Option.{option_or}
 use Rattle.command_table.specs.declared.command.SlotOrder.TheVariants as order
 use Rattle.resp_values.specs.declared.reply.Reply.{Reply}
 use Rattle.redirection.specs.Address.{Place}
+use Rattle.resharder.specs.Migration.{migration}
 use Rattle.resharder.specs.Nodes.{KnownNodes}
 use Rattle.resharder.specs.Orders.{keys_words, migrate_words, set_words, slots_words, state_words}
 use Rattle.resharder.specs.Replies.{answer_of, comes, keys_in, leaves, next_number, nodes_in, owns, positive, report_in}
@@ -24,7 +25,7 @@ use Rattle.resharder.specs.declared.stage.Source.{Source}
 use Rattle.resharder.specs.declared.stage.Stage.{Stage}
 use Rattle.resharder.specs.declared.stage.Stage.TheVariants.{Begins, Finds, Works, Prints, Over}
 use Rattle.resharder.specs.declared.stage.Step.{Step}
-use Rattle.resharder.specs.declared.stage.Step.TheVariants.{ReadsSource, ReadsDestination, Imports, Migrates, ListsKeys, MovesKey, EndsAtDestination, EndsAtSource, EndsAtOther}
+use Rattle.resharder.specs.declared.stage.Step.TheVariants.{ReadsSource, ReadsDestination, Imports, Migrates, ListsKeys, MovesKeys, EndsAtDestination, EndsAtSource, EndsAtOther}
 use Rattle.resharder.specs.declared.stage.Work.{Work}
 
 -- ---- what a run asks
@@ -41,7 +42,7 @@ place_at nodes (ReadsDestination source) = nodes.destination
 place_at nodes Imports = nodes.destination
 place_at nodes Migrates = nodes.source
 place_at nodes ListsKeys = nodes.source
-place_at nodes (MovesKey key) = nodes.source
+place_at nodes (MovesKeys moved) = nodes.source
 place_at nodes EndsAtDestination = nodes.destination
 place_at nodes EndsAtSource = nodes.source
 place_at nodes (EndsAtOther at next) = at
@@ -52,7 +53,7 @@ words_at plan work (ReadsDestination source) = state_words work.slot
 words_at plan work Imports = set_words order.Importing work.slot plan.from work.number
 words_at plan work Migrates = set_words order.Migrating work.slot plan.to work.number
 words_at plan work ListsKeys = keys_words work.slot
-words_at plan work (MovesKey key) = migrate_words work.nodes.destination key
+words_at plan work (MovesKeys moved) = migrate_words moved.to moved.keys
 words_at plan work EndsAtDestination = set_words order.Node work.slot plan.to work.number
 words_at plan work EndsAtSource = set_words order.Node work.slot plan.to work.number
 words_at plan work (EndsAtOther at next) = set_words order.Node work.slot plan.to work.number
@@ -73,7 +74,7 @@ again plan work = if work.repeats == 0 then Ends TooOften else asks plan (record
 abbrev pub begins_at : Plan → KnownNodes → ℕ → Turn
 begins_at plan nodes slot =
     if nat_le slot plan.slots.last then
-    asks plan (record { nodes = nodes; slot = slot; number = None; keys = 0; waiting = []; repeats = plan.limit; step = ReadsSource })
+    asks plan (record { nodes = nodes; slot = slot; number = None; keys = 0; repeats = plan.limit; step = ReadsSource })
     else Goes Over End
 
 -- the masters that CLUSTER SLOTS lists
@@ -109,27 +110,24 @@ abbrev pub then_takes : Plan → Work → Step → Answer → Turn
 then_takes plan work step answer.Done = takes plan work step
 then_takes plan work step _ = Ends BadReply
 
--- the next key; where none waits, those that are left are listed again
-abbrev pub next_key : Plan → Work → List (List ℕ) → Turn
-next_key plan work [] = takes plan (record work { waiting = [] }) ListsKeys
-next_key plan work (key ∷ keys) = takes plan (record work { waiting = keys }) (MovesKey key)
-
+-- as many of the keys that are left as one request can name are moved at once; where none is left, the move ends
 abbrev pub keys_listed : Plan → Work → Option (List (List ℕ)) → Turn
 keys_listed plan work None = Ends BadReply
 keys_listed plan work (Some []) = takes plan work EndsAtDestination
-keys_listed plan work (Some (key ∷ keys)) = next_key plan work (key ∷ keys)
+keys_listed plan work (Some (key ∷ keys)) = takes plan work (MovesKeys (migration work.nodes.destination (key ∷ keys)))
 
--- one more key, as far as 64 bits count
-abbrev pub counted : Work → Work
-counted work = record work { keys = min (work.keys + 1) 18446744073709551615 }
+-- so many keys more, as far as 64 bits count
+abbrev pub counted : Work → ℕ → Work
+counted work more = record work { keys = min (work.keys + more) 18446744073709551615 }
 
-abbrev pub key_moved : Plan → Work → Answer → Turn
-key_moved plan work answer.Done = next_key plan (counted work) work.waiting
-key_moved plan work answer.NoKey = next_key plan work work.waiting
-key_moved plan work answer.TryAgain = again plan work
-key_moved plan work answer.NotAcknowledged = again plan work
-key_moved plan work answer.NotDrained = Ends BadReply
-key_moved plan work answer.Other = Ends BadReply
+-- so many keys are moved, or are gone; those that are left are listed again
+abbrev pub keys_moved : Plan → Work → ℕ → Answer → Turn
+keys_moved plan work moved answer.Done = takes plan (counted work moved) ListsKeys
+keys_moved plan work moved answer.NoKey = takes plan work ListsKeys
+keys_moved plan work moved answer.TryAgain = again plan work
+keys_moved plan work moved answer.NotAcknowledged = again plan work
+keys_moved plan work moved answer.NotDrained = Ends BadReply
+keys_moved plan work moved answer.Other = Ends BadReply
 
 -- ---- the end of a move
 
@@ -157,7 +155,7 @@ replied plan work (ReadsDestination source) reply = destination_read plan work s
 replied plan work Imports reply = then_takes plan work Migrates (answer_of reply)
 replied plan work Migrates reply = then_takes plan work ListsKeys (answer_of reply)
 replied plan work ListsKeys reply = Reads (keys_listed plan work (keys_in reply))
-replied plan work (MovesKey key) reply = key_moved plan work (answer_of reply)
+replied plan work (MovesKeys moved) reply = keys_moved plan work (length moved.keys) (answer_of reply)
 replied plan work EndsAtDestination reply = ended_at_destination plan work (answer_of reply)
 replied plan work EndsAtSource reply = ended_at plan work 0 (answer_of reply)
 replied plan work (EndsAtOther at next) reply = ended_at plan work next (answer_of reply)

@@ -35,7 +35,7 @@ pub enum Action {
         slot: Slot,
         /// The number of the move. There is none where the slot was there before any move of it.
         number: Option<MoveNo>,
-        /// How many keys were moved in this run.
+        /// How many keys were moved in this run: those that are named in the orders to move keys that were obeyed.
         keys: u64,
     },
     /// The run is over: it can't go on.

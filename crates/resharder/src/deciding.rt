@@ -1,14 +1,15 @@
 //! What a run does next.
 ghost use Rattle.std.specs.Prelude.{◌≡◌, IfOk, slice_get, Some};
 ghost use Rattle.resharder.specs.Replies.{answer_of, keys_in, nodes_in, report_in};
-ghost use Rattle.resharder.specs.Step.{again, answered, asks, begins_at, counted, destination_read, ended_at, ended_at_destination, found, key_moved, keys_listed, next_key, next_other, number_of, numbered, place_at, replied, source_read, started, takes, then_takes, turn, words_at};
+ghost use Rattle.resharder.specs.Step.{again, answered, asks, begins_at, counted, destination_read, ended_at, ended_at_destination, found, keys_listed, keys_moved, next_other, number_of, numbered, place_at, replied, source_read, started, takes, then_takes, turn, words_at};
 ghost use Rattle.resharder.specs.Step.Turn.{Reads};
 ghost use Rattle.resharder.specs.Turns.{Makes};
 
 use crate::action::{Action, Event};
 use crate::answer::Answer;
 use crate::fault::ReshardFault;
-use crate::key::Waiting;
+use crate::key::Keys;
+use crate::migration::Migration;
 use crate::nodes::Nodes;
 use crate::order::{keys_words, migrate_words, set_words, slots_words, state_words};
 use crate::plan::Plan;
@@ -109,7 +110,6 @@ impl Plan {
                 slot,
                 number: None,
                 keys: 0,
-                waiting: Waiting::new(alloc),
                 repeats: self.limit,
                 step: Step::ReadsSource,
             },
@@ -129,7 +129,10 @@ impl Plan {
             Step::Imports => self.then_take(alloc, work, Step::Migrates, reply),
             Step::Migrates => self.then_take(alloc, work, Step::ListsKeys, reply),
             Step::ListsKeys => self.keys_listed(alloc, work, reply),
-            Step::MovesKey(_) => self.key_moved(alloc, work, Answer::of(reply)),
+            Step::MovesKeys(migration) => {
+                let moved = migration.len();
+                self.keys_moved(alloc, work, moved, Answer::of(reply))
+            }
             Step::EndsAtDestination => self.ended_at_destination(alloc, work, Answer::of(reply)),
             Step::EndsAtSource => self.ended_at(alloc, work, 0, Answer::of(reply)),
             Step::EndsAtOther { next, .. } => {
@@ -211,40 +214,36 @@ impl Plan {
     fn keys_listed(&self, alloc: Global, work: Work, reply: &Reply) -> Result<Made, ReshardFault>
         ensures { Makes (Reads (keys_listed self.now work (keys_in reply.now))) result }
     {
-        let Some(waiting) = Waiting::read(alloc, reply)? else {
+        let Some(keys) = Keys::read(alloc, reply)? else {
             return Err(ReshardFault::BadReply);
         };
-        self.move_keys(alloc, work, waiting)
+        self.move_keys(alloc, work, keys)
     }
 
-    // Moves these keys, or ends the move where there is none.
-    fn move_keys(&self, alloc: Global, work: Work, waiting: Waiting) -> Result<Made, ReshardFault>
-        ensures { Makes (keys_listed self.now work (Some waiting)) result }
+    // Moves as many of these keys as one request can name, or ends the move where there is none.
+    fn move_keys(&self, alloc: Global, work: Work, keys: Keys) -> Result<Made, ReshardFault>
+        ensures { Makes (keys_listed self.now work (Some keys)) result }
     {
-        if waiting.is_empty() {
+        if keys.is_empty() {
             return self.take_step(alloc, work, Step::EndsAtDestination);
         }
-        self.next_key(alloc, Work { waiting, ..work })
+        let to = work.nodes.destination().clone()?;
+        self.take_step(alloc, work, Step::MovesKeys(Migration::new(to, keys)))
     }
 
-    // Moves the first key that waits, or lists those that are left.
-    fn next_key(&self, alloc: Global, work: Work) -> Result<Made, ReshardFault>
-        ensures { Makes (next_key self.now work work.waiting) result }
-    {
-        let mut work = work;
-        match work.waiting.take_first() {
-            Some(key) => self.take_step(alloc, work, Step::MovesKey(key)),
-            None => self.take_step(alloc, work, Step::ListsKeys),
-        }
-    }
-
-    // A key is moved, or is to be asked for again.
-    fn key_moved(&self, alloc: Global, work: Work, answer: Answer) -> Result<Made, ReshardFault>
-        ensures { Makes (key_moved self.now work answer) result }
+    // So many keys are moved, or are to be asked for again.
+    fn keys_moved(
+        &self,
+        alloc: Global,
+        work: Work,
+        moved: usize,
+        answer: Answer,
+    ) -> Result<Made, ReshardFault>
+        ensures { Makes (keys_moved self.now work moved answer) result }
     {
         match answer {
-            Answer::Done => self.next_key(alloc, counted(work)),
-            Answer::NoKey => self.next_key(alloc, work),
+            Answer::Done => self.take_step(alloc, counted(work, moved), Step::ListsKeys),
+            Answer::NoKey => self.take_step(alloc, work, Step::ListsKeys),
             Answer::TryAgain | Answer::NotAcknowledged => self.again(alloc, work),
             Answer::NotDrained | Answer::Other => Err(ReshardFault::BadReply),
         }
@@ -343,7 +342,7 @@ impl Plan {
             Step::Imports => set_words(alloc, SlotOrder::Importing, slot, &self.from, number),
             Step::Migrates => set_words(alloc, SlotOrder::Migrating, slot, &self.to, number),
             Step::ListsKeys => keys_words(alloc, slot),
-            Step::MovesKey(key) => migrate_words(alloc, work.nodes.destination(), key),
+            Step::MovesKeys(migration) => migrate_words(alloc, migration),
             Step::EndsAtDestination | Step::EndsAtSource | Step::EndsAtOther { .. } => {
                 set_words(alloc, SlotOrder::Node, slot, &self.to, number)
             }
@@ -361,7 +360,7 @@ fn place_at<'a>(nodes: &'a Nodes, step: &'a Step) -> &'a Address
         Step::ReadsSource
         | Step::Migrates
         | Step::ListsKeys
-        | Step::MovesKey(_)
+        | Step::MovesKeys(_)
         | Step::EndsAtSource => nodes.source(),
     }
 }
@@ -375,11 +374,11 @@ fn number_of(source: Source, report: &Report) -> Option<MoveNo>
     under_way.or(next_number(source.last.max(report.last)))
 }
 
-// One more key is moved.
-fn counted(work: Work) -> Work
-    ensures { result ≡ counted work }
+// So many keys more are moved.
+fn counted(work: Work, moved: usize) -> Work
+    ensures { result ≡ counted work moved }
 {
-    let keys = work.keys.saturating_add(1);
+    let keys = work.keys.saturating_add(moved as u64);
     Work { keys, ..work }
 }
 

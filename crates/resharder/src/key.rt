@@ -1,13 +1,12 @@
-//! A key that is to be moved, and those that wait for it.
+//! A key, and the keys that a reply lists.
 ghost use Rattle.std.specs.Bool.{OnFalse, OnTrue};
-ghost use Rattle.std.specs.Prelude.{◌≡◌, ◌≢◌, ◌≤◌, ◌∷◌, ◌++◌, [], length, IfOk, IfSome, IfNone, OnOk, SomeIff};
+ghost use Rattle.std.specs.Prelude.{◌≡◌, ◌≢◌, ◌≤◌, ◌∷◌, ◌++◌, [], length, take, IfOk, OnOk, SomeIff};
 ghost use Rattle.resp_values.specs.declared.words.TheConstants.{MOST_WORD_BYTES};
 ghost use Rattle.resharder.specs.Replies.{key_of, keys_in, keys_onto};
 
 use byte_string::ByteString;
 use resp_values::{Element, MOST_WORD_BYTES, Reply};
 use std::alloc::{AllocError, Global};
-use std::collections::VecDeque;
 use std::marker::Model;
 
 /// A key: its bytes fit into a word of a request.
@@ -44,6 +43,14 @@ impl Key {
         Some(Key { bytes })
     }
 
+    /// How many bytes it has.
+    pub(crate) fn len(&self) -> usize
+        ensures len { result ≡ length self.now }
+        ensures short { length self.now ≤ MOST_WORD_BYTES }
+    {
+        self.bytes.len()
+    }
+
     /// A word with the bytes, which it shares.
     pub(crate) fn word(&self) -> Result<ByteString, AllocError>
         ensures word { IfOk result (λ word. word ≡ self.now) }
@@ -53,24 +60,24 @@ impl Key {
     }
 }
 
-/// The keys that wait to be moved, in the order in which they are.
+/// Keys, in the order in which a reply lists them.
 #[derive(Drop)]
-pub(crate) struct Waiting {
-    keys: VecDeque<Key>,
+pub(crate) struct Keys {
+    keys: Vec<Key>,
 }
 
-impl Model for Waiting {
+impl Model for Keys {
     ghost use Rattle.std.specs.Prelude.{List, ℕ};
 
     ghost Value = { List (List ℕ) };
 
-    ghost view = { λ waiting. waiting.keys.items };
+    ghost view = { λ keys. keys.keys.items };
 }
 
-impl Waiting {
+impl Keys {
     /// The keys that the reply lists, or None where it is no list of keys.
-    pub(crate) fn read(alloc: Global, reply: &Reply) -> Result<Option<Waiting>, AllocError>
-        ensures { IfOk result (λ waiting. waiting ≡ keys_in reply.now) }
+    pub(crate) fn read(alloc: Global, reply: &Reply) -> Result<Option<Keys>, AllocError>
+        ensures { IfOk result (λ keys. keys ≡ keys_in reply.now) }
     {
         let Reply::Array(array) = reply else {
             return Ok(None);
@@ -81,24 +88,31 @@ impl Waiting {
         }
     }
 
-    /// None waits.
-    pub(crate) fn new(alloc: Global) -> Waiting
+    /// None.
+    fn new(alloc: Global) -> Keys
         ensures { result ≡ [] }
     {
-        Waiting {
-            keys: VecDeque::new(alloc),
+        Keys {
+            keys: Vec::new(alloc),
         }
     }
 
     /// Puts a key behind the others.
-    pub(crate) fn push(&mut self, key: Key) -> Result<(), AllocError>
+    fn push(&mut self, key: Key) -> Result<(), AllocError>
         ensures { OnOk result (self.new ≡ self.old ++ key ∷ []) }
     {
-        self.keys.push_back(key)?;
+        self.keys.push(key)?;
         Ok(())
     }
 
-    /// Whether none waits.
+    /// The keys, one behind another.
+    pub(crate) fn as_slice(&self) -> &[Key]
+        ensures { result.now ≡ self.now }
+    {
+        self.keys.as_slice()
+    }
+
+    /// Whether there is none.
     pub(crate) fn is_empty(&self) -> bool
         ensures none { OnTrue result (self.now ≡ []) }
         ensures some { OnFalse result (self.now ≢ []) }
@@ -106,28 +120,27 @@ impl Waiting {
         self.keys.is_empty()
     }
 
-    /// Takes the first key.
-    pub(crate) fn take_first(&mut self) -> Option<Key>
-        ensures some { IfSome result (λ key. self.old ≡ key ∷ self.new) }
-        ensures none { IfNone result ((self.old ≡ []) × (self.new ≡ [])) }
+    /// Keeps so many keys from the front.
+    pub(crate) fn truncate(&mut self, count: usize)
+        ensures { self.new ≡ take count self.old }
     {
-        self.keys.pop_front()
+        self.keys.truncate(count);
     }
 }
 
-fn read_keys(alloc: Global, elements: &[Element]) -> Result<Option<Waiting>, AllocError>
-    ensures { IfOk result (λ waiting. waiting ≡ keys_onto [] elements.now) }
+fn read_keys(alloc: Global, elements: &[Element]) -> Result<Option<Keys>, AllocError>
+    ensures { IfOk result (λ keys. keys ≡ keys_onto [] elements.now) }
 {
-    let mut waiting = Waiting::new(alloc);
+    let mut keys = Keys::new(alloc);
     let mut rest = elements;
     'keys: while let Some((element, others)) = rest.split_first() {
         let Some(key) = key_of(element)? else {
             return Ok(None);
         };
-        waiting.push(key)?;
+        keys.push(key)?;
         rest = others;
     }
-    Ok(Some(waiting))
+    Ok(Some(keys))
 }
 
 fn key_of(element: &Element) -> Result<Option<Key>, AllocError>

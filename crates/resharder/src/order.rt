@@ -2,7 +2,7 @@
 ghost use Rattle.std.specs.Prelude.{◌≡◌, ◌≤◌, ◌<◌, ◌^◌, ◌∷◌, ◌++◌, [], length, decimal, IfOk};
 ghost use Rattle.resharder.specs.Orders.{AreShort, keys_words, migrate_words, order_word, set_words, slots_words, state_words};
 
-use crate::key::Key;
+use crate::migration::Migration;
 use crate::nodes::word_of;
 use byte_string::ByteString;
 use cluster_config::NodeId;
@@ -77,22 +77,29 @@ pub(crate) fn set_words(
     Ok(request(words))
 }
 
-/// `MIGRATE host port key 0 100`.
-pub(crate) fn migrate_words(alloc: Global, to: &Address, key: &Key) -> Result<Words, AllocError>
-    ensures { IfOk result (λ words. words ≡ migrate_words to.now key.now) }
+/// `MIGRATE host port "" 0 100 KEYS`, and the keys.
+pub(crate) fn migrate_words(alloc: Global, migration: &Migration) -> Result<Words, AllocError>
+    ensures { IfOk result (λ words. words ≡ migrate_words migration.now.to migration.now.keys) }
 {
+    let to = migration.to();
     let host = ByteString::copy_from_slice(alloc, to.host().bytes().as_slice())?;
     let port = decimal(alloc, u64::from(to.port()))?;
-    let key = key.word()?;
-    let words = vec![in alloc;
+    let mut words = vec![in alloc;
         ByteString::inline(b"MIGRATE"),
         host,
         port,
-        key,
+        ByteString::new(),
         ByteString::inline(b"0"),
         ByteString::inline(b"100"),
+        ByteString::inline(b"KEYS"),
     ]?;
-    Ok(request(words))
+    let keys = migration.keys();
+    words.reserve(keys.len())?;
+    for key in keys {
+        let key = key.word()?;
+        words.push(key).map_err(AllocError::from)?;
+    }
+    Ok(Words::of_items(words))
 }
 
 // The order as a node reads it.

@@ -1,6 +1,6 @@
 //! What a run waits for.
 
-use crate::key::{Key, Waiting};
+use crate::migration::Migration;
 use crate::nodes::Nodes;
 use key_slot::{MoveNo, Slot};
 use redirection::Address;
@@ -31,8 +31,6 @@ pub(crate) struct Work {
     pub number: Option<MoveNo>,
     /// How many keys were moved in this run.
     pub keys: u64,
-    /// The keys that are to be moved after the one that is being moved.
-    pub waiting: Waiting,
     /// How often the request may still be repeated.
     pub repeats: u64,
     /// What was asked.
@@ -52,8 +50,8 @@ pub(crate) enum Step {
     Migrates,
     /// Which keys of it are left at the source.
     ListsKeys,
-    /// That this key is moved.
-    MovesKey(Key),
+    /// That these keys are moved.
+    MovesKeys(Migration),
     /// That the destination owns the slot from now on.
     EndsAtDestination,
     /// That the source knows it.
