@@ -1,5 +1,8 @@
 mod BlockLemmas
-mod PartLemmas
+mod KeptLemmas
+mod PageLemmas
 mod ReadingLemmas
+mod RingLemmas
 mod SpellingLemmas
 mod TakingLemmas
+mod TurnLemmas

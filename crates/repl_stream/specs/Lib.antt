@@ -1,4 +1,5 @@
 pub mod Bodies
 pub mod Faults
+pub mod Pages
 pub mod Reading
 pub mod Replica

@@ -3,10 +3,9 @@ ghost use Rattle.std.specs.Prelude.{◌≡◌, ◌≤◌, length, IfOk};
 ghost use Rattle.stream_values.specs.Stream.{begun};
 
 use crate::fault::StreamFault;
-use crate::parts::part_of_two;
+use crate::page_ring::PageRing;
 use crate::stream::Stream;
 use byte_string::ByteString;
-use circular_buffer::HeapCircularBuffer;
 use std::alloc::{AllocError, Global};
 use stream_values::StreamId;
 
@@ -17,7 +16,7 @@ pub struct Backlog {
     /// Where the bytes end.
     end: u64,
     /// The last ones before that.
-    ring: HeapCircularBuffer<u8>,
+    ring: PageRing,
     ghost within: { length ring.items ≤ end },
 }
 
@@ -29,7 +28,7 @@ impl Backlog {
         ensures empty { IfOk result (λ stream. last_of stream ≡ begun id 0) }
         ensures capacity { IfOk result (λ stream. stream.ring.capacity ≡ capacity) }
     {
-        let ring = HeapCircularBuffer::with_capacity(alloc, capacity)?;
+        let ring = PageRing::with_capacity(alloc, capacity)?;
         Ok(Backlog { id, end: 0, ring })
     }
 }
@@ -70,8 +69,7 @@ impl Stream for Backlog {
         if from < first {
             return Err(StreamFault::TooOld);
         }
-        let (front, back) = self.ring.as_slices();
-        Ok(part_of_two(alloc, front, back, from - first, most)?)
+        Ok(self.ring.part(alloc, from - first, most)?)
     }
 
     fn cut_at(&mut self, offset: u64, id: StreamId) {

@@ -7,6 +7,8 @@ mod block;
 mod fault;
 mod lengths;
 mod offering;
+mod page_ring;
+mod pages;
 mod parts;
 mod received;
 mod replaces;

@@ -1,0 +1,28 @@
+-- Bytes in pages, of which the last ones are kept.
+use Rattle.std.specs.Prelude.{◌≡◌, ℕ, ◌-◌, ◌*◌, ◌≤◌, min, List, ◌++◌, length, vec_capacity}
+use Rattle.std.specs.List.{All, flat_map}
+use Rattle.std.specs.declared.vec.Vec.{Vec}
+use Rattle.std.specs.declared.alloc.Global.{Global}
+use Rattle.circular_buffer.specs.Buffer.{keep_last}
+use Rattle.repl_stream.specs.declared.pages.TheConstants.{PAGES}
+use Rattle.repl_stream.specs.declared.pages.Pages.{Pages}
+
+-- the bytes in pages, one after another
+abbrev pub bytes_in : List (Vec ℕ Global) → List ℕ
+bytes_in pages = flat_map (λ page. page.items) pages
+
+abbrev pub bytes_of : Pages → List ℕ
+bytes_of pages = bytes_in pages.full.items ++ pages.last.items
+
+-- a page has a block of that many bytes, and no more bytes
+abbrev pub IsPage : ℕ → Vec ℕ Global → Type 0
+IsPage len page = (length page.items ≤ len) × (len ≤ vec_capacity page)
+
+-- That many of the last bytes lie in the pages, and stay there while pages are cleared and filled anew: the n pages before the
+-- last one are full, or have all of these bytes that the last one hasn't.
+pub record Keeps (pages : Pages) (kept : ℕ) : Type 0 where
+  pub count : (length pages.full.items ≡ PAGES) × (pages.full.capacity ≡ PAGES)
+  pub each : All (IsPage pages.len) pages.full.items
+  pub last : IsPage pages.len pages.last
+  pub stays : (n : ℕ) → n ≤ PAGES → min (kept - length pages.last.items) (n * pages.len) ≤ length (bytes_in (keep_last n pages.full.items))
+  pub within : kept ≤ length (bytes_of pages)
