@@ -18,12 +18,12 @@ use Rattle.connections.specs.Connections.{connection_at, may_ask}
 use Rattle.connections.specs.declared.conn.Conn.{Conn}
 use Rattle.connections.specs.declared.conn.Connection.{Connection}
 use Rattle.key_slot.specs.Slot.{hash_slot}
-use Rattle.migrate.specs.Acknowledging.{acknowledged_key}
+use Rattle.migrate.specs.Acknowledging.{acknowledged_keys}
 use Rattle.migrate.specs.declared.sending.CopyVerdict.{CopyVerdict}
 use Rattle.migrate.specs.declared.sending.CopyVerdict.TheVariants as copies
 use Rattle.node_step.specs.Claiming.{claimed_by}
 use Rattle.node_step.specs.Commands.{command_outcome, decision_on}
-use Rattle.node_step.specs.Copies.{acknowledged, copy_outcome, copy_verdict_on, node_at}
+use Rattle.node_step.specs.Copies.{acknowledged, copy_outcome, copy_verdict_on, first_slot, node_at, those_there}
 use Rattle.node_step.proofs.Kept.{pieced_keeps, recorded_keeps, restored_keeps, synced_is}
 use Rattle.election.specs.Electing.{elected}
 use Rattle.election.specs.declared.running.Elected.{Elected}
@@ -84,13 +84,14 @@ order_stays node slot Importing other number = refl
 order_stays node slot Migrating other number = refl
 order_stays node slot Node other number = ending_stays node slot (ending_verdict node slot other number)
 
-copy_stays : (node : NodeState) (conn : Conn) (key : List ℕ) (ticks : ℕ) (verdict : CopyVerdict) → Stays node (copy_outcome node conn (hash_slot key) key ticks verdict)
-copy_stays node conn key ticks copies.WrongTarget = refl
-copy_stays node conn key ticks copies.NoKey = refl
-copy_stays node conn key ticks copies.CopyOutstanding = refl
-copy_stays node conn key ticks copies.Exhausted = refl
-copy_stays node conn key ticks (copies.SendAgain to number copy) = refl
-copy_stays node conn key ticks (copies.Copies to number copy) = refl
+copy_stays : (node : NodeState) (conn : Conn) (slot : ℕ) (keys : List (List ℕ)) (ticks : ℕ) (verdict : CopyVerdict) → Stays node (copy_outcome node conn slot keys ticks verdict)
+copy_stays node conn slot keys ticks copies.CrossSlot = refl
+copy_stays node conn slot keys ticks copies.WrongTarget = refl
+copy_stays node conn slot keys ticks copies.NoKey = refl
+copy_stays node conn slot keys ticks copies.CopyOutstanding = refl
+copy_stays node conn slot keys ticks copies.Exhausted = refl
+copy_stays node conn slot keys ticks (copies.SendAgain to number copy) = refl
+copy_stays node conn slot keys ticks (copies.Copies to number copy) = refl
 
 cluster_stays : (node : NodeState) (conn : Conn) (command : ClusterCommand) → Stays node (cluster_outcome node conn command)
 cluster_stays node conn (cluster.KeySlot key) = refl
@@ -102,7 +103,7 @@ cluster_stays node conn (cluster.SlotState slot) = refl
 cluster_stays node conn (cluster.SetSlot slot order id number) = order_stays node slot order (node_with_id node id) number
 cluster_stays node conn cluster.Numbered = refl
 cluster_stays node conn (cluster.Asking number) = refl
-cluster_stays node conn (cluster.Migrate host port key timeout) = copy_stays node conn key timeout (copy_verdict_on node key (node_at node host port))
+cluster_stays node conn (cluster.Migrate host port keys timeout) = copy_stays node conn (first_slot keys) (those_there node.keyspace keys) timeout (copy_verdict_on node keys (node_at node host port))
 
 words_stay : (node : NodeState) (conn : Conn) (connection : Option Connection) (command : Result Command CommandFault) → Stays node (by_command node conn connection command)
 words_stay node conn connection (Err fault) = refl
@@ -112,9 +113,9 @@ words_stay node conn connection (Ok (Data command)) = command_stays node (is_num
 request_stays : (node : NodeState) (conn : Conn) (words : List (List ℕ)) → Stays node (request_outcome node conn (command_of words))
 request_stays node conn words = words_stay (using_up node conn) conn (connection_at node.connections conn) (command_of words)
 
-acknowledged_stays : (node : NodeState) (slot number copy : ℕ) (key : Option (List ℕ)) → Stays node (acknowledged node slot number copy key)
+acknowledged_stays : (node : NodeState) (slot number copy : ℕ) (keys : Option (List (List ℕ))) → Stays node (acknowledged node slot number copy keys)
 acknowledged_stays node slot number copy None = refl
-acknowledged_stays node slot number copy (Some key) = refl
+acknowledged_stays node slot number copy (Some keys) = refl
 
 -- what comes of a vote, whether it elects the node or not
 elected_keeps : (P : Outcome → Type 0) (node : NodeState) (won : Option Elected) → P (silent node) → ((epoch master : ℕ) → P (promotion node epoch (Some master))) → P (if_elected node won)
@@ -126,8 +127,8 @@ elected_keeps P node (Some elected) silent_one promoted = by_master (own_master 
     by_master (Some master) = promoted elected.epoch master
 
 taken_so_stays : (node : NodeState) (from : ℕ) (choice : Choice) (body : Body) → Stays node (taken_so node from choice body)
-taken_so_stays node from choice (Copy slot number copy key value) = refl
-taken_so_stays node from choice (Ack slot number copy) = acknowledged_stays node slot number copy (acknowledged_key (move_of node.moves slot) from number copy)
+taken_so_stays node from choice (Copy slot number copy pairs) = refl
+taken_so_stays node from choice (Ack slot number copy) = acknowledged_stays node slot number copy (acknowledged_keys (move_of node.moves slot) from number copy)
 taken_so_stays node from choice (Drained slot number epoch) = refl
 taken_so_stays node from choice (Claim slots replaced) = by_own (from == node.number) (merged node.table slots from)
   where

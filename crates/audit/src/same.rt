@@ -29,22 +29,19 @@ fn is_same_body(one: &Body, other: &Body) -> bool
                 slot,
                 number,
                 copy,
-                key,
-                value,
+                pairs,
             },
             Body::Copy {
                 slot: other_slot,
                 number: other_number,
                 copy: other_copy,
-                key: other_key,
-                value: other_value,
+                pairs: other_pairs,
             },
         ) => {
             slot == other_slot
                 && number == other_number
                 && copy == other_copy
-                && key == other_key
-                && is_same_value(value, other_value)
+                && are_same_pairs(pairs.as_slice(), other_pairs.as_slice())
         }
         (
             Body::Ack { slot, number, copy },

@@ -2,13 +2,11 @@
 ghost use Rattle.std.specs.Prelude.{◌≡◌};
 
 use crate::suspects::Suspects;
-use byte_string::ByteString;
 use key_slot::Slot;
-use keyspace::Value;
 use slot_state::MoveNo;
 use slot_table::{Claim, Epoch, NodeNo};
 use std::alloc::AllocError;
-use stream_values::{Piece, Snapshot, StreamId, Sync};
+use stream_values::{Pairs, Piece, Snapshot, StreamId, Sync};
 
 /// Whose place a node took as it was promoted, and where its own stream begins.
 #[derive(Clone, Copy, PartialEq, Eq, Debug)]
@@ -33,22 +31,20 @@ pub struct Request {
 /// What a message says.
 #[derive(Debug, Drop)]
 pub enum Body {
-    /// A key with its value, on its way to the node that its slot goes to. It is sent again until it is acknowledged.
+    /// Keys with their values, on their way to the node that their slot goes to. They are sent again until they are acknowledged.
     Copy {
-        /// The slot of the key.
+        /// The slot of the keys.
         slot: Slot,
         /// The move of the slot.
         number: MoveNo,
         /// The number of the copy in this move, from 1 on.
         copy: u64,
-        /// The key.
-        key: ByteString,
-        /// What the sender has at the key.
-        value: Value,
+        /// The keys, each with what the sender has at it.
+        pairs: Pairs,
     },
     /// The answer to a copy: it was installed at the sender of this message.
     Ack {
-        /// The slot of the key.
+        /// The slot of the keys.
         slot: Slot,
         /// The move of the slot.
         number: MoveNo,
@@ -89,14 +85,12 @@ impl Clone for Body {
                 slot,
                 number,
                 copy,
-                key,
-                value,
+                pairs,
             } => Ok(Body::Copy {
                 slot: *slot,
                 number: *number,
                 copy: *copy,
-                key: key.clone()?,
-                value: value.clone()?,
+                pairs: pairs.clone()?,
             }),
             Body::Ack { slot, number, copy } => Ok(Body::Ack {
                 slot: *slot,
@@ -125,8 +119,8 @@ impl Clone for Body {
 
 /// A message of a node to another.
 ///
-/// A copy of it takes no memory for a long key or string, nor for the runs of a claim: it shares them.
-#[derive(Debug, Drop)]
+/// A copy of it takes no memory for keys with their values, nor for the runs of a claim: it shares them.
+#[derive(Debug)]
 pub struct Message {
     /// The node that sends it.
     pub from: NodeNo,
@@ -138,6 +132,18 @@ pub struct Message {
     pub epoch: Epoch,
     /// What it says.
     pub body: Body,
+}
+
+impl Drop for Message {
+    fn drop(self) {
+        let Message {
+            from: _,
+            to: _,
+            ticket: _,
+            epoch: _,
+            body: _,
+        } = self;
+    }
 }
 
 impl Clone for Message {

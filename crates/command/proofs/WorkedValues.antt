@@ -1,5 +1,5 @@
 -- Worked values of the definitions (Redis command reference).
-use Rattle.std.proofs.Common.{◌≡◌, [], ◌∷◌, refl}
+use Rattle.std.proofs.Common.{◌≡◌, ℕ, zero, suc, List, [], ◌∷◌, refl}
 use Rattle.std.specs.Prelude.{Some, None, Ok, Err, codes, pos, negsuc}
 use Rattle.std.specs.Fmt.{digits}
 use Rattle.command_table.specs.Numbers.{number_of}
@@ -262,11 +262,11 @@ asking_1_2 : command_of (codes "ASKING" ∷ codes "1" ∷ codes "2" ∷ []) ≡ 
 asking_1_2 = refl
 
 -- the port is any number
-migrate_foo : command_of (codes "MIGRATE" ∷ codes "127.0.0.1" ∷ codes "7001" ∷ codes "foo" ∷ codes "0" ∷ codes "1000000" ∷ []) ≡ Ok (Cluster (Migrate (codes "127.0.0.1") (pos 7001) (codes "foo") 1000000))
+migrate_foo : command_of (codes "MIGRATE" ∷ codes "127.0.0.1" ∷ codes "7001" ∷ codes "foo" ∷ codes "0" ∷ codes "1000000" ∷ []) ≡ Ok (Cluster (Migrate (codes "127.0.0.1") (pos 7001) (codes "foo" ∷ []) 1000000))
 unfolding number_of digits
 migrate_foo = refl
 
-migrate_to_no_port : command_of (codes "MIGRATE" ∷ codes "h" ∷ codes "-1" ∷ codes "" ∷ codes "0" ∷ codes "1" ∷ []) ≡ Ok (Cluster (Migrate (codes "h") (negsuc 0) (codes "") 1))
+migrate_to_no_port : command_of (codes "MIGRATE" ∷ codes "h" ∷ codes "-1" ∷ codes "" ∷ codes "0" ∷ codes "1" ∷ []) ≡ Ok (Cluster (Migrate (codes "h") (negsuc 0) (codes "" ∷ []) 1))
 unfolding number_of digits
 migrate_to_no_port = refl
 
@@ -291,8 +291,38 @@ migrate_timeout_past_the_greatest : command_of (codes "MIGRATE" ∷ codes "h" �
 unfolding number_of digits
 migrate_timeout_past_the_greatest = refl
 
-migrate_copy : command_of (codes "MIGRATE" ∷ codes "h" ∷ codes "1" ∷ codes "foo" ∷ codes "0" ∷ codes "5" ∷ codes "COPY" ∷ []) ≡ Err (Arity name.Migrate)
+migrate_without_timeout : command_of (codes "MIGRATE" ∷ codes "h" ∷ codes "1" ∷ codes "foo" ∷ codes "0" ∷ []) ≡ Err (Arity name.Migrate)
+migrate_without_timeout = refl
+
+migrate_copy : command_of (codes "MIGRATE" ∷ codes "h" ∷ codes "1" ∷ codes "foo" ∷ codes "0" ∷ codes "5" ∷ codes "COPY" ∷ []) ≡ Err Syntax
 migrate_copy = refl
+
+migrate_two_keys :
+    command_of (codes "MIGRATE" ∷ codes "h" ∷ codes "1" ∷ codes "" ∷ codes "0" ∷ codes "5" ∷ codes "Keys" ∷ codes "a" ∷ codes "b" ∷ [])
+    ≡ Ok (Cluster (Migrate (codes "h") (pos 1) (codes "a" ∷ codes "b" ∷ []) 5))
+unfolding number_of digits
+migrate_two_keys = refl
+
+migrate_no_key : command_of (codes "MIGRATE" ∷ codes "h" ∷ codes "1" ∷ codes "" ∷ codes "0" ∷ codes "5" ∷ codes "KEYS" ∷ []) ≡ Err Syntax
+migrate_no_key = refl
+
+-- the words are judged before the numbers
+migrate_key_and_keys : command_of (codes "MIGRATE" ∷ codes "h" ∷ codes "x" ∷ codes "a" ∷ codes "0" ∷ codes "5" ∷ codes "KEYS" ∷ codes "a" ∷ []) ≡ Err Syntax
+migrate_key_and_keys = refl
+
+some_keys : ℕ → List (List ℕ)
+some_keys zero = []
+some_keys (suc n) = codes "k" ∷ some_keys n
+
+migrate_sixteen_keys :
+    command_of (codes "MIGRATE" ∷ codes "h" ∷ codes "1" ∷ codes "" ∷ codes "0" ∷ codes "5" ∷ codes "KEYS" ∷ some_keys 16)
+    ≡ Ok (Cluster (Migrate (codes "h") (pos 1) (some_keys 16) 5))
+unfolding number_of digits some_keys
+migrate_sixteen_keys = refl
+
+migrate_seventeen_keys : command_of (codes "MIGRATE" ∷ codes "h" ∷ codes "1" ∷ codes "" ∷ codes "0" ∷ codes "5" ∷ codes "KEYS" ∷ some_keys 17) ≡ Err Syntax
+unfolding some_keys
+migrate_seventeen_keys = refl
 
 -- a subcommand is no command
 keyslot_foo : command_of (codes "KEYSLOT" ∷ codes "foo" ∷ []) ≡ Err Unknown

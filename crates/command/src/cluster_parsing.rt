@@ -1,13 +1,13 @@
 //! From the words of a request to a command about the cluster, or to one that moves keys.
-ghost use Rattle.std.specs.Prelude.{◌≡◌, Some};
+ghost use Rattle.std.specs.Prelude.{◌≡◌, ◌≢◌, [], Some};
 ghost use Rattle.std.specs.Option.{option_copied};
-ghost use Rattle.command_table.specs.ClusterTable.{keys_in_slot, move_number, set_slot, slot_of, timeout_of, with_import, with_migration, with_subcommand, with_subcommands};
-ghost use Rattle.command_table.specs.Numbers.{count_of};
+ghost use Rattle.command_table.specs.ClusterTable.{are_keys, keys_in_slot, migration, move_number, set_slot, slot_of, timeout_of, with_import, with_migration, with_subcommand, with_subcommands};
+ghost use Rattle.command_table.specs.Numbers.{count_of, number_of};
 
 use byte_string::ByteString;
 use command_table::{
-    ClusterCommand, Command, CommandFault, Name, SlotOrder, Subcommand, Word, count_in, move_no_in,
-    number_in,
+    ClusterCommand, Command, CommandFault, MOST_MIGRATED_KEYS, Name, SlotOrder, Subcommand, Word,
+    WordList, count_in, move_no_in, number_in,
 };
 use key_slot::{MoveNo, Slot};
 
@@ -105,25 +105,69 @@ pub(crate) fn with_import<'w>(arguments: &'w [ByteString]) -> Result<Command<'w>
     Ok(Command::Cluster(ClusterCommand::Asking { number }))
 }
 
-/// MIGRATE takes a host, a port, a key, a database and a timeout.
+/// MIGRATE takes a host, a port, a key, a database and a timeout, or behind an empty key and these the word KEYS with keys.
 pub(crate) fn with_migration<'w>(arguments: &'w [ByteString]) -> Result<Command<'w>, CommandFault>
     ensures { result ≡ with_migration arguments.now }
 {
-    let [host, port, key, database, timeout] = arguments else {
-        return Err(CommandFault::Arity(Name::Migrate));
-    };
-    let port = number_in(port.as_slice()).ok_or(CommandFault::NotAnInteger)?;
-    let database = number_in(database.as_slice()).ok_or(CommandFault::NotAnInteger)?;
-    let timeout = number_in(timeout.as_slice()).ok_or(CommandFault::NotAnInteger)?;
+    match arguments {
+        [host, port, _, database, timeout] => {
+            migration(
+                host,
+                port.as_slice(),
+                &arguments[2..3],
+                database.as_slice(),
+                timeout.as_slice(),
+            )
+        }
+        [host, port, place, database, timeout, word, keys @ ..] => {
+            if !are_keys(place.as_slice(), word.as_slice(), keys) {
+                return Err(CommandFault::Syntax);
+            }
+            migration(
+                host,
+                port.as_slice(),
+                keys,
+                database.as_slice(),
+                timeout.as_slice(),
+            )
+        }
+        _ => Err(CommandFault::Arity(Name::Migrate)),
+    }
+}
+
+// Whether these are the word KEYS and some keys, but not too many, where an empty word stands in the place of the key.
+fn are_keys(place: &[u8], word: &[u8], keys: &[ByteString]) -> bool
+    ensures { result ≡ are_keys place.now word.now keys.now }
+{
+    place.is_empty()
+        && word.eq_ignore_ascii_case(b"keys")
+        && !keys.is_empty()
+        && keys.len() <= MOST_MIGRATED_KEYS
+}
+
+fn migration<'w>(
+    host: &'w ByteString,
+    port: &[u8],
+    keys: &'w [ByteString],
+    database: &[u8],
+    timeout: &[u8],
+) -> Result<Command<'w>, CommandFault>
+    requires { keys.now ≢ [] }
+    ensures { result ≡ migration host.now (number_of port.now) keys.now (number_of database.now) (number_of timeout.now) }
+{
+    let port = number_in(port).ok_or(CommandFault::NotAnInteger)?;
+    let database = number_in(database).ok_or(CommandFault::NotAnInteger)?;
+    let timeout = number_in(timeout).ok_or(CommandFault::NotAnInteger)?;
     // There is one database.
     if database != 0 {
         return Err(CommandFault::Syntax);
     }
     let timeout = timeout_of(timeout).ok_or(CommandFault::Syntax)?;
+    let keys = WordList::new(keys).ok_or(CommandFault::Syntax)?;
     Ok(Command::Cluster(ClusterCommand::Migrate {
         host: Word::new(host),
         port,
-        key: Word::new(key),
+        keys,
         timeout,
     }))
 }

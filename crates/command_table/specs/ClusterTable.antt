@@ -1,7 +1,7 @@
 -- Which words are a command about the cluster (Redis command reference, "CLUSTER KEYSLOT", "CLUSTER MYID", "CLUSTER SLOTS",
 -- "CLUSTER COUNTKEYSINSLOT", "CLUSTER GETKEYSINSLOT", "CLUSTER SETSLOT", "ASKING", "MIGRATE"). Numbers of moves, SLOTSTATE and
 -- NUMBERED are this project's own. Of several faults the first row tells which.
-use Rattle.std.specs.Prelude.{List, [], ◌∷◌, ℕ, ℤ, zero, Option, Some, None, option_and_then, Result, Ok, Err, codes, if◌then◌else◌}
+use Rattle.std.specs.Prelude.{◌==◌, ◌&&◌, List, [], ◌∷◌, length, ℕ, ℤ, zero, nat_le, Bool, Option, Some, None, option_and_then, Result, Ok, Err, codes, if◌then◌else◌}
 use Rattle.std.specs.Str.{str_eq_ignore_ascii_case}
 use Rattle.command_table.specs.Names.{subcommand_of}
 use Rattle.command_table.specs.Numbers.{count_of, from_to, natural, number_of, positive_of}
@@ -12,6 +12,7 @@ use Rattle.command_table.specs.declared.command.Command.{Command}
 use Rattle.command_table.specs.declared.command.Command.TheVariants.{Cluster}
 use Rattle.command_table.specs.declared.command.ClusterCommand.{ClusterCommand}
 use Rattle.command_table.specs.declared.command.ClusterCommand.TheVariants.{KeySlot, MyId, Slots, CountKeysInSlot, GetKeysInSlot, SlotState, SetSlot, Numbered, Asking, Migrate}
+use Rattle.command_table.specs.declared.command.TheConstants.{MOST_MIGRATED_KEYS}
 use Rattle.command_table.specs.declared.command.SlotOrder.{SlotOrder}
 use Rattle.command_table.specs.declared.command.SlotOrder.TheVariants.{Importing, Migrating, Node}
 use Rattle.command_table.specs.declared.fault.CommandFault.{CommandFault}
@@ -99,12 +100,19 @@ abbrev pub with_timeout : (ℕ → ClusterCommand) → Option ℕ → Option ℕ
 with_timeout make (Some zero) (Some timeout) = Ok (Cluster (make timeout))
 with_timeout make _ _ = Err Syntax
 
--- MIGRATE to a host and port, of a key, to a database, with a timeout
-abbrev pub migration : List ℕ → Option ℤ → List ℕ → Option ℤ → Option ℤ → Result Command CommandFault
-migration host (Some port) key (Some database) (Some timeout) = with_timeout (Migrate host port key) (natural database) (timeout_of timeout)
-migration host _ key _ _ = Err NotAnInteger
+-- MIGRATE to a host and port, of keys, to a database, with a timeout
+abbrev pub migration : List ℕ → Option ℤ → List (List ℕ) → Option ℤ → Option ℤ → Result Command CommandFault
+migration host (Some port) keys (Some database) (Some timeout) = with_timeout (Migrate host port keys) (natural database) (timeout_of timeout)
+migration host _ keys _ _ = Err NotAnInteger
 
--- MIGRATE takes these five
+-- the word KEYS, in letters of any case, and some keys, but not too many, where an empty word stands in the place of the key
+abbrev pub are_keys : List ℕ → List ℕ → List (List ℕ) → Bool
+are_keys place word keys =
+    length place == 0 && str_eq_ignore_ascii_case word (codes "keys") && nat_le 1 (length keys) && nat_le (length keys) MOST_MIGRATED_KEYS
+
+-- MIGRATE takes these five, or behind them KEYS with keys
 abbrev pub with_migration : List (List ℕ) → Result Command CommandFault
-with_migration (host ∷ port ∷ key ∷ database ∷ timeout ∷ []) = migration host (number_of port) key (number_of database) (number_of timeout)
+with_migration (host ∷ port ∷ key ∷ database ∷ timeout ∷ []) = migration host (number_of port) (key ∷ []) (number_of database) (number_of timeout)
+with_migration (host ∷ port ∷ place ∷ database ∷ timeout ∷ word ∷ keys) =
+    if are_keys place word keys then migration host (number_of port) keys (number_of database) (number_of timeout) else Err Syntax
 with_migration _ = Err (Arity name.Migrate)

@@ -376,6 +376,9 @@ impl Condition {
     }
 }
 
+/// The most keys of one MIGRATE.
+pub const MOST_MIGRATED_KEYS: usize = 16;
+
 /// A subcommand of CLUSTER, or a command that moves keys. The node that receives it replies itself, whichever node owns a
 /// slot.
 #[derive(Drop)]
@@ -424,15 +427,15 @@ pub enum ClusterCommand<'w> {
         /// The number of the only move that this is for, or None for any.
         number: Option<MoveNo>,
     },
-    /// Moves a key to another node.
+    /// Moves keys to another node.
     Migrate {
         /// The host of the node.
         host: Word<'w>,
         /// The port of the node. It may be no port.
         port: i64,
-        /// The key.
-        key: Word<'w>,
-        /// The ticks, 1 to 1,000,000, after which the node replies even where the key has not arrived.
+        /// The keys, at most [`MOST_MIGRATED_KEYS`].
+        keys: WordList<'w>,
+        /// The ticks, 1 to 1,000,000, after which the node replies even where the keys have not arrived.
         timeout: u32,
     },
 }

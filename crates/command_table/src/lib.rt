@@ -9,7 +9,7 @@ mod number;
 mod table;
 mod words;
 
-pub use command::{ClusterCommand, Command, Condition, DataCommand, SlotOrder};
+pub use command::{ClusterCommand, Command, Condition, DataCommand, MOST_MIGRATED_KEYS, SlotOrder};
 pub use error_line::ErrorLine;
 pub use fault::CommandFault;
 pub use key_slot::MoveNo;

@@ -22,7 +22,7 @@ use Rattle.node_step.specs.Commands.{ask_reply, asked_of, command_outcome, decis
 use Rattle.node_step.specs.Requests.{asking_of, by_command, is_numbered, using_up}
 use Rattle.node_step.specs.State.{NodeState}
 use Rattle.node_step.specs.declared.response.Answer.{Answer}
-use Rattle.redirect.specs.Asked.{Asked, all_there, are_several, is_one_of, is_right, none_there}
+use Rattle.redirect.specs.Asked.{Asked, all_there, are_several, is_frozen, is_right, none_there}
 use Rattle.redirect.specs.Decision.{at_owner, by_keys, has_other_slot, in_slot, state_at}
 use Rattle.redirect.specs.declared.decision.Decision.{Decision}
 use Rattle.redirect.specs.declared.decision.Decision.TheVariants.{Serve, ServeImport, CrossSlot, Down, TryAgain, Ask, Moved}
@@ -76,7 +76,7 @@ module _ (slot : ℕ) (below : slot < 16384) where
       (either IsSound (are_several asked.keys && not (all_there asked)) (TryAgain SomeAreMissing) (ServeImport number) tt tt) (owner_sound owner)
   slot_sound None (Moving (Leaves to number copies frozen)) asked is = tt
   slot_sound (Some owner) (Moving (Leaves to number copies frozen)) asked is =
-      either IsSound (is_one_of frozen asked.keys) _ _ tt
+      either IsSound (is_frozen frozen asked.keys) _ _ tt
       (either IsSound (all_there asked) _ _ tt (either IsSound (none_there asked) (Ask slot to number) (TryAgain SomeAreMissing) (below, is) tt))
   slot_sound None Owned asked is = tt
   slot_sound (Some owner) Owned asked is = tt

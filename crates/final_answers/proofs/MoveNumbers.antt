@@ -1,10 +1,9 @@
 -- Each move under way at a node has a number that a redirection can name, from step to step.
-use Rattle.std.proofs.Common.{◌≡◌, ◌+◌, ◌^◌, ◌∙◌, ◌==◌, ◌&&◌, ℕ, Bool, true, false, cond, List, Option, None, Some, is_some, refl, sym, ap, subst, inl, inr, arith}
+use Rattle.std.proofs.Common.{◌≡◌, ◌+◌, ◌^◌, ◌∙◌, ◌==◌, ◌&&◌, ℕ, Bool, true, false, cond, List, [], ◌∷◌, Option, None, Some, is_some, refl, sym, ap, subst, inl, inr, arith}
 use Rattle.std.proofs.lemmas.Bool.{cases_eq, ltb-true}
-use Rattle.std.specs.Cmp.Lexicographic.{pointwise}
 use Rattle.std.specs.FinMap as map
 use Rattle.std.specs.Ordering.{nat_cmp}
-use Rattle.std.specs.Prelude.{◌-◌, MatchBool, Result, Ok, Err, nat_eq, nat_lt, ⊤}
+use Rattle.std.specs.Prelude.{◌-◌, MatchBool, Result, Ok, Err, nat_lt, ⊤}
 use Rattle.bus.specs.declared.message.Body.{Body}
 use Rattle.bus.specs.declared.message.Body.TheVariants.{Copy, Ack, Drained, Claim, Report, Request as Requested, Grant, Sync, Piece, Snapshot}
 use Rattle.bus.specs.declared.message.Message.{Message}
@@ -21,18 +20,18 @@ use Rattle.command_table.specs.declared.fault.CommandFault.{CommandFault}
 use Rattle.connections.specs.Connections.{connection_at, may_ask}
 use Rattle.connections.specs.declared.conn.Conn.{Conn}
 use Rattle.connections.specs.declared.conn.Connection.{Connection}
-use Rattle.key_slot.specs.Slot.{hash_slot}
-use Rattle.migrate.specs.Acknowledging.{acknowledged_key, unfrozen}
+use Rattle.migrate.specs.Acknowledging.{acknowledged_keys, unfrozen}
 use Rattle.migrate.specs.Arriving.{after_arrival, arrival_verdict, changed_at, one_more}
 use Rattle.migrate.specs.Draining.{note_drained}
-use Rattle.migrate.specs.Sending.{by_frozen, by_target, copy_verdict}
+use Rattle.migrate.specs.Sending.{are_just, by_keys, by_target, copy_verdict}
 use Rattle.migrate.specs.declared.arriving.ArrivalVerdict.{ArrivalVerdict}
 use Rattle.migrate.specs.declared.arriving.ArrivalVerdict.TheVariants as arrives
 use Rattle.migrate.specs.declared.sending.CopyVerdict.{CopyVerdict}
 use Rattle.migrate.specs.declared.sending.CopyVerdict.TheVariants as copies
 use Rattle.node_step.specs.Claiming.{claimed_by}
 use Rattle.node_step.specs.Commands.{command_outcome, decision_on}
-use Rattle.node_step.specs.Copies.{acknowledged, copy_outcome, copy_verdict_on, keeps_limits, node_at}
+use Rattle.node_step.specs.Copies.{acknowledged, copy_outcome, copy_verdict_on, first_slot, keep_limits, node_at, those_there}
+use Rattle.redirect.specs.Decision.{has_other_slot}
 use Rattle.node_step.proofs.Kept.{pieced_keeps, recorded_keeps, restored_keeps, synced_is}
 use Rattle.election.specs.Electing.{elected}
 use Rattle.election.specs.declared.running.Elected.{Elected}
@@ -215,36 +214,41 @@ order_nameable node slot Migrating other number is all =
     migrated_nameable node slot _ (migrate_so (standing node slot) (move_of node.moves slot) (last_move_of node.moves slot) other number is) all
 order_nameable node slot Node other number is all = ended_nameable node slot (ending_verdict node slot other number) all
 
--- ---- a key is copied
+-- ---- keys are copied
 
 abbrev CopiesSo : CopyVerdict → Type 0
 CopiesSo (copies.Copies to number copy) = IsMove (Some number)
 CopiesSo _ = ⊤
 
-frozen_so : (to number copied : ℕ) (frozen : Option (List ℕ)) (key : List ℕ) → IsMove (Some number) → CopiesSo (by_frozen to number copied frozen key)
-frozen_so to number copied None key is = either CopiesSo (nat_lt copied (2 ^ 64 - 1)) (copies.Copies to number (copied + 1)) copies.Exhausted is tt
-frozen_so to number copied (Some frozen) key is = either CopiesSo (pointwise nat_eq frozen key) (copies.SendAgain to number copied) copies.CopyOutstanding tt tt
+frozen_so : (to number copied : ℕ) (frozen : Option (List (List ℕ))) (keys : List (List ℕ)) → IsMove (Some number) → CopiesSo (by_keys to number copied frozen keys)
+frozen_so to number copied frozen [] is = tt
+frozen_so to number copied None (key ∷ keys) is = either CopiesSo (nat_lt copied (2 ^ 64 - 1)) (copies.Copies to number (copied + 1)) copies.Exhausted is tt
+frozen_so to number copied (Some frozen) (key ∷ keys) is = either CopiesSo (are_just frozen (key ∷ keys)) (copies.SendAgain to number copied) copies.CopyOutstanding tt tt
 
-target_so : (move : Move) (target : ℕ) (key : List ℕ) (there : Bool) → IsNameable move → CopiesSo (by_target move target key there)
-target_so (Comes from number last drained) target key there is = tt
-target_so (Leaves to number copied frozen) target key there is =
-    either CopiesSo (to == target) _ _ (either CopiesSo there _ _ (frozen_so to number copied frozen key is) tt) tt
+target_so : (move : Move) (target : ℕ) (keys : List (List ℕ)) → IsNameable move → CopiesSo (by_target move target keys)
+target_so (Comes from number last drained) target keys is = tt
+target_so (Leaves to number copied frozen) target keys is = either CopiesSo (to == target) _ _ (frozen_so to number copied frozen keys is) tt
 
-copy_so : (moves : Moves) (slot : ℕ) → AllNameable moves.running → (target : Option ℕ) (key : List ℕ) (there : Bool) → CopiesSo (copy_verdict (move_of moves slot) target key there)
-copy_so moves slot all target key there = by_found (move_of moves slot) refl target
+copy_so : (moves : Moves) (slot : ℕ) → AllNameable moves.running → (target : Option ℕ) (keys : List (List ℕ)) → CopiesSo (copy_verdict (move_of moves slot) target keys)
+copy_so moves slot all target keys = by_found (move_of moves slot) refl target
   where
-    by_found : (found : Option Move) → move_of moves slot ≡ found → (target : Option ℕ) → CopiesSo (copy_verdict found target key there)
+    by_found : (found : Option Move) → move_of moves slot ≡ found → (target : Option ℕ) → CopiesSo (copy_verdict found target keys)
     by_found None is target = tt
     by_found (Some move) is None = tt
-    by_found (Some move) is (Some target) = target_so move target key there (all slot move is)
+    by_found (Some move) is (Some target) = target_so move target keys (all slot move is)
 
-copied_nameable : (node : NodeState) (conn : Conn) (key : List ℕ) (ticks : ℕ) (verdict : CopyVerdict) → CopiesSo verdict → HasNameable node → HasNameable (copy_outcome node conn (hash_slot key) key ticks verdict).state
-copied_nameable node conn key ticks copies.WrongTarget so all = all
-copied_nameable node conn key ticks copies.NoKey so all = all
-copied_nameable node conn key ticks copies.CopyOutstanding so all = all
-copied_nameable node conn key ticks copies.Exhausted so all = all
-copied_nameable node conn key ticks (copies.SendAgain to number copy) so all = all
-copied_nameable node conn key ticks (copies.Copies to number copy) so all = put_nameable node.moves.running all (hash_slot key) (Leaves to number copy (Some key)) so
+ordered_so : (node : NodeState) (named : List (List ℕ)) (target : Option ℕ) → HasNameable node → CopiesSo (copy_verdict_on node named target)
+ordered_so node named target all =
+    either CopiesSo (has_other_slot (first_slot named) named) _ _ tt (copy_so node.moves (first_slot named) all target (those_there node.keyspace named))
+
+copied_nameable : (node : NodeState) (conn : Conn) (slot : ℕ) (keys : List (List ℕ)) (ticks : ℕ) (verdict : CopyVerdict) → CopiesSo verdict → HasNameable node → HasNameable (copy_outcome node conn slot keys ticks verdict).state
+copied_nameable node conn slot keys ticks copies.CrossSlot so all = all
+copied_nameable node conn slot keys ticks copies.WrongTarget so all = all
+copied_nameable node conn slot keys ticks copies.NoKey so all = all
+copied_nameable node conn slot keys ticks copies.CopyOutstanding so all = all
+copied_nameable node conn slot keys ticks copies.Exhausted so all = all
+copied_nameable node conn slot keys ticks (copies.SendAgain to number copy) so all = all
+copied_nameable node conn slot keys ticks (copies.Copies to number copy) so all = put_nameable node.moves.running all slot (Leaves to number copy (Some keys)) so
 
 -- ---- requests
 
@@ -267,9 +271,9 @@ cluster_nameable node conn (cluster.SlotState slot) asks all = all
 cluster_nameable node conn (cluster.SetSlot slot order id number) asks all = order_nameable node slot order (node_with_id node id) number asks all
 cluster_nameable node conn cluster.Numbered asks all = all
 cluster_nameable node conn (cluster.Asking number) asks all = all
-cluster_nameable node conn (cluster.Migrate host port key timeout) asks all =
-    copied_nameable node conn key timeout (copy_verdict_on node key (node_at node host port))
-    (copy_so node.moves (hash_slot key) all (node_at node host port) key (is_some (map.get node.keyspace key))) all
+cluster_nameable node conn (cluster.Migrate host port keys timeout) asks all =
+    copied_nameable node conn (first_slot keys) (those_there node.keyspace keys) timeout (copy_verdict_on node keys (node_at node host port))
+    (ordered_so node keys (node_at node host port) all) all
 
 words_nameable : (node : NodeState) (conn : Conn) (connection : Option Connection) (command : Result Command CommandFault) → AsksWithin command → HasNameable node
     → HasNameable (by_command node conn connection command).state
@@ -299,9 +303,9 @@ arrival_nameable moves slot arrives.Installs all = changed_nameable moves slot o
 arrival_nameable moves slot arrives.Repeats all = all
 arrival_nameable moves slot arrives.Ignored all = all
 
-acknowledged_nameable : (node : NodeState) (slot number copy : ℕ) (key : Option (List ℕ)) → HasNameable node → HasNameable (acknowledged node slot number copy key).state
+acknowledged_nameable : (node : NodeState) (slot number copy : ℕ) (keys : Option (List (List ℕ))) → HasNameable node → HasNameable (acknowledged node slot number copy keys).state
 acknowledged_nameable node slot number copy None all = all
-acknowledged_nameable node slot number copy (Some key) all = changed_nameable node.moves slot unfrozen unfrozen_same all
+acknowledged_nameable node slot number copy (Some keys) all = changed_nameable node.moves slot unfrozen unfrozen_same all
 
 -- what comes of a vote, whether it elects the node or not
 elected_keeps : (P : Outcome → Type 0) (node : NodeState) (won : Option Elected) → P (silent node) → ((epoch master : ℕ) → P (promotion node epoch (Some master))) → P (if_elected node won)
@@ -313,9 +317,9 @@ elected_keeps P node (Some elected) silent_one promoted = by_master (own_master 
     by_master (Some master) = promoted elected.epoch master
 
 taken_so_nameable : (node : NodeState) (from : ℕ) (choice : Choice) (body : Body) → HasNameable node → HasNameable (taken_so node from choice body).state
-taken_so_nameable node from choice (Copy slot number copy key value) all =
-    arrival_nameable node.moves slot (arrival_verdict (move_of node.moves slot) from number copy (keeps_limits key value)) all
-taken_so_nameable node from choice (Ack slot number copy) all = acknowledged_nameable node slot number copy (acknowledged_key (move_of node.moves slot) from number copy) all
+taken_so_nameable node from choice (Copy slot number copy pairs) all =
+    arrival_nameable node.moves slot (arrival_verdict (move_of node.moves slot) from number copy (keep_limits pairs)) all
+taken_so_nameable node from choice (Ack slot number copy) all = acknowledged_nameable node slot number copy (acknowledged_keys (move_of node.moves slot) from number copy) all
 taken_so_nameable node from choice (Drained slot number epoch) all = changed_nameable node.moves slot (note_drained from number epoch) (noted_same from number epoch) all
 taken_so_nameable node from choice (Claim slots replaced) all =
     either (λ (outcome : Outcome). HasNameable outcome.state) (from == node.number) (silent node) (claimed_by node (merged node.table slots from)) all

@@ -19,13 +19,12 @@ use Rattle.connections.specs.Connections.{Closes, ConnectionTable, Opens, aged, 
 use Rattle.connections.specs.declared.conn.Conn.{Conn}
 use Rattle.connections.specs.declared.conn.Connection.{Connection}
 use Rattle.connections.specs.declared.conn.Wait.{Wait}
-use Rattle.key_slot.specs.Slot.{hash_slot}
-use Rattle.migrate.specs.Acknowledging.{acknowledged_key}
+use Rattle.migrate.specs.Acknowledging.{acknowledged_keys}
 use Rattle.migrate.specs.declared.sending.CopyVerdict.{CopyVerdict}
 use Rattle.migrate.specs.declared.sending.CopyVerdict.TheVariants as copies
 use Rattle.node_step.specs.Claiming.{claimed_by}
 use Rattle.node_step.specs.Commands.{command_outcome, decision_on}
-use Rattle.node_step.specs.Copies.{acknowledged, copy_outcome, copy_verdict_on, node_at, waiting_for}
+use Rattle.node_step.specs.Copies.{acknowledged, copy_outcome, copy_verdict_on, first_slot, node_at, those_there, waiting_for}
 use Rattle.node_step.proofs.Kept.{pieced_keeps, recorded_keeps, restored_keeps, synced_is}
 use Rattle.node_step.proofs.Recorded.{recorded_state}
 use Rattle.election.specs.Electing.{elected}
@@ -175,13 +174,14 @@ waiting_stays : (node : NodeState) (conn : Conn) (slot number copy ticks : ℕ) 
     → introduced_at (with_change node.connections conn (waiting_for slot number copy ticks)) other ≡ true
 waiting_stays node conn slot number copy ticks other is = changed_introduced node.connections conn (waiting_for slot number copy ticks) (λ connection. refl) (λ connection was. was) other is
 
-copy_stays : (node : NodeState) (conn : Conn) (key : List ℕ) (ticks : ℕ) (verdict : CopyVerdict) → Stays node (copy_outcome node conn (hash_slot key) key ticks verdict).state
-copy_stays node conn key ticks copies.WrongTarget other is = is
-copy_stays node conn key ticks copies.NoKey other is = is
-copy_stays node conn key ticks copies.CopyOutstanding other is = is
-copy_stays node conn key ticks copies.Exhausted other is = is
-copy_stays node conn key ticks (copies.SendAgain to number copy) other is = waiting_stays node conn (hash_slot key) number copy ticks other is
-copy_stays node conn key ticks (copies.Copies to number copy) other is = waiting_stays node conn (hash_slot key) number copy ticks other is
+copy_stays : (node : NodeState) (conn : Conn) (slot : ℕ) (keys : List (List ℕ)) (ticks : ℕ) (verdict : CopyVerdict) → Stays node (copy_outcome node conn slot keys ticks verdict).state
+copy_stays node conn slot keys ticks copies.CrossSlot other is = is
+copy_stays node conn slot keys ticks copies.WrongTarget other is = is
+copy_stays node conn slot keys ticks copies.NoKey other is = is
+copy_stays node conn slot keys ticks copies.CopyOutstanding other is = is
+copy_stays node conn slot keys ticks copies.Exhausted other is = is
+copy_stays node conn slot keys ticks (copies.SendAgain to number copy) other is = waiting_stays node conn slot number copy ticks other is
+copy_stays node conn slot keys ticks (copies.Copies to number copy) other is = waiting_stays node conn slot number copy ticks other is
 
 cluster_stays : (node : NodeState) (conn : Conn) (command : ClusterCommand) → Stays node (cluster_outcome node conn command).state
 cluster_stays node conn (cluster.KeySlot key) other is = is
@@ -195,7 +195,7 @@ cluster_stays node conn cluster.Numbered other is =
     changed_introduced node.connections conn (λ connection. record connection { numbered = true }) (λ connection. refl) (λ connection was. refl) other is
 cluster_stays node conn (cluster.Asking number) other is =
     changed_introduced node.connections conn (λ connection. record connection { asking = asking_for number }) (λ connection. refl) (λ connection was. was) other is
-cluster_stays node conn (cluster.Migrate host port key timeout) other is = copy_stays node conn key timeout (copy_verdict_on node key (node_at node host port)) other is
+cluster_stays node conn (cluster.Migrate host port keys timeout) other is = copy_stays node conn (first_slot keys) (those_there node.keyspace keys) timeout (copy_verdict_on node keys (node_at node host port)) other is
 
 words_stay : (node : NodeState) (conn : Conn) (connection : Option Connection) (command : Result Command CommandFault) → Stays node (by_command node conn connection command).state
 words_stay node conn connection (Err fault) other is = is
@@ -211,9 +211,9 @@ answered_stays : (node : NodeState) (conn : Conn) (words : List (List ℕ)) (dro
 answered_stays node conn words dropped =
     recorded_keeps (Stays node) (request_outcome node conn (command_of words)) (written node conn words) dropped (λ stream. request_stays node conn words)
 
-acknowledged_stays : (node : NodeState) (slot number copy : ℕ) (key : Option (List ℕ)) → Stays node (acknowledged node slot number copy key).state
+acknowledged_stays : (node : NodeState) (slot number copy : ℕ) (keys : Option (List (List ℕ))) → Stays node (acknowledged node slot number copy keys).state
 acknowledged_stays node slot number copy None other is = is
-acknowledged_stays node slot number copy (Some key) other is = all_freed_introduced node.connections _ other ∙ is
+acknowledged_stays node slot number copy (Some keys) other is = all_freed_introduced node.connections _ other ∙ is
 
 -- what comes of a vote, whether it elects the node or not
 elected_keeps : (P : Outcome → Type 0) (node : NodeState) (won : Option Elected) → P (silent node) → ((epoch master : ℕ) → P (promotion node epoch (Some master))) → P (if_elected node won)
@@ -225,8 +225,8 @@ elected_keeps P node (Some elected) silent_one promoted = by_master (own_master 
     by_master (Some master) = promoted elected.epoch master
 
 taken_so_stays : (node : NodeState) (from : ℕ) (choice : Choice) (body : Body) → Stays node (taken_so node from choice body).state
-taken_so_stays node from choice (Copy slot number copy key value) other is = is
-taken_so_stays node from choice (Ack slot number copy) other is = acknowledged_stays node slot number copy (acknowledged_key (move_of node.moves slot) from number copy) other is
+taken_so_stays node from choice (Copy slot number copy pairs) other is = is
+taken_so_stays node from choice (Ack slot number copy) other is = acknowledged_stays node slot number copy (acknowledged_keys (move_of node.moves slot) from number copy) other is
 taken_so_stays node from choice (Drained slot number epoch) other is = is
 taken_so_stays node from choice (Claim slots replaced) other is = by_own (from == node.number) (merged node.table slots from)
   where

@@ -1,7 +1,7 @@
 -- The number of a move that the words of a request name is one that a redirection can name.
-use Rattle.std.proofs.Common.{◌≡◌, ℕ, false, List, [], ◌∷◌, Option, None, Some, refl, zero, suc}
+use Rattle.std.proofs.Common.{◌≡◌, ℕ, Bool, true, false, cond, List, [], ◌∷◌, Option, None, Some, refl, zero, suc}
 use Rattle.std.specs.Prelude.{Result, Ok, Err, ℤ, ⊤}
-use Rattle.command_table.specs.ClusterTable.{asking, keys_in_slot, migration, move_number, number_or_fault, on_slot, order_of, ordered, slot_of, timeout_of, with_import, with_migration, with_subcommand, with_subcommands, with_timeout}
+use Rattle.command_table.specs.ClusterTable.{are_keys, asking, keys_in_slot, migration, move_number, number_or_fault, on_slot, order_of, ordered, slot_of, timeout_of, with_import, with_migration, with_subcommand, with_subcommands, with_timeout}
 use Rattle.command_table.specs.Names.{name_of, subcommand_of}
 use Rattle.command_table.specs.Numbers.{count_of, natural, number_of, positive_of}
 use Rattle.command_table.specs.Table.{command_of, named_command}
@@ -10,6 +10,7 @@ use Rattle.command_table.specs.declared.command.Command.{Command}
 use Rattle.command_table.specs.declared.command.Command.TheVariants.{Data, Cluster}
 use Rattle.command_table.specs.declared.command.SlotOrder.{SlotOrder}
 use Rattle.command_table.specs.declared.fault.CommandFault.{CommandFault}
+use Rattle.command_table.specs.declared.fault.CommandFault.TheVariants.{Syntax}
 use Rattle.command_table.specs.declared.names.Name.{Name}
 use Rattle.command_table.specs.declared.names.Name.TheVariants as name
 use Rattle.command_table.specs.declared.names.Subcommand.{Subcommand}
@@ -103,17 +104,17 @@ data_within (Ok (Data _)) (of_data which) = tt
 data_within (Ok (Cluster _)) is = elim is [ ]
 data_within (Err _) (of_fault why refuses) = tt
 
-timeout_within : (host key : List ℕ) (port : ℤ) (database ticks : Option ℕ) → AsksWithin (with_timeout (cluster.Migrate host port key) database ticks)
-timeout_within host key port None ticks = tt
-timeout_within host key port (Some zero) None = tt
-timeout_within host key port (Some zero) (Some ticks) = tt
-timeout_within host key port (Some (suc database)) ticks = tt
+timeout_within : (host : List ℕ) (keys : List (List ℕ)) (port : ℤ) (database ticks : Option ℕ) → AsksWithin (with_timeout (cluster.Migrate host port keys) database ticks)
+timeout_within host keys port None ticks = tt
+timeout_within host keys port (Some zero) None = tt
+timeout_within host keys port (Some zero) (Some ticks) = tt
+timeout_within host keys port (Some (suc database)) ticks = tt
 
-migration_within : (host : List ℕ) (port : Option ℤ) (key : List ℕ) (database ticks : Option ℤ) → AsksWithin (migration host port key database ticks)
-migration_within host None key database ticks = tt
-migration_within host (Some port) key None ticks = tt
-migration_within host (Some port) key (Some database) None = tt
-migration_within host (Some port) key (Some database) (Some ticks) = timeout_within host key port (natural database) (timeout_of ticks)
+migration_within : (host : List ℕ) (port : Option ℤ) (keys : List (List ℕ)) (database ticks : Option ℤ) → AsksWithin (migration host port keys database ticks)
+migration_within host None keys database ticks = tt
+migration_within host (Some port) keys None ticks = tt
+migration_within host (Some port) keys (Some database) None = tt
+migration_within host (Some port) keys (Some database) (Some ticks) = timeout_within host keys port (natural database) (timeout_of ticks)
 
 migrate_within : (arguments : List (List ℕ)) → AsksWithin (with_migration arguments)
 migrate_within [] = tt
@@ -121,8 +122,12 @@ migrate_within (host ∷ []) = tt
 migrate_within (host ∷ port ∷ []) = tt
 migrate_within (host ∷ port ∷ key ∷ []) = tt
 migrate_within (host ∷ port ∷ key ∷ database ∷ []) = tt
-migrate_within (host ∷ port ∷ key ∷ database ∷ ticks ∷ []) = migration_within host (number_of port) key (number_of database) (number_of ticks)
-migrate_within (host ∷ port ∷ key ∷ database ∷ ticks ∷ other ∷ rest) = tt
+migrate_within (host ∷ port ∷ key ∷ database ∷ ticks ∷ []) = migration_within host (number_of port) (key ∷ []) (number_of database) (number_of ticks)
+migrate_within (host ∷ port ∷ place ∷ database ∷ ticks ∷ word ∷ keys) = by_words (are_keys place word keys)
+  where
+    by_words : (b : Bool) → AsksWithin (cond b (migration host (number_of port) keys (number_of database) (number_of ticks)) (Err Syntax))
+    by_words true = migration_within host (number_of port) keys (number_of database) (number_of ticks)
+    by_words false = tt
 
 named_within : (which : Option Name) (arguments : List (List ℕ)) → (is_of_cluster which ≡ false → IsOfData (named_command which arguments)) → AsksWithin (named_command which arguments)
 named_within None arguments data_is = tt

@@ -1,12 +1,14 @@
 -- When the request that makes a key with its value keeps its limits.
-use Rattle.std.proofs.Common.{◌≡◌, ◌+◌, ◌-◌, ◌*◌, ◌<◌, ◌≤◌, ℕ, suc, List, [], ◌∷◌, ◌++◌, length, length-append, false, ◌&&◌, inl, inr, refl, sym, ap, ◌∙◌, arith, codes, le-leb}
+use Rattle.std.proofs.Common.{◌≡◌, ◌+◌, ◌-◌, ◌*◌, ◌^◌, ◌<◌, ◌≤◌, ℕ, suc, min, List, [], ◌∷◌, ◌++◌, length, length-append, false, ◌&&◌, inl, inr, refl, sym, ap, ◌∙◌, arith, codes, le-leb}
 use Rattle.std.proofs.lemmas.Bool.{lt-leb}
 use Rattle.std.proofs.lemmas.Bool.Decides.{leb_tells}
 use Rattle.std.specs.Prelude.{nat_le}
 use Rattle.hash.specs.Pairs.{Pairs}
 use Rattle.hash.specs.Size.{size_of, words_of}
+use Rattle.resp_values.proofs.Spellings.{bulk_len}
 use Rattle.resp_values.specs.Request.{bulk_spelling, bulks_spelling, header_spelling, request_spelling}
 use Rattle.keyspace.specs.Rebuilding.{fits_hash, fits_request, rebuilding}
+use Rattle.keyspace.specs.Strings.{fits_string}
 use Rattle.keyspace.specs.declared.value.Value.TheVariants.{Str, Hash}
 
 -- the bytes of SET with a key and a string
@@ -26,6 +28,21 @@ pub string_fits : (key bytes : List ℕ) (size header name first second : ℕ) �
 string_fits key bytes size header name first second all headed named keyed valued =
     let whole : size ≡ length (request_spelling (rebuilding key (Str bytes))) = omega (arith, string_size key bytes, headed, named, keyed, valued, all) in
     ap (λ n. nat_le n 16777216) whole
+
+-- a string of so many bytes
+module _ (key bytes : List ℕ) (len : ℕ) (counted : len ≡ min (length bytes) (2 ^ 64 - 1)) where
+  -- it is too long for a word
+  pub word_too_long : 8388608 < len → false ≡ fits_string key bytes
+  word_too_long long = sym (ap (λ b. b && fits_request (rebuilding key (Str bytes))) (lt-leb (length bytes) 8388608 (omega (arith, counted))))
+
+  -- or the bytes of its request decide
+  pub fits_by_length : len ≤ 8388608 → (size header name first head : ℕ) → size ≡ header + name + first + head + len + 2 → header ≡ length (header_spelling 42 3) → name ≡ length (bulk_spelling (codes "SET"))
+      → first ≡ length (bulk_spelling key) → head ≡ length (header_spelling 36 len) → nat_le size 16777216 ≡ fits_string key bytes
+  fits_by_length short size header name first head all headed named keyed counting =
+      let same : len ≡ length bytes = omega (arith, counted) in
+      let second : head + len + 2 ≡ length (bulk_spelling bytes) = omega (arith, bulk_len bytes, same, counting, ap (λ (n : ℕ). length (header_spelling 36 n)) same) in
+      string_fits key bytes size header name first (head + len + 2) (omega (arith, all)) headed named keyed second
+      ∙ sym (ap (λ b. b && fits_request (rebuilding key (Str bytes))) (le-leb (length bytes) 8388608 (omega (arith, same))))
 
 -- two words a field
 pub words_count : (pairs : Pairs) → length (words_of pairs) ≡ 2 * length pairs

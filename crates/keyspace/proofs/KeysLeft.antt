@@ -39,7 +39,7 @@ no_value None none = refl
 no_value (Some value) none = absurd (true≢false none)
 
 -- no key has one
-no_key : (m : Keyspace) → ((k : List ℕ) → is_some (map.get m k) ≡ false) → has_keys m ≡ false
+pub no_key : (m : Keyspace) → ((k : List ℕ) → is_some (map.get m k) ≡ false) → has_keys m ≡ false
 no_key m none =
     let empty : m ≡ map.empty = same m map.empty (λ k. no_value (map.get m k) (none k) ∙ sym (map.get-empty _ k)) in
     ap has_keys empty ∙ ap (nat_lt 0) (map.len-empty _ _)

@@ -1,21 +1,24 @@
 -- What commands leave at their only key.
-use Rattle.std.proofs.Common.{◌≡◌, ◌+◌, ◌-◌, ◌++◌, ◌≤◌, ℕ, ℤ, List, [], ◌∷◌, length, true, false, cond, nat_eq, pos, if◌then◌else◌, Option, Some, None, Ok, Err, refl, ap, sym, ◌∙◌, arith}
+use Rattle.std.proofs.Common.{◌≡◌, ◌+◌, ◌-◌, ◌++◌, ◌≤◌, ℕ, ℤ, List, [], ◌∷◌, length, Bool, true, false, cond, nat_eq, pos, if◌then◌else◌, Option, Some, None, Ok, Err, refl, ap, sym, ◌∙◌, arith}
+use Rattle.std.proofs.lemmas.Bool.{and_parts, leb-true}
 use Rattle.std.specs.FinMap as map
 use Rattle.std.specs.Cmp.Lexicographic.{pointwise}
 use Rattle.std.specs.Fmt.{signed_decimal}
 use Rattle.std.specs.Map.{remove_entry}
-use Rattle.std.specs.Prelude.{is_some}
+use Rattle.std.specs.Prelude.{is_some, nat_le}
 use Rattle.command_table.specs.declared.error_line.ErrorLine.{ErrorLine}
 use Rattle.command_table.specs.declared.error_line.ErrorLine.TheVariants.{HashNotAnInteger, TooLong}
 use Rattle.hash.specs.Pairs.{Pairs, Changes, fields_changed, field_changed, value_of}
 use Rattle.indexmap.specs.IndexMap.{insert_entry}
+use Rattle.resp_values.specs.declared.words.TheConstants.{MOST_WORD_BYTES}
 use Rattle.resp_values.specs.declared.reply.Reply.{Reply}
 use Rattle.resp_values.specs.declared.reply.Reply.TheVariants.{Integer}
 use Rattle.keyspace.specs.Effect.{error_reply, left, told}
 use Rattle.keyspace.specs.Commands.{taken_at}
 use Rattle.keyspace.specs.Hashes.{field_left, fields_of, hash_left, hdel_of, hsetnx_of, increased, on_fields, removals}
-use Rattle.keyspace.specs.Strings.{append_of, fitting, getdel_of, getset_of, is_hash, is_string, stored_number, string_left, string_of, string_reply, sum_of}
-use Rattle.keyspace.specs.Keyspace.{Keyspace, appended, changed, fields_left, hash_of, with_fields}
+use Rattle.keyspace.specs.Rebuilding.{fits_request, rebuilding}
+use Rattle.keyspace.specs.Strings.{append_of, fits_string, getdel_of, getset_of, is_hash, is_string, stored_number, string_left, string_of, string_reply, sum_of}
+use Rattle.keyspace.specs.Keyspace.{Keyspace, appended, changed, fields_left, hash_of, with_appended, with_fields}
 use Rattle.keyspace.specs.declared.value.Value.{Value}
 use Rattle.keyspace.specs.declared.value.Value.TheVariants.{Str, Hash}
 
@@ -28,9 +31,24 @@ appended_to None string bytes is = ap (λ s. Str (s ++ bytes)) (some_same [] str
 appended_to (Some (Str old)) string bytes is = ap (λ s. Str (s ++ bytes)) (some_same old string is)
 appended_to (Some (Hash pairs)) string bytes is = absurd (cc)
 
--- too many bytes behind a string are refused
-pub too_many_behind : (before : Keyspace) (key string bytes : List ℕ) → string_of (map.get before key) ≡ Some string → fitting (string ++ bytes) ≡ None → record { reply = error_reply TooLong; after = before } ≡ taken_at before (key ∷ []) (append_of bytes (string_of (map.get before key)))
-too_many_behind before key string bytes is long = sym (ap (λ s. taken_at before (key ∷ []) (append_of bytes s)) is ∙ ap (λ s. taken_at before (key ∷ []) (string_left s)) long)
+-- a string that may be left fits in a word
+pub fits_word : (key bytes : List ℕ) → fits_string key bytes ≡ true → length bytes ≤ MOST_WORD_BYTES
+fits_word key bytes fits = leb-true _ _ (and_parts (nat_le (length bytes) MOST_WORD_BYTES) (fits_request (rebuilding key (Str bytes))) fits).0
+
+module _ (before : Keyspace) (key string bytes : List ℕ) (is : string_of (map.get before key) ≡ Some string) where
+  left_behind : (b : Bool) → fits_string key (string ++ bytes) ≡ b → taken_at before (key ∷ []) (append_of key bytes (string_of (map.get before key))) ≡ taken_at before (key ∷ []) (string_left (cond b (Some (string ++ bytes)) None))
+  left_behind b fits = ap (λ s. taken_at before (key ∷ []) (append_of key bytes s)) is ∙ ap (λ b. taken_at before (key ∷ []) (string_left (cond b (Some (string ++ bytes)) None))) fits
+
+  -- too many bytes behind a string are refused
+  pub too_many_behind : fits_string key (string ++ bytes) ≡ false → record { reply = error_reply TooLong; after = before } ≡ taken_at before (key ∷ []) (append_of key bytes (string_of (map.get before key)))
+  too_many_behind long = sym (left_behind false long)
+
+  -- those that fit are put there
+  pub fit_behind : fits_string key (string ++ bytes) ≡ true → (count : ℕ) → count ≡ length (string ++ bytes)
+      → record { reply = Integer (pos count); after = with_appended before key bytes } ≡ taken_at before (key ∷ []) (append_of key bytes (string_of (map.get before key)))
+  fit_behind fits count counted =
+      let value = appended_to (map.get before key) string bytes is in
+      (λ i. record { reply = Integer (pos (counted i)); after = map.insert before key (value i) }) ∙ sym (left_behind true fits)
 
 -- changes of the fields at a key leave the hash of the changed fields
 pub fields_left_of : (value : Option Value) (fields : Pairs) (changes : Changes) → fields_of value ≡ Some fields → fields_left value changes ≡ hash_of (fields_changed fields changes)

@@ -1,15 +1,19 @@
 -- Worked values of the definitions (Redis command reference).
-use Rattle.std.proofs.Common.{◌≡◌, refl, [], ◌∷◌, rules}
-use Rattle.std.specs.Prelude.{Some, None, codes, pos, negsuc}
+use Rattle.std.proofs.Common.{◌≡◌, ◌+◌, ◌&&◌, ℕ, List, length, length-append, true, false, ap, refl, [], ◌∷◌, ◌∙◌, arith, rules}
+use Rattle.std.specs.Prelude.{Some, None, codes, decimal, nat_le, pos, negsuc}
 use Rattle.std.specs.FinMap.{gets}
 use Rattle.std.specs.Fmt.{digits}
+use Rattle.resp_values.proofs.Spellings.{bulk_len, request_len}
 use Rattle.resp_values.specs.Reply.{array_of}
+use Rattle.resp_values.specs.Request.{bulk_spelling, bulks_spelling, crlf, header_spelling, request_spelling}
 use Rattle.resp_values.specs.declared.reply.Reply.TheVariants.{Simple, Error, Integer, Bulk, Null, Array}
 use Rattle.command_table.specs.Numbers.{number_of}
 use Rattle.keyspace.specs.Commands.{effect, replay}
 use Rattle.keyspace.specs.Effect.{left, told}
 use Rattle.keyspace.specs.Numbers.{fitting_number}
+use Rattle.keyspace.specs.Rebuilding.{rebuilding}
 use Rattle.keyspace.specs.Replay.{writes_of}
+use Rattle.keyspace.specs.Strings.{fits_string}
 use Rattle.keyspace.specs.declared.value.Value.TheVariants.{Str}
 use Rattle.command_table.specs.declared.command.DataCommand.TheVariants.{Incr, Decr, Incrby}
 
@@ -98,7 +102,41 @@ deletes_once = grind (gets, rules)
 -- APPEND replies with the new length
 appends : (replay ((codes "APPEND" ∷ codes "a" ∷ codes "x" ∷ []) ∷ (codes "APPEND" ∷ codes "a" ∷ codes "yz" ∷ []) ∷ (codes "GET" ∷ codes "a" ∷ []) ∷ [])).replies
     ≡ Integer (pos 1) ∷ Integer (pos 3) ∷ Bulk (codes "xyz") ∷ []
+unfolding digits
 appends = grind (gets, rules)
+
+-- the bytes of the request that makes the longest key with a string of seven digits of bytes
+beside_longest : (key bytes : List ℕ) (count : ℕ) → length key ≡ 8388608 → length bytes ≡ count → length (decimal count) ≡ 7 → length (request_spelling (rebuilding key (Str bytes))) ≡ count + 8388645
+unfolding digits
+beside_longest key bytes count keyed counted seven = omega (
+  arith,
+  keyed,
+  counted,
+  seven,
+  request_len (rebuilding key (Str bytes)),
+  length-append (bulk_spelling (codes "SET")) (bulks_spelling (key ∷ bytes ∷ [])),
+  length-append (bulk_spelling key) (bulks_spelling (bytes ∷ [])),
+  length-append {A = ℕ} (bulk_spelling bytes) [],
+  bulk_len key,
+  bulk_len bytes,
+  length-append (decimal count) crlf,
+  ap (λ (n : ℕ). length (header_spelling 36 n)) keyed,
+  ap (λ (n : ℕ). length (header_spelling 36 n)) counted,
+)
+
+-- with 8,388,571 bytes it is as long as a request may be
+longest : (key bytes : List ℕ) → length key ≡ 8388608 → length bytes ≡ 8388571 → fits_string key bytes ≡ true
+unfolding digits
+longest key bytes keyed counted =
+    ap (λ (n : ℕ). nat_le n 8388608 && nat_le (length (request_spelling (rebuilding key (Str bytes)))) 16777216) counted
+    ∙ ap (λ (n : ℕ). nat_le n 16777216) (beside_longest key bytes 8388571 keyed counted refl)
+
+-- and one byte more is refused
+past_longest : (key bytes : List ℕ) → length key ≡ 8388608 → length bytes ≡ 8388572 → fits_string key bytes ≡ false
+unfolding digits
+past_longest key bytes keyed counted =
+    ap (λ (n : ℕ). nat_le n 8388608 && nat_le (length (request_spelling (rebuilding key (Str bytes)))) 16777216) counted
+    ∙ ap (λ (n : ℕ). nat_le n 16777216) (beside_longest key bytes 8388572 keyed counted refl)
 
 -- a missing key counts as 0
 incr_missing : effect (Incr (codes "a")) (None ∷ []) ≡ left (Integer (pos 1)) (Some (Str (codes "1")))

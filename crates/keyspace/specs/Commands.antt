@@ -33,7 +33,7 @@ effect (Mset pairs) values = record { reply = Simple (codes "OK"); leaves = stri
 effect (Setnx key value) values = setnx_of value (first_of values)
 effect (Getset key value) values = getset_of value (first_of values)
 effect (Getdel key) values = getdel_of (first_of values)
-effect (Append key value) values = append_of value (string_of (first_of values))
+effect (Append key value) values = append_of key value (string_of (first_of values))
 effect (Incr key) values = number_left (sum_of (Some (pos 1)) (number_at (first_of values)))
 effect (Decr key) values = number_left (sum_of (Some (neg_ℤ (pos 1))) (number_at (first_of values)))
 effect (Incrby key increment) values = number_left (sum_of (number_of increment) (number_at (first_of values)))

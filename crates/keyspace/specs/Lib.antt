@@ -16,3 +16,4 @@ pub mod Rebuild
 pub mod Rebuilding
 pub mod Replay
 pub mod Strings
+pub mod Putting

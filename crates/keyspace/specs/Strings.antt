@@ -1,5 +1,5 @@
 -- What the commands on strings reply, and what they leave (Redis command reference, group "string", and EXISTS, DEL, TYPE of the group "generic").
-use Rattle.std.specs.Prelude.{ℕ, ◌+◌, nat_lt, ℤ, pos, ◌+ℤ◌, Bool, true, false, not, ◌&&◌, if◌then◌else◌, List, [], ◌∷◌, ◌++◌, map, length, Option, Some, None, is_some, Result, Ok, Err, codes}
+use Rattle.std.specs.Prelude.{ℕ, ◌+◌, nat_le, ℤ, pos, ◌+ℤ◌, Bool, true, false, not, ◌&&◌, if◌then◌else◌, List, [], ◌∷◌, ◌++◌, map, length, Option, Some, None, is_some, Result, Ok, Err, codes}
 use Rattle.std.specs.List.{list_any}
 use Rattle.std.specs.Ordering.{nat_cmp, eq_by_cmp}
 use Rattle.std.specs.Cmp.Lexicographic.{slice_cmp}
@@ -14,6 +14,7 @@ use Rattle.command_table.specs.declared.command.Condition.{Condition}
 use Rattle.command_table.specs.declared.command.Condition.TheVariants.{Always, IfMissing, IfThere}
 use Rattle.keyspace.specs.Effect.{Effect, told, left, error_reply, refused}
 use Rattle.keyspace.specs.Numbers.{fitting_number}
+use Rattle.keyspace.specs.Rebuilding.{fits_request, rebuilding}
 use Rattle.keyspace.specs.declared.value.Value.{Value}
 use Rattle.keyspace.specs.declared.value.Value.TheVariants.{Str, Hash}
 
@@ -90,19 +91,22 @@ getdel_of None = told Null
 getdel_of (Some (Str bytes)) = left (Bulk bytes) None
 getdel_of (Some (Hash pairs)) = refused WrongType
 
--- a string that fits in a word of a request, or None
-abbrev pub fitting : List ℕ → Option (List ℕ)
-fitting bytes = if nat_lt MOST_WORD_BYTES (length bytes) then None else Some bytes
+-- a string may be left at the key: it fits in a word of a request, and the request that makes it again keeps its limits
+abbrev pub fits_string : List ℕ → List ℕ → Bool
+fits_string key bytes = nat_le (length bytes) MOST_WORD_BYTES && fits_request (rebuilding key (Str bytes))
+
+abbrev pub fitting : List ℕ → List ℕ → Option (List ℕ)
+fitting key bytes = if fits_string key bytes then Some bytes else None
 
 -- a string is left that fits (the limit is ours)
 abbrev pub string_left : Option (List ℕ) → Effect
 string_left None = refused TooLong
 string_left (Some bytes) = left (Integer (pos (length bytes))) (Some (Str bytes))
 
--- APPEND puts the bytes behind the string
-abbrev pub append_of : List ℕ → Option (List ℕ) → Effect
-append_of bytes None = refused WrongType
-append_of bytes (Some string) = string_left (fitting (string ++ bytes))
+-- APPEND puts the bytes behind the string at the key
+abbrev pub append_of : List ℕ → List ℕ → Option (List ℕ) → Effect
+append_of key bytes None = refused WrongType
+append_of key bytes (Some string) = string_left (fitting key (string ++ bytes))
 
 -- the number, or the fault where there is none
 abbrev pub number_or : ErrorLine → Option ℤ → Result ℤ ErrorLine

@@ -1,15 +1,16 @@
 //! Which values a request can make at a key, and which hashes may so be left there.
-ghost use Rattle.std.specs.Prelude.{◌≡◌, ◌∷◌, ◌<◌, ◌^◌, [], ℕ, codes, length};
+ghost use Rattle.std.specs.Prelude.{◌≡◌, ◌∷◌, ◌<◌, ◌^◌, ◌-◌, [], ℕ, List, codes, length, min};
 ghost use Rattle.hash.specs.Pairs.{Pairs};
 ghost use Rattle.hash.specs.Size.{size_of};
 ghost use Rattle.keyspace.specs.Rebuilding.{fits_hash, fits_request, rebuilding};
+ghost use Rattle.keyspace.specs.Strings.{fits_string};
 ghost use Rattle.resp_values.specs.Request.{header_spelling};
 
 use crate::value::Value;
 use byte_string::ByteString;
 use hash::{Extent, Hash, bulk_size};
 use itoa::Buffer;
-use resp_values::{MOST_REQUEST_BYTES, MOST_WORDS};
+use resp_values::{MOST_REQUEST_BYTES, MOST_WORD_BYTES, MOST_WORDS};
 
 /// The most fields of a hash: its request has two words for each, beside HSET and the key.
 const MOST_FIELDS: usize = 32_767;
@@ -32,6 +33,19 @@ fn string_fits(key: &ByteString, bytes: &ByteString) -> bool
 {
     let name = ByteString::inline(b"SET");
     let size = count_size(3) + bulk_size(&name) + bulk_size(key) + bulk_size(bytes);
+    size <= MOST_REQUEST_BYTES as u128
+}
+
+/// Whether a string of that length may be left at the key.
+pub(crate) fn length_fits(key: &ByteString, len: usize) -> bool
+    ensures { (bytes : List ℕ) → len ≡ min (length bytes) (2 ^ 64 - 1) → result ≡ fits_string key.now bytes }
+{
+    if len > MOST_WORD_BYTES {
+        return false;
+    }
+    let name = ByteString::inline(b"SET");
+    let around = count_size(3) + bulk_size(&name) + bulk_size(key);
+    let size = around + count_size(len) + len as u128 + 2;
     size <= MOST_REQUEST_BYTES as u128
 }
 

@@ -1,8 +1,9 @@
 //! A plan: what commands change, decided and not made yet, and its commit.
-ghost use Rattle.std.specs.Prelude.{◌≡◌, None, OnOk, OnErr};
+ghost use Rattle.std.specs.Prelude.{◌≡◌, None, IfOk, OnOk, OnErr};
 ghost use Rattle.keyspace.specs.Changes.{applied};
 ghost use Rattle.keyspace.specs.Keyspace.{Keyspace, with_appended, with_fields};
 ghost use Rattle.keyspace.specs.Plan.{committed, with_step, with_strings};
+ghost use Rattle.keyspace.specs.Putting.{with_pairs};
 
 use crate::appending::appended;
 use crate::changes::NewValues;
@@ -10,6 +11,7 @@ use crate::fields::{FieldChanges, with_changed_fields};
 use crate::planned_fields::PlannedFields;
 use crate::store::Store;
 use crate::string_pairs::{StringPairs, change_to_strings, put_strings};
+use crate::value::Value;
 use byte_string::ByteString;
 use std::alloc::{AllocError, Global};
 
@@ -48,6 +50,17 @@ impl Plan {
             values: NewValues::new(alloc),
             last: None,
         }
+    }
+
+    /// A plan that puts these values at their keys, one after another.
+    pub fn putting(alloc: Global, pairs: Vec<(ByteString, Value)>) -> Result<Plan, AllocError>
+        ensures { IfOk result (λ plan. (keyspace : Keyspace) → committed keyspace plan ≡ with_pairs keyspace pairs.items) }
+    {
+        let mut values = NewValues::new(alloc);
+        for (key, value) in pairs {
+            values.insert(key, Some(value))?;
+        }
+        Ok(Plan { values, last: None })
     }
 
     /// Puts bytes behind the string at the key. No other step is planned.

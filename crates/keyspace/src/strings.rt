@@ -14,6 +14,7 @@ ghost use Rattle.resp_values.specs.Line.{is_one_line};
 ghost use Rattle.resp_values.specs.Reply.{array_of};
 
 use crate::changes::NewValues;
+use crate::limits::length_fits;
 use crate::number::{sum, text_of};
 use crate::plans::Plan;
 use crate::replies::{integer, simple};
@@ -22,7 +23,7 @@ use crate::string_pairs::copied_pairs;
 use crate::value::Value;
 use byte_string::ByteString;
 use command_table::{Condition, ErrorLine, PairList, number_in};
-use resp_values::{Array, MOST_WORD_BYTES, Reply};
+use resp_values::{Array, Reply};
 use std::alloc::{AllocError, Global};
 
 #[inline(never)]
@@ -196,7 +197,7 @@ pub(crate) fn append<S: Store>(
         return Ok(ErrorLine::WrongType.reply());
     };
     let len = old.len().saturating_add(value.len());
-    if len > MOST_WORD_BYTES {
+    if !length_fits(key, len) {
         return Ok(ErrorLine::TooLong.reply());
     }
     plan.append(key.clone()?, value.clone()?);

@@ -25,7 +25,7 @@ use Rattle.election.specs.Electing.{elected}
 use Rattle.election.specs.Health.{Candidate}
 use Rattle.election.specs.declared.running.Elected.{Elected}
 use Rattle.key_slot.specs.Slot.{hash_slot}
-use Rattle.migrate.specs.Acknowledging.{acknowledged_key, unfrozen}
+use Rattle.migrate.specs.Acknowledging.{acknowledged_keys, unfrozen}
 use Rattle.migrate.specs.Arriving.{after_arrival, changed_at, one_more}
 use Rattle.migrate.specs.Draining.{note_drained}
 use Rattle.migrate.specs.Losing.{after_loss, is_leaving}
@@ -55,7 +55,7 @@ use Rattle.slot_table.specs.Table.{owner_at}
 use Rattle.slot_table.specs.declared.entry.SlotEntry.{SlotEntry}
 use Rattle.node_step.specs.Claiming.{claimed_by}
 use Rattle.node_step.specs.Commands.{asked_of, command_outcome, decision_on}
-use Rattle.node_step.specs.Copies.{acknowledged, copy_outcome, copy_verdict_on, node_at}
+use Rattle.node_step.specs.Copies.{acknowledged, copy_outcome, copy_verdict_on, first_slot, node_at, those_there}
 use Rattle.node_step.proofs.Kept.{pieced_keeps, recorded_keeps, restored_keeps, synced_is}
 use Rattle.node_step.proofs.Ready.{in_election_keeps, ready_keeps}
 use Rattle.node_step.specs.Failing.{a_tick_older, members_of}
@@ -192,13 +192,14 @@ module _ (words : List (List ℕ)) (node : NodeState) (settled : IsSettled node.
   order_quiet slot Migrating other number = migrate_quiet slot _
   order_quiet slot Node other number = ending_quiet slot (ending_verdict node slot other number)
 
-  copy_quiet : (conn : Conn) (key : List ℕ) (ticks : ℕ) (verdict : CopyVerdict) → Quiet (copy_outcome node conn (hash_slot key) key ticks verdict)
-  copy_quiet conn key ticks copies.WrongTarget = (λ none. settled, λ past n. tt)
-  copy_quiet conn key ticks copies.NoKey = (λ none. settled, λ past n. tt)
-  copy_quiet conn key ticks copies.CopyOutstanding = (λ none. settled, λ past n. tt)
-  copy_quiet conn key ticks copies.Exhausted = (λ none. settled, λ past n. tt)
-  copy_quiet conn key ticks (copies.SendAgain to number copy) = (λ none. settled, λ past n. tt)
-  copy_quiet conn key ticks (copies.Copies to number copy) = (λ none. put_settled node.moves settled (hash_slot key) (after_copy_order node.moves (hash_slot key) key (copies.Copies to number copy)) (Leaves to number copy (Some key)) refl refl, λ past n. tt)
+  copy_quiet : (conn : Conn) (slot : ℕ) (keys : List (List ℕ)) (ticks : ℕ) (verdict : CopyVerdict) → Quiet (copy_outcome node conn slot keys ticks verdict)
+  copy_quiet conn slot keys ticks copies.CrossSlot = (λ none. settled, λ past n. tt)
+  copy_quiet conn slot keys ticks copies.WrongTarget = (λ none. settled, λ past n. tt)
+  copy_quiet conn slot keys ticks copies.NoKey = (λ none. settled, λ past n. tt)
+  copy_quiet conn slot keys ticks copies.CopyOutstanding = (λ none. settled, λ past n. tt)
+  copy_quiet conn slot keys ticks copies.Exhausted = (λ none. settled, λ past n. tt)
+  copy_quiet conn slot keys ticks (copies.SendAgain to number copy) = (λ none. settled, λ past n. tt)
+  copy_quiet conn slot keys ticks (copies.Copies to number copy) = (λ none. put_settled node.moves settled slot (after_copy_order node.moves slot keys (copies.Copies to number copy)) (Leaves to number copy (Some keys)) refl refl, λ past n. tt)
 
   cluster_quiet : (conn : Conn) (which : ClusterCommand) → Quiet (cluster_outcome node conn which)
   cluster_quiet conn (cluster.KeySlot key) = (λ none. settled, λ past n. tt)
@@ -210,7 +211,7 @@ module _ (words : List (List ℕ)) (node : NodeState) (settled : IsSettled node.
   cluster_quiet conn (cluster.SetSlot slot order id number) = order_quiet slot order (node_with_id node id) number
   cluster_quiet conn cluster.Numbered = (λ none. settled, λ past n. tt)
   cluster_quiet conn (cluster.Asking number) = (λ none. settled, λ past n. tt)
-  cluster_quiet conn (cluster.Migrate host port key timeout) = copy_quiet conn key timeout (copy_verdict_on node key (node_at node host port))
+  cluster_quiet conn (cluster.Migrate host port keys timeout) = copy_quiet conn (first_slot keys) (those_there node.keyspace keys) timeout (copy_verdict_on node keys (node_at node host port))
 
   words_quiet : (conn : Conn) (connection : Option Connection) (command : Result Command CommandFault) → Quiet (by_command node conn connection command)
   words_quiet conn connection (Err fault) = (λ none. settled, λ past n. tt)
@@ -246,9 +247,9 @@ module _ (node : NodeState) (settled : IsSettled node.moves) where
   arrival_settled slot Repeats = settled
   arrival_settled slot Ignored = settled
 
-  ack_settled : (slot number copy : ℕ) (key : Option (List ℕ)) → IsSettled (acknowledged node slot number copy key).state.moves
+  ack_settled : (slot number copy : ℕ) (keys : Option (List (List ℕ))) → IsSettled (acknowledged node slot number copy keys).state.moves
   ack_settled slot number copy None = settled
-  ack_settled slot number copy (Some key) = changed_settled node.moves settled slot unfrozen unfrozen_kind
+  ack_settled slot number copy (Some keys) = changed_settled node.moves settled slot unfrozen unfrozen_kind
 
   claim_settled : (own : Bool) (table : List (Option SlotEntry)) → IsSettled (cond own (silent node) (claimed_by node table)).state.moves
   claim_settled true table = settled
@@ -263,8 +264,8 @@ module _ (node : NodeState) (settled : IsSettled node.moves) where
       by_master (Some master) = settled
 
   taken_so_settled : (from : ℕ) (choice : Choice) (body : Body) → IsSettled (taken_so node from choice body).state.moves
-  taken_so_settled from choice (Copy slot number copy key value) = arrival_settled slot _
-  taken_so_settled from choice (Ack slot number copy) = ack_settled slot number copy (acknowledged_key (move_of node.moves slot) from number copy)
+  taken_so_settled from choice (Copy slot number copy pairs) = arrival_settled slot _
+  taken_so_settled from choice (Ack slot number copy) = ack_settled slot number copy (acknowledged_keys (move_of node.moves slot) from number copy)
   taken_so_settled from choice (Drained slot number epoch) = changed_settled node.moves settled slot (note_drained from number epoch) (noted_kind from number epoch)
   taken_so_settled from choice (Claim slots replaced) = claim_settled (from == node.number) _
   taken_so_settled from choice (Report suspects) = settled

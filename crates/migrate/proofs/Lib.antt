@@ -1,3 +1,4 @@
 mod Changes
 mod Losses
 pub mod Verdicts
+mod WorkedValues

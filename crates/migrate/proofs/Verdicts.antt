@@ -1,53 +1,53 @@
 -- What a verdict tells of the move that it was given on.
-use Rattle.std.proofs.Common.{◌≡◌, ◌+◌, ◌-◌, ◌^◌, ◌==◌, ℕ, Bool, true, false, cond, List, Option, refl, sym, ap, ◌∙◌}
-use Rattle.std.specs.Prelude.{Some, None, nat_le, nat_lt, nat_eq}
-use Rattle.std.specs.Cmp.Lexicographic.{pointwise}
+use Rattle.std.proofs.Common.{◌≡◌, ◌+◌, ◌-◌, ◌^◌, ◌==◌, ℕ, Bool, true, false, cond, List, [], ◌∷◌, Option, refl, sym, ap, ◌∙◌}
+use Rattle.std.specs.Prelude.{Some, None, nat_le, nat_lt}
 use Rattle.std.specs.FinMap as map
 use Rattle.std.proofs.lemmas.Bool.{eqb-true}
 use Rattle.slot_state.specs.Moves.{Moves, move_of}
 use Rattle.slot_state.specs.declared.running.Move.{Move}
 use Rattle.slot_state.specs.declared.running.Move.TheVariants.{Leaves, Comes}
-use Rattle.migrate.specs.Acknowledging.{acknowledged_key, frozen_key}
+use Rattle.migrate.specs.Acknowledging.{acknowledged_keys, frozen_keys}
 use Rattle.migrate.specs.Arriving.{after_arrival, arrival_verdict, by_number, changed_at, counted, one_more, with_last}
-use Rattle.migrate.specs.Sending.{after_copy_order, by_frozen, copy_verdict, frozen, with_frozen}
+use Rattle.migrate.specs.Sending.{after_copy_order, are_just, by_keys, copy_verdict, frozen, with_frozen}
 use Rattle.migrate.specs.declared.arriving.ArrivalVerdict.{ArrivalVerdict}
 use Rattle.migrate.specs.declared.arriving.ArrivalVerdict.TheVariants.{Ignored, Installs, Repeats}
 use Rattle.migrate.specs.declared.sending.CopyVerdict.{CopyVerdict}
 use Rattle.migrate.specs.declared.sending.CopyVerdict.TheVariants.{WrongTarget, NoKey, CopyOutstanding, Exhausted, SendAgain, Copies}
 
--- ---- an order to copy a key
+-- ---- an order to copy keys
 
 module _ (to number copy : ℕ) where
   only_where : (test : Bool) (verdict other : CopyVerdict) → cond test verdict other ≡ Copies to number copy → (other ≡ Copies to number copy → ⊥) → verdict ≡ Copies to number copy
   only_where true verdict other is apart = is
   only_where false verdict other is apart = absurd (apart is)
 
-  of_next : (key : List ℕ) (target own copies : ℕ) (outstanding : Option (List ℕ)) → by_frozen target own copies outstanding key ≡ Copies to number copy → Leaves target own copy (Some key) ≡ Leaves to number copy (Some key)
-  of_next key target own copies None is = next (nat_lt copies (2 ^ 64 - 1)) is
+  of_next : (keys : List (List ℕ)) (target own copies : ℕ) (outstanding : Option (List (List ℕ))) → by_keys target own copies outstanding keys ≡ Copies to number copy
+      → Leaves target own copy (Some keys) ≡ Leaves to number copy (Some keys)
+  of_next [] target own copies outstanding is = absurd (cc)
+  of_next (key ∷ keys) target own copies None is = next (nat_lt copies (2 ^ 64 - 1)) is
     where
-      next : (test : Bool) → cond test (Copies target own (copies + 1)) Exhausted ≡ Copies to number copy → Leaves target own copy (Some key) ≡ Leaves to number copy (Some key)
+      next : (test : Bool) → cond test (Copies target own (copies + 1)) Exhausted ≡ Copies to number copy → Leaves target own copy (Some (key ∷ keys)) ≡ Leaves to number copy (Some (key ∷ keys))
       next true same = cc
       next false same = absurd (cc)
-  of_next key target own copies (Some other) is = beside (pointwise nat_eq other key) is
+  of_next (key ∷ keys) target own copies (Some others) is = beside (are_just others (key ∷ keys)) is
     where
-      beside : (test : Bool) → cond test (SendAgain target own copies) CopyOutstanding ≡ Copies to number copy → Leaves target own copy (Some key) ≡ Leaves to number copy (Some key)
+      beside : (test : Bool) → cond test (SendAgain target own copies) CopyOutstanding ≡ Copies to number copy → Leaves target own copy (Some (key ∷ keys)) ≡ Leaves to number copy (Some (key ∷ keys))
       beside true same = absurd (cc)
       beside false same = absurd (cc)
 
-  by_move : (moves : Moves) (slot : ℕ) (target : Option ℕ) (key : List ℕ) (there : Bool) (move : Option Move) → copy_verdict move target key there ≡ Copies to number copy
-      → changed_at moves slot (with_frozen copy key) move ≡ after_copy_order moves slot key (Copies to number copy)
-  by_move moves slot target key there None is = absurd (cc)
-  by_move moves slot None key there (Some move) is = absurd (cc)
-  by_move moves slot (Some target) key there (Some (Comes from own last drained)) is = absurd (cc)
-  by_move moves slot (Some target) key there (Some (Leaves node own copies outstanding)) is =
+  by_move : (moves : Moves) (slot : ℕ) (target : Option ℕ) (keys : List (List ℕ)) (move : Option Move) → copy_verdict move target keys ≡ Copies to number copy
+      → changed_at moves slot (with_frozen copy keys) move ≡ after_copy_order moves slot keys (Copies to number copy)
+  by_move moves slot target keys None is = absurd (cc)
+  by_move moves slot None keys (Some move) is = absurd (cc)
+  by_move moves slot (Some target) keys (Some (Comes from own last drained)) is = absurd (cc)
+  by_move moves slot (Some target) keys (Some (Leaves node own copies outstanding)) is =
       ap (λ (move : Move). record moves { running = map.insert moves.running slot move })
-      (of_next key node own copies outstanding
-      (only_where there _ NoKey (only_where (node == target) _ WrongTarget is (λ same. cc)) (λ same. cc)))
+      (of_next keys node own copies outstanding (only_where (node == target) _ WrongTarget is (λ same. cc)))
 
 -- what is copied is frozen
-pub copies_freeze : (moves : Moves) (slot : ℕ) (target : Option ℕ) (key : List ℕ) (there : Bool) (to number copy : ℕ) → copy_verdict (move_of moves slot) target key there ≡ Copies to number copy
-    → frozen moves slot copy key ≡ after_copy_order moves slot key (Copies to number copy)
-copies_freeze moves slot target key there to number copy is = by_move to number copy moves slot target key there (move_of moves slot) is
+pub copies_freeze : (moves : Moves) (slot : ℕ) (target : Option ℕ) (keys : List (List ℕ)) (to number copy : ℕ) → copy_verdict (move_of moves slot) target keys ≡ Copies to number copy
+    → frozen moves slot copy keys ≡ after_copy_order moves slot keys (Copies to number copy)
+copies_freeze moves slot target keys to number copy is = by_move to number copy moves slot target keys (move_of moves slot) is
 
 -- ---- a copy that arrives
 
@@ -77,12 +77,12 @@ installs_count moves slot from number copy fits is = by_move_there (move_of move
 
 -- ---- an acknowledgement
 
--- the key that is acknowledged is the frozen one
-pub acknowledged_is_frozen : (move : Option Move) (from number copy : ℕ) (key : List ℕ) → acknowledged_key move from number copy ≡ Some key → frozen_key move ≡ Some key
-acknowledged_is_frozen None from number copy key is = absurd (cc)
-acknowledged_is_frozen (Some (Comes source own last drained)) from number copy key is = absurd (cc)
-acknowledged_is_frozen (Some (Leaves to own copies outstanding)) from number copy key is = by_test _ is
+-- the keys that are acknowledged are the frozen ones
+pub acknowledged_is_frozen : (move : Option Move) (from number copy : ℕ) (keys : List (List ℕ)) → acknowledged_keys move from number copy ≡ Some keys → frozen_keys move ≡ Some keys
+acknowledged_is_frozen None from number copy keys is = absurd (cc)
+acknowledged_is_frozen (Some (Comes source own last drained)) from number copy keys is = absurd (cc)
+acknowledged_is_frozen (Some (Leaves to own copies outstanding)) from number copy keys is = by_test _ is
   where
-    by_test : (test : Bool) → cond test outstanding None ≡ Some key → outstanding ≡ Some key
+    by_test : (test : Bool) → cond test outstanding None ≡ Some keys → outstanding ≡ Some keys
     by_test true same = same
     by_test false same = absurd (cc)

@@ -5,19 +5,19 @@ use Rattle.slot_state.specs.declared.running.Move.{Move}
 use Rattle.slot_state.specs.declared.running.Move.TheVariants.{Leaves, Comes}
 use Rattle.migrate.specs.Arriving.{changed_at}
 
--- the key whose copy it is, if that copy is outstanding
+-- the keys whose copy it is, if that copy is outstanding
 -- (its number counts, or this goes wrong: the acknowledgement of copy 1 arrives at node 0 twice, at last while copy 2, of b,
 -- is outstanding; node 0 deletes b, copy 2 is lost, and nobody has b)
-abbrev pub acknowledged_key : Option Move → ℕ → ℕ → ℕ → Option (List ℕ)
-acknowledged_key (Some (Leaves to number copies frozen)) from move copy = if to == from && number == move && copies == copy then frozen else None
-acknowledged_key (Some (Comes source number last drained)) from move copy = None
-acknowledged_key None from move copy = None
+abbrev pub acknowledged_keys : Option Move → ℕ → ℕ → ℕ → Option (List (List ℕ))
+acknowledged_keys (Some (Leaves to number copies frozen)) from move copy = if to == from && number == move && copies == copy then frozen else None
+acknowledged_keys (Some (Comes source number last drained)) from move copy = None
+acknowledged_keys None from move copy = None
 
--- the key whose copy is outstanding, if there is one
-abbrev pub frozen_key : Option Move → Option (List ℕ)
-frozen_key (Some (Leaves to number copies frozen)) = frozen
-frozen_key (Some (Comes from number last drained)) = None
-frozen_key None = None
+-- the keys whose copy is outstanding, if there is one
+abbrev pub frozen_keys : Option Move → Option (List (List ℕ))
+frozen_keys (Some (Leaves to number copies frozen)) = frozen
+frozen_keys (Some (Comes from number last drained)) = None
+frozen_keys None = None
 
 -- no copy is outstanding any more
 abbrev pub unfrozen : Move → Move

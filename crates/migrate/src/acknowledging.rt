@@ -2,21 +2,20 @@
 ghost use Rattle.std.specs.Prelude.{◌≡◌, IfNone, IfSome, Some};
 ghost use Rattle.std.specs.Option.{option_copied};
 ghost use Rattle.slot_state.specs.Moves.{move_of};
-ghost use Rattle.migrate.specs.Acknowledging.{acknowledged_key, after_ack, frozen_key, unfrozen};
+ghost use Rattle.migrate.specs.Acknowledging.{acknowledged_keys, after_ack, frozen_keys, unfrozen};
 
-use byte_string::ByteString;
 use key_slot::Slot;
-use slot_state::{Move, MoveNo, SlotMoves};
+use slot_state::{Keys, Move, MoveNo, SlotMoves};
 use slot_table::NodeNo;
 
-/// The key of the copy with that number, which that node acknowledges under that number of the move, if this copy is outstanding.
-pub fn acknowledged_key<'m>(
+/// The keys of the copy with that number, which that node acknowledges under that number of the move, if this copy is outstanding.
+pub fn acknowledged_keys<'m>(
     running: Option<&'m Move>,
     from: NodeNo,
     number: MoveNo,
     copy: u64,
-) -> Option<&'m ByteString>
-    ensures { option_copied result ≡ acknowledged_key (option_copied running.entry) from number copy }
+) -> Option<&'m Keys>
+    ensures { option_copied result ≡ acknowledged_keys (option_copied running.entry) from number copy }
 {
     match running {
         Some(
@@ -31,9 +30,9 @@ pub fn acknowledged_key<'m>(
     }
 }
 
-/// Takes an acknowledgement, and hands out the key whose copy it is, if that copy is outstanding. It takes no memory.
+/// Takes an acknowledgement, and hands out the keys whose copy it is, if that copy is outstanding. It takes no memory.
 ///
-/// The key is not frozen any more. To delete it is left to the caller.
+/// The keys are not frozen any more. To delete them is left to the caller.
 #[tactic(auto, using(crate::proofs::Verdicts::acknowledged_is_frozen))]
 pub fn on_ack(
     moves: &mut SlotMoves,
@@ -41,25 +40,25 @@ pub fn on_ack(
     from: NodeNo,
     number: MoveNo,
     copy: u64,
-) -> Option<ByteString>
-    ensures key { result ≡ acknowledged_key (move_of moves.old slot) from number copy }
-    ensures some { IfSome result (λ key. moves.new ≡ after_ack moves.old slot) }
+) -> Option<Keys>
+    ensures keys { result ≡ acknowledged_keys (move_of moves.old slot) from number copy }
+    ensures some { IfSome result (λ keys. moves.new ≡ after_ack moves.old slot) }
     ensures none { IfNone result (moves.new ≡ moves.old) }
 {
-    acknowledged_key(moves.get(slot), from, number, copy)?;
+    acknowledged_keys(moves.get(slot), from, number, copy)?;
     unfreeze(moves, slot)
 }
 
-/// Hands out the key whose copy is outstanding, if there is one. The key is not frozen any more. It takes no memory.
-pub fn unfreeze(moves: &mut SlotMoves, slot: Slot) -> Option<ByteString>
-    ensures key { result ≡ frozen_key (move_of moves.old slot) }
+/// Hands out the keys whose copy is outstanding, if there is one. They are not frozen any more. It takes no memory.
+pub fn unfreeze(moves: &mut SlotMoves, slot: Slot) -> Option<Keys>
+    ensures keys { result ≡ frozen_keys (move_of moves.old slot) }
     ensures moves { moves.new ≡ after_ack moves.old slot }
 {
     take_frozen(moves.get_mut(slot)?)
 }
 
-fn take_frozen(running: &mut Move) -> Option<ByteString>
-    ensures key { result ≡ frozen_key (Some running.old) }
+fn take_frozen(running: &mut Move) -> Option<Keys>
+    ensures keys { result ≡ frozen_keys (Some running.old) }
     ensures left { running.new ≡ unfrozen running.old }
 {
     match running {

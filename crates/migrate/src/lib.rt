@@ -8,7 +8,7 @@ mod losing;
 mod resending;
 mod sending;
 
-pub use acknowledging::{acknowledged_key, on_ack, unfreeze};
+pub use acknowledging::{acknowledged_keys, on_ack, unfreeze};
 pub use arriving::{ArrivalVerdict, arrival_verdict, count_copy, on_copy};
 pub use draining::on_drained;
 pub use losing::on_lost;

@@ -3,12 +3,11 @@ ghost use Rattle.std.specs.Prelude.{◌≡◌};
 ghost use Rattle.std.specs.Option.{option_map};
 ghost use Rattle.migrate.specs.Resending.{resent, shown};
 
-use byte_string::ByteString;
-use slot_state::{Move, MoveNo};
+use slot_state::{Keys, Move, MoveNo};
 use slot_table::NodeNo;
 
 /// What is sent again of a slot that leaves.
-#[derive(Clone, Copy, PartialEq, Eq, Debug)]
+#[derive(Clone, Copy, Debug)]
 pub enum Resend<'m> {
     /// The copy that is not acknowledged yet.
     Copy {
@@ -18,8 +17,8 @@ pub enum Resend<'m> {
         number: MoveNo,
         /// The number of the copy.
         copy: u64,
-        /// The key of the copy.
-        key: &'m ByteString,
+        /// The keys of the copy.
+        keys: &'m Keys,
     },
     /// The word that the slot is drained, if no key of it is left.
     Drained {
@@ -48,11 +47,11 @@ pub fn resent(running: &Move) -> Option<Resend<'_>>
     let to = *to;
     let number = *number;
     match frozen {
-        Some(key) => Some(Resend::Copy {
+        Some(keys) => Some(Resend::Copy {
             to,
             number,
             copy: *copies,
-            key,
+            keys,
         }),
         None => Some(Resend::Drained { to, number }),
     }

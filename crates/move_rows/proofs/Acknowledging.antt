@@ -1,21 +1,28 @@
 -- An acknowledgement, as a node takes it.
-use Rattle.std.proofs.Common.{◌≡◌, ◌==◌, ◌&&◌, ◌-◌, ℕ, zero, suc, List, [], Bool, true, false, cond, map, Option, eq-eqb, refl, sym, ap, subst, ◌∙◌, arith}
-use Rattle.std.proofs.lemmas.Bool.{lt-ltb, ne_eqb}
+use Rattle.std.proofs.Common.{◌≡◌, ◌<◌, ◌&&◌, ◌||◌, ℕ, arith, List, [], ◌∷◌, Bool, true, false, not, cond, map, Option, eq-eqb, nat_eq, refl, sym, ap, subst, ◌∙◌}
+use Rattle.std.proofs.lemmas.Bool.{and_parts, false≢true, true≢false}
 use Rattle.std.proofs.lemmas.Cmp.{nat_list_cmp_total}
 use Rattle.std.specs.Borrow.{Bor}
-use Rattle.std.specs.Cmp.{nat_cmp_total, unsigned_tied}
+use Rattle.std.specs.Cmp.{eq_by_cmp_equiv, nat_cmp_total, unsigned_tied}
 use Rattle.std.specs.FinMap as fin_map
 use Rattle.std.specs.Ordering.{nat_cmp}
 use Rattle.std.specs.Option.{option_copied}
+use Rattle.std.specs.Cmp.Lexicographic.{pointwise}
+use Rattle.std.specs.List.{list_all, list_any}
+use Rattle.std.specs.Map.{keys_of}
+use Rattle.key_map.specs.KeyMap.{IsOrdered, KeyMap, keys}
 use Rattle.std.specs.Prelude.{Some, None, is_some, nat_lt}
-use Rattle.keyspace.proofs.Applied.{get_changed, is_key, same}
+use Rattle.keyspace.proofs.Applied.{get_changed, is_key, is_key-same, same}
+use Rattle.keyspace.proofs.FirstChange.{key_test}
+use Rattle.keyspace.proofs.KeysLeft.{has_key, no_key}
 use Rattle.keyspace.proofs.Parts.{get_part}
-use Rattle.keyspace.specs.Keyspace.{Keyspace}
+use Rattle.keyspace.specs.Keyspace.{Keyspace, keyspace_of}
+use Rattle.keyspace.specs.declared.value.Value.{Value}
 use Rattle.slot_state.specs.Moves.{Moves, move_of}
 use Rattle.slot_state.specs.declared.running.Move.{Move}
 use Rattle.slot_state.specs.declared.running.Move.TheVariants.{Leaves, Comes}
 use Rattle.migrate.proofs.Verdicts.{acknowledged_is_frozen}
-use Rattle.migrate.specs.Acknowledging.{acknowledged_key, after_ack, frozen_key, unfrozen}
+use Rattle.migrate.specs.Acknowledging.{acknowledged_keys, after_ack, frozen_keys, unfrozen}
 use Rattle.migrate.specs.Arriving.{changed_at}
 use Rattle.bus.specs.declared.message.Body.{Body}
 use Rattle.resp_values.specs.declared.reply.Reply.{Reply}
@@ -23,15 +30,17 @@ use Rattle.connections.specs.Connections.{waiting}
 use Rattle.connections.specs.Waiting.{is_for}
 use Rattle.node_parts.specs.Becomes.{freed}
 use Rattle.node_parts.specs.Drafts.{Drafts}
-use Rattle.move_rows.specs.LastKeys.{drained_by_ack, is_last}
+use Rattle.migrate.specs.Sending.{is_among}
+use Rattle.move_rows.specs.LastKeys.{are_last, drained_by_ack}
 use Rattle.node_parts.specs.declared.draft.Draft.{Draft}
-use Rattle.node_step.specs.Copies.{acknowledged, acknowledgement, without_key}
+use Rattle.node_step.specs.Copies.{acknowledged, acknowledgement, without, without_keys}
 use Rattle.node_step.specs.Orders.{done}
 use Rattle.node_step.specs.Outcome.{release, silent}
-use Rattle.node_step.specs.Slots.{count_in, drained, drained_by, drained_since, has_keys, slot_epoch}
+use Rattle.node_step.specs.Slots.{drained, drained_by, drained_since, has_keys, keys_in, slot_epoch}
 use Rattle.node_step.specs.State.{NodeState}
 use Rattle.node_step.specs.declared.outputs.Release.{Release}
 use Rattle.slot_store.specs.InSlot.{in_slot, is_in_slot}
+use Rattle.slot_pairs.proofs.PartLemmas.{entries_of_map}
 
 -- the slot has what was put there
 get-inserted : (m : fin_map.FinMap nat_cmp Move) (slot : ℕ) (move : Move) → fin_map.get (fin_map.insert m slot move) slot ≡ Some move
@@ -52,7 +61,7 @@ drained-changed slot epoch moves (Some move) is =
 drained-after_ack : (slot epoch : ℕ) (moves : Moves) → drained_by slot epoch (move_of (after_ack moves slot) slot) ≡ drained_by slot epoch (move_of moves slot)
 drained-after_ack slot epoch moves = drained-changed slot epoch moves (move_of moves slot) refl
 
--- ---- the last key of a slot
+-- ---- the last keys of a slot
 
 either_way : {A : Type 0} (a b : Bool) (v : Option A) → cond a (cond b None v) None ≡ cond b None (cond a v None)
 either_way true true v = refl
@@ -67,70 +76,138 @@ in_slot-remove slot m key =
     get_part (is_in_slot slot) (fin_map.remove m key) q ∙ ap (λ v. cond (is_in_slot slot q) v None) (get_changed m key None q) ∙ either_way (is_in_slot slot q) (is_key q key) (fin_map.get m q)
     ∙ sym (get_changed (in_slot slot m) key None q ∙ ap (λ v. cond (is_key q key) None v) (get_part (is_in_slot slot) m q)))
 
--- of so many keys one goes that is there, or none
-never_said : {A : Type 0} (has : Bool) (words : List A) → cond has (cond has [] words) [] ≡ []
-never_said true words = refl
-never_said false words = refl
+-- the keys that go, one after another
+in_slot-without : (slot : ℕ) (m : Keyspace) (keys : List (List ℕ)) → in_slot slot (without m keys) ≡ without (in_slot slot m) keys
+in_slot-without slot m [] = refl
+in_slot-without slot m (key ∷ keys) = in_slot-without slot (fin_map.remove m key) keys ∙ ap (λ (n : Keyspace). without n keys) (in_slot-remove slot m key)
 
-not_both : (b : Bool) → (b && false) ≡ false
-not_both true = refl
-not_both false = refl
+none_or : {A : Type 0} (a b : Bool) (v : Option A) → cond a None (cond b None v) ≡ cond (b || a) None v
+none_or true true v = refl
+none_or true false v = refl
+none_or false true v = refl
+none_or false false v = refl
 
-said_once : {A : Type 0} (n : ℕ) (there : Bool) (words : List A) → cond (nat_lt 0 n) (cond (nat_lt 0 (cond there (n - 1) n)) [] words) [] ≡ cond (n == 1 && there) words []
-said_once n false words = never_said (nat_lt 0 n) words ∙ ap (λ b. cond b words []) (sym (not_both (n == 1)))
-said_once zero true words = refl
-said_once (suc zero) true words = refl
-said_once (suc (suc n)) true words =
-    let has : nat_lt 0 (suc (suc n)) ≡ true = lt-ltb 0 (suc (suc n)) (omega arith) in
-    let left : nat_lt 0 (suc (suc n) - 1) ≡ true = lt-ltb 0 (suc (suc n) - 1) (omega arith) in
-    let more : (suc (suc n) == 1) ≡ false = ne_eqb (suc (suc n)) 1 (λ same. absurd (omega (arith, same))) in
-    ap (λ b. cond b (cond (nat_lt 0 (suc (suc n) - 1)) [] words) []) has ∙ ap (λ b. cond b [] words) left ∙ sym (ap (λ b. cond (b && true) words []) more)
+get-without : (m : Keyspace) (keys : List (List ℕ)) (q : List ℕ) → fin_map.get (without m keys) q ≡ cond (list_any (is_key q) keys) None (fin_map.get m q)
+get-without m [] q = refl
+get-without m (key ∷ keys) q =
+    get-without (fin_map.remove m key) keys q ∙ ap (λ v. cond (list_any (is_key q) keys) None v) (get_changed m key None q) ∙ none_or (list_any (is_key q) keys) (is_key q key) (fin_map.get m q)
 
-there_in_slot : {A : Type 0} (test here : Bool) (v : Option A) → (test && is_some (cond here v None)) ≡ (test && here && is_some v)
-there_in_slot true true v = refl
-there_in_slot true false v = refl
-there_in_slot false here v = refl
+among_is_key : (keys : List (List ℕ)) (q : List ℕ) → is_among keys q ≡ list_any (is_key q) keys
+among_is_key [] q = refl
+among_is_key (key ∷ keys) q =
+    ap (λ (b : Bool). b || is_among keys q) (sym (key_test key q (pointwise nat_eq key q) refl)) ∙ ap (λ (b : Bool). is_key q key || b) (among_is_key keys q)
 
--- the word is said exactly if the key is the last one
-said_of_last : (slot : ℕ) (m : Keyspace) (key : List ℕ) (words : List (ℕ × Body))
-    → cond (has_keys m slot) (cond (has_keys (fin_map.remove m key) slot) [] words) [] ≡ cond (is_last m slot key) words []
-said_of_last slot m key words =
-    let left : count_in (fin_map.remove m key) slot ≡ cond (fin_map.contains_key (in_slot slot m) key) (count_in m slot - 1) (count_in m slot) =
-    ap fin_map.len (in_slot-remove slot m key) ∙ fin_map.len-remove nat_list_cmp_total (in_slot slot m) key in
-    let there : fin_map.contains_key (in_slot slot m) key ≡ is_some (cond (is_in_slot slot key) (fin_map.get m key) None) = ap is_some (get_part (is_in_slot slot) m key) in
-    ap (λ n. cond (has_keys m slot) (cond (nat_lt 0 n) [] words) []) left
-    ∙ said_once (count_in m slot) (fin_map.contains_key (in_slot slot m) key) words
-    ∙ ap (λ b. cond (count_in m slot == 1 && b) words []) there
-    ∙ ap (λ b. cond b words []) (there_in_slot (count_in m slot == 1) (is_in_slot slot key) (fin_map.get m key))
+-- a key that is not among these is none of those that are
+none_of : (keys all : List (List ℕ)) (k : List ℕ) → list_all (is_among keys) all ≡ true → is_among keys k ≡ false → list_any (is_key k) all ≡ false
+none_of keys [] k are apart = refl
+none_of keys (q ∷ all) k are apart =
+    let parts = and_parts (is_among keys q) (list_all (is_among keys) all) are in
+    ap (λ (b : Bool). b || list_any (is_key k) all) (other (is_key k q) refl parts.0) ∙ none_of keys all k parts.1 apart
+  where
+    other : (b : Bool) → is_key k q ≡ b → is_among keys q ≡ true → is_key k q ≡ false
+    other false is among = is
+    other true is among = absurd (true≢false (sym among ∙ ap (is_among keys) (sym (is_key-same k q is)) ∙ apart))
+
+-- where not all are among these, one isn't
+record IsLeft (keys all : List (List ℕ)) : Type 0 where
+  key : List ℕ
+  there : list_any (is_key key) all ≡ true
+  apart : is_among keys key ≡ false
+
+one_left : (keys all : List (List ℕ)) → list_all (is_among keys) all ≡ false → IsLeft keys all
+one_left keys [] are = absurd (true≢false are)
+one_left keys (q ∷ all) are = by_first (is_among keys q) refl are (one_left keys all)
+  where
+    more : (b : Bool) {other : Bool} → other ≡ true → (b || other) ≡ true
+    more true is = refl
+    more false is = is
+
+    by_first : (b : Bool) → is_among keys q ≡ b → (b && list_all (is_among keys) all) ≡ false → (list_all (is_among keys) all ≡ false → IsLeft keys all) → IsLeft keys (q ∷ all)
+    by_first false is rest others = record { key = q; there = ap (λ (b : Bool). b || list_any (is_key q) all) ((eq_by_cmp_equiv nat_list_cmp_total).refl q); apart = is }
+    by_first true is rest others =
+        let left = others rest in
+        record { key = left.key; there = more (is_key left.key q) left.there; apart = left.apart }
+
+-- what is left of a keyspace without these keys
+has_left : (m : Keyspace) (keys : List (List ℕ)) → nat_lt 0 (fin_map.len (without m keys)) ≡ not (list_all (is_among keys) (fin_map.keys m))
+has_left m keys = by_all (list_all (is_among keys) (fin_map.keys m)) refl
+  where
+    gone : list_all (is_among keys) (fin_map.keys m) ≡ true → (k : List ℕ) (b : Bool) → is_among keys k ≡ b → is_some (fin_map.get (without m keys) k) ≡ false
+    gone are k true among = ap is_some (get-without m keys k) ∙ ap (λ (b : Bool). is_some (cond b None (fin_map.get m k))) (sym (among_is_key keys k) ∙ among)
+    gone are k false among =
+        ap is_some (get-without m keys k) ∙ ap (λ (b : Bool). is_some (cond b None (fin_map.get m k))) (sym (among_is_key keys k) ∙ among)
+        ∙ fin_map.contains_key-keys m k ∙ none_of keys (fin_map.keys m) k are among
+
+    by_all : (b : Bool) → list_all (is_among keys) (fin_map.keys m) ≡ b → nat_lt 0 (fin_map.len (without m keys)) ≡ not b
+    by_all true are = no_key (without m keys) (λ k. gone are k (is_among keys k) refl)
+    by_all false are =
+        let left = one_left keys (fin_map.keys m) are in
+        has_key (without m keys) left.key
+        (ap is_some (get-without m keys left.key) ∙ ap (λ (b : Bool). is_some (cond b None (fin_map.get m left.key))) (sym (among_is_key keys left.key) ∙ left.apart)
+        ∙ fin_map.contains_key-keys m left.key ∙ left.there)
+
+said_if : {A : Type 0} (has all : Bool) (words : List A) → cond has (cond (not all) [] words) [] ≡ cond (has && all) words []
+said_if true true words = refl
+said_if true false words = refl
+said_if false true words = refl
+said_if false false words = refl
+
+-- ---- the last keys, as a store tells them
+
+some_there : (count : ℕ) → 0 < count → nat_lt 0 count ≡ true
+some_there count above = grind arith
+
+-- the keys of the slot's map are those of the slot
+keys_of_part : (part : KeyMap Value) (slot : ℕ) (m : Keyspace) → IsOrdered part → keyspace_of part.entries ≡ in_slot slot m → keys part ≡ keys_in m slot
+keys_of_part part slot m ordered is =
+    ap (λ (entries : List (List ℕ × Value)). keys_of entries) (entries_of_map part ordered ∙ ap (λ (n : Keyspace). fin_map.entries n) is)
+
+-- some keys are there, and all are among these
+pub last_if : (part : KeyMap Value) (slot count : ℕ) (m : Keyspace) (among : List (List ℕ)) (all : Bool) → count ≡ fin_map.len (in_slot slot m) → 0 < count
+    → keyspace_of part.entries ≡ in_slot slot m → IsOrdered part → all ≡ list_all (is_among among) (keys part) → all ≡ are_last m slot among
+last_if part slot count m among all counted some is ordered so =
+    so ∙ ap (λ (keys : List (List ℕ)). list_all (is_among among) keys) (keys_of_part part slot m ordered is)
+    ∙ ap (λ (b : Bool). b && list_all (is_among among) (keys_in m slot)) (sym (ap (nat_lt 0) (sym counted) ∙ some_there count some))
+
+-- the word is said exactly if the keys are the last ones
+said_of_last : (slot : ℕ) (m : Keyspace) (keys : List (List ℕ)) (words : List (ℕ × Body))
+    → cond (has_keys m slot) (cond (has_keys (without m keys) slot) [] words) [] ≡ cond (are_last m slot keys) words []
+said_of_last slot m keys words =
+    ap (λ (left : Bool). cond (has_keys m slot) (cond left [] words) []) (ap (λ (n : Keyspace). nat_lt 0 (fin_map.len n)) (in_slot-without slot m keys) ∙ has_left (in_slot slot m) keys)
+    ∙ said_if (has_keys m slot) (list_all (is_among keys) (keys_in m slot)) words
 
 -- what an acknowledgement says of the slot
-said : (slot number copy : ℕ) (old : NodeState) (key : List ℕ)
-    → drained_since old.keyspace (without_key old slot number copy key) slot ≡ drained_by_ack old slot key
-said slot number copy old key =
-    ap (λ words. cond (has_keys old.keyspace slot) (cond (has_keys (fin_map.remove old.keyspace key) slot) [] words) []) (drained-after_ack slot (slot_epoch old slot) old.moves)
-    ∙ said_of_last slot old.keyspace key (drained old slot)
+said : (slot number copy : ℕ) (old : NodeState) (keys : List (List ℕ))
+    → drained_since old.keyspace (without_keys old slot number copy keys) slot ≡ drained_by_ack old slot keys
+said slot number copy old keys =
+    ap (λ words. cond (has_keys old.keyspace slot) (cond (has_keys (without old.keyspace keys) slot) [] words) []) (drained-after_ack slot (slot_epoch old slot) old.moves)
+    ∙ said_of_last slot old.keyspace keys (drained old slot)
 
 -- ---- drafts
 
+-- keys as they are lent
+abbrev Lent : Type 0
+Lent = Bor (List (List ℕ))
+
 -- where no copy is outstanding
-pub nothing_acknowledged : (old : NodeState) (from slot number copy : ℕ) (draft : Draft) (lent : Option (Bor (List ℕ))) → lent ≡ None
-    → option_copied lent ≡ acknowledged_key (move_of old.moves slot) from number copy → Drafts old (silent old) draft
+pub nothing_acknowledged : (old : NodeState) (from slot number copy : ℕ) (draft : Draft) (lent : Option Lent) → lent ≡ None
+    → option_copied lent ≡ acknowledged_keys (move_of old.moves slot) from number copy → Drafts old (silent old) draft
     → Drafts old (acknowledgement old from slot number copy) draft
 nothing_acknowledged old from slot number copy draft lent none is drafts =
     subst (λ found. Drafts old (acknowledged old slot number copy found) draft) (ap option_copied (sym none) ∙ is) drafts
 
 -- and where one is
-pub acknowledges : (old : NodeState) (from slot number copy : ℕ) (draft : Draft) (lent : Option (Bor (List ℕ))) (key : Bor (List ℕ)) (reply : Reply) (released : List Release) (bodies : List (ℕ × Body))
-    → lent ≡ Some key → option_copied lent ≡ acknowledged_key (move_of old.moves slot) from number copy → bodies ≡ drained_by_ack old slot key.now
+pub acknowledges : (old : NodeState) (from slot number copy : ℕ) (draft : Draft) (lent : Option Lent) (keys : Lent) (reply : Reply) (released : List Release) (bodies : List (ℕ × Body))
+    → lent ≡ Some keys → option_copied lent ≡ acknowledged_keys (move_of old.moves slot) from number copy → bodies ≡ drained_by_ack old slot keys.now
     → released ≡ map (release reply) (waiting old.connections (is_for slot number copy)) → reply ≡ done
-    → ((after : NodeState) → after ≡ freed old slot number copy (frozen_key (move_of old.moves slot)) → Drafts old (record (silent after) { released = released; sent = bodies }) draft)
+    → ((after : NodeState) → after ≡ freed old slot number copy (frozen_keys (move_of old.moves slot)) → Drafts old (record (silent after) { released = released; sent = bodies }) draft)
     → Drafts old (acknowledgement old from slot number copy) draft
-acknowledges old from slot number copy draft lent key reply released bodies some is words gives replies drafts =
-    let found : Some key.now ≡ acknowledged_key (move_of old.moves slot) from number copy = ap option_copied (sym some) ∙ is in
+acknowledges old from slot number copy draft lent keys reply released bodies some is words gives replies drafts =
+    let found : Some keys.now ≡ acknowledged_keys (move_of old.moves slot) from number copy = ap option_copied (sym some) ∙ is in
     let named : released ≡ map (release done) (waiting old.connections (is_for slot number copy)) = gives ∙ ap (λ r. map (release r) (waiting old.connections (is_for slot number copy))) replies in
-    let after = without_key old slot number copy key.now in
-    subst (λ key. Drafts old (acknowledged old slot number copy key) draft) found
+    let after = without_keys old slot number copy keys.now in
+    subst (λ found. Drafts old (acknowledged old slot number copy found) draft) found
     (subst (λ (sent : List (ℕ × Body)). Drafts old (record (silent after) { released = map (release done) (waiting old.connections (is_for slot number copy)); sent = sent }) draft)
-    (words ∙ sym (said slot number copy old key.now))
+    (words ∙ sym (said slot number copy old keys.now))
     (subst (λ (r : List Release). Drafts old (record (silent after) { released = r; sent = bodies }) draft) named
-    (drafts after (ap (freed old slot number copy) (sym (acknowledged_is_frozen (move_of old.moves slot) from number copy key.now (sym found)))))))
+    (drafts after (ap (freed old slot number copy) (sym (acknowledged_is_frozen (move_of old.moves slot) from number copy keys.now (sym found)))))))

@@ -1,6 +1,5 @@
 -- A copy, as a node takes it.
 use Rattle.std.proofs.Common.{◌≡◌, ℕ, Bool, List, [], refl, sym, ap, subst, ◌∙◌}
-use Rattle.std.specs.FinMap as fin_map
 use Rattle.bus.specs.declared.message.Body.{Body}
 use Rattle.keyspace.specs.declared.value.Value.{Value}
 use Rattle.migrate.proofs.Verdicts.{installs_count}
@@ -9,22 +8,24 @@ use Rattle.migrate.specs.declared.arriving.ArrivalVerdict.{ArrivalVerdict}
 use Rattle.migrate.specs.declared.arriving.ArrivalVerdict.TheVariants.{Ignored, Installs, Repeats}
 use Rattle.node_parts.specs.Becomes.{Becomes}
 use Rattle.node_parts.specs.Drafts.{Drafts}
+use Rattle.keyspace.specs.Keyspace.{Keyspace}
+use Rattle.keyspace.specs.Plan.{committed}
 use Rattle.node_parts.specs.declared.change.Change.{Change}
 use Rattle.node_parts.specs.declared.change.Change.TheVariants.{Nothing, Installs as InstallsCopy}
 use Rattle.keyspace.specs.declared.plans.Plan.{Plan}
 use Rattle.node_parts.specs.declared.draft.Draft.{Draft}
-use Rattle.node_step.specs.Copies.{ack_by, arrival, arrived, keeps_limits}
+use Rattle.node_step.specs.Copies.{ack_by, arrival, arrived, keep_limits, with_copied}
 use Rattle.node_step.specs.Outcome.{silent}
 use Rattle.node_step.specs.State.{NodeState}
 use Rattle.node_step.specs.declared.outputs.Release.{Release}
 use Rattle.slot_state.specs.Moves.{move_of}
 
-module _ (old : NodeState) (from slot number copy : ℕ) (key : List ℕ) (value : Value) (fits : Bool) (verdict : ArrivalVerdict) (released : List Release) (bodies : List (ℕ × Body)) (plan : Plan) (draft : Draft)
-    (is : verdict ≡ arrival_verdict (move_of old.moves slot) from number copy fits) (limits : fits ≡ keeps_limits key value) (none : released ≡ []) (words : bodies ≡ ack_by from slot number copy verdict) where
+module _ (old : NodeState) (from slot number copy : ℕ) (pairs : List (List ℕ × Value)) (fits : Bool) (verdict : ArrivalVerdict) (released : List Release) (bodies : List (ℕ × Body)) (plan : Plan) (draft : Draft)
+    (is : verdict ≡ arrival_verdict (move_of old.moves slot) from number copy fits) (limits : fits ≡ keep_limits pairs) (none : released ≡ []) (words : bodies ≡ ack_by from slot number copy verdict) where
   -- the outcome by the verdict is that of the copy
-  as_arrival : Drafts old (arrived old from slot number copy key value verdict) draft → Drafts old (arrival old from slot number copy key value) draft
+  as_arrival : Drafts old (arrived old from slot number copy pairs verdict) draft → Drafts old (arrival old from slot number copy pairs) draft
   as_arrival drafts =
-      subst (λ v. Drafts old (arrived old from slot number copy key value v) draft) (is ∙ ap (arrival_verdict (move_of old.moves slot) from number copy) limits) drafts
+      subst (λ v. Drafts old (arrived old from slot number copy pairs v) draft) (is ∙ ap (arrival_verdict (move_of old.moves slot) from number copy) limits) drafts
 
   -- with these words, and nobody else told
   with_words : (after : NodeState) → Drafts old (record (silent after) { released = released; sent = bodies }) draft
@@ -37,23 +38,24 @@ module _ (old : NodeState) (from slot number copy : ℕ) (key : List ℕ) (value
   DraftsBy change = (after : NodeState) → Becomes old plan change after → Drafts old (record (silent after) { released = released; sent = bodies }) draft
 
   -- a copy that is only acknowledged again changes nothing
-  pub repeats_copy : verdict ≡ Repeats → DraftsBy Nothing → Drafts old (arrival old from slot number copy key value) draft
+  pub repeats_copy : verdict ≡ Repeats → DraftsBy Nothing → Drafts old (arrival old from slot number copy pairs) draft
   repeats_copy same drafts =
-      as_arrival (subst (λ v. Drafts old (arrived old from slot number copy key value v) draft) (sym same)
+      as_arrival (subst (λ v. Drafts old (arrived old from slot number copy pairs v) draft) (sym same)
       (subst (λ v. Drafts old (record (silent old) { sent = ack_by from slot number copy v }) draft) same (with_words old (drafts old refl))))
 
   -- nor does one that is ignored
-  pub ignores_copy : verdict ≡ Ignored → DraftsBy Nothing → Drafts old (arrival old from slot number copy key value) draft
+  pub ignores_copy : verdict ≡ Ignored → DraftsBy Nothing → Drafts old (arrival old from slot number copy pairs) draft
   ignores_copy same drafts =
-      as_arrival (subst (λ v. Drafts old (arrived old from slot number copy key value v) draft) (sym same)
+      as_arrival (subst (λ v. Drafts old (arrived old from slot number copy pairs v) draft) (sym same)
       (subst (λ v. Drafts old (record (silent old) { sent = ack_by from slot number copy v }) draft) same (with_words old (drafts old refl))))
 
   -- one that is installed
-  pub installs_copy : (change : Change) → verdict ≡ Installs → change ≡ InstallsCopy slot copy key value → DraftsBy change → Drafts old (arrival old from slot number copy key value) draft
-  installs_copy change same installs drafts =
-      let after = (arrived old from slot number copy key value Installs).state in
-      let leads : Becomes old plan (InstallsCopy slot copy key value) after =
-      ap (λ moves. record old { keyspace = fin_map.insert old.keyspace key value; moves = moves }) (sym (installs_count old.moves slot from number copy fits (sym is ∙ same))) in
-      as_arrival (subst (λ v. Drafts old (arrived old from slot number copy key value v) draft) (sym same)
+  pub installs_copy : verdict ≡ Installs → ((keyspace : Keyspace) → committed keyspace plan ≡ with_copied keyspace pairs) → DraftsBy (InstallsCopy slot copy) → Drafts old (arrival old from slot number copy pairs) draft
+  installs_copy same puts drafts =
+      let after = (arrived old from slot number copy pairs Installs).state in
+      let leads : Becomes old plan (InstallsCopy slot copy) after =
+      ap (λ (keyspace : Keyspace). record old { keyspace = keyspace; moves = (arrived old from slot number copy pairs Installs).state.moves }) (sym (puts old.keyspace))
+      ∙ ap (λ moves. record old { keyspace = committed old.keyspace plan; moves = moves }) (sym (installs_count old.moves slot from number copy fits (sym is ∙ same))) in
+      as_arrival (subst (λ v. Drafts old (arrived old from slot number copy pairs v) draft) (sym same)
       (subst (λ v. Drafts old (record (silent after) { sent = ack_by from slot number copy v }) draft) same
-      (with_words after (drafts after (subst (λ c. Becomes old plan c after) (sym installs) leads)))))
+      (with_words after (drafts after leads))))

@@ -5,3 +5,4 @@ mod TakenSlots
 pub mod Obeying
 pub mod Positions
 pub mod SendingLemmas
+mod NamingLemmas

@@ -1,16 +1,16 @@
--- The last key of a slot that leaves.
-use Rattle.std.specs.Prelude.{◌==◌, ◌&&◌, is_some, ℕ, Bool, List, [], if◌then◌else◌}
-use Rattle.std.specs.FinMap as fin_map
+-- The last keys of a slot that leaves.
+use Rattle.std.specs.Prelude.{◌&&◌, ℕ, Bool, List, [], if◌then◌else◌}
+use Rattle.std.specs.List.{list_all}
 use Rattle.bus.specs.declared.message.Body.{Body}
-use Rattle.key_slot.specs.Slot.{hash_slot}
 use Rattle.keyspace.specs.Keyspace.{Keyspace}
-use Rattle.node_step.specs.Slots.{count_in, drained}
+use Rattle.migrate.specs.Sending.{is_among}
+use Rattle.node_step.specs.Slots.{drained, has_keys, keys_in}
 use Rattle.node_step.specs.State.{NodeState}
 
--- the key is the only one of the slot
-abbrev pub is_last : Keyspace → ℕ → List ℕ → Bool
-is_last keyspace slot key = count_in keyspace slot == 1 && hash_slot key == slot && is_some (fin_map.get keyspace key)
+-- the slot has keys, and none but these
+abbrev pub are_last : Keyspace → ℕ → List (List ℕ) → Bool
+are_last keyspace slot keys = has_keys keyspace slot && list_all (is_among keys) (keys_in keyspace slot)
 
--- what is said of the slot once that key goes
-abbrev pub drained_by_ack : NodeState → ℕ → List ℕ → List (ℕ × Body)
-drained_by_ack node slot key = if is_last node.keyspace slot key then drained node slot else []
+-- what is said of the slot once these keys go
+abbrev pub drained_by_ack : NodeState → ℕ → List (List ℕ) → List (ℕ × Body)
+drained_by_ack node slot keys = if are_last node.keyspace slot keys then drained node slot else []

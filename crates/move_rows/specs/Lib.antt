@@ -1,2 +1,3 @@
 pub mod LastKeys
+pub mod Naming
 pub mod Orders

@@ -1,28 +1,35 @@
-//! Copies of keys and their acknowledgements, as they arrive.
+//! Copies of keys, and their acknowledgements, as they arrive.
 ghost use Rattle.std.specs.Prelude.{◌≡◌, IfOk, OnOk};
+ghost use Rattle.std.specs.List.{list_all};
+ghost use Rattle.key_map.specs.KeyMap as key_map;
+ghost use Rattle.key_map.specs.KeyMap.{IsOrdered};
 ghost use Rattle.node_parts.specs.Drafts.{Drafts, HasNothing, bodies_of};
-ghost use Rattle.move_rows.specs.LastKeys.{drained_by_ack, is_last};
-ghost use Rattle.node_step.specs.Copies.{ack_by, acknowledgement, arrival, noted};
+ghost use Rattle.keyspace.specs.Keyspace.{Keyspace};
+ghost use Rattle.keyspace.specs.Plan.{committed};
+ghost use Rattle.migrate.specs.Sending.{is_among};
+ghost use Rattle.move_rows.specs.LastKeys.{are_last, drained_by_ack};
+ghost use Rattle.node_step.specs.Copies.{ack_by, acknowledgement, arrival, keep_limits, noted, with_copied};
 
 use crate::orders::done;
 use bus::Body;
 use byte_string::ByteString;
 use connections::Waiting;
-use key_slot::{Slot, slot};
-use keyspace::{Store, Value, value_fits};
-use migrate::{ArrivalVerdict, acknowledged_key, arrival_verdict};
+use key_slot::Slot;
+use keyspace::{Plan, TreeStore, value_fits};
+use migrate::{ArrivalVerdict, acknowledged_keys, arrival_verdict};
 use node_parts::{Change, Draft, NodeParts, listed};
 use node_step::Releases;
 use repl_stream::Stream;
 use slot_state::MoveNo;
 use slot_store::{SlotKeys, SlotParts};
 use slot_table::{Epoch, NodeNo};
-use std::alloc::AllocError;
+use std::alloc::{AllocError, Global};
+use stream_values::Pair;
 
 /// The name of a copy.
 #[derive(Clone, Copy)]
 pub struct CopyName {
-    /// The slot of its key.
+    /// The slot of its keys.
     pub slot: Slot,
     /// The number of the move.
     pub number: MoveNo,
@@ -35,21 +42,22 @@ pub fn take_copy<S: SlotParts + SlotKeys, T: Stream>(
     node: &NodeParts<S, T>,
     from: NodeNo,
     name: CopyName,
-    key: &ByteString,
-    value: &Value,
+    pairs: &[Pair],
     draft: &mut Draft,
 ) -> Result<(), AllocError>
     requires { HasNothing node.now draft.old }
-    ensures { OnOk result (Drafts node.now (arrival node.now from name.slot name.number name.copy key.now value.now) draft.new) }
+    ensures { OnOk result (Drafts node.now (arrival node.now from name.slot name.number name.copy pairs.now) draft.new) }
 {
     let CopyName { slot, number, copy } = name;
-    let fits = value_fits(key, value);
+    let fits = keep_limits(pairs);
     let verdict = arrival_verdict(node.moves.get(slot), from, number, copy, fits);
     let word = acknowledgement(verdict, from, CopyName { slot, number, copy });
     let bodies = listed(node.alloc, word)?;
     match verdict {
         ArrivalVerdict::Installs => {
-            let change = installation(slot, copy, key, value)?;
+            let plan = plan_of(node.alloc, pairs)?;
+            draft.plan = plan;
+            let change = Change::Installs { slot, copy };
             node.write_releases(draft, Releases::new(), bodies, change);
             Ok(())
         }
@@ -64,7 +72,27 @@ pub fn take_copy<S: SlotParts + SlotKeys, T: Stream>(
     }
 }
 
-/// Deletes the key whose copy was installed, and answers those who wait for that.
+/// Whether the requests that make the keys with their values keep the limits.
+pub fn keep_limits(pairs: &[Pair]) -> bool
+    ensures { result ≡ keep_limits pairs.now }
+{
+    pairs
+        .iter()
+        .all(|pair| value_fits(pair.key(), pair.value()))
+}
+
+// The plan that puts all pairs. Long values share their bytes with the message.
+fn plan_of(alloc: Global, pairs: &[Pair]) -> Result<Plan, AllocError>
+    ensures { IfOk result (λ plan. (keyspace : Keyspace) → committed keyspace plan ≡ with_copied keyspace pairs.now) }
+{
+    let mut copied = Vec::with_capacity(alloc, pairs.len())?;
+    for pair in pairs {
+        copied.push((pair.key().clone()?, pair.value().clone()?))?;
+    }
+    Plan::putting(alloc, copied)
+}
+
+/// Deletes the keys whose copy was installed, and answers those who wait for that.
 pub fn take_ack<S: SlotParts + SlotKeys, T: Stream>(
     node: &NodeParts<S, T>,
     from: NodeNo,
@@ -75,42 +103,55 @@ pub fn take_ack<S: SlotParts + SlotKeys, T: Stream>(
     ensures { OnOk result (Drafts node.now (acknowledgement node.now from name.slot name.number name.copy) draft.new) }
 {
     let CopyName { slot, number, copy } = name;
-    let Some(key) = acknowledged_key(node.moves.get(slot), from, number, copy) else {
+    let Some(keys) = acknowledged_keys(node.moves.get(slot), from, number, copy) else {
         node.write_change(draft, Change::Nothing);
         return Ok(());
     };
-    let bodies = listed(node.alloc, drained_by_ack(node, slot, key))?;
+    let bodies = listed(node.alloc, drained_by_ack(node, slot, keys.as_slice()))?;
     let released = node.releases(&Waiting::For { slot, number, copy }, &done())?;
     let change = Change::Frees { slot, number, copy };
     node.write_releases(draft, released, bodies, change);
     Ok(())
 }
 
-// The word that the slot is drained, where the key is its last.
+// The word that the slot is drained, where the keys are its last.
 fn drained_by_ack<S: SlotParts + SlotKeys, T: Stream>(
     node: &NodeParts<S, T>,
     place: Slot,
-    key: &ByteString,
+    keys: &[ByteString],
 ) -> Option<(NodeNo, Body)>
-    ensures { bodies_of result ≡ drained_by_ack node.now place key.now }
+    ensures { bodies_of result ≡ drained_by_ack node.now place keys.now }
 {
-    if is_last(node, place, key) {
+    if are_last(node, place, keys) {
         return node.drained(place);
     }
     None
 }
 
-// Whether the key is the only one of the slot.
-fn is_last<S: SlotParts + SlotKeys, T: Stream>(
+// Whether the slot has keys, and none but these.
+fn are_last<S: SlotParts + SlotKeys, T: Stream>(
     node: &NodeParts<S, T>,
     place: Slot,
-    key: &ByteString,
+    keys: &[ByteString],
 ) -> bool
-    ensures { result ≡ is_last node.now.keyspace place key.now }
+    ensures { result ≡ are_last node.now.keyspace place keys.now }
 {
-    node.store.count_in_slot(place) == 1
-        && slot(key.as_slice()) == place
-        && node.store.get(key).is_some()
+    node.store.count_in_slot(place) > 0 && are_all_among(keys, node.store.part(place))
+}
+
+// Whether all keys of the map are among these.
+fn are_all_among(keys: &[ByteString], part: &TreeStore) -> bool
+    ensures all { result ≡ list_all (is_among keys.now) (key_map.keys part.now) }
+    ensures ordered { IsOrdered part.now }
+{
+    part.keys().all(|key| is_among(keys, key.as_slice()))
+}
+
+/// Whether the key is one of these.
+pub(crate) fn is_among(keys: &[ByteString], key: &[u8]) -> bool
+    ensures { result ≡ is_among keys.now key.now }
+{
+    keys.iter().any(|other| other.as_slice() == key)
 }
 
 /// Notes that a slot is drained that comes to this node.
@@ -132,23 +173,6 @@ pub fn take_drained<S: SlotParts + SlotKeys, T: Stream>(
         drained,
     };
     node.write_change(draft, change);
-}
-
-// The change that installs a copy.
-fn installation(
-    slot: Slot,
-    copy: u64,
-    key: &ByteString,
-    value: &Value,
-) -> Result<Change, AllocError>
-    ensures { IfOk result (λ change. change ≡ Change.Installs slot copy key.now value.now) }
-{
-    Ok(Change::Installs {
-        slot,
-        copy,
-        key: key.clone()?,
-        value: value.clone()?,
-    })
 }
 
 // The acknowledgement of a copy.

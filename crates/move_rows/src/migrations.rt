@@ -1,52 +1,85 @@
-//! MIGRATE: a key is copied to the node that its slot goes to.
-ghost use Rattle.std.specs.Prelude.{◌≡◌, IfOk, OnOk, Err, Some, true, false};
-ghost use Rattle.std.specs.FinMap as fin_map;
-ghost use Rattle.key_slot.specs.Slot.{hash_slot};
-ghost use Rattle.migrate.specs.Sending.{frozen};
+//! MIGRATE: keys are copied to the node that their slot goes to.
+ghost use Rattle.std.specs.Prelude.{◌≡◌, ◌++◌, [], IfOk, OnOk, Err, Some, true, false};
+ghost use Rattle.std.specs.List.{cons_option};
+ghost use Rattle.std.specs.Option.{option_copied};
+ghost use Rattle.bus.specs.declared.message.Body.TheVariants.{Copy};
+ghost use Rattle.migrate.specs.Sending.{copy_verdict, frozen};
+ghost use Rattle.move_rows.specs.Naming.{with_named};
 ghost use Rattle.node_parts.specs.Drafts.{Drafts, HasNothing, bodies_of};
 ghost use Rattle.step_fault.specs.declared.fault.StepFault.TheVariants.{Exhausted};
-ghost use Rattle.node_step.specs.Copies.{copy_of, copy_outcome, copy_verdict_on, sending};
+ghost use Rattle.node_step.specs.Copies.{copy_outcome, copy_verdict_on, first_slot, outstanding, pair_with, pairs_at, sending, those_there};
+ghost use Rattle.redirect.specs.Decision.{has_other_slot};
 ghost use Rattle.node_step.specs.Orders.{with_moves};
 ghost use Rattle.node_step.specs.Requests.{has_copy_number, using_up};
 ghost use Rattle.slot_state.specs.Moves.{move_of};
 ghost use Rattle.slot_state.specs.declared.running.Move.TheVariants.{Leaves};
 
+use crate::copies::is_among;
 use bus::Body;
 use byte_string::ByteString;
 use command_table::ErrorLine;
 use connections::{Conn, Wait};
 use key_slot::{Slot, slot};
-use keyspace::Store;
+use keyspace::{Store, Value};
 use migrate::{CopyVerdict, copy_verdict};
 use node_parts::{Change, Draft, NodeParts, listed};
 use node_step::{StepFault, Why};
 use repl_stream::Stream;
 use resp_values::{Line, Reply};
-use slot_state::MoveNo;
+use slot_state::{Keys, Move, MoveNo};
 use slot_store::{SlotKeys, SlotParts};
 use slot_table::NodeNo;
 use std::alloc::AllocError;
+use stream_values::{Pair, Pairs};
 
-/// Copies the key to the node at that address, and has the connection wait for the acknowledgement.
+/// Copies the keys to the node at that address, and has the connection wait for the acknowledgement.
 #[inline(never)]
-#[tactic(auto, using(crate::proofs::SendingLemmas::copy_drafted, crate::proofs::SendingLemmas::copy_drafted_again, node_step::proofs::Outstanding::copied_leaves))]
-pub fn migrate_key<S: SlotParts + SlotKeys, T: Stream>(
+pub fn migrate_keys<S: SlotParts + SlotKeys, T: Stream>(
     node: &NodeParts<S, T>,
     conn: Conn,
     target: Option<NodeNo>,
-    key: &ByteString,
+    named: &[ByteString],
     ticks: u32,
     draft: &mut Draft,
 ) -> Result<(), StepFault>
     requires { HasNothing node.now draft.old }
-    ensures draft { OnOk result (Drafts node.now (copy_outcome (using_up node.now conn) conn (hash_slot key.now) key.now ticks (copy_verdict_on node.now key.now target)) draft.new) }
-    ensures number { OnOk result (has_copy_number (copy_verdict_on node.now key.now target) ≡ true) }
-    ensures exhausted { result ≡ Err Exhausted → has_copy_number (copy_verdict_on node.now key.now target) ≡ false }
+    ensures draft { OnOk result (Drafts node.now (copy_outcome (using_up node.now conn) conn (first_slot named.now) (those_there node.now.keyspace named.now) ticks (copy_verdict_on node.now named.now target)) draft.new) }
+    ensures number { OnOk result (has_copy_number (copy_verdict_on node.now named.now target) ≡ true) }
+    ensures exhausted { result ≡ Err Exhausted → has_copy_number (copy_verdict_on node.now named.now target) ≡ false }
 {
-    let slot = slot(key.as_slice());
-    let is_there = node.store.get(key).is_some();
-    let verdict = copy_verdict(node.moves.get(slot), target, key.as_slice(), is_there);
+    let slot = first_slot(named);
+    if has_other_slot(slot, named) {
+        let reply = ErrorLine::CrossSlot.reply();
+        node.tell(draft, conn, Why::Copies(CopyVerdict::CrossSlot), reply);
+        return Ok(());
+    }
+    let keys = Keys::new(those_there(node, named)?);
+    migrate_those(node, conn, slot, target, keys, ticks, draft)
+}
+
+// Copies these keys of the slot, which are there.
+#[tactic(auto, using(crate::proofs::SendingLemmas::copy_drafted, crate::proofs::SendingLemmas::copy_drafted_again, node_step::proofs::Outstanding::copied_leaves))]
+fn migrate_those<S: SlotParts + SlotKeys, T: Stream>(
+    node: &NodeParts<S, T>,
+    conn: Conn,
+    slot: Slot,
+    target: Option<NodeNo>,
+    keys: Keys,
+    ticks: u32,
+    draft: &mut Draft,
+) -> Result<(), StepFault>
+    requires { HasNothing node.now draft.old }
+    ensures draft { OnOk result (Drafts node.now (copy_outcome (using_up node.now conn) conn slot keys ticks (copy_verdict (move_of node.now.moves slot) target keys)) draft.new) }
+    ensures number { OnOk result (has_copy_number (copy_verdict (move_of node.now.moves slot) target keys) ≡ true) }
+    ensures exhausted { result ≡ Err Exhausted → has_copy_number (copy_verdict (move_of node.now.moves slot) target keys) ≡ false }
+{
+    let verdict = copy_verdict(node.moves.get(slot), target, keys.as_slice());
     match verdict {
+        CopyVerdict::CrossSlot => {
+            let reply = ErrorLine::CrossSlot.reply();
+            node.tell(draft, conn, Why::Copies(verdict), reply);
+            Ok(())
+        }
         CopyVerdict::WrongTarget => {
             let reply = ErrorLine::WrongTarget.reply();
             node.tell(draft, conn, Why::Copies(verdict), reply);
@@ -63,14 +96,14 @@ pub fn migrate_key<S: SlotParts + SlotKeys, T: Stream>(
             Ok(())
         }
         CopyVerdict::Exhausted => Err(StepFault::Exhausted),
-        CopyVerdict::SendAgain { to, number, copy } => {
+        CopyVerdict::SendAgain { number, copy, .. } => {
             let wait = Wait {
                 slot,
                 number,
                 copy,
                 ticks,
             };
-            Ok(send_again(node, conn, to, key, wait, draft)?)
+            Ok(send_again(node, conn, wait, draft)?)
         }
         CopyVerdict::Copies { to, number, copy } => {
             let wait = Wait {
@@ -79,70 +112,155 @@ pub fn migrate_key<S: SlotParts + SlotKeys, T: Stream>(
                 copy,
                 ticks,
             };
-            Ok(send_copy(node, conn, to, key, wait, draft)?)
+            Ok(send_copy(node, conn, to, keys, wait, draft)?)
         }
     }
+}
+
+// The slot of the first key.
+fn first_slot(keys: &[ByteString]) -> Slot
+    ensures { result ≡ first_slot keys.now }
+{
+    match keys {
+        [] => Slot::new(0).unwrap(),
+        [key, ..] => slot(key.as_slice()),
+    }
+}
+
+fn has_other_slot(place: Slot, keys: &[ByteString]) -> bool
+    ensures { result ≡ has_other_slot place keys.now }
+{
+    keys.iter().any(|key| slot(key.as_slice()) != place)
+}
+
+// The keys that are there, each once, in the order in which they are named first.
+fn those_there<S: SlotParts + SlotKeys, T: Stream>(
+    node: &NodeParts<S, T>,
+    named: &[ByteString],
+) -> Result<Vec<ByteString>, AllocError>
+    ensures { IfOk result (λ keys. keys.items ≡ those_there node.now.keyspace named.now) }
+{
+    let mut keys = Vec::with_capacity(node.alloc, named.len())?;
+    for key in named {
+        let is_there = node.store.get(key).is_some();
+        add_named(&mut keys, key, is_there)?;
+    }
+    Ok(keys)
+}
+
+// Puts the key behind the others, if it is there and none of them.
+fn add_named(keys: &mut Vec<ByteString>, key: &ByteString, is_there: bool) -> Result<(), AllocError>
+    ensures { OnOk result (keys.new.items ≡ with_named keys.old.items key.now is_there) }
+{
+    if is_there && !is_among(keys.as_slice(), key.as_slice()) {
+        keys.push(key.clone()?)?;
+    }
+    Ok(())
 }
 
 // Sends the outstanding copy again, and the connection waits for it, too.
 fn send_again<S: SlotParts + SlotKeys, T: Stream>(
     node: &NodeParts<S, T>,
     conn: Conn,
-    to: NodeNo,
-    key: &ByteString,
     wait: Wait,
     draft: &mut Draft,
 ) -> Result<(), AllocError>
-    requires leaves { move_of node.now.moves wait.slot ≡ Some (Leaves to wait.number wait.copy (Some key.now)) }
-    requires nothing { HasNothing node.now draft.old }
+    requires { HasNothing node.now draft.old }
     ensures { OnOk result (Drafts node.now (sending (using_up node.now conn) conn wait.slot wait.number wait.copy wait.ticks) draft.new) }
 {
-    let body = copy_of(node, wait.slot, to, wait.number, wait.copy, key)?;
+    let body = outstanding(node, wait.slot, node.moves.get(wait.slot))?;
     let bodies = listed(node.alloc, body)?;
     node.write_parked(draft, bodies, Change::Parks { conn, wait });
     Ok(())
 }
 
-// Sends the copy that the connection then waits for. The key is frozen from then on.
+// Sends the copy that the connection then waits for. The keys are frozen from then on.
 fn send_copy<S: SlotParts + SlotKeys, T: Stream>(
     node: &NodeParts<S, T>,
     conn: Conn,
     to: NodeNo,
-    key: &ByteString,
+    keys: Keys,
     wait: Wait,
     draft: &mut Draft,
 ) -> Result<(), AllocError>
-    requires leaves { move_of (frozen node.now.moves wait.slot wait.copy key.now) wait.slot ≡ Some (Leaves to wait.number wait.copy (Some key.now)) }
+    requires leaves { move_of (frozen node.now.moves wait.slot wait.copy keys) wait.slot ≡ Some (Leaves to wait.number wait.copy (Some keys)) }
     requires nothing { HasNothing node.now draft.old }
-    ensures { OnOk result (Drafts node.now (sending (with_moves (using_up node.now conn) (frozen node.now.moves wait.slot wait.copy key.now)) conn wait.slot wait.number wait.copy wait.ticks) draft.new) }
+    ensures { OnOk result (Drafts node.now (sending (with_moves (using_up node.now conn) (frozen node.now.moves wait.slot wait.copy keys)) conn wait.slot wait.number wait.copy wait.ticks) draft.new) }
 {
-    let body = copy_of(node, wait.slot, to, wait.number, wait.copy, key)?;
-    let bodies = listed(node.alloc, body)?;
-    let key = key.clone()?;
-    node.write_parked(draft, bodies, Change::Freezes { conn, key, wait });
+    let body = copy_of(node, wait.slot, to, wait.number, wait.copy, keys.as_slice())?;
+    let bodies = listed(node.alloc, Some(body))?;
+    node.write_parked(draft, bodies, Change::Freezes { conn, keys, wait });
     Ok(())
 }
 
-/// The copy of a key with its value, for the node that its slot leaves to.
+// The copy that is not acknowledged, of a slot with that move.
+fn outstanding<S: SlotParts + SlotKeys, T: Stream>(
+    node: &NodeParts<S, T>,
+    slot: Slot,
+    running: Option<&Move>,
+) -> Result<Option<(NodeNo, Body)>, AllocError>
+    ensures { IfOk result (λ body. bodies_of body ≡ outstanding node.now.keyspace slot (option_copied running.entry)) }
+{
+    match running {
+        Some(
+            Move::Leaves {
+                to,
+                number,
+                copies,
+                frozen: Some(keys),
+            },
+        ) => Ok(Some(copy_of(node, slot, *to, *number, *copies, keys.as_slice())?)),
+        _ => Ok(None),
+    }
+}
+
+/// The copy of the keys with their values, for the node that their slot leaves to.
 pub(crate) fn copy_of<S: SlotParts + SlotKeys, T: Stream>(
     node: &NodeParts<S, T>,
     slot: Slot,
     to: NodeNo,
     number: MoveNo,
     copy: u64,
-    key: &ByteString,
-) -> Result<Option<(NodeNo, Body)>, AllocError>
-    ensures { IfOk result (λ body. bodies_of body ≡ copy_of slot to number copy key.now (fin_map.get node.now.keyspace key.now)) }
+    keys: &[ByteString],
+) -> Result<(NodeNo, Body), AllocError>
+    ensures { IfOk result (λ body. body ≡ (to, Copy slot number copy (pairs_at node.now.keyspace keys.now))) }
 {
-    let Some(value) = node.store.get(key) else {
-        return Ok(None);
-    };
-    let body = Body::Copy {
-        slot,
-        number,
-        copy,
-        key: key.clone()?,
-        value: value.clone()?,
-    };
-    Ok(Some((to, body)))
+    let pairs = Pairs::new(node.alloc, pairs_at(node, keys)?)?;
+    Ok((
+        to,
+        Body::Copy {
+            slot,
+            number,
+            copy,
+            pairs,
+        },
+    ))
+}
+
+// The keys that are there, with their values. Long values share their bytes with the store.
+fn pairs_at<S: SlotParts + SlotKeys, T: Stream>(
+    node: &NodeParts<S, T>,
+    keys: &[ByteString],
+) -> Result<Vec<Pair>, AllocError>
+    ensures { IfOk result (λ pairs. pairs.items ≡ pairs_at node.now.keyspace keys.now) }
+{
+    let mut pairs = Vec::with_capacity(node.alloc, keys.len())?;
+    for key in keys {
+        add_pair(&mut pairs, key, node.store.get(key))?;
+    }
+    Ok(pairs)
+}
+
+// Puts the key with its value behind the others, if it has one.
+fn add_pair(
+    pairs: &mut Vec<Pair>,
+    key: &ByteString,
+    value: Option<&Value>,
+) -> Result<(), AllocError>
+    ensures { OnOk result (pairs.new.items ≡ pairs.old.items ++ cons_option (pair_with key.now (option_copied value.entry)) []) }
+{
+    if let Some(value) = value {
+        pairs.push(Pair::new(key.clone()?, value.clone()?))?;
+    }
+    Ok(())
 }

@@ -48,7 +48,7 @@ fn sent_again_in<S: SlotParts + SlotKeys, T: Stream>(
             to,
             number,
             copy,
-            key,
-        } => copy_of(node, slot, to, number, copy, key),
+            keys,
+        } => Ok(Some(copy_of(node, slot, to, number, copy, keys.as_slice())?)),
     }
 }

@@ -26,7 +26,7 @@ use Rattle.key_slot.specs.Slot.{hash_slot}
 use Rattle.redirect.specs.declared.asked.Asking.{Asking as AskingFor}
 use Rattle.node_step.specs.Outcome.{Outcome, no_outputs, outputs_of, replied, silent}
 use Rattle.node_step.specs.Commands.{command_outcome, decision_on}
-use Rattle.node_step.specs.Copies.{copy_outcome, copy_verdict_on, is_at}
+use Rattle.node_step.specs.Copies.{copy_outcome, copy_verdict_on, first_slot, is_at, those_there}
 use Rattle.node_step.specs.Orders.{done}
 use Rattle.node_step.specs.Outcome.{error}
 use Rattle.node_step.specs.Requests.{asking_for, asking_of, at_connection, has_copy_number, has_number, has_order_number, is_numbered, node_with_id, request_outcome, using_up, with_numbers}
@@ -60,7 +60,7 @@ module _ (old : NodeState) (conn : Conn) (reply : Reply) (draft : Draft) (drafts
   question_answered (SetSlot slot order target number) asks is = absurd is
   question_answered Numbered asks is = absurd is
   question_answered (Asking number) asks is = absurd is
-  question_answered (Migrate host port key timeout) asks is = absurd is
+  question_answered (Migrate host port keys timeout) asks is = absurd is
 
 -- SETSLOT is answered as its order is obeyed
 pub order_answered : (old : NodeState) (conn : Conn) (slot : ℕ) (order : SlotOrder) (id : List ℕ) (target number : Option ℕ) (nodes : List NodeConfig) (draft : Draft)
@@ -91,21 +91,21 @@ pub asking_answered : (old : NodeState) (conn : Conn) (number : Option ℕ) (ask
 asking_answered old conn number asking draft is drafts = record { number = refl; drafts = rw (sym is) drafts }
 
 -- MIGRATE
-pub migration_answered : (old : NodeState) (conn : Conn) (host : List ℕ) (port : ℤ) (key : List ℕ) (ticks : ℕ) (target : Option ℕ) (nodes : List NodeConfig) (draft : Draft)
-    → nodes ≡ old.config.nodes → target ≡ position (is_at host port) nodes → has_copy_number (copy_verdict_on old key target) ≡ true
-    → Drafts old (copy_outcome (using_up old conn) conn (hash_slot key) key ticks (copy_verdict_on old key target)) draft
-    → AnswersSo old conn (Ok (Cluster (Migrate host port key ticks))) draft
-migration_answered old conn host port key ticks target nodes draft are is number drafts =
+pub migration_answered : (old : NodeState) (conn : Conn) (host : List ℕ) (port : ℤ) (keys : List (List ℕ)) (ticks : ℕ) (target : Option ℕ) (nodes : List NodeConfig) (draft : Draft)
+    → nodes ≡ old.config.nodes → target ≡ position (is_at host port) nodes → has_copy_number (copy_verdict_on old keys target) ≡ true
+    → Drafts old (copy_outcome (using_up old conn) conn (first_slot keys) (those_there old.keyspace keys) ticks (copy_verdict_on old keys target)) draft
+    → AnswersSo old conn (Ok (Cluster (Migrate host port keys ticks))) draft
+migration_answered old conn host port keys ticks target nodes draft are is number drafts =
     let found : target ≡ position (is_at host port) old.config.nodes = is ∙ ap (position (is_at host port)) are in
     record {
-      number = subst (λ other. has_copy_number (copy_verdict_on old key other) ≡ true) found number;
-      drafts = subst (λ other. Drafts old (copy_outcome (using_up old conn) conn (hash_slot key) key ticks (copy_verdict_on old key other)) draft) found drafts;
+      number = subst (λ other. has_copy_number (copy_verdict_on old keys other) ≡ true) found number;
+      drafts = subst (λ other. Drafts old (copy_outcome (using_up old conn) conn (first_slot keys) (those_there old.keyspace keys) ticks (copy_verdict_on old keys other)) draft) found drafts;
     }
 
-pub migration_exhausted : (old : NodeState) (conn : Conn) (host : List ℕ) (port : ℤ) (key : List ℕ) (ticks : ℕ) (target : Option ℕ) (nodes : List NodeConfig)
-    → nodes ≡ old.config.nodes → target ≡ position (is_at host port) nodes → has_copy_number (copy_verdict_on old key target) ≡ false
-    → has_number (using_up old conn) (Ok (Cluster (Migrate host port key ticks))) ≡ false
-migration_exhausted old conn host port key ticks target nodes are is exhausted = rw (sym are, sym is) exhausted
+pub migration_exhausted : (old : NodeState) (conn : Conn) (host : List ℕ) (port : ℤ) (keys : List (List ℕ)) (ticks : ℕ) (target : Option ℕ) (nodes : List NodeConfig)
+    → nodes ≡ old.config.nodes → target ≡ position (is_at host port) nodes → has_copy_number (copy_verdict_on old keys target) ≡ false
+    → has_number (using_up old conn) (Ok (Cluster (Migrate host port keys ticks))) ≡ false
+migration_exhausted old conn host port keys ticks target nodes are is exhausted = rw (sym are, sym is) exhausted
 
 -- a command on keys
 pub data_answered : (old : NodeState) (conn : Conn) (connection : Connection) (command : DataCommand) (draft : Draft)

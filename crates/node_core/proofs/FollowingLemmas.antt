@@ -33,7 +33,7 @@ by_body node from (Snapshot snapshot) new is = record {
   may_choose = record { follower = tt; dropped = omega arith };
   comes_to = ap silent is;
 }
-by_body node from (Copy slot number copy key value) new never = absurd never
+by_body node from (Copy slot number copy pairs) new never = absurd never
 by_body node from (Ack slot number copy) new never = absurd never
 by_body node from (Drained slot number epoch) new never = absurd never
 by_body node from (Claim slots replaced) new never = absurd never

@@ -32,7 +32,7 @@ abbrev pub choosing : NodeState → ℕ → Choice
 choosing old dropped = record { follower = follower_of old; dropped = dropped }
 
 by_draft : (node : NodeState) (from : ℕ) (choice : Choice) (body : Body) → is_drafted_body body ≡ true → taken_by_draft node from body ≡ taken_so node from choice body
-by_draft node from choice (Copy slot number copy key value) is = refl
+by_draft node from choice (Copy slot number copy pairs) is = refl
 by_draft node from choice (Ack slot number copy) is = refl
 by_draft node from choice (Drained slot number epoch) is = refl
 by_draft node from choice (Claim slots replaced) is = refl
@@ -44,7 +44,7 @@ by_draft node from choice (Piece piece) is = absurd (true≢false (sym is))
 by_draft node from choice (Snapshot snapshot) is = absurd (true≢false (sym is))
 
 makes_none : (node : NodeState) (from : ℕ) (body : Body) → is_drafted_body body ≡ true → MayMake node from body (follower_of node)
-makes_none node from (Copy slot number copy key value) is = tt
+makes_none node from (Copy slot number copy pairs) is = tt
 makes_none node from (Ack slot number copy) is = tt
 makes_none node from (Drained slot number epoch) is = tt
 makes_none node from (Claim slots replaced) is = tt

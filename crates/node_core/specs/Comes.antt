@@ -22,7 +22,7 @@ use Rattle.node_step.specs.Step.{written}
 abbrev pub is_followed : Body → Bool
 is_followed (Piece piece) = true
 is_followed (Snapshot snapshot) = true
-is_followed (Copy slot number copy key value) = false
+is_followed (Copy slot number copy pairs) = false
 is_followed (Ack slot number copy) = false
 is_followed (Drained slot number epoch) = false
 is_followed (Claim slots replaced) = false
@@ -33,7 +33,7 @@ is_followed (Sync sync) = false
 
 -- a message is taken by a draft: all but those, and those of elections
 abbrev pub is_drafted_body : Body → Bool
-is_drafted_body (Copy slot number copy key value) = true
+is_drafted_body (Copy slot number copy pairs) = true
 is_drafted_body (Ack slot number copy) = true
 is_drafted_body (Drained slot number epoch) = true
 is_drafted_body (Claim slots replaced) = true
@@ -46,7 +46,7 @@ is_drafted_body (Snapshot snapshot) = false
 
 -- what comes of such a message but for what is written
 abbrev pub taken_by_draft : NodeState → ℕ → Body → Outcome
-taken_by_draft node from (Copy slot number copy key value) = arrival node from slot number copy key value
+taken_by_draft node from (Copy slot number copy pairs) = arrival node from slot number copy pairs
 taken_by_draft node from (Ack slot number copy) = acknowledgement node from slot number copy
 taken_by_draft node from (Drained slot number epoch) = noted node from slot number epoch
 taken_by_draft node from (Claim slots replaced) = claim node from slots

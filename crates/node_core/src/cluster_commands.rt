@@ -14,7 +14,7 @@ ghost use Rattle.node_step.specs.declared.response.Why.TheVariants.{Told};
 use command_table::ClusterCommand;
 use connections::Conn;
 use key_slot::MoveNo;
-use move_rows::{done, migrate_key, node_at, node_with_id, obey};
+use move_rows::{done, migrate_keys, node_at, node_with_id, obey};
 use node_parts::{Change, Draft, NodeParts};
 use node_step::{StepFault, Why};
 use redirect::Asking;
@@ -54,11 +54,11 @@ pub(crate) fn answer_about_cluster<S: SlotParts + SlotKeys, T: Stream>(
         ClusterCommand::Migrate {
             host,
             port,
-            key,
+            keys,
             timeout,
         } => {
             let target = node_at(&node.config, host.as_slice(), *port);
-            Ok(migrate_key(node, conn, target, key.bytes(), *timeout, draft)?)
+            Ok(migrate_keys(node, conn, target, keys.as_slice(), *timeout, draft)?)
         }
         ClusterCommand::Numbered => {
             number_asks(node, conn, draft);

@@ -97,15 +97,14 @@ fn take_by_row<S: SlotParts + SlotKeys, T: Stream>(
             slot,
             number,
             copy,
-            key,
-            value,
+            pairs,
         } => {
             let name = CopyName {
                 slot: *slot,
                 number: *number,
                 copy: *copy,
             };
-            Ok(take_copy(node, from, name, key, value, draft)?)
+            Ok(take_copy(node, from, name, pairs.as_slice(), draft)?)
         }
         Body::Ack { slot, number, copy } => {
             let name = CopyName {
@@ -144,9 +143,8 @@ fn written_by<S: SlotParts + SlotKeys, T: Stream>(
             slot,
             number,
             copy,
-            key,
-            value,
-        } => written_by_copy(node, from, *slot, *number, *copy, key, value),
+            pairs,
+        } => written_by_copy(node, from, *slot, *number, *copy, pairs.as_slice()),
         Body::Ack { slot, number, copy } => written_by_ack(node, from, *slot, *number, *copy),
         Body::Claim(claim, _replaced) => written_by_claim(node, from, claim),
         Body::Drained { .. }

@@ -16,7 +16,7 @@ use crate::messages::take;
 use crate::requests::request;
 use crate::ticks::pass_tick;
 use bus::{Message, Replaced};
-use cluster_config::Config;
+use cluster_config::{Config, NodeConfig, Role};
 use connections::Conn;
 use key_slot::Slot;
 use node_parts::{Draft, NodeParts, plain};
@@ -52,7 +52,9 @@ impl<S: SlotParts + SlotKeys, T: Stream> Model for NodeCore<S, T> {
 }
 
 impl NodeCore<SlotStore, Backlog> {
-    /// The node of that number as it begins, over an empty store. It keeps as many bytes of its stream as its configuration says.
+    /// The node of that number as it begins, over an empty store.
+    ///
+    /// It keeps as many bytes of its stream as its configuration says, and none in a cluster without replicas, where nobody asks for them.
     pub fn begin(alloc: Global, config: Config, number: NodeNo) -> Result<Core, AllocError>
         ensures { IfOk result (λ core. core ≡ first_state config number) }
     {
@@ -60,7 +62,7 @@ impl NodeCore<SlotStore, Backlog> {
             node: number,
             epoch: Epoch::new(0),
         };
-        let stream = Backlog::new(alloc, id, config.backlog() as usize)?;
+        let stream = Backlog::new(alloc, id, kept_bytes(&config))?;
         let store = SlotStore::new(alloc)?;
         NodeCore::new(alloc, config, number, store, stream)
     }
@@ -246,5 +248,21 @@ impl<S: SlotParts + SlotKeys + Replaces, T: Stream> NodeCore<S, T> {
     {
         let _was_open = self.parts.connections.close(conn);
         plain::<K>(ticket, Response::Nothing)
+    }
+}
+
+// How many of the last bytes of its stream a node keeps: only replicas ask for them.
+fn kept_bytes(config: &Config) -> usize {
+    if config.nodes().iter().any(is_replica) {
+        config.backlog() as usize
+    } else {
+        0
+    }
+}
+
+fn is_replica(node: &NodeConfig) -> bool {
+    match node.role {
+        Role::Replica { .. } => true,
+        Role::Master { .. } => false,
     }
 }

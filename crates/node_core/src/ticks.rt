@@ -36,6 +36,7 @@ pub(crate) fn pass_tick<S: SlotParts + SlotKeys, T: Stream, K: Recorder>(
     ensures err { OnErr result (KeepsRest node.old node.new) }
     ensures exhausted { result ≡ Err Exhausted → NoNumberLeft node.old Tick }
 {
+    node.keep_claim()?;
     node.grow_older();
     let epoch = node.begin_election()?;
     let mut draft = node.blank();

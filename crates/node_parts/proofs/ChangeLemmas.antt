@@ -1,7 +1,7 @@
 -- Changes of a node, and a draft that is made.
 use Rattle.std.proofs.Common.{◌≡◌, ◌≤◌, ◌+◌, ℕ, List, [], ◌∷◌, length, Option, Some, None, refl, sym, ap, ◌∙◌, subst, arith}
 use Rattle.bus.specs.declared.message.Body.{Body}
-use Rattle.migrate.specs.Acknowledging.{frozen_key}
+use Rattle.migrate.specs.Acknowledging.{frozen_keys}
 use Rattle.slot_state.specs.Moves.{move_of}
 use Rattle.keyspace.specs.Keyspace.{Keyspace}
 use Rattle.keyspace.specs.declared.plans.Plan.{Plan}
@@ -36,8 +36,8 @@ can_be_made old plan (Imports conn slot from number) new is = is.none
 can_be_made old plan (Migrates conn slot to number) new is = is.none
 can_be_made old plan (Ends conn slot epoch) new is = tt
 can_be_made old plan (Parks conn wait) new is = tt
-can_be_made old plan (Freezes conn key wait) new is = tt
-can_be_made old plan (Installs slot copy key value) new is = tt
+can_be_made old plan (Freezes conn keys wait) new is = tt
+can_be_made old plan (Installs slot copy) new is = tt
 can_be_made old plan (Frees slot number copy) new is = tt
 can_be_made old plan (Notes from slot number epoch) new is = tt
 can_be_made old plan (Loses from claim lost) new is = tt
@@ -55,18 +55,18 @@ leads_to_one old plan (Imports conn slot from number) m n one other = one.state 
 leads_to_one old plan (Migrates conn slot to number) m n one other = one.state ∙ sym other.state
 leads_to_one old plan (Ends conn slot epoch) m n one other = one ∙ sym other
 leads_to_one old plan (Parks conn wait) m n one other = one ∙ sym other
-leads_to_one old plan (Freezes conn key wait) m n one other = one ∙ sym other
-leads_to_one old plan (Installs slot copy key value) m n one other = one ∙ sym other
+leads_to_one old plan (Freezes conn keys wait) m n one other = one ∙ sym other
+leads_to_one old plan (Installs slot copy) m n one other = one ∙ sym other
 leads_to_one old plan (Frees slot number copy) m n one other = one ∙ sym other
 leads_to_one old plan (Notes from slot number epoch) m n one other = one ∙ sym other
 leads_to_one old plan (Loses from claim lost) m n one other = one ∙ sym other
 leads_to_one old plan Ages m n one other = one ∙ sym other
 
--- the epoch stays where a frozen key goes
-at_any_epoch : (old : NodeState) (epoch slot number copy : ℕ) (key : Option (List ℕ))
-    → at_epoch (freed old slot number copy key) epoch ≡ freed (at_epoch old epoch) slot number copy key
+-- the epoch stays where frozen keys go
+at_any_epoch : (old : NodeState) (epoch slot number copy : ℕ) (keys : Option (List (List ℕ)))
+    → at_epoch (freed old slot number copy keys) epoch ≡ freed (at_epoch old epoch) slot number copy keys
 at_any_epoch old epoch slot number copy None = refl
-at_any_epoch old epoch slot number copy (Some key) = refl
+at_any_epoch old epoch slot number copy (Some keys) = refl
 
 -- no change touches the node's number, the epoch, who copies whom, or the stream
 pub record KeepsOwn (old new : NodeState) : Type 0 where
@@ -75,9 +75,9 @@ pub record KeepsOwn (old new : NodeState) : Type 0 where
   pub masters : new.masters ≡ old.masters
   pub stream : new.stream ≡ old.stream
 
-freed_keeps : (old : NodeState) (slot number copy : ℕ) (key : Option (List ℕ)) → KeepsOwn old (freed old slot number copy key)
+freed_keeps : (old : NodeState) (slot number copy : ℕ) (keys : Option (List (List ℕ))) → KeepsOwn old (freed old slot number copy keys)
 freed_keeps old slot number copy None = record { number = refl; epoch = refl; masters = refl; stream = refl }
-freed_keeps old slot number copy (Some key) = record { number = refl; epoch = refl; masters = refl; stream = refl }
+freed_keeps old slot number copy (Some keys) = record { number = refl; epoch = refl; masters = refl; stream = refl }
 
 as_other : (old new other : NodeState) → new ≡ other → KeepsOwn old other → KeepsOwn old new
 as_other old new other is keeps = subst (λ (node : NodeState). KeepsOwn old node) (sym is) keeps
@@ -92,9 +92,9 @@ keeps_own old plan (Imports conn slot from number) new is = as_other old new _ i
 keeps_own old plan (Migrates conn slot to number) new is = as_other old new _ is.state (record { number = refl; epoch = refl; masters = refl; stream = refl })
 keeps_own old plan (Ends conn slot epoch) new is = as_other old new _ is (record { number = refl; epoch = refl; masters = refl; stream = refl })
 keeps_own old plan (Parks conn wait) new is = as_other old new _ is (record { number = refl; epoch = refl; masters = refl; stream = refl })
-keeps_own old plan (Freezes conn key wait) new is = as_other old new _ is (record { number = refl; epoch = refl; masters = refl; stream = refl })
-keeps_own old plan (Installs slot copy key value) new is = as_other old new _ is (record { number = refl; epoch = refl; masters = refl; stream = refl })
-keeps_own old plan (Frees slot number copy) new is = as_other old new _ is (freed_keeps old slot number copy (frozen_key (move_of old.moves slot)))
+keeps_own old plan (Freezes conn keys wait) new is = as_other old new _ is (record { number = refl; epoch = refl; masters = refl; stream = refl })
+keeps_own old plan (Installs slot copy) new is = as_other old new _ is (record { number = refl; epoch = refl; masters = refl; stream = refl })
+keeps_own old plan (Frees slot number copy) new is = as_other old new _ is (freed_keeps old slot number copy (frozen_keys (move_of old.moves slot)))
 keeps_own old plan (Notes from slot number epoch) new is = as_other old new _ is (record { number = refl; epoch = refl; masters = refl; stream = refl })
 keeps_own old plan (Loses from claim lost) new is = as_other old new _ is (record { number = refl; epoch = refl; masters = refl; stream = refl })
 keeps_own old plan Ages new is = as_other old new _ is (record { number = refl; epoch = refl; masters = refl; stream = refl })
@@ -110,9 +110,9 @@ beside_epoch old new epoch plan (Imports conn slot from number) is = record { no
 beside_epoch old new epoch plan (Migrates conn slot to number) is = record { none = is.none; state = ap (λ node. at_epoch node epoch) is.state }
 beside_epoch old new epoch plan (Ends conn slot own) is = ap (λ node. at_epoch node epoch) is
 beside_epoch old new epoch plan (Parks conn wait) is = ap (λ node. at_epoch node epoch) is
-beside_epoch old new epoch plan (Freezes conn key wait) is = ap (λ node. at_epoch node epoch) is
-beside_epoch old new epoch plan (Installs slot copy key value) is = ap (λ node. at_epoch node epoch) is
-beside_epoch old new epoch plan (Frees slot number copy) is = ap (λ node. at_epoch node epoch) is ∙ at_any_epoch old epoch slot number copy (frozen_key (move_of old.moves slot))
+beside_epoch old new epoch plan (Freezes conn keys wait) is = ap (λ node. at_epoch node epoch) is
+beside_epoch old new epoch plan (Installs slot copy) is = ap (λ node. at_epoch node epoch) is
+beside_epoch old new epoch plan (Frees slot number copy) is = ap (λ node. at_epoch node epoch) is ∙ at_any_epoch old epoch slot number copy (frozen_keys (move_of old.moves slot))
 beside_epoch old new epoch plan (Notes from slot number drained) is = ap (λ node. at_epoch node epoch) is
 beside_epoch old new epoch plan (Loses from claim lost) is = ap (λ node. at_epoch node epoch) is
 beside_epoch old new epoch plan Ages is = ap (λ node. at_epoch node epoch) is

@@ -1,15 +1,15 @@
 -- Both halves of a change, and what is written between them.
 use Rattle.std.proofs.Common.{◌≡◌, ◌==◌, ℕ, true, false, List, [], ◌∷◌, length, Option, Some, None, suc, eq-eqb, true≢false, arith, refl, sym, ap, subst, ◌∙◌}
 use Rattle.std.proofs.lemmas.Bool.{eqb-true}
-use Rattle.std.specs.FinMap as fin_map
 use Rattle.connections.specs.declared.conn.Connection.{Connection}
 use Rattle.keyspace.specs.Keyspace.{Keyspace}
+use Rattle.keyspace.specs.Plan.{committed}
 use Rattle.keyspace.specs.declared.plans.Plan.{Plan}
-use Rattle.migrate.specs.Acknowledging.{frozen_key}
+use Rattle.migrate.specs.Acknowledging.{frozen_keys}
 use Rattle.migrate.specs.Arriving.{counted}
 use Rattle.migrate.specs.Sending.{frozen}
 use Rattle.node_parts.specs.Becomes.{Becomes, Finishes, ending, freed, losing, waiting_so}
-use Rattle.node_parts.specs.Begins.{Begins, CanBegin, spent}
+use Rattle.node_parts.specs.Begins.{Begins, CanBegin}
 use Rattle.node_parts.specs.Making.{GoesOn, IsMade}
 use Rattle.node_parts.specs.declared.change.Change.{Change}
 use Rattle.node_parts.specs.declared.change.Change.TheVariants.{Nothing, Asks, Allows, Numbers, Keys, Imports, Migrates, Ends, Parks, Freezes, Installs, Frees, Notes, Loses, Ages}
@@ -23,14 +23,14 @@ use Rattle.slot_store.specs.InSlot.{IsCommittedInSlot}
 use Rattle.stream_values.specs.Stream.{StreamView, Writes}
 
 -- the stream is none of what a change looks at
-freed_behind : (old : NodeState) (stream : StreamView) (slot number copy : ℕ) (key : Option (List ℕ))
-    → record (freed old slot number copy key) { stream = stream } ≡ freed (record old { stream = stream }) slot number copy key
+freed_behind : (old : NodeState) (stream : StreamView) (slot number copy : ℕ) (keys : Option (List (List ℕ)))
+    → record (freed old slot number copy keys) { stream = stream } ≡ freed (record old { stream = stream }) slot number copy keys
 freed_behind old stream slot number copy None = refl
-freed_behind old stream slot number copy (Some key) = refl
+freed_behind old stream slot number copy (Some keys) = refl
 
-freed_stream : (old : NodeState) (slot number copy : ℕ) (key : Option (List ℕ)) → (freed old slot number copy key).stream ≡ old.stream
+freed_stream : (old : NodeState) (slot number copy : ℕ) (keys : Option (List (List ℕ))) → (freed old slot number copy keys).stream ≡ old.stream
 freed_stream old slot number copy None = refl
-freed_stream old slot number copy (Some key) = refl
+freed_stream old slot number copy (Some keys) = refl
 
 module _ (old new : NodeState) (plan : Plan) (keys : Keyspace) (running : Moves) (stream : StreamView) where
   -- the node between both halves
@@ -48,15 +48,15 @@ module _ (old new : NodeState) (plan : Plan) (keys : Keyspace) (running : Moves)
     from_before : (keys ≡ old.keyspace) × (running ≡ old.moves) → new ≡ node begun → without new ≡ node old
     from_before same ends = ap without ends ∙ apart begun ∙ ap node (as_before same)
 
-  leads : (change : Change) → CanBegin old.keyspace old.moves plan change → Begins old.keyspace old.moves plan change keys running → Finishes begun (spent change) new → Becomes old plan change (without new)
+  leads : (change : Change) → CanBegin old.keyspace old.moves plan change → Begins old.keyspace old.moves plan change keys running → Finishes begun change new → Becomes old plan change (without new)
   leads Nothing can begins ends = from_before (λ n. n) (λ n. refl) begins ends
   leads (Asks conn) can begins ends = from_before (λ n. using_up n conn) (λ n. refl) begins ends
   leads (Allows conn asking) can begins ends = from_before (λ n. at_connection (using_up n conn) conn (λ (connection : Connection). record connection { asking = asking })) (λ n. refl) begins ends
   leads (Numbers conn) can begins ends = from_before (λ n. with_numbers (using_up n conn) conn) (λ n. refl) begins ends
   leads (Ends conn slot epoch) can begins ends = from_before (λ n. ending n conn slot epoch) (λ n. refl) begins ends
   leads (Parks conn wait) can begins ends = from_before (λ n. waiting_so (using_up n conn) conn wait) (λ n. refl) begins ends
-  leads (Freezes conn key wait) can begins ends = from_before (λ n. waiting_so (with_moves (using_up n conn) (frozen n.moves wait.slot wait.copy key)) conn wait) (λ n. refl) begins ends
-  leads (Frees slot number copy) can begins ends = from_before (λ n. freed n slot number copy (frozen_key (move_of n.moves slot))) (λ n. freed_behind n old.stream slot number copy (frozen_key (move_of n.moves slot))) begins ends
+  leads (Freezes conn keys wait) can begins ends = from_before (λ n. waiting_so (with_moves (using_up n conn) (frozen n.moves wait.slot wait.copy keys)) conn wait) (λ n. refl) begins ends
+  leads (Frees slot number copy) can begins ends = from_before (λ n. freed n slot number copy (frozen_keys (move_of n.moves slot))) (λ n. freed_behind n old.stream slot number copy (frozen_keys (move_of n.moves slot))) begins ends
   leads (Notes from slot number epoch) can begins ends = from_before (λ n. (noted n from slot number epoch).state) (λ n. refl) begins ends
   leads (Loses from claim lost) can begins ends = from_before (λ n. losing n claim from lost.items) (λ n. refl) begins ends
   leads Ages can begins ends = from_before older (λ n. refl) begins ends
@@ -72,9 +72,9 @@ module _ (old new : NodeState) (plan : Plan) (keys : Keyspace) (running : Moves)
     none = can;
     state = ap without ends ∙ ap (λ (k : Keyspace). record (using_up old conn) { keyspace = k; moves = running }) begins.0 ∙ ap (λ (m : Moves). record (using_up old conn) { moves = m }) begins.1;
   }
-  leads (Installs slot copy key value) can begins ends =
+  leads (Installs slot copy) can begins ends =
       ap without ends ∙ ap (λ (k : Keyspace). record old { keyspace = k; moves = counted running slot copy }) begins.0
-      ∙ ap (λ (m : Moves). record old { keyspace = fin_map.insert old.keyspace key value; moves = counted m slot copy }) begins.1
+      ∙ ap (λ (m : Moves). record old { keyspace = committed old.keyspace plan; moves = counted m slot copy }) begins.1
 
   -- and the second half leaves the stream
   stays : (change : Change) → Finishes begun change new → new.stream ≡ stream
@@ -87,21 +87,20 @@ module _ (old new : NodeState) (plan : Plan) (keys : Keyspace) (running : Moves)
   stays (Migrates conn slot to number) ends = ap (λ (n : NodeState). n.stream) ends
   stays (Ends conn slot epoch) ends = ap (λ (n : NodeState). n.stream) ends
   stays (Parks conn wait) ends = ap (λ (n : NodeState). n.stream) ends
-  stays (Freezes conn key wait) ends = ap (λ (n : NodeState). n.stream) ends
-  stays (Installs slot copy key value) ends = ap (λ (n : NodeState). n.stream) ends
-  stays (Frees slot number copy) ends = ap (λ (n : NodeState). n.stream) ends ∙ freed_stream begun slot number copy (frozen_key (move_of begun.moves slot))
+  stays (Freezes conn keys wait) ends = ap (λ (n : NodeState). n.stream) ends
+  stays (Installs slot copy) ends = ap (λ (n : NodeState). n.stream) ends
+  stays (Frees slot number copy) ends = ap (λ (n : NodeState). n.stream) ends ∙ freed_stream begun slot number copy (frozen_keys (move_of begun.moves slot))
   stays (Notes from slot number epoch) ends = ap (λ (n : NodeState). n.stream) ends
   stays (Loses from claim lost) ends = ap (λ (n : NodeState). n.stream) ends
   stays Ages ends = ap (λ (n : NodeState). n.stream) ends
 
-  pub both_halves : (change left : Change) (bytes : List ℕ) → CanBegin old.keyspace old.moves plan change → Begins old.keyspace old.moves plan change keys running → left ≡ spent change
-      → GoesOn bytes old.stream stream → Finishes begun left new → IsMade old plan change bytes new
-  both_halves change left bytes can begins is goes ends =
-      let finishes : Finishes begun (spent change) new = subst (λ (c : Change). Finishes begun c new) is ends in
+  pub both_halves : (change : Change) (bytes : List ℕ) → CanBegin old.keyspace old.moves plan change → Begins old.keyspace old.moves plan change keys running
+      → GoesOn bytes old.stream stream → Finishes begun change new → IsMade old plan change bytes new
+  both_halves change bytes can begins goes ends =
       record {
         after = without new;
-        changes = leads change can begins finishes;
-        goes_on = subst (λ (s : StreamView). GoesOn bytes old.stream s) (sym (stays (spent change) finishes)) goes;
+        changes = leads change can begins ends;
+        goes_on = subst (λ (s : StreamView). GoesOn bytes old.stream s) (sym (stays change ends)) goes;
         state = refl;
       }
 

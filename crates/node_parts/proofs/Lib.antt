@@ -1,4 +1,5 @@
 mod ClearedSlots
+mod RemovedKeys
 mod Commits
 pub mod ChangeLemmas
 pub mod ElectionLemmas

@@ -7,15 +7,16 @@ use Rattle.connections.specs.declared.conn.Conn.{Conn}
 use Rattle.connections.specs.declared.conn.Connection.{Connection}
 use Rattle.connections.specs.declared.conn.Wait.{Wait}
 use Rattle.key_slot.specs.Slot.{hash_slot}
+use Rattle.keyspace.specs.Plan.{committed}
 use Rattle.keyspace.specs.declared.plans.Plan.{Plan}
-use Rattle.migrate.specs.Acknowledging.{after_ack, frozen_key}
+use Rattle.migrate.specs.Acknowledging.{after_ack, frozen_keys}
 use Rattle.migrate.specs.Arriving.{counted}
 use Rattle.migrate.specs.Losing.{after_loss}
 use Rattle.migrate.specs.Sending.{frozen}
 use Rattle.node_parts.specs.Begins.{CanBegin}
 use Rattle.node_parts.specs.declared.change.Change.{Change}
 use Rattle.node_parts.specs.declared.change.Change.TheVariants.{Nothing, Asks, Allows, Numbers, Keys, Imports, Migrates, Ends, Parks, Freezes, Installs, Frees, Notes, Loses, Ages}
-use Rattle.node_step.specs.Copies.{noted, parked, without_key}
+use Rattle.node_step.specs.Copies.{noted, parked, without_keys}
 use Rattle.node_step.specs.Orders.{with_moves}
 use Rattle.node_step.specs.Requests.{at_connection, using_up, with_numbers}
 use Rattle.node_step.specs.State.{NodeState}
@@ -55,10 +56,10 @@ pub record Starts (old : NodeState) (conn : Conn) (slot number : ℕ) (move : Mo
 abbrev pub waiting_so : NodeState → Conn → Wait → NodeState
 waiting_so node conn wait = parked node conn wait.slot wait.number wait.copy wait.ticks
 
--- the node once no copy of the slot is outstanding: without the frozen key, if there was one
-abbrev pub freed : NodeState → ℕ → ℕ → ℕ → Option (List ℕ) → NodeState
+-- the node once no copy of the slot is outstanding: without the frozen keys, if there were some
+abbrev pub freed : NodeState → ℕ → ℕ → ℕ → Option (List (List ℕ)) → NodeState
 freed node slot number copy None = with_moves node (after_ack node.moves slot)
-freed node slot number copy (Some key) = without_key node slot number copy key
+freed node slot number copy (Some keys) = without_keys node slot number copy keys
 
 -- the half of a change that takes no memory, and comes behind the other
 abbrev pub Finishes : NodeState → Change → NodeState → Type 0
@@ -71,9 +72,9 @@ Finishes old (Imports conn slot from number) new = new ≡ using_up old conn
 Finishes old (Migrates conn slot to number) new = new ≡ using_up old conn
 Finishes old (Ends conn slot epoch) new = new ≡ ending old conn slot epoch
 Finishes old (Parks conn wait) new = new ≡ waiting_so (using_up old conn) conn wait
-Finishes old (Freezes conn key wait) new = new ≡ waiting_so (with_moves (using_up old conn) (frozen old.moves wait.slot wait.copy key)) conn wait
-Finishes old (Installs slot copy key value) new = new ≡ with_moves old (counted old.moves slot copy)
-Finishes old (Frees slot number copy) new = new ≡ freed old slot number copy (frozen_key (move_of old.moves slot))
+Finishes old (Freezes conn keys wait) new = new ≡ waiting_so (with_moves (using_up old conn) (frozen old.moves wait.slot wait.copy keys)) conn wait
+Finishes old (Installs slot copy) new = new ≡ with_moves old (counted old.moves slot copy)
+Finishes old (Frees slot number copy) new = new ≡ freed old slot number copy (frozen_keys (move_of old.moves slot))
 Finishes old (Notes from slot number epoch) new = new ≡ (noted old from slot number epoch).state
 Finishes old (Loses from claim lost) new = new ≡ losing old claim from lost.items
 Finishes old Ages new = new ≡ older old
@@ -83,7 +84,7 @@ abbrev pub Becomes : NodeState → Plan → Change → NodeState → Type 0
 Becomes old plan (Keys conn slot) new = Commits old conn slot plan new
 Becomes old plan (Imports conn slot from number) new = Starts old conn slot number (Comes from number 0 None) new
 Becomes old plan (Migrates conn slot to number) new = Starts old conn slot number (Leaves to number 0 None) new
-Becomes old plan (Installs slot copy key value) new = new ≡ record old { keyspace = fin_map.insert old.keyspace key value; moves = counted old.moves slot copy }
+Becomes old plan (Installs slot copy) new = new ≡ record old { keyspace = committed old.keyspace plan; moves = counted old.moves slot copy }
 Becomes old plan change new = Finishes old change new
 
 -- a change can be made where its first half can

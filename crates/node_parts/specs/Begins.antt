@@ -1,10 +1,8 @@
 -- The half of a change that takes memory, and comes first.
-use Rattle.std.specs.Prelude.{◌≡◌, [], None}
-use Rattle.std.specs.FinMap as fin_map
+use Rattle.std.specs.Prelude.{◌≡◌, None}
 use Rattle.keyspace.specs.Keyspace.{Keyspace}
 use Rattle.keyspace.specs.Plan.{committed}
 use Rattle.keyspace.specs.declared.plans.Plan.{Plan}
-use Rattle.keyspace.specs.declared.value.Value.TheVariants.{Str}
 use Rattle.node_parts.specs.declared.change.Change.{Change}
 use Rattle.node_parts.specs.declared.change.Change.TheVariants.{Imports, Installs, Keys, Migrates}
 use Rattle.slot_state.specs.Moves.{Moves, begun, move_of}
@@ -23,10 +21,5 @@ abbrev pub Begins : Keyspace → Moves → Plan → Change → Keyspace → Move
 Begins keyspace moves plan (Keys conn slot) keys running = IsCommittedInSlot slot plan keyspace keys × (running ≡ moves)
 Begins keyspace moves plan (Imports conn slot from number) keys running = (keys ≡ keyspace) × (running ≡ begun moves slot number (Comes from number 0 None))
 Begins keyspace moves plan (Migrates conn slot to number) keys running = (keys ≡ keyspace) × (running ≡ begun moves slot number (Leaves to number 0 None))
-Begins keyspace moves plan (Installs slot copy key value) keys running = (keys ≡ fin_map.insert keyspace key value) × (running ≡ moves)
+Begins keyspace moves plan (Installs slot copy) keys running = (keys ≡ committed keyspace plan) × (running ≡ moves)
 Begins keyspace moves plan change keys running = (keys ≡ keyspace) × (running ≡ moves)
-
--- a key with its value is taken out of the change then
-abbrev pub spent : Change → Change
-spent (Installs slot copy key value) = Installs slot copy [] (Str [])
-spent change = change

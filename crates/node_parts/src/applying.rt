@@ -51,7 +51,7 @@ impl<S: SlotParts + SlotKeys, T: Stream> NodeParts<S, T> {
         ensures err { OnErr result (self.new ≡ self.old) }
     {
         make_room(&mut self.stream, bytes.len())?;
-        begin(self.alloc, &mut self.store, &mut self.moves, plan, change)?;
+        begin(self.alloc, &mut self.store, &mut self.moves, plan, &*change)?;
         write(&mut self.stream, bytes);
         self.finish(change);
         Ok(())

@@ -1,26 +1,24 @@
 //! What of a change takes memory, which is done first.
 ghost use Rattle.std.specs.Prelude.{◌≡◌, OnOk, OnErr};
-ghost use Rattle.node_parts.specs.Begins.{Begins, CanBegin, spent};
+ghost use Rattle.node_parts.specs.Begins.{Begins, CanBegin};
 
 use crate::change::Change;
-use byte_string::ByteString;
-use keyspace::{Plan, Store, Value};
+use keyspace::{Plan, commit};
 use slot_state::SlotMoves;
 use slot_store::{SlotKeys, SlotParts};
 use std::alloc::{AllocError, Global};
 use std::mem;
 
-/// Changes keys, or lets a move begin, if the change says so. The plan, and a key with its value, are taken out of it.
+/// Changes keys, or lets a move begin, if the change says so. The plan is taken out then.
 pub(crate) fn begin<S: SlotParts + SlotKeys>(
     alloc: Global,
     store: &mut S,
     moves: &mut SlotMoves,
     plan: &mut Plan,
-    change: &mut Change,
+    change: &Change,
 ) -> Result<(), AllocError>
-    requires { CanBegin (S.contents store.old) moves.old plan.old change.old }
-    ensures begun { OnOk result (Begins (S.contents store.old) moves.old plan.old change.old (S.contents store.new) moves.new) }
-    ensures left { OnOk result (change.new ≡ spent change.old) }
+    requires { CanBegin (S.contents store.old) moves.old plan.old change.now }
+    ensures begun { OnOk result (Begins (S.contents store.old) moves.old plan.old change.now (S.contents store.new) moves.new) }
     ensures keys { OnErr result (S.contents store.new ≡ S.contents store.old) }
     ensures moves { OnErr result (moves.new ≡ moves.old) }
 {
@@ -41,10 +39,9 @@ pub(crate) fn begin<S: SlotParts + SlotKeys>(
             number,
             ..
         } => moves.begin_migration(*slot, *to, *number),
-        Change::Installs { key, value, .. } => {
-            let key = mem::replace(key, ByteString::new());
-            let value = mem::replace(value, Value::Str(ByteString::new()));
-            store.insert(key, value)
+        Change::Installs { .. } => {
+            let plan = mem::replace(plan, Plan::new(alloc));
+            commit(alloc, store, plan)
         }
         Change::Nothing
         | Change::Asks { .. }

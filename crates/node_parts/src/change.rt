@@ -1,11 +1,9 @@
 //! What a step changes in its node, decided and not made yet.
 
-use byte_string::ByteString;
 use connections::{Conn, Wait};
 use key_slot::Slot;
-use keyspace::Value;
 use redirect::Asking;
-use slot_state::MoveNo;
+use slot_state::{Keys, MoveNo};
 use slot_table::{Claim, Epoch, NodeNo};
 
 /// What a step changes in its node, but for the epoch. It was decided before, and is made as it stands.
@@ -75,27 +73,23 @@ pub enum Change {
         /// What it waits for.
         wait: Wait,
     },
-    /// The key is frozen, and the connection waits for the acknowledgement of its copy.
+    /// The keys are frozen, and the connection waits for the acknowledgement of their copy.
     Freezes {
         /// The connection.
         conn: Conn,
-        /// The key.
-        key: ByteString,
+        /// The keys.
+        keys: Keys,
         /// What the connection waits for.
         wait: Wait,
     },
-    /// The copy with that number is installed, which is the next one of the slot.
+    /// The copy with that number is installed by the plan that comes with the change. It is the next one of the slot.
     Installs {
         /// The slot.
         slot: Slot,
         /// The number of the copy.
         copy: u64,
-        /// Its key.
-        key: ByteString,
-        /// Its value.
-        value: Value,
     },
-    /// The frozen key of the slot, whose copy was installed, is deleted. Who waited for that waits no more.
+    /// The frozen keys of the slot, whose copy was installed, are deleted. Who waited for that waits no more.
     Frees {
         /// The slot.
         slot: Slot,

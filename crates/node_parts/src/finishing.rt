@@ -1,8 +1,9 @@
 //! What of a change takes no memory, which is done behind the rest.
 ghost use Rattle.std.specs.Prelude.{◌≡◌};
 ghost use Rattle.connections.specs.declared.conn.Connection.{Connection};
-ghost use Rattle.migrate.specs.Acknowledging.{frozen_key};
+ghost use Rattle.migrate.specs.Acknowledging.{frozen_keys};
 ghost use Rattle.node_parts.specs.Becomes.{Finishes, ending, freed, losing, waiting_so};
+ghost use Rattle.node_step.specs.Copies.{without};
 ghost use Rattle.node_step.specs.Orders.{with_moves};
 ghost use Rattle.node_step.specs.Requests.{at_connection, using_up, with_numbers};
 ghost use Rattle.node_step.specs.Ticks.{older};
@@ -19,7 +20,7 @@ use keyspace::Store;
 use migrate::{count_copy, freeze, on_drained, on_lost, unfreeze};
 use redirect::Asking;
 use repl_stream::Stream;
-use slot_state::MoveNo;
+use slot_state::{Keys, MoveNo};
 use slot_store::{SlotKeys, SlotParts};
 use slot_table::{Claim, Epoch, NodeNo, SlotEntry};
 use std::mem;
@@ -39,7 +40,7 @@ impl<S: SlotParts + SlotKeys, T: Stream> NodeParts<S, T> {
             Change::Numbers { conn } => self.number(*conn),
             Change::Ends { conn, slot, epoch } => self.end_import(*conn, *slot, *epoch),
             Change::Parks { conn, wait } => self.park(*conn, *wait),
-            Change::Freezes { conn, key, wait } => self.freeze(*conn, key, *wait),
+            Change::Freezes { conn, keys, wait } => self.freeze(*conn, keys, *wait),
             Change::Installs { slot, copy, .. } => count_copy(&mut self.moves, *slot, *copy),
             Change::Frees { slot, number, copy } => self.free(*slot, *number, *copy),
             Change::Notes {
@@ -94,21 +95,21 @@ impl<S: SlotParts + SlotKeys, T: Stream> NodeParts<S, T> {
         self.connections.park(conn, wait);
     }
 
-    // Freezes the key, which is taken, and has the connection wait for the acknowledgement of its copy.
-    fn freeze(&mut self, conn: Conn, key: &mut ByteString, wait: Wait)
-        ensures { self.new ≡ waiting_so (with_moves (using_up self.old conn) (frozen self.old.moves wait.slot wait.copy key.old)) conn wait }
+    // Freezes the keys, which are taken, and has the connection wait for the acknowledgement of their copy.
+    fn freeze(&mut self, conn: Conn, keys: &mut Keys, wait: Wait)
+        ensures { self.new ≡ waiting_so (with_moves (using_up self.old conn) (frozen self.old.moves wait.slot wait.copy keys.old)) conn wait }
     {
-        let key = mem::replace(key, ByteString::new());
-        freeze(&mut self.moves, wait.slot, wait.copy, key);
+        let keys = mem::replace(keys, Keys::new(Vec::new(self.alloc)));
+        freeze(&mut self.moves, wait.slot, wait.copy, keys);
         self.park(conn, wait);
     }
 
-    // Deletes the frozen key of the slot. Who waited for that waits no more.
+    // Deletes the frozen keys of the slot. Who waited for that waits no more.
     fn free(&mut self, slot: Slot, number: MoveNo, copy: u64)
-        ensures { self.new ≡ freed self.old slot number copy (frozen_key (move_of self.old.moves slot)) }
+        ensures { self.new ≡ freed self.old slot number copy (frozen_keys (move_of self.old.moves slot)) }
     {
-        if let Some(key) = unfreeze(&mut self.moves, slot) {
-            self.store.remove(&key);
+        if let Some(keys) = unfreeze(&mut self.moves, slot) {
+            remove_all(&mut self.store, keys.as_slice());
             self.connections.free(&Waiting::For { slot, number, copy });
         }
     }
@@ -129,5 +130,14 @@ impl<S: SlotParts + SlotKeys, T: Stream> NodeParts<S, T> {
     {
         self.connections.free(&Waiting::Over);
         self.connections.age();
+    }
+}
+
+// Removes these keys.
+fn remove_all<S: Store>(store: &mut S, keys: &[ByteString])
+    ensures { S.contents store.new ≡ without (S.contents store.old) keys.now }
+{
+    for key in keys {
+        store.remove(key);
     }
 }

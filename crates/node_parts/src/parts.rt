@@ -16,7 +16,6 @@ use std::marker::Model;
 use stream_values::StreamId;
 
 /// What a node holds. The crates of a step's rows read it; only a draft that is made changes it.
-#[derive(Drop)]
 pub struct NodeParts<S: SlotParts + SlotKeys, T: Stream> {
     /// Where its memory comes from.
     pub alloc: Global,
@@ -66,6 +65,22 @@ impl<S: SlotParts + SlotKeys, T: Stream> Model for NodeParts<S, T> {
     ghost invariant = { λ parts. length parts.table ≡ 16384 };
 }
 
+impl<S: SlotParts + SlotKeys + Drop, T: Stream + Drop> Drop for NodeParts<S, T> {
+    fn drop(self) {
+        let NodeParts {
+            alloc: _,
+            config: _,
+            number: _,
+            store: _,
+            table: _,
+            moves: _,
+            election: _,
+            stream: _,
+            connections: _,
+        } = self;
+    }
+}
+
 impl<S: SlotParts + SlotKeys, T: Stream> NodeParts<S, T> {
     /// Those of the node of that number over an empty store, as it begins. Its stream is kept in the body that is given.
     pub fn new(
@@ -96,6 +111,13 @@ impl<S: SlotParts + SlotKeys, T: Stream> NodeParts<S, T> {
             stream: Replica::new(alloc, stream, id),
             connections: Connections::new(alloc),
         })
+    }
+
+    /// Keeps the claim of this node, which ticks share until the table changes.
+    pub fn keep_claim(&mut self) -> Result<(), AllocError>
+        ensures { self.new ≡ self.old }
+    {
+        self.table.keep_claim_of(self.alloc, self.number)
     }
 }
 

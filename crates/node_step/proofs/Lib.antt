@@ -2,8 +2,11 @@ pub mod Taking
 pub mod Recorded
 pub mod Kept
 pub mod Ready
+pub mod Lists
 pub mod Verdicts
+pub mod Copied
 pub mod Outstanding
 pub mod Merging
 pub mod OfSlots
 pub mod WorkedValues
+pub mod WorkedCopies

@@ -18,10 +18,9 @@ use Rattle.command_table.specs.declared.fault.CommandFault.{CommandFault}
 use Rattle.connections.specs.Connections.{ConnectionTable}
 use Rattle.connections.specs.declared.conn.Conn.{Conn}
 use Rattle.connections.specs.declared.conn.Connection.{Connection}
-use Rattle.key_slot.specs.Slot.{hash_slot}
 use Rattle.keyspace.specs.Keyspace.{Keyspace}
 use Rattle.keyspace.specs.declared.value.Value.{Value}
-use Rattle.migrate.specs.Acknowledging.{acknowledged_key}
+use Rattle.migrate.specs.Acknowledging.{acknowledged_keys}
 use Rattle.migrate.specs.Arriving.{arrival_verdict}
 use Rattle.migrate.specs.declared.arriving.ArrivalVerdict.{ArrivalVerdict}
 use Rattle.migrate.specs.declared.arriving.ArrivalVerdict.TheVariants.{Installs, Repeats, Ignored}
@@ -42,19 +41,20 @@ use Rattle.slot_table.specs.declared.entry.SlotEntry.{SlotEntry}
 use Rattle.slot_table.specs.declared.runs.Run.{Run}
 use Rattle.node_step.specs.Claiming.{claim, claimed_by}
 use Rattle.node_step.specs.Commands.{command_outcome, decision_on, drained_by_command, executed}
-use Rattle.node_step.specs.Copies.{acknowledged, acknowledgement, arrival, arrived, copy_of, copy_outcome, copy_verdict_on, keeps_limits, node_at, noted, outstanding, without_key}
+use Rattle.node_step.specs.Copies.{acknowledged, acknowledgement, arrival, arrived, copy_outcome, copy_verdict_on, first_slot, keep_limits, node_at, noted, outstanding, pairs_at, those_there, without_keys}
 use Rattle.node_step.specs.Orders.{ending_outcome, ending_verdict, import_outcome, migrate_outcome, others, to_all}
 use Rattle.node_step.specs.Outcome.{Outcome, silent}
 use Rattle.node_step.specs.Requests.{asking_of, by_command, cluster_outcome, is_numbered, node_with_id, order_outcome}
 use Rattle.node_step.specs.Slots.{drained, drained_by, drained_if_empty, drained_since, has_keys, slot_epoch}
 use Rattle.node_step.specs.State.{NodeState}
 use Rattle.node_step.specs.Ticks.{sent_again}
+use Rattle.node_step.proofs.Copied.{HasPairs, pairs_have}
 
 -- ---- messages of slots
 
--- a copy has the value that its key has at the node
+-- a copy has the values that its keys have at the node
 abbrev pub IsOfSlots : NodeState → Body → Type 0
-IsOfSlots own (Copy slot number copy key value) = fin_map.get own.keyspace key ≡ Some value
+IsOfSlots own (Copy slot number copy pairs) = HasPairs own.keyspace pairs
 IsOfSlots own (Ack slot number copy) = ⊤
 IsOfSlots own (Drained slot number epoch) = ⊤
 IsOfSlots own (Claim slots replaced) = ⊤
@@ -112,20 +112,16 @@ module _ (own : NodeState) where
   drained_by_command_are old new [] = all_of_none (IsOfSlots own)
   drained_by_command_are old new (key ∷ others) = drained_since_are old.keyspace new _
 
-  copy_are : (slot to number copy : ℕ) (key : List ℕ) (value : Option Value) → fin_map.get own.keyspace key ≡ value → AreAll (IsOfSlots own) (copy_of slot to number copy key value)
-  copy_are slot to number copy key None is = all_of_none (IsOfSlots own)
-  copy_are slot to number copy key (Some value) is = all_of_one (IsOfSlots own) to (Copy slot number copy key value) is
-
   outstanding_are : (slot : ℕ) (move : Option Move) → AreAll (IsOfSlots own) (outstanding own.keyspace slot move)
   outstanding_are slot None = all_of_none (IsOfSlots own)
   outstanding_are slot (Some (Comes from number last known)) = all_of_none (IsOfSlots own)
   outstanding_are slot (Some (Leaves to number copies None)) = all_of_none (IsOfSlots own)
-  outstanding_are slot (Some (Leaves to number copies (Some key))) = copy_are slot to number copies key (fin_map.get own.keyspace key) refl
+  outstanding_are slot (Some (Leaves to number copies (Some keys))) = all_of_one (IsOfSlots own) to (Copy slot number copies (pairs_at own.keyspace keys)) (pairs_have own.keyspace keys)
 
 move_sent_again : (node : NodeState) (move : ℕ × Move) → AreAll (IsOfSlots node) (sent_again node move)
 move_sent_again node (slot, Comes from number last known) = all_of_none (IsOfSlots node)
 move_sent_again node (slot, Leaves to number copies None) = drained_if_empty_are node node slot
-move_sent_again node (slot, Leaves to number copies (Some key)) = outstanding_are node slot (Some (Leaves to number copies (Some key)))
+move_sent_again node (slot, Leaves to number copies (Some keys)) = outstanding_are node slot (Some (Leaves to number copies (Some keys)))
 
 -- what is sent again at a tick
 pub sent_again_are : (node : NodeState) → AreAll (IsOfSlots node) (flat_map (sent_again node) (fin_map.entries node.moves.running))
@@ -178,13 +174,14 @@ module _ (P : NodeState → Type 0) (node : NodeState)
   order_does slot Migrating other number = migrate_does slot _
   order_does slot Node other number = ending_does slot (ending_verdict node slot other number)
 
-  copy_does : (conn : Conn) (slot : ℕ) (key : List ℕ) (ticks : ℕ) (verdict : CopyVerdict) → Does (copy_outcome node conn slot key ticks verdict)
-  copy_does conn slot key ticks copies.WrongTarget = record { state = holds _ _ _ _ _; sent = all_of_none (IsOfSlots node); promoted = refl }
-  copy_does conn slot key ticks copies.NoKey = record { state = holds _ _ _ _ _; sent = all_of_none (IsOfSlots node); promoted = refl }
-  copy_does conn slot key ticks copies.CopyOutstanding = record { state = holds _ _ _ _ _; sent = all_of_none (IsOfSlots node); promoted = refl }
-  copy_does conn slot key ticks copies.Exhausted = record { state = holds _ _ _ _ _; sent = all_of_none (IsOfSlots node); promoted = refl }
-  copy_does conn slot key ticks (copies.SendAgain to number copy) = record { state = holds _ _ _ _ _; sent = outstanding_are node slot (move_of node.moves slot); promoted = refl }
-  copy_does conn slot key ticks (copies.Copies to number copy) = record { state = holds _ _ _ _ _; sent = outstanding_are node slot _; promoted = refl }
+  copy_does : (conn : Conn) (slot : ℕ) (keys : List (List ℕ)) (ticks : ℕ) (verdict : CopyVerdict) → Does (copy_outcome node conn slot keys ticks verdict)
+  copy_does conn slot keys ticks copies.CrossSlot = record { state = holds _ _ _ _ _; sent = all_of_none (IsOfSlots node); promoted = refl }
+  copy_does conn slot keys ticks copies.WrongTarget = record { state = holds _ _ _ _ _; sent = all_of_none (IsOfSlots node); promoted = refl }
+  copy_does conn slot keys ticks copies.NoKey = record { state = holds _ _ _ _ _; sent = all_of_none (IsOfSlots node); promoted = refl }
+  copy_does conn slot keys ticks copies.CopyOutstanding = record { state = holds _ _ _ _ _; sent = all_of_none (IsOfSlots node); promoted = refl }
+  copy_does conn slot keys ticks copies.Exhausted = record { state = holds _ _ _ _ _; sent = all_of_none (IsOfSlots node); promoted = refl }
+  copy_does conn slot keys ticks (copies.SendAgain to number copy) = record { state = holds _ _ _ _ _; sent = outstanding_are node slot (move_of node.moves slot); promoted = refl }
+  copy_does conn slot keys ticks (copies.Copies to number copy) = record { state = holds _ _ _ _ _; sent = outstanding_are node slot _; promoted = refl }
 
   cluster_does : (conn : Conn) (which : ClusterCommand) → Does (cluster_outcome node conn which)
   cluster_does conn (cluster.KeySlot key) = record { state = holds _ _ _ _ _; sent = all_of_none (IsOfSlots node); promoted = refl }
@@ -196,7 +193,7 @@ module _ (P : NodeState → Type 0) (node : NodeState)
   cluster_does conn (cluster.SetSlot slot order id number) = order_does slot order (node_with_id node id) number
   cluster_does conn cluster.Numbered = record { state = holds _ _ _ _ _; sent = all_of_none (IsOfSlots node); promoted = refl }
   cluster_does conn (cluster.Asking number) = record { state = holds _ _ _ _ _; sent = all_of_none (IsOfSlots node); promoted = refl }
-  cluster_does conn (cluster.Migrate host port key timeout) = copy_does conn (hash_slot key) key timeout (copy_verdict_on node key (node_at node host port))
+  cluster_does conn (cluster.Migrate host port keys timeout) = copy_does conn (first_slot keys) (those_there node.keyspace keys) timeout (copy_verdict_on node keys (node_at node host port))
 
   -- a request, whatever its words are
   pub request_is_of_slots : (conn : Conn) (connection : Option Connection) (command : Result Command CommandFault) → Does (by_command node conn connection command)
@@ -205,20 +202,20 @@ module _ (P : NodeState → Type 0) (node : NodeState)
   request_is_of_slots conn connection (Ok (Data which)) = command_does (is_numbered connection) which (decision_on node which (asking_of connection))
 
   -- and the messages that slots are moved by
-  arrived_does : (from slot number copy : ℕ) (key : List ℕ) (value : Value) (verdict : ArrivalVerdict) → Does (arrived node from slot number copy key value verdict)
-  arrived_does from slot number copy key value Installs = record { state = holds _ _ _ _ _; sent = all_of_one (IsOfSlots node) from (Ack slot number copy) tt; promoted = refl }
-  arrived_does from slot number copy key value Repeats = record { state = holds _ _ _ _ _; sent = all_of_one (IsOfSlots node) from (Ack slot number copy) tt; promoted = refl }
-  arrived_does from slot number copy key value Ignored = record { state = holds _ _ _ _ _; sent = all_of_none (IsOfSlots node); promoted = refl }
+  arrived_does : (from slot number copy : ℕ) (pairs : List (List ℕ × Value)) (verdict : ArrivalVerdict) → Does (arrived node from slot number copy pairs verdict)
+  arrived_does from slot number copy pairs Installs = record { state = holds _ _ _ _ _; sent = all_of_one (IsOfSlots node) from (Ack slot number copy) tt; promoted = refl }
+  arrived_does from slot number copy pairs Repeats = record { state = holds _ _ _ _ _; sent = all_of_one (IsOfSlots node) from (Ack slot number copy) tt; promoted = refl }
+  arrived_does from slot number copy pairs Ignored = record { state = holds _ _ _ _ _; sent = all_of_none (IsOfSlots node); promoted = refl }
 
-  pub arrival_is_of_slots : (from slot number copy : ℕ) (key : List ℕ) (value : Value) → Does (arrival node from slot number copy key value)
-  arrival_is_of_slots from slot number copy key value = arrived_does from slot number copy key value (arrival_verdict (move_of node.moves slot) from number copy (keeps_limits key value))
+  pub arrival_is_of_slots : (from slot number copy : ℕ) (pairs : List (List ℕ × Value)) → Does (arrival node from slot number copy pairs)
+  arrival_is_of_slots from slot number copy pairs = arrived_does from slot number copy pairs (arrival_verdict (move_of node.moves slot) from number copy (keep_limits pairs))
 
-  acknowledged_does : (slot number copy : ℕ) (key : Option (List ℕ)) → Does (acknowledged node slot number copy key)
+  acknowledged_does : (slot number copy : ℕ) (keys : Option (List (List ℕ))) → Does (acknowledged node slot number copy keys)
   acknowledged_does slot number copy None = record { state = holds _ _ _ _ _; sent = all_of_none (IsOfSlots node); promoted = refl }
-  acknowledged_does slot number copy (Some key) = record { state = holds _ _ _ _ _; sent = drained_since_are node node.keyspace (without_key node slot number copy key) slot; promoted = refl }
+  acknowledged_does slot number copy (Some keys) = record { state = holds _ _ _ _ _; sent = drained_since_are node node.keyspace (without_keys node slot number copy keys) slot; promoted = refl }
 
   pub acknowledgement_is_of_slots : (from slot number copy : ℕ) → Does (acknowledgement node from slot number copy)
-  acknowledgement_is_of_slots from slot number copy = acknowledged_does slot number copy (acknowledged_key (move_of node.moves slot) from number copy)
+  acknowledgement_is_of_slots from slot number copy = acknowledged_does slot number copy (acknowledged_keys (move_of node.moves slot) from number copy)
 
   pub noted_is_of_slots : (from slot number epoch : ℕ) → Does (noted node from slot number epoch)
   noted_is_of_slots from slot number epoch = record { state = holds _ _ _ _ _; sent = all_of_none (IsOfSlots node); promoted = refl }

@@ -1,5 +1,5 @@
 -- Verdicts and decisions, read backwards.
-use Rattle.std.proofs.Common.{◌≡◌, ◌≢◌, ◌≤◌, ◌<◌, ◌+◌, ◌⊎◌, nat_eq, ℕ, List, [], ◌∷◌, Bool, true, false, Option, Some, None, refl, sym, ap, ◌∙◌, inl, inr, arith}
+use Rattle.std.proofs.Common.{◌≡◌, ◌≢◌, ◌≤◌, ◌<◌, ◌+◌, ◌==◌, ◌⊎◌, nat_eq, ℕ, List, [], ◌∷◌, Bool, true, false, cond, Option, Some, None, Contains, refl, sym, ap, ◌∙◌, inl, inr, arith}
 use Rattle.std.proofs.lemmas.Bool.{and_parts, both_ways, eqb-true}
 use Rattle.std.proofs.lemmas.Bool.Decides.{nat_tests}
 use Rattle.std.proofs.lemmas.Cmp.{nat_list_eq_equiv}
@@ -14,14 +14,16 @@ use Rattle.slot_state.specs.State.{state_of}
 use Rattle.slot_state.specs.declared.importing.ImportVerdict.TheVariants as import
 use Rattle.slot_state.specs.declared.migrating.MigrateVerdict.TheVariants as migrate
 use Rattle.slot_state.specs.declared.ending.NodeVerdict.TheVariants as ending
-use Rattle.migrate.specs.Sending.{copy_verdict}
+use Rattle.migrate.specs.Sending.{are_just, copy_verdict}
 use Rattle.migrate.specs.Arriving.{arrival_verdict}
-use Rattle.migrate.specs.Acknowledging.{acknowledged_key}
+use Rattle.migrate.specs.Acknowledging.{acknowledged_keys}
+use Rattle.migrate.specs.declared.sending.CopyVerdict.{CopyVerdict}
 use Rattle.migrate.specs.declared.sending.CopyVerdict.TheVariants as copies
 use Rattle.migrate.specs.declared.arriving.ArrivalVerdict.TheVariants.{Installs, Repeats}
-use Rattle.redirect.specs.Asked.{Asked, are_several, is_one_of, all_there, none_there}
+use Rattle.redirect.specs.Asked.{Asked, are_several, is_frozen, all_there, none_there}
 use Rattle.redirect.specs.Decision.{in_slot}
 use Rattle.redirect.specs.declared.decision.Decision.TheVariants.{Serve, ServeImport, Ask}
+use Rattle.node_step.proofs.Lists.{contains_first}
 
 -- ---- words
 
@@ -59,25 +61,38 @@ import_ends at (Some (Comes from number copied (Some drained))) (Some node) aske
 
 -- ---- copies
 
-pub copy_is_next : (move : Option Move) (target : Option ℕ) (key : List ℕ) (there : Bool) (to number copy : ℕ) → copy_verdict move target key there ≡ copies.Copies to number copy
-    → (made : ℕ) × (move ≡ Some (Leaves to number made None)) × (copy ≡ made + 1) × (there ≡ true)
-copy_is_next None target key there to number copy is = cc
-copy_is_next (Some move) None key there to number copy is = cc
-copy_is_next (Some (Comes from other last drained)) (Some target) key there to number copy is = cc
-copy_is_next (Some (Leaves node other made (Some frozen))) (Some target) key there to number copy is = absurd (grind (arith, nat_tests))
-copy_is_next (Some (Leaves node other made None)) (Some target) key there to number copy is =
-    let parts : (node ≡ to) × (other ≡ number) × (copy ≡ made + 1) × (there ≡ true) = grind (arith, nat_tests) in
-    (made, cc, parts.2, parts.3)
+pub copy_is_next : (move : Option Move) (target : Option ℕ) (keys : List (List ℕ)) (to number copy : ℕ) → copy_verdict move target keys ≡ copies.Copies to number copy
+    → (made : ℕ) × (move ≡ Some (Leaves to number made None)) × (copy ≡ made + 1) × ((first : List ℕ) × Contains keys first)
+copy_is_next None target keys to number copy is = cc
+copy_is_next (Some move) None keys to number copy is = cc
+copy_is_next (Some (Comes from other last drained)) (Some target) keys to number copy is = cc
+copy_is_next (Some (Leaves node other made frozen)) (Some target) [] to number copy is = absurd (grind (arith, nat_tests))
+copy_is_next (Some (Leaves node other made (Some frozen))) (Some target) (key ∷ keys) to number copy is = absurd (grind (arith, nat_tests))
+copy_is_next (Some (Leaves node other made None)) (Some target) (key ∷ keys) to number copy is =
+    let parts : (node ≡ to) × (other ≡ number) × (copy ≡ made + 1) = grind (arith, nat_tests) in
+    (made, cc, parts.2, (key, contains_first key keys))
 
-pub copy_is_again : (move : Option Move) (target : Option ℕ) (key : List ℕ) (there : Bool) (to number copy : ℕ) → copy_verdict move target key there ≡ copies.SendAgain to number copy
-    → (frozen : List ℕ) × (move ≡ Some (Leaves to number copy (Some frozen))) × (frozen ≡ key) × (there ≡ true)
-copy_is_again None target key there to number copy is = cc
-copy_is_again (Some move) None key there to number copy is = cc
-copy_is_again (Some (Comes from other last drained)) (Some target) key there to number copy is = cc
-copy_is_again (Some (Leaves node other made None)) (Some target) key there to number copy is = absurd (grind (arith, nat_tests))
-copy_is_again (Some (Leaves node other made (Some frozen))) (Some target) key there to number copy is =
-    let parts : (node ≡ to) × (other ≡ number) × (made ≡ copy) × (there ≡ true) × (pointwise nat_eq frozen key ≡ true) = grind (arith, nat_tests) in
-    (frozen, cc, same_bytes frozen key parts.4, parts.3)
+pub copy_is_again : (move : Option Move) (target : Option ℕ) (keys : List (List ℕ)) (to number copy : ℕ) → copy_verdict move target keys ≡ copies.SendAgain to number copy
+    → (frozen : List (List ℕ)) × (move ≡ Some (Leaves to number copy (Some frozen))) × (are_just frozen keys ≡ true)
+copy_is_again None target keys to number copy is = cc
+copy_is_again (Some move) None keys to number copy is = cc
+copy_is_again (Some (Comes from other last drained)) (Some target) keys to number copy is = cc
+copy_is_again (Some (Leaves node other made frozen)) (Some target) [] to number copy is = absurd (grind (arith, nat_tests))
+copy_is_again (Some (Leaves node other made None)) (Some target) (key ∷ keys) to number copy is = absurd (grind (arith, nat_tests))
+copy_is_again (Some (Leaves node other made (Some frozen))) (Some target) (key ∷ keys) to number copy is =
+    let parts : (node ≡ to) × (other ≡ number) × (made ≡ copy) × (are_just frozen (key ∷ keys) ≡ true) = by_tests (node == target) (are_just frozen (key ∷ keys)) refl is in
+    (frozen, cc, parts.3)
+  where
+    by_tests : (right just : Bool) → are_just frozen (key ∷ keys) ≡ just → cond right (cond just (copies.SendAgain node other made) copies.CopyOutstanding) copies.WrongTarget ≡ copies.SendAgain to number copy
+        → (node ≡ to) × (other ≡ number) × (made ≡ copy) × (are_just frozen (key ∷ keys) ≡ true)
+    by_tests false just test same = absurd (cc)
+    by_tests true false test same = absurd (cc)
+    by_tests true true test same = (cc, cc, cc, test)
+
+-- an order that is obeyed is of keys in one slot
+pub ordered_in_slot : (crosses : Bool) (verdict other : CopyVerdict) → cond crosses copies.CrossSlot verdict ≡ other → other ≢ copies.CrossSlot → (crosses ≡ false) × (verdict ≡ other)
+ordered_in_slot true verdict other is apart = absurd (apart (sym is))
+ordered_in_slot false verdict other is apart = (refl, is)
 
 pub copy_arrives : (move : Option Move) (from number copy : ℕ) (fits : Bool) → arrival_verdict move from number copy fits ≡ Installs
     → (copied : ℕ) × (drained : Option ℕ) × (move ≡ Some (Comes from number copied drained)) × (copy ≡ copied + 1)
@@ -95,20 +110,20 @@ copy_repeats (Some (Comes source other copied drained)) from number copy fits is
     let parts : (source ≡ from) × (other ≡ number) × (copy ≤ copied) = grind (arith, nat_tests) in
     (copied, drained, cc, parts.2)
 
-pub ack_counts : (move : Option Move) (from number copy : ℕ) (key : List ℕ) → acknowledged_key move from number copy ≡ Some key → move ≡ Some (Leaves from number copy (Some key))
-ack_counts None from number copy key is = cc
-ack_counts (Some (Comes source other copied drained)) from number copy key is = cc
-ack_counts (Some (Leaves to other copies None)) from number copy key is = absurd (grind (arith, nat_tests))
-ack_counts (Some (Leaves to other copies (Some frozen))) from number copy key is =
+pub ack_counts : (move : Option Move) (from number copy : ℕ) (keys : List (List ℕ)) → acknowledged_keys move from number copy ≡ Some keys → move ≡ Some (Leaves from number copy (Some keys))
+ack_counts None from number copy keys is = cc
+ack_counts (Some (Comes source other copied drained)) from number copy keys is = cc
+ack_counts (Some (Leaves to other copies None)) from number copy keys is = absurd (grind (arith, nat_tests))
+ack_counts (Some (Leaves to other copies (Some frozen))) from number copy keys is =
     let parts : (to ≡ from) × (other ≡ number) × (copies ≡ copy) = grind (arith, nat_tests) in
-    let same : Some frozen ≡ Some key = grind (arith, nat_tests) in
+    let same : Some frozen ≡ Some keys = grind (arith, nat_tests) in
     cc
 
 -- ---- commands
 
 pub serves : (slot : ℕ) (owner : Option ℕ) (move : Option Move) (node : ℕ) (asked : Asked) → in_slot slot owner (state_of owner move node) asked ≡ Serve
     → ((move ≡ None) × (owner ≡ Some node))
-    ⊎ ((to : ℕ) × (number : ℕ) × (copies : ℕ) × (frozen : Option (List ℕ)) × (move ≡ Some (Leaves to number copies frozen)) × (is_one_of frozen asked.keys ≡ false) × (all_there asked ≡ true))
+    ⊎ ((to : ℕ) × (number : ℕ) × (copies : ℕ) × (frozen : Option (List (List ℕ))) × (move ≡ Some (Leaves to number copies frozen)) × (is_frozen frozen asked.keys ≡ false) × (all_there asked ≡ true))
 serves slot None None node asked is = cc
 serves slot (Some owner) None node asked is = inl (refl, grind (arith, nat_tests))
 serves slot None (Some (Leaves to number copies frozen)) node asked is = cc
@@ -130,7 +145,7 @@ serves_import slot (Some owner) (Some (Comes from other copied drained)) node as
     (from, copied, drained, ap (λ k. Some (Comes from k copied drained)) same, grind arith)
 
 pub asks : (slot : ℕ) (owner : Option ℕ) (move : Option Move) (node : ℕ) (asked : Asked) (other to number : ℕ) → in_slot slot owner (state_of owner move node) asked ≡ Ask other to number
-    → (copies : ℕ) × (frozen : Option (List ℕ)) × (move ≡ Some (Leaves to number copies frozen)) × (none_there asked ≡ true) × (other ≡ slot)
+    → (copies : ℕ) × (frozen : Option (List (List ℕ))) × (move ≡ Some (Leaves to number copies frozen)) × (none_there asked ≡ true) × (other ≡ slot)
 asks slot None None node asked other to number is = cc
 asks slot (Some owner) None node asked other to number is = absurd (grind (arith, nat_tests))
 asks slot None (Some (Leaves target k copies frozen)) node asked other to number is = cc

@@ -1,7 +1,8 @@
 -- Keys on their way to another node (Redis command reference, "MIGRATE", of which this is a profile; the messages, the
 -- numbers of copies and the refusals are ours).
-use Rattle.std.specs.Prelude.{ℕ, ◌&&◌, ℤ, pos, Bool, List, [], ◌∷◌, map, is_some, Option, Some, None, codes}
-use Rattle.std.specs.List.{position}
+use Rattle.std.specs.Prelude.{ℕ, ◌&&◌, ℤ, pos, nat_eq, not, Bool, List, [], ◌∷◌, filter, map, is_some, Option, Some, None, codes, if◌then◌else◌}
+use Rattle.std.specs.Cmp.Lexicographic.{pointwise}
+use Rattle.std.specs.List.{filter_map, list_all, position}
 use Rattle.std.specs.FinMap as fin_map
 use Rattle.std.specs.Ordering.{int_eq}
 use Rattle.std.specs.Str.{bytes_eq}
@@ -12,15 +13,16 @@ use Rattle.keyspace.specs.Keyspace.{Keyspace}
 use Rattle.keyspace.specs.Rebuilding.{rebuilding, fits_request}
 use Rattle.keyspace.specs.declared.value.Value.{Value}
 use Rattle.cluster_config.specs.declared.config.NodeConfig.{NodeConfig}
+use Rattle.redirect.specs.Decision.{has_other_slot}
 use Rattle.slot_state.specs.Moves.{move_of}
 use Rattle.slot_state.specs.declared.running.Move.{Move}
 use Rattle.slot_state.specs.declared.running.Move.TheVariants.{Leaves, Comes}
 use Rattle.migrate.specs.Sending.{copy_verdict, after_copy_order}
 use Rattle.migrate.specs.Arriving.{arrival_verdict, after_arrival}
-use Rattle.migrate.specs.Acknowledging.{acknowledged_key, after_ack}
+use Rattle.migrate.specs.Acknowledging.{acknowledged_keys, after_ack}
 use Rattle.migrate.specs.Draining.{after_drained}
 use Rattle.migrate.specs.declared.sending.CopyVerdict.{CopyVerdict}
-use Rattle.migrate.specs.declared.sending.CopyVerdict.TheVariants.{WrongTarget, NoKey, CopyOutstanding, SendAgain, Copies, Exhausted}
+use Rattle.migrate.specs.declared.sending.CopyVerdict.TheVariants.{CrossSlot, WrongTarget, NoKey, CopyOutstanding, SendAgain, Copies, Exhausted}
 use Rattle.migrate.specs.declared.arriving.ArrivalVerdict.{ArrivalVerdict}
 use Rattle.migrate.specs.declared.arriving.ArrivalVerdict.TheVariants.{Ignored, Installs, Repeats}
 use Rattle.bus.specs.declared.message.Body.{Body}
@@ -36,7 +38,7 @@ use Rattle.connections.specs.declared.conn.Connection.{Connection}
 use Rattle.node_step.specs.declared.response.Response.TheVariants.{Parked}
 use Rattle.node_step.specs.declared.response.Why.TheVariants.{Copies as CopyOrdered}
 
--- ---- MIGRATE: a key is to be copied
+-- ---- MIGRATE: keys are to be copied
 
 -- a node has that address
 abbrev pub is_at : List ℕ → ℤ → NodeConfig → Bool
@@ -45,14 +47,26 @@ is_at host port node = bytes_eq node.host host && int_eq (pos node.port) port
 abbrev pub node_at : NodeState → List ℕ → ℤ → Option ℕ
 node_at node host port = position (is_at host port) node.config.nodes
 
--- the copy of a key with its value, for the node that the slot leaves to
-abbrev pub copy_of : ℕ → ℕ → ℕ → ℕ → List ℕ → Option Value → List (ℕ × Body)
-copy_of slot to number copy key None = []
-copy_of slot to number copy key (Some value) = (to, Copy slot number copy key value) ∷ []
+-- the keys of an order, each once, in the order in which they are named first
+abbrev pub each_once : List (List ℕ) → List (List ℕ)
+each_once [] = []
+each_once (key ∷ keys) = key ∷ filter (λ other. not (pointwise nat_eq other key)) (each_once keys)
 
--- the copy that is not acknowledged, of a slot with that move
+-- those of them that are there
+abbrev pub those_there : Keyspace → List (List ℕ) → List (List ℕ)
+those_there keyspace keys = filter (λ key. is_some (fin_map.get keyspace key)) (each_once keys)
+
+-- keys with their values
+abbrev pub pair_with : List ℕ → Option Value → Option (List ℕ × Value)
+pair_with key None = None
+pair_with key (Some value) = Some (key, value)
+
+abbrev pub pairs_at : Keyspace → List (List ℕ) → List (List ℕ × Value)
+pairs_at keyspace keys = filter_map (λ key. pair_with key (fin_map.get keyspace key)) keys
+
+-- the copy that is not acknowledged, of a slot with that move, for the node that the slot leaves to
 abbrev pub outstanding : Keyspace → ℕ → Option Move → List (ℕ × Body)
-outstanding keyspace slot (Some (Leaves to number copies (Some key))) = copy_of slot to number copies key (fin_map.get keyspace key)
+outstanding keyspace slot (Some (Leaves to number copies (Some keys))) = (to, Copy slot number copies (pairs_at keyspace keys)) ∷ []
 outstanding keyspace slot (Some (Leaves to number copies None)) = []
 outstanding keyspace slot (Some (Comes from number last drained)) = []
 outstanding keyspace slot None = []
@@ -73,68 +87,85 @@ sending node conn slot number copy ticks = record (silent (parked node conn slot
   sent = outstanding node.keyspace slot (move_of node.moves slot);
 }
 
-abbrev pub copy_outcome : NodeState → Conn → ℕ → List ℕ → ℕ → CopyVerdict → Outcome
-copy_outcome node conn slot key ticks WrongTarget = replied node (CopyOrdered WrongTarget) (error line.WrongTarget)
-copy_outcome node conn slot key ticks NoKey = replied node (CopyOrdered NoKey) (Simple (codes "NOKEY"))
-copy_outcome node conn slot key ticks CopyOutstanding = replied node (CopyOrdered CopyOutstanding) (error line.CopyOutstanding)
-copy_outcome node conn slot key ticks Exhausted = silent node
-copy_outcome node conn slot key ticks (SendAgain to number copy) = sending node conn slot number copy ticks
-copy_outcome node conn slot key ticks (Copies to number copy) =
-    sending (with_moves node (after_copy_order node.moves slot key (Copies to number copy))) conn slot number copy ticks
+abbrev pub copy_outcome : NodeState → Conn → ℕ → List (List ℕ) → ℕ → CopyVerdict → Outcome
+copy_outcome node conn slot keys ticks CrossSlot = replied node (CopyOrdered CrossSlot) (error line.CrossSlot)
+copy_outcome node conn slot keys ticks WrongTarget = replied node (CopyOrdered WrongTarget) (error line.WrongTarget)
+copy_outcome node conn slot keys ticks NoKey = replied node (CopyOrdered NoKey) (Simple (codes "NOKEY"))
+copy_outcome node conn slot keys ticks CopyOutstanding = replied node (CopyOrdered CopyOutstanding) (error line.CopyOutstanding)
+copy_outcome node conn slot keys ticks Exhausted = silent node
+copy_outcome node conn slot keys ticks (SendAgain to number copy) = sending node conn slot number copy ticks
+copy_outcome node conn slot keys ticks (Copies to number copy) =
+    sending (with_moves node (after_copy_order node.moves slot keys (Copies to number copy))) conn slot number copy ticks
 
-abbrev pub copy_verdict_on : NodeState → List ℕ → Option ℕ → CopyVerdict
-copy_verdict_on node key target =
-    copy_verdict (move_of node.moves (hash_slot key)) target key (is_some (fin_map.get node.keyspace key))
+-- the slot of the first key, in which all are to be
+abbrev pub first_slot : List (List ℕ) → ℕ
+first_slot [] = 0
+first_slot (key ∷ others) = hash_slot key
 
-abbrev pub migration : NodeState → Conn → List ℕ → ℤ → List ℕ → ℕ → Outcome
-migration node conn host port key ticks = copy_outcome node conn (hash_slot key) key ticks (copy_verdict_on node key (node_at node host port))
+abbrev pub copy_verdict_on : NodeState → List (List ℕ) → Option ℕ → CopyVerdict
+copy_verdict_on node keys target =
+    if has_other_slot (first_slot keys) keys then CrossSlot
+    else copy_verdict (move_of node.moves (first_slot keys)) target (those_there node.keyspace keys)
+
+abbrev pub migration : NodeState → Conn → List ℕ → ℤ → List (List ℕ) → ℕ → Outcome
+migration node conn host port keys ticks =
+    copy_outcome node conn (first_slot keys) (those_there node.keyspace keys) ticks (copy_verdict_on node keys (node_at node host port))
 
 -- ---- a copy arrives
 
--- the request that makes the key with its value keeps the limits
-abbrev pub keeps_limits : List ℕ → Value → Bool
-keeps_limits key value = fits_request (rebuilding key value)
+-- the requests that make the keys with their values keep the limits
+abbrev pub keep_limits : List (List ℕ × Value) → Bool
+keep_limits pairs = list_all (λ pair. fits_request (rebuilding pair.0 pair.1)) pairs
 
-abbrev pub installed : Keyspace → List ℕ → Value → ArrivalVerdict → Keyspace
-installed keyspace key value Installs = fin_map.insert keyspace key value
-installed keyspace key value Repeats = keyspace
-installed keyspace key value Ignored = keyspace
+-- all are installed, or none is
+abbrev pub with_copied : Keyspace → List (List ℕ × Value) → Keyspace
+with_copied keyspace [] = keyspace
+with_copied keyspace (pair ∷ pairs) = with_copied (fin_map.insert keyspace pair.0 pair.1) pairs
+
+abbrev pub installed : Keyspace → List (List ℕ × Value) → ArrivalVerdict → Keyspace
+installed keyspace pairs Installs = with_copied keyspace pairs
+installed keyspace pairs Repeats = keyspace
+installed keyspace pairs Ignored = keyspace
 
 abbrev pub ack_by : ℕ → ℕ → ℕ → ℕ → ArrivalVerdict → List (ℕ × Body)
 ack_by from slot number copy Installs = (from, Ack slot number copy) ∷ []
 ack_by from slot number copy Repeats = (from, Ack slot number copy) ∷ []
 ack_by from slot number copy Ignored = []
 
-abbrev pub arrived : NodeState → ℕ → ℕ → ℕ → ℕ → List ℕ → Value → ArrivalVerdict → Outcome
-arrived node from slot number copy key value verdict =
-    record (silent (record node { keyspace = installed node.keyspace key value verdict; moves = after_arrival node.moves slot verdict })) {
+abbrev pub arrived : NodeState → ℕ → ℕ → ℕ → ℕ → List (List ℕ × Value) → ArrivalVerdict → Outcome
+arrived node from slot number copy pairs verdict =
+    record (silent (record node { keyspace = installed node.keyspace pairs verdict; moves = after_arrival node.moves slot verdict })) {
       sent = ack_by from slot number copy verdict;
     }
 
-abbrev pub arrival : NodeState → ℕ → ℕ → ℕ → ℕ → List ℕ → Value → Outcome
-arrival node from slot number copy key value =
-    arrived node from slot number copy key value (arrival_verdict (move_of node.moves slot) from number copy (keeps_limits key value))
+abbrev pub arrival : NodeState → ℕ → ℕ → ℕ → ℕ → List (List ℕ × Value) → Outcome
+arrival node from slot number copy pairs =
+    arrived node from slot number copy pairs (arrival_verdict (move_of node.moves slot) from number copy (keep_limits pairs))
 
 -- ---- an acknowledgement arrives
 
--- the key is deleted here, and who waited for it is answered
-abbrev pub without_key : NodeState → ℕ → ℕ → ℕ → List ℕ → NodeState
-without_key node slot number copy key = record node {
-  keyspace = fin_map.remove node.keyspace key;
+-- the keys are deleted here, and who waited for them is answered
+abbrev pub without : Keyspace → List (List ℕ) → Keyspace
+without keyspace [] = keyspace
+without keyspace (key ∷ keys) = without (fin_map.remove keyspace key) keys
+
+abbrev pub without_keys : NodeState → ℕ → ℕ → ℕ → List (List ℕ) → NodeState
+without_keys node slot number copy keys = record node {
+  keyspace = without node.keyspace keys;
   moves = after_ack node.moves slot;
   connections = all_freed node.connections (is_for slot number copy);
 }
 
-abbrev pub acknowledged : NodeState → ℕ → ℕ → ℕ → Option (List ℕ) → Outcome
+abbrev pub acknowledged : NodeState → ℕ → ℕ → ℕ → Option (List (List ℕ)) → Outcome
 acknowledged node slot number copy None = silent node
-acknowledged node slot number copy (Some key) = record (silent (without_key node slot number copy key)) {
+acknowledged node slot number copy (Some keys) = record (silent (without_keys node slot number copy keys)) {
   released = map (release done) (waiting node.connections (is_for slot number copy));
-  sent = drained_since node.keyspace (without_key node slot number copy key) slot;
+  sent = drained_since node.keyspace (without_keys node slot number copy keys) slot;
 }
 
 abbrev pub acknowledgement : NodeState → ℕ → ℕ → ℕ → ℕ → Outcome
 acknowledgement node from slot number copy =
-    acknowledged node slot number copy (acknowledged_key (move_of node.moves slot) from number copy)
+    acknowledged node slot number copy (acknowledged_keys (move_of node.moves slot) from number copy)
 
 -- ---- the word arrives that a slot is drained
 

@@ -3,12 +3,12 @@ use Rattle.std.specs.Prelude.{◌≡◌, ℕ, ◌==◌, ⊤, true, [], max, if�
 use Rattle.bus.specs.declared.message.Body.{Body}
 use Rattle.bus.specs.declared.message.Body.TheVariants.{Copy, Ack, Drained, Claim, Report, Request, Grant, Sync, Piece, Snapshot}
 use Rattle.bus.specs.declared.message.Message.{Message}
-use Rattle.migrate.specs.Acknowledging.{acknowledged_key}
+use Rattle.migrate.specs.Acknowledging.{acknowledged_keys}
 use Rattle.migrate.specs.Arriving.{arrival_verdict}
 use Rattle.slot_state.specs.Moves.{move_of}
 use Rattle.stream_values.specs.Follower.{Follower}
 use Rattle.node_step.specs.Claiming.{claim}
-use Rattle.node_step.specs.Copies.{arrival, acknowledgement, keeps_limits, noted}
+use Rattle.node_step.specs.Copies.{arrival, acknowledgement, keep_limits, noted}
 use Rattle.node_step.specs.Failing.{hearing, judging}
 use Rattle.node_step.specs.Outcome.{Outcome, silent}
 use Rattle.node_step.specs.Replicas.{MayFollow, pieced, restored_by, synced}
@@ -35,7 +35,7 @@ pub record Choice : Type 0 where
 
 -- a row a body
 abbrev pub taken_so : NodeState → ℕ → Choice → Body → Outcome
-taken_so node from choice (Copy slot number copy key value) = arrival node from slot number copy key value
+taken_so node from choice (Copy slot number copy pairs) = arrival node from slot number copy pairs
 taken_so node from choice (Ack slot number copy) = acknowledgement node from slot number copy
 taken_so node from choice (Drained slot number epoch) = noted node from slot number epoch
 taken_so node from choice (Claim slots replaced) = claim node from slots
@@ -48,9 +48,9 @@ taken_so node from choice (Snapshot snapshot) = restored_by node from snapshot
 
 -- what is written by it
 abbrev pub written_by_message : NodeState → ℕ → Body → Requests
-written_by_message node from (Copy slot number copy key value) =
-    written_by_copy node.keyspace key value (arrival_verdict (move_of node.moves slot) from number copy (keeps_limits key value))
-written_by_message node from (Ack slot number copy) = written_by_ack (acknowledged_key (move_of node.moves slot) from number copy)
+written_by_message node from (Copy slot number copy pairs) =
+    written_by_copy node.keyspace pairs (arrival_verdict (move_of node.moves slot) from number copy (keep_limits pairs))
+written_by_message node from (Ack slot number copy) = written_by_ack (acknowledged_keys (move_of node.moves slot) from number copy)
 written_by_message node from (Drained slot number epoch) = []
 written_by_message node from (Claim slots replaced) = written_by_claim node from slots
 written_by_message node from (Report suspects) = []

@@ -88,13 +88,14 @@ cluster_outcome node conn (cluster.SlotState slot) = replied node Reported (stat
 cluster_outcome node conn (cluster.SetSlot slot order id number) = order_outcome node slot order (node_with_id node id) number
 cluster_outcome node conn cluster.Numbered = replied (with_numbers node conn) Told done
 cluster_outcome node conn (cluster.Asking number) = replied (with_asking node conn number) Told done
-cluster_outcome node conn (cluster.Migrate host port key timeout) = migration node conn host port key timeout
+cluster_outcome node conn (cluster.Migrate host port keys timeout) = migration node conn host port keys timeout
 
 -- ---- numbers that only grow
 
 -- there is a next number of a copy
 abbrev pub has_copy_number : CopyVerdict → Bool
 has_copy_number copies.Exhausted = false
+has_copy_number copies.CrossSlot = true
 has_copy_number copies.WrongTarget = true
 has_copy_number copies.NoKey = true
 has_copy_number copies.CopyOutstanding = true
@@ -117,7 +118,7 @@ has_order_number node slot Node other number = has_epoch node slot (ending_verdi
 
 -- the command finds the number that it needs, if it needs one
 abbrev pub has_number : NodeState → Result Command CommandFault → Bool
-has_number node (Ok (Cluster (cluster.Migrate host port key timeout))) = has_copy_number (copy_verdict_on node key (node_at node host port))
+has_number node (Ok (Cluster (cluster.Migrate host port keys timeout))) = has_copy_number (copy_verdict_on node keys (node_at node host port))
 has_number node (Ok (Cluster (cluster.SetSlot slot order id number))) = has_order_number node slot order (node_with_id node id) number
 has_number node command = true
 

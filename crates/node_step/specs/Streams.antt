@@ -61,17 +61,26 @@ written_by_request words command Parked = []
 abbrev pub deletion : List ℕ → List (List ℕ)
 deletion key = codes "DEL" ∷ key ∷ []
 
--- a copy that is installed: the request that makes the key, behind a deletion of what was there
-abbrev pub written_by_copy : Keyspace → List ℕ → Value → ArrivalVerdict → Requests
-written_by_copy keyspace key value Installs =
+-- a key that is installed: the request that makes it, behind a deletion of what was there
+abbrev pub written_by_pair : Keyspace → List ℕ → Value → Requests
+written_by_pair keyspace key value =
     if is_some (fin_map.get keyspace key) then deletion key ∷ rebuilding key value ∷ [] else rebuilding key value ∷ []
-written_by_copy keyspace key value Repeats = []
-written_by_copy keyspace key value Ignored = []
+
+-- one after another
+abbrev pub written_by_pairs : Keyspace → List (List ℕ × Value) → Requests
+written_by_pairs keyspace [] = []
+written_by_pairs keyspace (pair ∷ pairs) = written_by_pair keyspace pair.0 pair.1 ++ written_by_pairs (fin_map.insert keyspace pair.0 pair.1) pairs
+
+-- a copy that is installed
+abbrev pub written_by_copy : Keyspace → List (List ℕ × Value) → ArrivalVerdict → Requests
+written_by_copy keyspace pairs Installs = written_by_pairs keyspace pairs
+written_by_copy keyspace pairs Repeats = []
+written_by_copy keyspace pairs Ignored = []
 
 -- a copy that is acknowledged
-abbrev pub written_by_ack : Option (List ℕ) → Requests
+abbrev pub written_by_ack : Option (List (List ℕ)) → Requests
 written_by_ack None = []
-written_by_ack (Some key) = deletion key ∷ []
+written_by_ack (Some keys) = map deletion keys
 
 -- the keys of slots that are lost, in byte order
 abbrev pub written_by_loss : NodeState → List (Option SlotEntry) → Requests

@@ -24,7 +24,7 @@ use Rattle.node_step.specs.Voting.{due_epoch, in_election, requests_in}
 abbrev pub sent_again : NodeState → ℕ × Move → List (ℕ × Body)
 sent_again node (slot, Comes from number last drained) = []
 sent_again node (slot, Leaves to number copies None) = drained_if_empty node slot
-sent_again node (slot, Leaves to number copies (Some key)) = outstanding node.keyspace slot (Some (Leaves to number copies (Some key)))
+sent_again node (slot, Leaves to number copies (Some keys)) = outstanding node.keyspace slot (Some (Leaves to number copies (Some keys)))
 
 -- those that waited as long as they wanted wait no more, and the others have a tick less
 abbrev pub older : NodeState → NodeState

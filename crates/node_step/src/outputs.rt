@@ -35,7 +35,7 @@ impl Clone for Release {
 }
 
 /// Replies to connections that waited, by rising key.
-#[derive(Debug, Drop)]
+#[derive(Debug)]
 pub struct Releases {
     releases: Few<Release>,
 }
@@ -47,6 +47,12 @@ impl Model for Releases {
     ghost Value = { List Released };
 
     ghost view = { λ releases. releases.releases };
+}
+
+impl Drop for Releases {
+    fn drop(self) {
+        let Releases { releases: _ } = self;
+    }
 }
 
 impl Releases {
@@ -144,7 +150,7 @@ fn forget_in(releases: &mut Vec<Release>, conn: Conn)
 }
 
 /// Messages to other nodes, in the order in which they are numbered.
-#[derive(Debug, Drop)]
+#[derive(Debug)]
 pub struct Messages {
     messages: Few<Message>,
 }
@@ -156,6 +162,12 @@ impl Model for Messages {
     ghost Value = { List Sent };
 
     ghost view = { λ messages. messages.messages };
+}
+
+impl Drop for Messages {
+    fn drop(self) {
+        let Messages { messages: _ } = self;
+    }
 }
 
 impl Messages {
@@ -202,7 +214,8 @@ impl Messages {
     pub fn into_vec(self, alloc: Global) -> Vec<Message>
         ensures { result.items ≡ self }
     {
-        match self.messages.items {
+        let Messages { messages } = self;
+        match messages.items {
             Some(messages) => Box::into_inner(messages),
             None => Vec::new(alloc),
         }

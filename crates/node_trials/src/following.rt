@@ -6,7 +6,7 @@ use crate::rows::{Rows, other_answer};
 use crate::telling::tell;
 use anyhow::Result;
 
-const CASES: [Rows; 3] = [WHOLE_MOVE, SHORT_BACKLOG, LOST_PIECE];
+const CASES: [Rows; 4] = [WHOLE_MOVE, LIST_OF_KEYS, SHORT_BACKLOG, LOST_PIECE];
 
 // A key moves: its source writes its deletion, its target the request that makes it, and both replicas follow.
 const WHOLE_MOVE: Rows = &[
@@ -36,6 +36,31 @@ const WHOLE_MOVE: Rows = &[
     "deliver 19 | ",
     "0 CLUSTER SETSLOT 11694 NODE #0 | +OK\r\nclaim claim claim claim claim ",
     "0 HGETALL h | *4\r\n$1\r\na\r\n$1\r\n2\r\n$1\r\nb\r\n$1\r\n3\r\n",
+];
+
+// Two keys move in one copy, in the order in which they were named first. The source writes a deletion of each.
+const LIST_OF_KEYS: Rows = &[
+    "2 SET {a}1 v | +OK\r\npiece 0+30 ",
+    "2 HSET {a}2 f w | :1\r\npiece 30+38 ",
+    "1 CLUSTER SETSLOT 15495 IMPORTING #2 3 | +OK\r\n",
+    "2 CLUSTER SETSLOT 15495 MIGRATING #1 3 | +OK\r\n",
+    "2 MIGRATE 127.0.0.1 7001  0 5 KEYS {a}2 {a}1 {a}2 {a}9 | parked copy ",
+    "2 beside GET {a}1 | -TRYAGAIN Key is being moved\r\n",
+    "2 beside GET {a}9 | -ASK 15495 127.0.0.1:7001\r\n",
+    "2 beside MIGRATE 127.0.0.1 7001 {a}1 0 5 | -TRYAGAIN Another copy is outstanding\r\n",
+    "deliver 3 | ack piece 0+68 ",
+    "deliver 4 | +OK\r\ndrained piece 68+46 ",
+    "deliver 1 | ",
+    "deliver 2 | ",
+    "5 CLUSTER GETKEYSINSLOT 15495 16 | *2\r\n$4\r\n{a}1\r\n$4\r\n{a}2\r\n",
+    "deliver 7 | ",
+    "5 CLUSTER COUNTKEYSINSLOT 15495 | :0\r\n",
+    "deliver 5 | ",
+    "4 CLUSTER GETKEYSINSLOT 15495 16 | *2\r\n$4\r\n{a}1\r\n$4\r\n{a}2\r\n",
+    "deliver 6 | ",
+    "1 CLUSTER SETSLOT 15495 NODE #1 | +OK\r\nclaim claim claim claim claim ",
+    "1 GET {a}1 | $1\r\nv\r\n",
+    "1 HGETALL {a}2 | *2\r\n$1\r\nf\r\n$1\r\nw\r\n",
 ];
 
 // A backlog keeps the last 64 bytes. Who lacks bytes before them gets all that the master has.

@@ -5,7 +5,7 @@ use crate::rows::{Rows, other_answer};
 use crate::telling::tell;
 use anyhow::Result;
 
-const CASES: [Rows; 5] = [WHOLE_MOVE, LATE_COPY, LOST_COPY, REFUSALS, COMMANDS];
+const CASES: [Rows; 6] = [WHOLE_MOVE, LISTS, LATE_COPY, LOST_COPY, REFUSALS, COMMANDS];
 
 // A hash keeps the order of its fields.
 const WHOLE_MOVE: Rows = &[
@@ -24,6 +24,40 @@ const WHOLE_MOVE: Rows = &[
     "0 HGETALL h | *4\r\n$1\r\na\r\n$1\r\n2\r\n$1\r\nb\r\n$1\r\n3\r\n",
     "2 HGETALL h | -MOVED 11694 127.0.0.1:7000\r\n",
     "2 CLUSTER SETSLOT 11694 NODE #0 | +OK\r\n",
+];
+
+// Several keys move in one copy. It is sent again for those keys in any order, and not for others.
+const LISTS: Rows = &[
+    "2 SET {foo}1 1 | +OK\r\n",
+    "2 SET {foo}2 2 | +OK\r\n",
+    "2 HSET {foo}3 f 3 | :1\r\n",
+    "2 SET {foo}4 4 | +OK\r\n",
+    "1 CLUSTER SETSLOT 12182 IMPORTING #2 7 | +OK\r\n",
+    "2 CLUSTER SETSLOT 12182 MIGRATING #1 7 | +OK\r\n",
+    "2 MIGRATE 127.0.0.1 7001  0 5 KEYS {foo}8 {foo}9 | +NOKEY\r\n",
+    "2 MIGRATE 127.0.0.1 7009  0 5 KEYS {foo}1 {bar}1 | -CROSSSLOT Keys in request don't hash to the same slot\r\n",
+    "2 MIGRATE 127.0.0.1 7000  0 5 KEYS {foo}1 | -ERR slot is not migrating to that address\r\n",
+    "2 MIGRATE 127.0.0.1 7001  0 5 KEYS {foo}9 {foo}3 {foo}1 {foo}3 {foo}2 | parked copy ",
+    "2 beside MIGRATE 127.0.0.1 7001  0 5 KEYS {foo}1 {foo}2 | -TRYAGAIN Another copy is outstanding\r\n",
+    "2 beside MIGRATE 127.0.0.1 7001  0 5 KEYS {foo}1 {foo}2 {foo}3 {foo}4 | -TRYAGAIN Another copy is outstanding\r\n",
+    "2 beside MIGRATE 127.0.0.1 7001 {foo}1 0 5 | -TRYAGAIN Another copy is outstanding\r\n",
+    "2 beside MGET {foo}4 {foo}1 | -TRYAGAIN Key is being moved\r\n",
+    "2 beside GET {foo}4 | $1\r\n4\r\n",
+    "2 beside MIGRATE 127.0.0.1 7001  0 5 KEYS {foo}1 {foo}2 {foo}9 {foo}3 {foo}1 | parked copy ",
+    "deliver 1 | ack ",
+    "deliver 2 | ack ",
+    "1 CLUSTER COUNTKEYSINSLOT 12182 | :3\r\n",
+    "deliver 3 | +OK\r\n+OK\r\n",
+    "deliver 4 | ",
+    "2 CLUSTER COUNTKEYSINSLOT 12182 | :1\r\n",
+    "2 GET {foo}1 | -ASK 12182 127.0.0.1:7001\r\n",
+    "2 MIGRATE 127.0.0.1 7001 {foo}4 0 5 | parked copy ",
+    "deliver 5 | ack ",
+    "deliver 6 | +OK\r\ndrained ",
+    "deliver 7 | ",
+    "1 CLUSTER SETSLOT 12182 NODE #1 | +OK\r\nclaim claim ",
+    "1 MGET {foo}1 {foo}2 {foo}4 | *3\r\n$1\r\n1\r\n$1\r\n2\r\n$1\r\n4\r\n",
+    "1 HGETALL {foo}3 | *2\r\n$1\r\nf\r\n$1\r\n3\r\n",
 ];
 
 // A copy that comes again is not installed, and a slot with a key at its source is not taken.

@@ -16,7 +16,7 @@ use Rattle.one_master.specs.Stands.{AreSent}
 
 granted_is : (said : Body) (epoch : ℕ) → grants said epoch ≡ true → said ≡ body.Grant epoch
 granted_is (body.Grant granted) epoch is = ap body.Grant (eqb-true granted epoch is)
-granted_is (body.Copy slot number copy key value) epoch is = absurd (both_ways false refl is)
+granted_is (body.Copy slot number copy pairs) epoch is = absurd (both_ways false refl is)
 granted_is (body.Ack slot number copy) epoch is = absurd (both_ways false refl is)
 granted_is (body.Drained slot number said) epoch is = absurd (both_ways false refl is)
 granted_is (body.Claim slots replaced) epoch is = absurd (both_ways false refl is)

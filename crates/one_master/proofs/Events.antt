@@ -190,8 +190,8 @@ module _ (voters : List ℕ) (sent : List Message) (n : ℕ) (node : NodeState) 
 
   -- a row of messages
   so_taken_leaves : (from : ℕ) (choice : Choice) (said : Body) → ((epoch : ℕ) → said ≡ body.Grant epoch → was_cast sent from epoch n ≡ true) → Leaves (taken_so node from choice said)
-  so_taken_leaves from choice (body.Copy slot number copy key value) cast =
-      of_slots voters sent n node stands _ _ (arrival_is_of_slots (IsStill node) node (λ keyspace table moves current connections. record { number = refl; config = refl; voter = refl; election = inl refl; role = refl }) from slot number copy key value)
+  so_taken_leaves from choice (body.Copy slot number copy pairs) cast =
+      of_slots voters sent n node stands _ _ (arrival_is_of_slots (IsStill node) node (λ keyspace table moves current connections. record { number = refl; config = refl; voter = refl; election = inl refl; role = refl }) from slot number copy pairs)
   so_taken_leaves from choice (body.Ack slot number copy) cast =
       of_slots voters sent n node stands _ _ (acknowledgement_is_of_slots (IsStill node) node (λ keyspace table moves current connections. record { number = refl; config = refl; voter = refl; election = inl refl; role = refl }) from slot number copy)
   so_taken_leaves from choice (body.Drained slot number epoch) cast =

@@ -24,7 +24,7 @@ module _ {X : Type 0} {first : SlotEntry} {views : Views X} {one : List ℕ → 
         own = λ number coming. idle_comes each.move coming;
         other = λ to number leaving. absurd (idle_leaves each.move leaving);
         last = λ to number leaving. absurd (idle_leaves each.move leaving);
-        frozen = λ to number copies key is. absurd (no_some each.move is);
+        frozen = λ to number copies keys is. absurd (no_some each.move is);
       }
 
   first_there : (n : ℕ) → n ≢ first.owner → IsElsewhere first (views first.owner) n (views n)
@@ -39,7 +39,7 @@ module _ {X : Type 0} {first : SlotEntry} {views : Views X} {one : List ℕ → 
         thawed = λ to number copies key is. no_some each.move is;
         moving = λ key x is. absurd (no_some (each.value key) is);
         both = λ number copies frozen from copied drained key x z leaves comes here there. absurd (no_some each.move comes);
-        arrived = λ number copies drained key x leaves comes here. absurd (no_some each.move comes);
+        arrived = λ number copies keys drained key x leaves comes among here. absurd (no_some each.move comes);
         counted = λ number copies frozen leaves. absurd (no_some (starts.each first.owner).move leaves);
         copied = λ from number copied drained is first. absurd (no_some each.move is);
         drained = λ from number copied epoch is. absurd (no_some each.move is);
@@ -83,8 +83,8 @@ module _ {X : Type 0} {top : SlotEntry} {old : Views X} {one : List ℕ → Opti
             thawed = λ to k copies key is. leaves_comes is refl;
             moving = λ key x is. absurd (idle_comes begins.idle (was.moving key x is).comes);
             both = λ k copies frozen source copied drained key x z leaves comes here there. absurd (idle_comes begins.idle (was.moving key x here).comes);
-            arrived = λ k copies drained key x leaves comes here.
-                let first : 1 ≤ copies = (holds.holder.frozen n k copies key leaves).first in
+            arrived = λ k copies keys drained key x leaves comes among here.
+                let first : 1 ≤ copies = (holds.holder.frozen n k copies keys leaves).first in
                 let same = same_comes refl comes in
                 absurd (omega (arith, first, same.copied));
             counted = λ k copies frozen leaves.
@@ -139,7 +139,7 @@ module _ {X : Type 0} {top : SlotEntry} {old : Views X} {one : List ℕ → Opti
                 thawed = was.thawed;
                 moving = λ key x is. absurd (idle_leaves begins.idle (was.moving key x is).leaves);
                 both = λ k copies frozen from copied drained key x z leaves comes here there. absurd (idle_leaves begins.idle (was.moving key x here).leaves);
-                arrived = λ k copies drained key x leaves comes here. absurd (no_some refl (same_leaves refl leaves).frozen);
+                arrived = λ k copies keys drained key x leaves comes among here. absurd (no_some refl (same_leaves refl leaves).frozen);
                 counted = λ k copies frozen leaves.
                     let same = same_leaves refl leaves in
                     let none = nothing_installed j other k in
@@ -150,7 +150,7 @@ module _ {X : Type 0} {top : SlotEntry} {old : Views X} {one : List ℕ → Opti
           leaves = λ target k leaving. absurd (idle_leaves begins.idle leaving);
           earlier = λ target k leaving reached. let same = same_leaves refl leaving.is in absurd (omega (arith, begins.above, reached, same.number));
           empty = λ target k leaving. absurd (idle_leaves begins.idle leaving);
-          copied = λ from target k count key value live. absurd (no_some begins.idle live.leaves);
+          copied = λ from target k count pairs live. absurd (no_some begins.idle live.leaves);
           told = λ target k leaving. absurd (idle_leaves begins.idle leaving);
         }
 

@@ -4,10 +4,10 @@ use Rattle.std.proofs.lemmas.Bool.{cases_eq}
 use Rattle.slot_table.specs.declared.entry.SlotEntry.{SlotEntry}
 use Rattle.slot_state.specs.declared.running.Move.TheVariants.{Leaves}
 use Rattle.one_slot.specs.View.{View, Views}
-use Rattle.one_slot.specs.Slot.{Holds, IsLeaving, IsComing, IsShared}
+use Rattle.one_slot.specs.Slot.{Freezes, Holds, IsLeaving, IsComing, IsShared}
 use Rattle.one_slot.specs.Sent.{Told, IsTold, IsSent}
 use Rattle.one_slot.specs.Events.{Changes, Keeps, IsServed, served, OwnerServes, LeavingServes}
-use Rattle.one_slot.proofs.KeyLemmas.{among_or_not}
+use Rattle.one_slot.proofs.KeyLemmas.{among_or_not, Contains-keys}
 use Rattle.one_slot.proofs.ViewLemmas.{no_some, none_or_some, same_leaves, one_target, idle_leaves}
 use Rattle.one_slot.proofs.Frames.{at_place, value_here, value_there, StaysAside, keeps_aside, StaysAhead, keeps_ahead}
 use Rattle.one_slot.proofs.Beginnings.{owner_holds}
@@ -81,7 +81,7 @@ module _ {X : Type 0} {top : SlotEntry} {old : Views X} {one : List ℕ → Opti
       let comes = moving.comes in
       let there = serves.free.here key among in
       let both = was.both moving.number leaves.copies leaves.frozen comes.from comes.copied comes.drained key x there.0 leaves.is comes.is here there.1 in
-      serves.free.thawed key ((same_leaves serves.move leaves.is).frozen ∙ both.2) among
+      serves.free.thawed key (subst (λ (f : Option (List (List ℕ))). Freezes f key) (sym (same_leaves serves.move leaves.is).frozen) both.2) among
 
   -- no other node has one of the keys, where the slot leaves a node that has them all, none frozen
   pub leaving_alone : (n : ℕ) (keys : List (List ℕ)) → LeavingServes (old n) keys
@@ -101,7 +101,7 @@ module _ {X : Type 0} {top : SlotEntry} {old : Views X} {one : List ℕ → Opti
       (serves : IsServed (old top.owner).value values one next keys) (changes : Changes old new top.owner (served (old top.owner) values))
       (alone : (other : ℕ) → other ≢ top.owner → (key : List ℕ) (x : X) → Contains keys key → (old other).value key ≢ Some x)
       (all : (to number : ℕ) → IsLeaving (old top.owner) to number → (key : List ℕ) → Contains keys key → (x : X) × ((old top.owner).value key ≡ Some x))
-      (thawed : (to number copies : ℕ) (key : List ℕ) → (old top.owner).move ≡ Some (Leaves to number copies (Some key)) → ¬ Contains keys key) where
+      (thawed : (to number copies : ℕ) (outstanding : List (List ℕ)) → (old top.owner).move ≡ Some (Leaves to number copies (Some outstanding)) → (key : List ℕ) → Contains outstanding key → ¬ Contains keys key) where
     abbrev before : View X
     before = old top.owner
 
@@ -115,8 +115,8 @@ module _ {X : Type 0} {top : SlotEntry} {old : Views X} {one : List ℕ → Opti
     forth to k leaving = record { copies = leaving.copies; frozen = leaving.frozen; is = leaving.is }
 
     -- a frozen key keeps its value, and a key that isn't there, where the slot leaves, stays so
-    frozen_stays : (to k c : ℕ) (q : List ℕ) → before.move ≡ Some (Leaves to k c (Some q)) → values q ≡ before.value q
-    frozen_stays to k c q leaves = serves.rest q (thawed to k c q leaves)
+    frozen_stays : (to k c : ℕ) (outstanding : List (List ℕ)) → before.move ≡ Some (Leaves to k c (Some outstanding)) → (q : List ℕ) → Contains outstanding q → values q ≡ before.value q
+    frozen_stays to k c outstanding leaves q among = serves.rest q (thawed to k c outstanding leaves q among)
 
     none_stays : (to k : ℕ) → IsLeaving before to k → (q : List ℕ) → before.value q ≡ None → values q ≡ None
     none_stays to k leaving q none =
@@ -132,9 +132,14 @@ module _ {X : Type 0} {top : SlotEntry} {old : Views X} {one : List ℕ → Opti
         own = λ k coming. holds.holder.own k (record { from = coming.from; copied = coming.copied; drained = coming.drained; is = coming.is });
         other = λ to k leaving. holds.holder.other to k (back to k leaving);
         last = λ to k leaving. holds.holder.last to k (back to k leaving);
-        frozen = λ to k c q leaves.
-            let frozen = holds.holder.frozen to k c q leaves in
-            record { first = frozen.first; value = frozen.value; here = frozen_stays to k c q leaves ∙ frozen.here };
+        frozen = λ to k c outstanding leaves.
+            let frozen = holds.holder.frozen to k c outstanding leaves in
+            record {
+              first = frozen.first;
+              one = frozen.one;
+              among = frozen.among;
+              here = λ q among. let here = frozen.here q among in (here.0, frozen_stays to k c outstanding leaves q among ∙ here.1);
+            };
       };
       last = omega arith;
       others = λ j other.
@@ -150,7 +155,7 @@ module _ {X : Type 0} {top : SlotEntry} {old : Views X} {one : List ℕ → Opti
                   | inl among ↦ absurd (alone j other q x among here)
                   | inr not_among ↦ was.both k c f from count d q x z leaves comes here (sym (serves.rest q not_among) ∙ there)
                 ];
-            arrived = λ k c d q x leaves comes here. was.arrived k c d q x leaves comes (sym (frozen_stays j k c q leaves) ∙ here);
+            arrived = λ k c outstanding d q x leaves comes among here. was.arrived k c outstanding d q x leaves comes among (sym (frozen_stays j k c outstanding leaves q among) ∙ here);
             counted = was.counted;
             copied = λ from k count d comes first. let copied_so = was.copied from k count d comes first in (copied_so.0, forth j k copied_so.1);
             drained = λ from k count epoch comes.
@@ -165,7 +170,7 @@ module _ {X : Type 0} {top : SlotEntry} {old : Views X} {one : List ℕ → Opti
       leaves = forth;
       earlier = λ to k leaving reached. back to k leaving;
       empty = λ to k leaving none q. none_stays to k leaving q (none q);
-      copied = λ from to k count q x live. record {
+      copied = λ from to k count pairs live. record {
         source = live.source;
         copies = live.copies;
         frozen = live.frozen;
@@ -174,8 +179,11 @@ module _ {X : Type 0} {top : SlotEntry} {old : Views X} {one : List ℕ → Opti
         made = live.made;
         newest = λ outstanding at is.
             let newest = live.newest outstanding at is in
-            let stays = frozen_stays to k live.copies outstanding (live.leaves ∙ ap (λ (f : Option (List ℕ)). Some (Leaves to k live.copies f)) is) in
-            (newest.0, ap values (sym newest.0) ∙ stays ∙ ap before.value newest.0 ∙ newest.1);
+            let leaves = live.leaves ∙ ap (λ (f : Option (List (List ℕ))). Some (Leaves to k live.copies f)) is in (
+              newest.0,
+              λ q x among.
+                  frozen_stays to k live.copies outstanding leaves q (subst (λ (ks : List (List ℕ)). Contains ks q) (sym newest.0) (Contains-keys pairs q x among)) ∙ newest.1 q x among,
+            );
       };
       told = λ to k leaving others none q among. none_stays to k leaving q (none q among);
     }
@@ -192,7 +200,7 @@ module _ {X : Type 0} {top : SlotEntry} {old : Views X} {one : List ℕ → Opti
         (sym (owner_holds holds n owner.idle owner.owner))
         (λ own serve change.
         serve_at_holder keys serve change (owner_alone top.owner own keys)
-        (λ to k leaving. absurd (idle_leaves own.idle leaving)) (λ to k c q leaves. absurd (no_some own.idle leaves)))
+        (λ to k leaving. absurd (idle_leaves own.idle leaving)) (λ to k c outstanding leaves. absurd (no_some own.idle leaves)))
         owner serves changes
 
     -- a node that the slot leaves serves a command whose keys it has, none of them frozen
@@ -202,7 +210,7 @@ module _ {X : Type 0} {top : SlotEntry} {old : Views X} {one : List ℕ → Opti
         (sym (leaving_owner n keys leaves))
         (λ own serve change.
         serve_at_holder keys serve change (free_alone keys own)
-        (λ to k leaving. own.free.here) (λ to k c q move. own.free.thawed q (same_leaves own.move move).frozen))
+        (λ to k leaving. own.free.here) (λ to k c outstanding move q among. own.free.thawed q (subst (λ (f : Option (List (List ℕ))). Freezes f q) (sym (same_leaves own.move move).frozen) among)))
         leaves serves changes
 
   -- a node that the slot comes to, after an answer ASK to a command with the same keys
@@ -260,10 +268,10 @@ module _ {X : Type 0} {top : SlotEntry} {old : Views X} {one : List ℕ → Opti
                     | inl among ↦ absurd (no_some (live_told.none q among) there)
                     | inr not_among ↦ was.both k c f from count d q x z leaves comes (sym (serves.rest q not_among) ∙ here) there
                   ];
-              arrived = λ k c d q x leaves comes here.
+              arrived = λ k c outstanding d q x leaves comes frozen here.
                   elim (among_or_not keys q) [
                     | inl among ↦ absurd (no_some (live_told.none q among) here)
-                    | inr not_among ↦ serves.rest q not_among ∙ was.arrived k c d q x leaves comes here
+                    | inr not_among ↦ serves.rest q not_among ∙ was.arrived k c outstanding d q x leaves comes frozen here
                   ];
               counted = was.counted;
               copied = was.copied;

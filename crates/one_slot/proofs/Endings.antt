@@ -59,7 +59,7 @@ module _ {X : Type 0} {top : SlotEntry} {old : Views X} {one : List ℕ → Opti
             thawed = λ to k c q leaves. leaves_comes leaves refl;
             moving = λ q x here. let moving = was.moving q x here in record { number = moving.number; leaves = moving.leaves; comes = comes_after moving.number moving.comes };
             both = λ k c f source count d q x z leaves comes here there. was.both k c f source count drained q x z leaves (comes_before source k count d comes) here there;
-            arrived = λ k c d q x leaves comes here. was.arrived k c drained q x leaves (comes_before top.owner k c d comes) here;
+            arrived = λ k c keys d q x leaves comes among here. was.arrived k c keys drained q x leaves (comes_before top.owner k c d comes) among here;
             counted = λ k c f leaves. subst (λ (m : Option Move). IsCounted c f (installed m top.owner k)) is (was.counted k c f leaves);
             copied = λ source k count d comes first. was.copied source k count drained (comes_before source k count d comes) first;
             drained = λ source k count e comes.
@@ -129,10 +129,10 @@ module _ {X : Type 0} {top : SlotEntry} {old : Views X} {one : List ℕ → Opti
           owned = λ named none. idle_leaves none leaves;
           foreign = λ k coming. absurd (leaving_coming leaves coming);
           last = λ k coming. absurd (leaving_coming leaves coming);
-          thawed = λ to k c q is. let frozen = holds.holder.frozen to k c q is in no_some (all_here.empty q) frozen.here;
+          thawed = λ to k c q is. let frozen = holds.holder.frozen to k c q is in no_some (all_here.empty frozen.one) (frozen.here frozen.one frozen.among).1;
           moving = λ q x here. absurd (no_some (all_here.empty q) here);
           both = λ k c f source count d q x z going comes here there. absurd (no_some refl going);
-          arrived = λ k c d q x going comes here. absurd (no_some refl going);
+          arrived = λ k c keys d q x going comes among here. absurd (no_some refl going);
           counted = λ k c f going. absurd (no_some refl going);
           copied = λ source k c d comes first. absurd (leaves_comes leaves.is comes);
           drained = λ source k c e comes. absurd (leaves_comes leaves.is comes);
@@ -149,7 +149,7 @@ module _ {X : Type 0} {top : SlotEntry} {old : Views X} {one : List ℕ → Opti
           thawed = was.thawed;
           moving = λ q x here. absurd (apart (sym (one_target all_here.leaves (was.moving q x here).leaves)));
           both = λ k c f source count d q x z going comes here there. absurd (no_some refl going);
-          arrived = λ k c d q x going comes here. absurd (no_some refl going);
+          arrived = λ k c keys d q x going comes among here. absurd (no_some refl going);
           counted = λ k c f going. absurd (no_some refl going);
           copied = λ source k c d comes first. absurd (apart (sym (one_target all_here.leaves (was.copied source k c d comes first).1)));
           drained = λ source k c e comes. absurd (apart (sym (one_target all_here.leaves (was.drained source k c e comes).leaves)));
@@ -171,7 +171,7 @@ module _ {X : Type 0} {top : SlotEntry} {old : Views X} {one : List ℕ → Opti
 
     sent_end : (s : Sent X) → IsSent top old s → IsSent entry new s
     sent_end (Drained a b k e) was = elim was [ inl over ↦ inl (over_end b k over) | inr live ↦ inl (move_over b k live.leaves) ]
-    sent_end (Copy a b k c q x) was =
+    sent_end (Copy a b k c pairs) was =
         elim was [
           | inl over ↦ inl (over_end b k over)
           | inr live ↦ inl (move_over b k (record { copies = live.copies; frozen = live.frozen; is = live.leaves }))
@@ -250,7 +250,7 @@ module _ {X : Type 0} {top : SlotEntry} {old : Views X} {one : List ℕ → Opti
           thawed = λ to k c q leaves. no_some gone leaves;
           moving = λ q x here. absurd (no_some (taken.deleted named q) here);
           both = λ k c f source count d q x z leaves comes here there. absurd (no_some gone comes);
-          arrived = λ k c d q x leaves comes here. absurd (no_some gone comes);
+          arrived = λ k c keys d q x leaves comes among here. absurd (no_some gone comes);
           counted = λ k c f leaves. subst (IsCounted c f) (none_before k ∙ sym (ap (λ (m : Option Move). installed m top.owner k) gone)) (was_elsewhere.counted k c f leaves);
           copied = λ source k count d comes first. absurd (no_some gone comes);
           drained = λ source k count e comes. absurd (no_some gone comes);
@@ -284,7 +284,7 @@ module _ {X : Type 0} {top : SlotEntry} {old : Views X} {one : List ℕ → Opti
               let comes = moving.comes in
               record { number = moving.number; leaves = moving.leaves; comes = record { from = comes.from; copied = comes.copied; drained = comes.drained; is = move_stays ∙ comes.is } };
           both = λ k c f source count d q x z leaves comes here there. was_elsewhere.both k c f source count d q x z leaves (sym move_stays ∙ comes) (sym (value_stays q) ∙ here) there;
-          arrived = λ k c d q x leaves comes here. value_stays q ∙ was_elsewhere.arrived k c d q x leaves (sym move_stays ∙ comes) here;
+          arrived = λ k c keys d q x leaves comes among here. value_stays q ∙ was_elsewhere.arrived k c keys d q x leaves (sym move_stays ∙ comes) among here;
           counted = λ k c f leaves. subst (λ (m : Option Move). IsCounted c f (installed m top.owner k)) (sym move_stays) (was_elsewhere.counted k c f leaves);
           copied = λ source k count d comes first. was_elsewhere.copied source k count d (sym move_stays ∙ comes) first;
           drained = λ source k count e comes. was_elsewhere.drained source k count e (sym move_stays ∙ comes);

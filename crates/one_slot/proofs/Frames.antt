@@ -78,7 +78,7 @@ module _ {X : Type 0} {top : SlotEntry} {old new : Views X} {one : List ℕ → 
 
   sent_aside : (sent : Sent X) → IsSent top old sent → IsSent top new sent
   sent_aside (Drained from to number epoch) was = either (over_aside to number) (subst (λ (h : View X). IsDrained top h from to number epoch) (sym same_holder)) was
-  sent_aside (Copy from to number count key value) was = either (over_aside to number) (subst (λ (h : View X). IsCopied top h from to number count key value) (sym same_holder)) was
+  sent_aside (Copy from to number count pairs) was = either (over_aside to number) (subst (λ (h : View X). IsCopied top h from to number count pairs) (sym same_holder)) was
   sent_aside (Ack from to number count) was = record {
     last = let grows : (old to).last ≤ (new to).last = last_kept changes aside.last to in omega (arith, was.last);
     got = λ is leaving.
@@ -113,7 +113,7 @@ pub record StaysAhead {X : Type 0} (top : SlotEntry) (before after : View X) (vi
   pub leaves : (to number : ℕ) → IsLeaving before to number → IsLeaving after to number
   pub earlier : (to number : ℕ) → IsLeaving after to number → number ≤ before.last → IsLeaving before to number
   pub empty : (to number : ℕ) → IsLeaving before to number → ((key : List ℕ) → before.value key ≡ None) → (key : List ℕ) → after.value key ≡ None
-  pub copied : (from to number count : ℕ) (key : List ℕ) (value : X) → IsCopied top before from to number count key value → IsCopied top after from to number count key value
+  pub copied : (from to number count : ℕ) (pairs : List (List ℕ × X)) → IsCopied top before from to number count pairs → IsCopied top after from to number count pairs
   pub told : (to number : ℕ) → IsLeaving before to number → (keys : List (List ℕ))
       → ((key : List ℕ) → Contains keys key → before.value key ≡ None) → (key : List ℕ) → Contains keys key → after.value key ≡ None
 
@@ -150,7 +150,7 @@ module _ {X : Type 0} {top : SlotEntry} {old new : Views X} {one : List ℕ → 
 
   sent_ahead : (sent : Sent X) → IsSent top old sent → IsSent top new sent
   sent_ahead (Drained from to number epoch) was = either (over_ahead to number) (λ live. subst (λ (h : View X). IsDrained top h from to number epoch) (sym changes.here) (drained_ahead from to number epoch live)) was
-  sent_ahead (Copy from to number count key value) was = either (over_ahead to number) (λ live. subst (λ (h : View X). IsCopied top h from to number count key value) (sym changes.here) (ahead.copied from to number count key value live)) was
+  sent_ahead (Copy from to number count pairs) was = either (over_ahead to number) (λ live. subst (λ (h : View X). IsCopied top h from to number count pairs) (sym changes.here) (ahead.copied from to number count pairs live)) was
   sent_ahead (Ack from to number count) was = record {
     last = let grows : (old to).last ≤ (new to).last = last_kept changes ahead.last to in omega (arith, was.last);
     got = got_ahead from to number count was;

@@ -1,10 +1,12 @@
 -- Two keys are one or not, and a key is one of several or not.
-use Rattle.std.proofs.Common.{◌≡◌, ◌≢◌, ◌⊎◌, ℕ, Bool, true, List, Contains, subst, inl, inr}
+use Rattle.std.proofs.Common.{◌≡◌, ◌≢◌, ◌<◌, ◌⊎◌, ℕ, Bool, true, List, Contains, sym, ap, subst, ◌∙◌, inl, inr}
+use Rattle.std.specs.Map.{keys_of}
 use Rattle.std.proofs.lemmas.Bool.{both_ways, cases_Bool}
 use Rattle.std.proofs.lemmas.Cmp.{eq_by_cmp_equiv, nat_list_cmp_total}
 use Rattle.std.proofs.lemmas.Map.Lookups.{exact_bytes}
 use Rattle.std.proofs.lemmas.Map.Views.{tells_apart, Contains-from_any, list_any-from_Contains}
 use Rattle.std.specs.Cmp.Lexicographic.{slice_cmp}
+use Rattle.std.proofs.lemmas.List.{get_or-map, length-map}
 use Rattle.std.specs.List.{list_any}
 use Rattle.std.specs.Ordering.{nat_cmp, eq_by_cmp}
 
@@ -30,3 +32,11 @@ among_or_not keys key =
       | inl found ↦ inl (Contains-from_any is_key-same key keys found)
       | inr none ↦ inr (λ among. both_ways (list_any (is_key key) keys) none (list_any-from_Contains (eq_by_cmp_equiv nat_list_cmp_total) key keys among))
     ]
+
+-- the key of a pair is one of the keys
+pub Contains-keys : {X : Type 0} (pairs : List (List ℕ × X)) (key : List ℕ) (x : X) → Contains pairs (key, x) → Contains (keys_of pairs) key
+Contains-keys {X} pairs key x (place, within, is) = (
+  place,
+  subst (λ (n : ℕ). place < n) (sym (length-map pairs (λ (e : List ℕ × X). e.0))) within,
+  get_or-map (λ (e : List ℕ × X). e.0) pairs place (key, x) key within ∙ ap (λ (e : List ℕ × X). e.0) is,
+)

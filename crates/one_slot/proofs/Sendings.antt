@@ -1,12 +1,13 @@
 -- What a node sends or tells of a slot is true as it does so.
 use Rattle.std.proofs.Common.{◌≡◌, ◌≢◌, ◌≤◌, ℕ, List, Option, Some, None, refl, sym, ap, subst, ◌∙◌, inl, inr, arith}
 use Rattle.std.proofs.lemmas.Bool.{cases_eq}
+use Rattle.std.specs.Map.{keys_of}
 use Rattle.slot_table.specs.declared.entry.SlotEntry.{SlotEntry}
 use Rattle.slot_state.specs.declared.running.Move.{Move}
 use Rattle.slot_state.specs.declared.running.Move.TheVariants.{Leaves, Comes}
 use Rattle.one_slot.specs.View.{Views}
 use Rattle.one_slot.specs.Slot.{Holds, IsLeaving, IsComing, installed}
-use Rattle.one_slot.specs.Sent.{Drained, Copy, Ack, Claimed, Told, IsCopied, IsSent}
+use Rattle.one_slot.specs.Sent.{HasAll, Drained, Copy, Ack, Claimed, Told, IsCopied, IsSent}
 use Rattle.one_slot.specs.Events.{CopyIsSent, IsEmptied, IsAsked}
 use Rattle.one_slot.proofs.ViewLemmas.{same_some, leaving_coming, installed_here}
 
@@ -27,19 +28,19 @@ module _ {X : Type 0} {top : SlotEntry} {views : Views X} {one : List ℕ → Op
   pub target_apart : (to number : ℕ) → IsLeaving (views top.owner) to number → to ≢ top.owner
   target_apart = holds.holder.other
 
-  -- the copy of a frozen key
-  pub copy-is_sent : (n to number copies : ℕ) (key : List ℕ) (value : X) → CopyIsSent (views n) to number copies key value → IsSent top views (Copy n to number copies key value)
-  copy-is_sent n to number copies key value sending =
-      let same : n ≡ top.owner = leaving_holds n to number (record { copies = copies; frozen = Some key; is = sending.move }) key value sending.here in
-      let leaves : (views top.owner).move ≡ Some (Leaves to number copies (Some key)) = subst (λ (i : ℕ). (views i).move ≡ Some (Leaves to number copies (Some key))) same sending.move in
+  -- the copy of the frozen keys
+  pub copy-is_sent : (n to number copies : ℕ) (pairs : List (List ℕ × X)) → CopyIsSent (views n) to number copies pairs → IsSent top views (Copy n to number copies pairs)
+  copy-is_sent n to number copies pairs sending =
+      let same : n ≡ top.owner = leaving_holds n to number (record { copies = copies; frozen = Some (keys_of pairs); is = sending.move }) sending.one (sending.each sending.one sending.among).0 (sending.each sending.one sending.among).1 in
+      let leaves : (views top.owner).move ≡ Some (Leaves to number copies (Some (keys_of pairs))) = subst (λ (i : ℕ). (views i).move ≡ Some (Leaves to number copies (Some (keys_of pairs)))) same sending.move in
       inr (record {
         source = same;
         copies = copies;
-        frozen = Some key;
+        frozen = Some (keys_of pairs);
         leaves = leaves;
-        first = (holds.holder.frozen to number copies key leaves).first;
+        first = (holds.holder.frozen to number copies (keys_of pairs) leaves).first;
         made = omega arith;
-        newest = λ outstanding at is. (same_some is refl, subst (λ (i : ℕ). (views i).value key ≡ Some value) same sending.here);
+        newest = λ outstanding at is. (same_some is refl, subst (λ (i : ℕ). HasAll (views i).value pairs) same sending.here);
       })
 
   -- a slot that leaves has no key left
@@ -75,19 +76,19 @@ module _ {X : Type 0} {top : SlotEntry} {views : Views X} {one : List ℕ → Op
       ]
 
   -- a copy that comes to a node importing under its number is of the move that goes on
-  pub live_copy : (from n number count : ℕ) (key : List ℕ) (value : X) → IsComing (views n) number → IsSent top views (Copy from n number count key value)
-      → IsCopied top (views top.owner) from n number count key value
-  live_copy from n number count key value coming sent =
+  pub live_copy : (from n number count : ℕ) (pairs : List (List ℕ × X)) → IsComing (views n) number → IsSent top views (Copy from n number count pairs)
+      → IsCopied top (views top.owner) from n number count pairs
+  live_copy from n number count pairs coming sent =
       elim sent [
         | inl over ↦ absurd (over.ended coming)
         | inr live ↦ live
       ]
 
   -- the acknowledgement of a copy that is installed
-  pub ack-is_sent : (n from number count copied : ℕ) (drained : Option ℕ) (key : List ℕ) (value : X) → (views n).move ≡ Some (Comes from number copied drained) → count ≤ copied
-      → IsSent top views (Copy from n number count key value) → IsSent top views (Ack n from number count)
-  ack-is_sent n from number count copied drained key value is old sent =
-      let live = live_copy from n number count key value (record { from = from; copied = copied; drained = drained; is = is }) sent in
+  pub ack-is_sent : (n from number count copied : ℕ) (drained : Option ℕ) (pairs : List (List ℕ × X)) → (views n).move ≡ Some (Comes from number copied drained) → count ≤ copied
+      → IsSent top views (Copy from n number count pairs) → IsSent top views (Ack n from number count)
+  ack-is_sent n from number count copied drained pairs is old sent =
+      let live = live_copy from n number count pairs (record { from = from; copied = copied; drained = drained; is = is }) sent in
       let leaving : IsLeaving (views top.owner) n number = record { copies = live.copies; frozen = live.frozen; is = live.leaves } in
       let number_is : number ≡ (views from).last = subst (λ (i : ℕ). number ≡ (views i).last) (sym live.source) (holds.holder.last n number leaving) in
       record {

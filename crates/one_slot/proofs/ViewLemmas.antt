@@ -32,17 +32,17 @@ pub named_entry : (o : Option SlotEntry) (n : ℕ) → owner_in o ≡ Some n →
 named_entry None n named = absurd (no_some refl named)
 named_entry (Some entry) n named = (entry, refl, same_some refl named)
 
-pub leaves_comes : {m : Option Move} {to a b from c d : ℕ} {f : Option (List ℕ)} {g : Option ℕ} → m ≡ Some (Leaves to a b f) → m ≡ Some (Comes from c d g) → ⊥
+pub leaves_comes : {m : Option Move} {to a b from c d : ℕ} {f : Option (List (List ℕ))} {g : Option ℕ} → m ≡ Some (Leaves to a b f) → m ≡ Some (Comes from c d g) → ⊥
 leaves_comes leaves comes = cc
 
 -- the parts of a move that leaves
-pub record SameLeaves (to a b : ℕ) (f : Option (List ℕ)) (other c d : ℕ) (g : Option (List ℕ)) : Type 0 where
+pub record SameLeaves (to a b : ℕ) (f : Option (List (List ℕ))) (other c d : ℕ) (g : Option (List (List ℕ))) : Type 0 where
   pub target : to ≡ other
   pub number : a ≡ c
   pub copies : b ≡ d
   pub frozen : f ≡ g
 
-pub same_leaves : {m : Option Move} {to a b other c d : ℕ} {f g : Option (List ℕ)} → m ≡ Some (Leaves to a b f) → m ≡ Some (Leaves other c d g) → SameLeaves to a b f other c d g
+pub same_leaves : {m : Option Move} {to a b other c d : ℕ} {f g : Option (List (List ℕ))} → m ≡ Some (Leaves to a b f) → m ≡ Some (Leaves other c d g) → SameLeaves to a b f other c d g
 same_leaves one two = record { target = cc; number = cc; copies = cc; frozen = cc }
 
 -- the parts of a move that comes

@@ -1,7 +1,7 @@
 -- A worked run of three nodes and more: node 0 has a slot and takes a key, and the slot moves to node 1.
 use Rattle.std.proofs.Common.{◌≡◌, ◌≢◌, ◌==◌, ℕ, Bool, cond, List, [], ◌∷◌, Option, Some, None, Contains, codes, refl, sym, ap, subst, ◌∙◌, inl, inr, arith}
 use Rattle.std.proofs.lemmas.Bool.{cases_Bool, eq-eqb, ne_eqb}
-use Rattle.std.proofs.lemmas.List.Elements.{Contains-get_or}
+use Rattle.std.proofs.lemmas.List.Elements.{Contains-get_or, Contains-push_cases}
 use Rattle.slot_table.specs.declared.entry.SlotEntry.{SlotEntry}
 use Rattle.one_slot.specs.View.{View, Views}
 use Rattle.one_slot.specs.Sent.{Sent, Drained, Copy, Ack, Claimed, Told, IsSent}
@@ -42,6 +42,18 @@ at_foo-other value key other =
 
 foo_among : (key : List ℕ) → key ≡ foo → Contains (foo ∷ []) key
 foo_among key same = subst (Contains (foo ∷ [])) (sym same) (Contains-get_or (foo ∷ []) 0 foo (omega arith))
+
+one_element : {A : Type 0} (x y : A) → Contains (x ∷ []) y → x ≡ y
+one_element x y among = elim (Contains-push_cases [] x y among) [ inl none ↦ absurd (omega (arith, none.1)) | inr same ↦ same ]
+
+at_foo-only : (value : ℕ) (key : List ℕ) → Contains (foo ∷ []) key → at_foo value key ≡ Some value
+at_foo-only value key among = subst (λ (k : List ℕ). at_foo value k ≡ Some value) (one_element foo key among) refl
+
+at_foo-pair : (key : List ℕ) (x : ℕ) → Contains {X = List ℕ × ℕ} ((foo, 7) ∷ []) (key, x) → at_foo 7 key ≡ Some x
+at_foo-pair key x among = subst (λ (p : List ℕ × ℕ). at_foo 7 p.0 ≡ Some p.1) (one_element {A = List ℕ × ℕ} (foo, 7) (key, x) among) refl
+
+foo_pair : (key : List ℕ) → Contains (foo ∷ []) key → Contains {X = List ℕ × ℕ} ((foo, 7) ∷ []) (key, 7)
+foo_pair key among = subst (λ (k : List ℕ). Contains {X = List ℕ × ℕ} ((foo, 7) ∷ []) (k, 7)) (one_element foo key among) (0, omega arith, refl)
 
 -- SET foo, where no other key is
 sets_foo : (old : List ℕ → Option ℕ) (value : ℕ) → ((key : List ℕ) → key ≢ foo → old key ≡ None) → IsServed old (at_foo value) old (at_foo value) (foo ∷ [])
@@ -89,35 +101,39 @@ keeps_3 = import_begins-keeps keeps_2.holds 1 0 5 (record { idle = refl; owner =
 
 -- the key is copied: ordered, installed, acknowledged
 abbrev views_4 : Views ℕ
-views_4 = place views_3 0 (copy_ordered (views_3 0) 1 5 0 foo)
+views_4 = place views_3 0 (copy_ordered (views_3 0) 1 5 0 (foo ∷ []))
 
 keeps_4 : Keeps entry_0 entry_0 views_3 views_4 (at_foo 7)
-keeps_4 = copy_ordered-keeps keeps_3.holds 0 1 5 0 foo 7 (record { move = refl; here = refl }) (placed views_3 0 _)
+keeps_4 =
+    copy_ordered-keeps keeps_3.holds 0 1 5 0 (foo ∷ [])
+    (record { move = refl; one = foo; among = foo_among foo refl; here = λ key among. (7, at_foo-only 7 key among) }) (placed views_3 0 _)
 
 abbrev the_copy : Sent ℕ
-the_copy = Copy 0 1 5 1 foo 7
+the_copy = Copy 0 1 5 1 ((foo, 7) ∷ [])
 
 copy_4 : IsSent entry_0 views_4 the_copy
-copy_4 = copy-is_sent keeps_4.holds 0 1 5 1 foo 7 (record { move = refl; here = refl })
+copy_4 =
+    copy-is_sent keeps_4.holds 0 1 5 1 ((foo, 7) ∷ [])
+    (record { move = refl; one = foo; among = foo_among foo refl; here = λ key x among. at_foo-pair key x among; each = λ key among. (7, at_foo-only 7 key among) })
 
 abbrev views_5 : Views ℕ
 views_5 = place views_4 1 (copy_installed (views_4 1) 0 5 0 None (at_foo 7))
 
 keeps_5 : Keeps entry_0 entry_0 views_4 views_5 (at_foo 7)
 keeps_5 =
-    copy_installed-keeps keeps_4.holds 1 0 5 0 None foo 7 (at_foo 7) refl copy_4
-    (record { at = refl; rest = λ key other. at_foo-other 7 key other }) (placed views_4 1 _)
+    copy_installed-keeps keeps_4.holds 1 0 5 0 None ((foo, 7) ∷ []) (at_foo 7) refl copy_4
+    (record { at = λ key among. (7, foo_pair key among, at_foo-only 7 key among); rest = λ key other. at_foo-other 7 key (λ same. other (foo_among key same)) }) (placed views_4 1 _)
 
 ack_5 : IsSent entry_0 views_5 (Ack 1 0 5 1)
-ack_5 = ack-is_sent keeps_5.holds 1 0 5 1 1 None foo 7 refl (omega arith) (keeps_5.sent the_copy copy_4)
+ack_5 = ack-is_sent keeps_5.holds 1 0 5 1 1 None ((foo, 7) ∷ []) refl (omega arith) (keeps_5.sent the_copy copy_4)
 
 abbrev views_6 : Views ℕ
 views_6 = place views_5 0 (copy_acknowledged (views_5 0) 1 5 1 nothing)
 
 keeps_6 : Keeps entry_0 entry_0 views_5 views_6 (at_foo 7)
 keeps_6 =
-    copy_acknowledged-keeps keeps_5.holds 0 1 5 1 foo nothing refl ack_5
-    (record { at = refl; rest = λ key other. sym (at_foo-other 7 key other) }) (placed views_5 0 _)
+    copy_acknowledged-keeps keeps_5.holds 0 1 5 1 (foo ∷ []) nothing refl ack_5
+    (record { at = λ key among. refl; rest = λ key other. sym (at_foo-other 7 key (λ same. other (foo_among key same))) }) (placed views_5 0 _)
 
 -- node 0 says that it has no key left, and the import ends
 drained_6 : IsSent entry_0 views_6 (Drained 0 1 5 1)

@@ -1,13 +1,14 @@
 -- What may happen to a slot at one node (Redis Cluster specification, "Cluster live reconfiguration", "ASK redirection",
 -- "Hash slots configuration propagation"; that moves and copies have numbers is ours).
 use Rattle.std.specs.Prelude.{◌≡◌, ◌≢◌, ◌<◌, ◌+◌, ℕ, true, List, Option, Some, None, Contains}
+use Rattle.std.specs.Map.{keys_of}
 use Rattle.slot_table.specs.declared.entry.SlotEntry.{SlotEntry}
 use Rattle.slot_table.specs.Table.{owner_in}
 use Rattle.slot_table.specs.Claims.{is_above}
 use Rattle.slot_state.specs.declared.running.Move.TheVariants.{Leaves, Comes}
 use Rattle.one_slot.specs.View.{View, Views}
-use Rattle.one_slot.specs.Slot.{Holds, IsLeaving}
-use Rattle.one_slot.specs.Sent.{Sent, IsSent}
+use Rattle.one_slot.specs.Slot.{Freezes, Holds, IsLeaving}
+use Rattle.one_slot.specs.Sent.{HasAll, Sent, IsSent}
 
 -- the slot is another at one node, and at no other
 pub record Changes {X : Type 0} (old new : Views X) (node : ℕ) (view : View X) : Type 0 where
@@ -19,10 +20,15 @@ pub record Keeps {X : Type 0} (top newest : SlotEntry) (old new : Views X) (one 
   pub holds : Holds newest new one
   pub sent : (sent : Sent X) → IsSent top old sent → IsSent newest new sent
 
--- values are the old ones but at one key
-pub record Puts {X : Type 0} (old new : List ℕ → Option X) (key : List ℕ) (value : Option X) : Type 0 where
-  pub at : new key ≡ value
-  pub rest : (other : List ℕ) → other ≢ key → new other ≡ old other
+-- values are the old ones but at the keys of these pairs, each of which has a value that it has among them
+pub record Puts {X : Type 0} (old new : List ℕ → Option X) (pairs : List (List ℕ × X)) : Type 0 where
+  pub at : (key : List ℕ) → Contains (keys_of pairs) key → (x : X) × Contains pairs (key, x) × (new key ≡ Some x)
+  pub rest : (key : List ℕ) → ¬ Contains (keys_of pairs) key → new key ≡ old key
+
+-- values are the old ones but at these keys, which are gone
+pub record Removes {X : Type 0} (old new : List ℕ → Option X) (keys : List (List ℕ)) : Type 0 where
+  pub at : (key : List ℕ) → Contains keys key → new key ≡ None
+  pub rest : (key : List ℕ) → ¬ Contains keys key → new key ≡ old key
 
 -- ---- the start
 
@@ -64,19 +70,24 @@ migration_begun view to number = record view { move = Some (Leaves to number 0 N
 
 -- ---- copies
 
--- the next copy of a move is made, of a key that is there
-pub record CopyIsOrdered {X : Type 0} (view : View X) (to number copies : ℕ) (key : List ℕ) (value : X) : Type 0 where
+-- the next copy of a move is made, of one key or several, all of them there
+pub record CopyIsOrdered {X : Type 0} (view : View X) (to number copies : ℕ) (keys : List (List ℕ)) : Type 0 where
   pub move : view.move ≡ Some (Leaves to number copies None)
-  pub here : view.value key ≡ Some value
+  pub one : List ℕ
+  pub among : Contains keys one
+  pub here : (key : List ℕ) → Contains keys key → (x : X) × (view.value key ≡ Some x)
 
--- its key is frozen
-abbrev pub copy_ordered : {X : Type 0} → View X → ℕ → ℕ → ℕ → List ℕ → View X
-copy_ordered view to number copies key = record view { move = Some (Leaves to number (copies + 1) (Some key)) }
+-- its keys are frozen
+abbrev pub copy_ordered : {X : Type 0} → View X → ℕ → ℕ → ℕ → List (List ℕ) → View X
+copy_ordered view to number copies keys = record view { move = Some (Leaves to number (copies + 1) (Some keys)) }
 
--- the last copy of a move is sent, the first time or again, with the value that the key has
-pub record CopyIsSent {X : Type 0} (view : View X) (to number copies : ℕ) (key : List ℕ) (value : X) : Type 0 where
-  pub move : view.move ≡ Some (Leaves to number copies (Some key))
-  pub here : view.value key ≡ Some value
+-- the last copy of a move is sent, the first time or again, with the values that the keys have
+pub record CopyIsSent {X : Type 0} (view : View X) (to number copies : ℕ) (pairs : List (List ℕ × X)) : Type 0 where
+  pub move : view.move ≡ Some (Leaves to number copies (Some (keys_of pairs)))
+  pub one : List ℕ
+  pub among : Contains (keys_of pairs) one
+  pub here : HasAll view.value pairs
+  pub each : (key : List ℕ) → Contains (keys_of pairs) key → (x : X) × (view.value key ≡ Some x)
 
 -- a slot that leaves has no key left, and has that epoch in the table
 pub record IsEmptied {X : Type 0} (view : View X) (to number epoch : ℕ) : Type 0 where
@@ -89,7 +100,7 @@ pub record IsEmptied {X : Type 0} (view : View X) (to number epoch : ℕ) : Type
 abbrev pub copy_installed : {X : Type 0} → View X → ℕ → ℕ → ℕ → Option ℕ → (List ℕ → Option X) → View X
 copy_installed view from number copied drained values = record view { move = Some (Comes from number (copied + 1) drained); value = values }
 
--- the key whose copy was acknowledged is deleted
+-- the keys whose copy was acknowledged are deleted
 abbrev pub copy_acknowledged : {X : Type 0} → View X → ℕ → ℕ → ℕ → (List ℕ → Option X) → View X
 copy_acknowledged view to number copies values = record view { move = Some (Leaves to number copies None); value = values }
 
@@ -134,9 +145,9 @@ abbrev pub served : {X : Type 0} → View X → (List ℕ → Option X) → View
 served view values = record view { value = values }
 
 -- all keys are there, and none is frozen
-pub record AreFree {X : Type 0} (view : View X) (frozen : Option (List ℕ)) (keys : List (List ℕ)) : Type 0 where
+pub record AreFree {X : Type 0} (view : View X) (frozen : Option (List (List ℕ))) (keys : List (List ℕ)) : Type 0 where
   pub here : (key : List ℕ) → Contains keys key → (x : X) × (view.value key ≡ Some x)
-  pub thawed : (key : List ℕ) → frozen ≡ Some key → ¬ Contains keys key
+  pub thawed : (key : List ℕ) → Freezes frozen key → ¬ Contains keys key
 
 -- the owner serves, where it has no move
 pub record OwnerServes {X : Type 0} (node : ℕ) (view : View X) : Type 0 where
@@ -150,7 +161,7 @@ pub record LeavingServes {X : Type 0} (view : View X) (keys : List (List ℕ)) :
   pub to : ℕ
   pub number : ℕ
   pub copies : ℕ
-  pub frozen : Option (List ℕ)
+  pub frozen : Option (List (List ℕ))
   pub move : view.move ≡ Some (Leaves to number copies frozen)
   pub free : AreFree view frozen keys
 

@@ -1,27 +1,28 @@
--- What DEL leaves, for a key that was acknowledged, and for the keys of lost slots; and what makes a copied key.
+-- What DEL leaves, for keys that were acknowledged, and for those of lost slots; and what makes copied keys.
 use Rattle.std.proofs.Common.{◌≡◌, ◌&&◌, ℕ, Bool, true, false, cond, not, List, [], ◌∷◌, map, Option, Some, None, refl, sym, ap, ◌∙◌}
 use Rattle.std.proofs.lemmas.Bool.{both_ways}
 use Rattle.std.proofs.lemmas.Cmp.{nat_list_cmp_total, eq_by_cmp_equiv}
-use Rattle.std.proofs.lemmas.List.Elements.{All-head, All-tail}
 use Rattle.std.proofs.lemmas.Map.Lookups.{exact_bytes}
 use Rattle.std.specs.FinMap as fin_map
 use Rattle.std.specs.List.{list_any}
-use Rattle.std.specs.Prelude.{◌||◌, All, filter, is_some}
+use Rattle.std.specs.Prelude.{◌||◌, ◌++◌, filter, is_some}
 use Rattle.keyspace.proofs.Applied.{is_key, is_key-same, same}
 use Rattle.keyspace.proofs.Rebuilt.{rebuilt}
 use Rattle.keyspace.specs.Commands.{exec_words, replay_from}
 use Rattle.keyspace.specs.Keyspace.{Keyspace}
-use Rattle.keyspace.specs.Rebuild.{IsStored}
+use Rattle.keyspace.specs.Replay.{HasRequest}
 use Rattle.keyspace.specs.Rebuilding.{rebuilding}
 use Rattle.keyspace.specs.declared.value.Value.{Value}
-use Rattle.migrate.specs.declared.arriving.ArrivalVerdict.TheVariants.{Installs}
-use Rattle.resp_values.specs.Request.{IsRequest}
-use Rattle.node_step.specs.Streams.{deletion, written_by_copy}
+use Rattle.node_step.proofs.Lists.{contains_first, contains_more}
+use Rattle.node_step.specs.Copies.{with_copied, without}
+use Rattle.node_step.specs.Streams.{Requests, deletion, written_by_pair, written_by_pairs}
+use Rattle.promoted_prefix.proofs.Growing.{HaveRequests}
 
--- ---- one key
+-- ---- keys in a list
 
-pub deleted_is : (keyspace : Keyspace) (key : List ℕ) → (exec_words keyspace (deletion key)).after ≡ fin_map.remove keyspace key
-deleted_is keyspace key = refl
+pub taken_out : (keyspace : Keyspace) (keys : List (List ℕ)) → without keyspace keys ≡ (replay_from keyspace (map deletion keys)).last
+taken_out keyspace [] = refl
+taken_out keyspace (key ∷ keys) = taken_out (fin_map.remove keyspace key) keys
 
 -- ---- some keys
 
@@ -73,7 +74,7 @@ all_deleted keyspace lost = same _ _ (λ q.
     ∙ ap (λ b. cond b None (fin_map.get keyspace q)) (sym (any_lost lost q (fin_map.keys keyspace)))
     ∙ sym (deletions_leave keyspace (filter lost (fin_map.keys keyspace)) q))
 
--- ---- a copied key
+-- ---- copied keys
 
 put_over : (keyspace : Keyspace) (key : List ℕ) (value : Value) → fin_map.insert (fin_map.remove keyspace key) key value ≡ fin_map.insert keyspace key value
 put_over keyspace key value = same _ _ (λ q.
@@ -89,14 +90,24 @@ put_over keyspace key value = same _ _ (λ q.
 gone : (keyspace : Keyspace) (key : List ℕ) → fin_map.get (fin_map.remove keyspace key) key ≡ None
 gone keyspace key = fin_map.get-remove nat_list_cmp_total keyspace key key ∙ ap (λ b. cond b None (fin_map.get keyspace key)) ((eq_by_cmp_equiv nat_list_cmp_total).refl key)
 
-pub copied_is : (keyspace : Keyspace) (key : List ℕ) (value : Value) → IsStored value → All IsRequest (written_by_copy keyspace key value Installs)
-    → fin_map.insert keyspace key value ≡ (replay_from keyspace (written_by_copy keyspace key value Installs)).last
-copied_is keyspace key value stored are = by_there (fin_map.get keyspace key) refl are
+-- one that is put
+put_is : (keyspace : Keyspace) (key : List ℕ) (value : Value) → HasRequest (key, value) → fin_map.insert keyspace key value ≡ (replay_from keyspace (written_by_pair keyspace key value)).last
+put_is keyspace key value has = by_there (fin_map.get keyspace key) refl
   where
-    by_there : (o : Option Value) → fin_map.get keyspace key ≡ o → All IsRequest (cond (is_some o) (deletion key ∷ rebuilding key value ∷ []) (rebuilding key value ∷ []))
+    by_there : (o : Option Value) → fin_map.get keyspace key ≡ o
         → fin_map.insert keyspace key value ≡ (replay_from keyspace (cond (is_some o) (deletion key ∷ rebuilding key value ∷ []) (rebuilding key value ∷ []))).last
-    by_there None none are = sym (rebuilt keyspace key value none stored (All-head IsRequest (rebuilding key value) [] are))
-    by_there (Some old) there are =
-        sym (put_over keyspace key value)
-        ∙ sym (rebuilt (fin_map.remove keyspace key) key value (gone keyspace key) stored
-        (All-head IsRequest (rebuilding key value) [] (All-tail IsRequest (deletion key) (rebuilding key value ∷ []) are)))
+    by_there None none = sym (rebuilt keyspace key value none has.0 has.1)
+    by_there (Some old) there = sym (put_over keyspace key value) ∙ sym (rebuilt (fin_map.remove keyspace key) key value (gone keyspace key) has.0 has.1)
+
+pub replayed : (requests others : Requests) (keyspace : Keyspace) → (replay_from keyspace (requests ++ others)).last ≡ (replay_from (replay_from keyspace requests).last others).last
+replayed [] others keyspace = refl
+replayed (words ∷ requests) others keyspace = replayed requests others (exec_words keyspace words).after
+
+-- and several, one after another
+pub copied_are : (keyspace : Keyspace) (pairs : List (List ℕ × Value)) → HaveRequests pairs → with_copied keyspace pairs ≡ (replay_from keyspace (written_by_pairs keyspace pairs)).last
+copied_are keyspace [] have = refl
+copied_are keyspace (pair ∷ pairs) have =
+    let next : Keyspace = fin_map.insert keyspace pair.0 pair.1 in
+    copied_are next pairs (λ key value among. have key value (contains_more {X = List ℕ × Value} pair (key, value) pairs among))
+    ∙ ap (λ (m : Keyspace). (replay_from m (written_by_pairs next pairs)).last) (put_is keyspace pair.0 pair.1 (have pair.0 pair.1 (contains_first {X = List ℕ × Value} pair pairs)))
+    ∙ sym (replayed (written_by_pair keyspace pair.0 pair.1) (written_by_pairs next pairs) keyspace)

@@ -88,7 +88,7 @@ pub record StepStands (full more : FullStreams) (n : ℕ) (outcome : Outcome) : 
   pub begins : BeginsSo full outcome.state outcome.promoted
 
 slots_sound : (full : FullStreams) (own : NodeState) → CanBeMade own.keyspace → (said : Body) → IsOfSlots own said → IsSound full said
-slots_sound full own can (body.Copy slot number copy key value) of = subst (IsLeft key) of (can key)
+slots_sound full own can (body.Copy slot number copy pairs) of = λ key value among. subst (IsLeft key) (of key value among) (can key)
 slots_sound full own can (body.Ack slot number copy) of = tt
 slots_sound full own can (body.Drained slot number epoch) of = tt
 slots_sound full own can (body.Claim slots replaced) of = tt
@@ -282,9 +282,9 @@ module _ (full : FullStreams) (n : ℕ) (node : NodeState) where
 
   taken_stands : NodeStands full n node → (from : ℕ) (choice : Choice) (said : Body) → IsSound full said → MayChoose node from said choice → All IsRequest (written_by_message node from said)
       → StandsBy (written_by_message node from said) (taken node from choice said)
-  taken_stands stands from choice (body.Copy slot number copy key value) sound may are =
-      let does = arrival_is_of_slots (λ s. ⊤) node (λ keyspace table moves current connections. tt) from slot number copy key value in
-      node_writes stands _ _ does.promoted (arrival_leaves node from slot number copy key value sound.0 are) (λ slotless. arrival_stays n node slotless from slot number copy key value) (all_sound full node (node_can full n node stands) _ does.sent) are choice.dropped may.dropped
+  taken_stands stands from choice (body.Copy slot number copy pairs) sound may are =
+      let does = arrival_is_of_slots (λ s. ⊤) node (λ keyspace table moves current connections. tt) from slot number copy pairs in
+      node_writes stands _ _ does.promoted (arrival_leaves node from slot number copy pairs sound) (λ slotless. arrival_stays n node slotless from slot number copy pairs) (all_sound full node (node_can full n node stands) _ does.sent) are choice.dropped may.dropped
   taken_stands stands from choice (body.Ack slot number copy) sound may are =
       let does = acknowledgement_is_of_slots (λ s. ⊤) node (λ keyspace table moves current connections. tt) from slot number copy in
       node_writes stands _ _ does.promoted (acknowledgement_leaves node from slot number copy) (λ slotless. acknowledgement_stays n node slotless from slot number copy) (all_sound full node (node_can full n node stands) _ does.sent) are choice.dropped may.dropped

@@ -1,5 +1,5 @@
--- A key that is frozen is a short word, whatever a step makes of moves.
-use Rattle.std.proofs.Common.{◌≡◌, ◌==◌, ◌&&◌, ℕ, Bool, true, false, cond, not, List, Option, Some, None, is_some, refl, sym, ap, subst}
+-- Keys that are frozen are short words, whatever a step makes of moves.
+use Rattle.std.proofs.Common.{◌≡◌, ◌==◌, ◌&&◌, ℕ, Bool, true, false, cond, not, List, Option, Some, None, Contains, is_some, refl, sym, ap, subst}
 use Rattle.std.proofs.lemmas.Cmp.{nat_cmp_total}
 use Rattle.std.specs.FinMap as fin_map
 use Rattle.std.specs.FinMap.{FinMap, nat_cmp-IsAntisymmetric}
@@ -22,9 +22,8 @@ use Rattle.connections.specs.declared.conn.Conn.{Conn}
 use Rattle.connections.specs.declared.conn.Connection.{Connection}
 use Rattle.election.specs.Electing.{elected}
 use Rattle.election.specs.declared.running.Elected.{Elected}
-use Rattle.key_slot.specs.Slot.{hash_slot}
 use Rattle.keyspace.specs.declared.value.Value.{Value}
-use Rattle.migrate.specs.Acknowledging.{acknowledged_key, frozen_key, unfrozen}
+use Rattle.migrate.specs.Acknowledging.{acknowledged_keys, frozen_keys, unfrozen}
 use Rattle.migrate.specs.Arriving.{arrival_verdict, changed_at, one_more}
 use Rattle.migrate.specs.Draining.{note_drained}
 use Rattle.migrate.specs.Losing.{is_leaving}
@@ -45,12 +44,12 @@ use Rattle.slot_state.specs.declared.running.Move.{Move}
 use Rattle.slot_state.specs.declared.running.Move.TheVariants.{Leaves, Comes}
 use Rattle.slot_table.specs.Claims.{merged}
 use Rattle.slot_table.specs.declared.runs.Run.{Run}
+use Rattle.node_step.proofs.Copied.{are_there}
 use Rattle.node_step.proofs.Kept.{pieced_keeps, recorded_keeps, restored_keeps, synced_is}
 use Rattle.node_step.proofs.Ready.{in_election_keeps, ready_keeps}
-use Rattle.node_step.proofs.Verdicts.{copy_is_next}
 use Rattle.node_step.specs.Claiming.{claim, claimed_by, is_lost}
 use Rattle.node_step.specs.Commands.{command_outcome, decision_on}
-use Rattle.node_step.specs.Copies.{acknowledged, arrived, copy_outcome, copy_verdict_on, keeps_limits, node_at}
+use Rattle.node_step.specs.Copies.{acknowledged, arrived, copy_outcome, copy_verdict_on, first_slot, keep_limits, node_at, those_there}
 use Rattle.node_step.specs.Failing.{a_tick_older, members_of}
 use Rattle.node_step.specs.Messages.{Choice, delivered, ready, taken, taken_so, written_by_message}
 use Rattle.node_step.specs.Orders.{ending_outcome, ending_verdict, import_outcome, migrate_outcome}
@@ -66,14 +65,14 @@ use Rattle.node_step.specs.declared.event.Event.TheVariants.{Open, Close, Reques
 use Rattle.promoted_prefix.proofs.Short.{IsShort}
 use Rattle.promoted_prefix.proofs.Stored.{CanBeMade, key_there_short}
 
--- the key is short, if there is one
-abbrev pub IsShortKey : Option (List ℕ) → Type 0
-IsShortKey None = ⊤
-IsShortKey (Some key) = IsShort key
+-- the keys are short, if there are some
+abbrev pub AreShortKeys : Option (List (List ℕ)) → Type 0
+AreShortKeys None = ⊤
+AreShortKeys (Some keys) = (key : List ℕ) → Contains keys key → IsShort key
 
 -- that is so of each frozen key
 abbrev HasShort : FinMap nat_cmp Move → Type 0
-HasShort running = (slot : ℕ) → IsShortKey (frozen_key (fin_map.get running slot))
+HasShort running = (slot : ℕ) → AreShortKeys (frozen_keys (fin_map.get running slot))
 
 abbrev pub HasShortFrozen : Moves → Type 0
 HasShortFrozen moves = HasShort moves.running
@@ -82,53 +81,53 @@ HasShortFrozen moves = HasShort moves.running
 
 -- none runs yet
 pub none_short : HasShortFrozen no_moves
-none_short slot = subst (λ (o : Option Move). IsShortKey (frozen_key o)) (sym (fin_map.get-empty nat_cmp slot)) tt
+none_short slot = subst (λ (o : Option Move). AreShortKeys (frozen_keys o)) (sym (fin_map.get-empty nat_cmp slot)) tt
 
 module _ (running : FinMap nat_cmp Move) (short : HasShort running) where
-  put : (slot : ℕ) (move : Move) → IsShortKey (frozen_key (Some move)) → HasShort (fin_map.insert running slot move)
-  put slot move key q = subst (λ (o : Option Move). IsShortKey (frozen_key o)) (sym (fin_map.get-insert nat_cmp_total running slot move q)) (by_slot (eq_by_cmp nat_cmp q slot))
+  put : (slot : ℕ) (move : Move) → AreShortKeys (frozen_keys (Some move)) → HasShort (fin_map.insert running slot move)
+  put slot move key q = subst (λ (o : Option Move). AreShortKeys (frozen_keys o)) (sym (fin_map.get-insert nat_cmp_total running slot move q)) (by_slot (eq_by_cmp nat_cmp q slot))
     where
-      by_slot : (b : Bool) → IsShortKey (frozen_key (cond b (Some move) (fin_map.get running q)))
+      by_slot : (b : Bool) → AreShortKeys (frozen_keys (cond b (Some move) (fin_map.get running q)))
       by_slot true = key
       by_slot false = short q
 
-  if_there : (b : Bool) (slot : ℕ) → IsShortKey (frozen_key (cond b (fin_map.get running slot) None))
+  if_there : (b : Bool) (slot : ℕ) → AreShortKeys (frozen_keys (cond b (fin_map.get running slot) None))
   if_there true slot = short slot
   if_there false slot = tt
 
-  if_not_gone : (b : Bool) (slot : ℕ) → IsShortKey (frozen_key (cond b None (fin_map.get running slot)))
+  if_not_gone : (b : Bool) (slot : ℕ) → AreShortKeys (frozen_keys (cond b None (fin_map.get running slot)))
   if_not_gone true slot = tt
   if_not_gone false slot = short slot
 
   gone : (slot : ℕ) → HasShort (fin_map.remove running slot)
-  gone slot q = subst (λ (o : Option Move). IsShortKey (frozen_key o)) (sym (fin_map.get-remove nat_cmp_total running slot q)) (if_not_gone (eq_by_cmp nat_cmp q slot) q)
+  gone slot q = subst (λ (o : Option Move). AreShortKeys (frozen_keys o)) (sym (fin_map.get-remove nat_cmp_total running slot q)) (if_not_gone (eq_by_cmp nat_cmp q slot) q)
 
   some_stay : (stays : ℕ → Bool) → HasShort (fin_map.retain_keys running stays)
   some_stay stays q =
-      subst (λ (o : Option Move). IsShortKey (frozen_key o)) (sym (fin_map.get-retain_keys running stays q (λ x same. ap stays (sym (nat_cmp-IsAntisymmetric q x same))))) (if_there (stays q) q)
+      subst (λ (o : Option Move). AreShortKeys (frozen_keys o)) (sym (fin_map.get-retain_keys running stays q (λ x same. ap stays (sym (nat_cmp-IsAntisymmetric q x same))))) (if_there (stays q) q)
 
 -- a change that freezes no key keeps them short
-changed_short : (moves : Moves) (slot : ℕ) (change : Move → Move) → ((move : Move) → IsShortKey (frozen_key (Some move)) → IsShortKey (frozen_key (Some (change move)))) → HasShortFrozen moves
+changed_short : (moves : Moves) (slot : ℕ) (change : Move → Move) → ((move : Move) → AreShortKeys (frozen_keys (Some move)) → AreShortKeys (frozen_keys (Some (change move)))) → HasShortFrozen moves
     → HasShortFrozen (changed_at moves slot change (move_of moves slot))
 changed_short moves slot change keeps short = by_move (move_of moves slot) (short slot)
   where
-    by_move : (move : Option Move) → IsShortKey (frozen_key move) → HasShortFrozen (changed_at moves slot change move)
+    by_move : (move : Option Move) → AreShortKeys (frozen_keys move) → HasShortFrozen (changed_at moves slot change move)
     by_move None key = short
     by_move (Some move) key = put moves.running short slot (change move) (keeps move key)
 
-one_more_short : (move : Move) → IsShortKey (frozen_key (Some move)) → IsShortKey (frozen_key (Some (one_more move)))
+one_more_short : (move : Move) → AreShortKeys (frozen_keys (Some move)) → AreShortKeys (frozen_keys (Some (one_more move)))
 one_more_short (Comes from number last drained) key = tt
 one_more_short (Leaves to number made frozen) key = key
 
-unfrozen_short : (move : Move) → IsShortKey (frozen_key (Some move)) → IsShortKey (frozen_key (Some (unfrozen move)))
+unfrozen_short : (move : Move) → AreShortKeys (frozen_keys (Some move)) → AreShortKeys (frozen_keys (Some (unfrozen move)))
 unfrozen_short (Comes from number last drained) key = tt
 unfrozen_short (Leaves to number made frozen) key = tt
 
-noted_short : (from number epoch : ℕ) (move : Move) → IsShortKey (frozen_key (Some move)) → IsShortKey (frozen_key (Some (note_drained from number epoch move)))
+noted_short : (from number epoch : ℕ) (move : Move) → AreShortKeys (frozen_keys (Some move)) → AreShortKeys (frozen_keys (Some (note_drained from number epoch move)))
 noted_short from number epoch (Leaves to own made frozen) key = key
 noted_short from number epoch (Comes source own last drained) key = by_test (source == from && own == number)
   where
-    by_test : (b : Bool) → IsShortKey (frozen_key (Some (cond b (Comes source own last (Some epoch)) (Comes source own last drained))))
+    by_test : (b : Bool) → AreShortKeys (frozen_keys (Some (cond b (Comes source own last (Some epoch)) (Comes source own last drained))))
     by_test true = tt
     by_test false = tt
 
@@ -180,16 +179,17 @@ module _ (node : NodeState) (can : CanBeMade node.keyspace) (short : HasShortFro
   order_keeps slot Migrating other number = migrate_keeps slot _
   order_keeps slot Node other number = ending_keeps slot (ending_verdict node slot other number)
 
-  -- a key that is copied is there
-  copy_keeps : (conn : Conn) (key : List ℕ) (ticks : ℕ) (target : Option ℕ) (verdict : CopyVerdict) → copy_verdict_on node key target ≡ verdict → KeepsShort (copy_outcome node conn (hash_slot key) key ticks verdict)
-  copy_keeps conn key ticks target copies.WrongTarget is = short
-  copy_keeps conn key ticks target copies.NoKey is = short
-  copy_keeps conn key ticks target copies.CopyOutstanding is = short
-  copy_keeps conn key ticks target copies.Exhausted is = short
-  copy_keeps conn key ticks target (copies.SendAgain to number copy) is = short
-  copy_keeps conn key ticks target (copies.Copies to number copy) is =
-      let facts = copy_is_next (move_of node.moves (hash_slot key)) target key (is_some (fin_map.get node.keyspace key)) to number copy is in
-      put node.moves.running short (hash_slot key) (Leaves to number copy (Some key)) (key_there_short node.keyspace can key facts.3)
+  -- keys that are copied are there
+  copy_keeps : (conn : Conn) (named : List (List ℕ)) (ticks : ℕ) (target : Option ℕ) (verdict : CopyVerdict) → KeepsShort (copy_outcome node conn (first_slot named) (those_there node.keyspace named) ticks verdict)
+  copy_keeps conn named ticks target copies.CrossSlot = short
+  copy_keeps conn named ticks target copies.WrongTarget = short
+  copy_keeps conn named ticks target copies.NoKey = short
+  copy_keeps conn named ticks target copies.CopyOutstanding = short
+  copy_keeps conn named ticks target copies.Exhausted = short
+  copy_keeps conn named ticks target (copies.SendAgain to number copy) = short
+  copy_keeps conn named ticks target (copies.Copies to number copy) =
+      put node.moves.running short (first_slot named) (Leaves to number copy (Some (those_there node.keyspace named)))
+      (λ key among. key_there_short node.keyspace can key (ap (λ (o : Option Value). is_some o) (are_there node.keyspace named key among).1.1))
 
   cluster_keeps : (conn : Conn) (which : ClusterCommand) → KeepsShort (cluster_outcome node conn which)
   cluster_keeps conn (cluster.KeySlot key) = short
@@ -201,7 +201,7 @@ module _ (node : NodeState) (can : CanBeMade node.keyspace) (short : HasShortFro
   cluster_keeps conn (cluster.SetSlot slot order id number) = order_keeps slot order (node_with_id node id) number
   cluster_keeps conn cluster.Numbered = short
   cluster_keeps conn (cluster.Asking number) = short
-  cluster_keeps conn (cluster.Migrate host port key timeout) = copy_keeps conn key timeout (node_at node host port) (copy_verdict_on node key (node_at node host port)) refl
+  cluster_keeps conn (cluster.Migrate host port keys timeout) = copy_keeps conn keys timeout (node_at node host port) (copy_verdict_on node keys (node_at node host port))
 
   request_keeps : (conn : Conn) (connection : Option Connection) (command : Result Command CommandFault) → KeepsShort (by_command node conn connection command)
   request_keeps conn connection (Err fault) = short
@@ -210,14 +210,14 @@ module _ (node : NodeState) (can : CanBeMade node.keyspace) (short : HasShortFro
 
   -- ---- messages
 
-  arrived_keeps : (from slot number copy : ℕ) (key : List ℕ) (value : Value) (verdict : ArrivalVerdict) → KeepsShort (arrived node from slot number copy key value verdict)
-  arrived_keeps from slot number copy key value Installs = changed_short node.moves slot one_more one_more_short short
-  arrived_keeps from slot number copy key value Repeats = short
-  arrived_keeps from slot number copy key value Ignored = short
+  arrived_keeps : (from slot number copy : ℕ) (pairs : List (List ℕ × Value)) (verdict : ArrivalVerdict) → KeepsShort (arrived node from slot number copy pairs verdict)
+  arrived_keeps from slot number copy pairs Installs = changed_short node.moves slot one_more one_more_short short
+  arrived_keeps from slot number copy pairs Repeats = short
+  arrived_keeps from slot number copy pairs Ignored = short
 
-  acknowledged_keeps : (slot number copy : ℕ) (key : Option (List ℕ)) → KeepsShort (acknowledged node slot number copy key)
+  acknowledged_keeps : (slot number copy : ℕ) (keys : Option (List (List ℕ))) → KeepsShort (acknowledged node slot number copy keys)
   acknowledged_keeps slot number copy None = short
-  acknowledged_keeps slot number copy (Some key) = changed_short node.moves slot unfrozen unfrozen_short short
+  acknowledged_keeps slot number copy (Some keys) = changed_short node.moves slot unfrozen unfrozen_short short
 
   claim_keeps : (from : ℕ) (runs : List (Run ℕ)) → KeepsShort (claim node from runs)
   claim_keeps from runs = by_sender (from == node.number)
@@ -235,9 +235,9 @@ elected_keeps node short None can = short
 elected_keeps node short (Some won) can = promotion_keeps node can short won.epoch (own_master node)
 
 body_keeps : (node : NodeState) → CanBeMade node.keyspace → IsKept node → (from : ℕ) (choice : Choice) (said : Body) → KeepsShort (taken_so node from choice said)
-body_keeps node can short from choice (body.Copy slot number copy key value) =
-    arrived_keeps node can short from slot number copy key value (arrival_verdict (move_of node.moves slot) from number copy (keeps_limits key value))
-body_keeps node can short from choice (body.Ack slot number copy) = acknowledged_keeps node can short slot number copy (acknowledged_key (move_of node.moves slot) from number copy)
+body_keeps node can short from choice (body.Copy slot number copy pairs) =
+    arrived_keeps node can short from slot number copy pairs (arrival_verdict (move_of node.moves slot) from number copy (keep_limits pairs))
+body_keeps node can short from choice (body.Ack slot number copy) = acknowledged_keeps node can short slot number copy (acknowledged_keys (move_of node.moves slot) from number copy)
 body_keeps node can short from choice (body.Drained slot number epoch) = changed_short node.moves slot (note_drained from number epoch) (noted_short from number epoch) short
 body_keeps node can short from choice (body.Claim slots replaced) = claim_keeps node can short from slots
 body_keeps node can short from choice (body.Report suspects) = short

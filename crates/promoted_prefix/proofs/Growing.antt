@@ -1,5 +1,5 @@
 -- What is true of a stream stays true as bytes are put behind it.
-use Rattle.std.proofs.Common.{◌≡◌, ◌≢◌, ◌==◌, ◌+◌, ◌<◌, ℕ, Bool, true, false, cond, List, [], ◌++◌, length, take, drop, Option, Some, None, append-nil, refl, sym, ap, subst, ◌∙◌, inl, inr, arith}
+use Rattle.std.proofs.Common.{◌≡◌, ◌≢◌, ◌==◌, ◌+◌, ◌<◌, ℕ, Bool, true, false, cond, List, [], ◌++◌, length, take, drop, Option, Some, None, Contains, append-nil, refl, sym, ap, subst, ◌∙◌, inl, inr, arith}
 use Rattle.std.proofs.lemmas.Bool.{and_from, and_parts, eq-eqb, eqb-true, cases_Bool}
 use Rattle.std.proofs.lemmas.List.{same_lists, length-append, length-take, length-drop, get_or_append_left, get_or-take, get_or-drop, take-append-le}
 use Rattle.std.specs.Prelude.{⊤}
@@ -8,6 +8,7 @@ use Rattle.bus.specs.declared.message.Body.TheVariants.{Piece, Snapshot}
 use Rattle.bus.specs.declared.message.Body.TheVariants as bodies
 use Rattle.keyspace.specs.Keyspace.{Keyspace, keyspace_of}
 use Rattle.keyspace.specs.Replay.{HasRequest}
+use Rattle.keyspace.specs.declared.value.Value.{Value}
 use Rattle.resp2.specs.Stream.{stream_spelling}
 use Rattle.stream_values.specs.Follower.{Follower}
 use Rattle.stream_values.specs.Piece.{PieceView}
@@ -112,9 +113,13 @@ module _ (full more : FullStreams) (grows : Grows full more) where
       (at_grown (full piece.stream) (grows.rest piece.stream) piece.from piece.bytes (of_part (full piece.stream) piece.from piece.bytes is_true.within is_true.bytes)) in
       record { within = stands.within; bytes = part_of (more piece.stream) piece.from piece.bytes stands; base = base_more piece.stream piece.base is_true.base }
 
--- what a message says of streams is true, and the key of a copy can be made with its value
+-- each key can be made with its value
+abbrev pub HaveRequests : List (List ℕ × Value) → Type 0
+HaveRequests pairs = (key : List ℕ) (value : Value) → Contains {X = List ℕ × Value} pairs (key, value) → HasRequest (key, value)
+
+-- what a message says of streams is true, and the keys of a copy can be made with their values
 abbrev pub IsSound : FullStreams → Body → Type 0
-IsSound full (bodies.Copy slot number copy key value) = HasRequest (key, value)
+IsSound full (bodies.Copy slot number copy pairs) = HaveRequests pairs
 IsSound full (Piece piece) = IsTruePiece full piece
 IsSound full (Snapshot snapshot) = IsTrueSnapshot full snapshot
 IsSound full other = ⊤
@@ -122,7 +127,7 @@ IsSound full other = ⊤
 pub sound_true : (full : FullStreams) (said : Body) → IsSound full said → IsTrueSaid full said
 sound_true full (bodies.Piece piece) sound = sound
 sound_true full (bodies.Snapshot snapshot) sound = sound
-sound_true full (bodies.Copy slot number copy key value) sound = tt
+sound_true full (bodies.Copy slot number copy pairs) sound = tt
 sound_true full (bodies.Ack slot number copy) sound = tt
 sound_true full (bodies.Drained slot number epoch) sound = tt
 sound_true full (bodies.Claim slots replaced) sound = tt
@@ -137,7 +142,7 @@ module _ (full more : FullStreams) (grows : Grows full more) where
   said_more (bodies.Snapshot snapshot) is_true =
       subst (λ (l : List ℕ). IsStateAt l snapshot.offset (keyspace_of snapshot.pairs)) (sym (grows.is snapshot.stream))
       (state_grown (full snapshot.stream) (grows.rest snapshot.stream) snapshot.offset (keyspace_of snapshot.pairs) is_true)
-  said_more (bodies.Copy slot number copy key value) has = has
+  said_more (bodies.Copy slot number copy pairs) has = has
   said_more (bodies.Ack slot number copy) is_true = tt
   said_more (bodies.Drained slot number epoch) is_true = tt
   said_more (bodies.Claim slots replaced) is_true = tt

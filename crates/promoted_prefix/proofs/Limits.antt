@@ -1,7 +1,7 @@
 -- What a step writes keeps the limits of requests.
-use Rattle.std.proofs.Common.{◌≡◌, ◌==◌, ◌||◌, ℕ, Bool, true, false, cond, List, [], ◌∷◌, map, Option, Some, None, is_some, codes, refl, sym, ap, subst, ◌∙◌, arith}
+use Rattle.std.proofs.Common.{◌≡◌, ◌==◌, ◌||◌, ℕ, Bool, true, false, cond, List, [], ◌∷◌, map, Option, Some, None, Contains, is_some, codes, refl, sym, ap, subst, ◌∙◌, arith}
 use Rattle.std.proofs.lemmas.Cmp.{nat_list_cmp_total, eq_by_cmp_equiv}
-use Rattle.std.proofs.lemmas.List.Elements.{All-cons, All-nil}
+use Rattle.std.proofs.lemmas.List.Elements.{All-append, All-cons, All-nil}
 use Rattle.std.specs.FinMap as fin_map
 use Rattle.std.specs.List.{AllByRecursion, list_any}
 use Rattle.std.specs.Prelude.{All, Result, filter}
@@ -16,7 +16,7 @@ use Rattle.keyspace.specs.Rebuilding.{rebuilding}
 use Rattle.keyspace.specs.Replay.{HasRequest}
 use Rattle.keyspace.specs.declared.value.Value.{Value}
 use Rattle.migrate.proofs.Verdicts.{acknowledged_is_frozen}
-use Rattle.migrate.specs.Acknowledging.{acknowledged_key, frozen_key}
+use Rattle.migrate.specs.Acknowledging.{acknowledged_keys, frozen_keys}
 use Rattle.migrate.specs.Arriving.{arrival_verdict}
 use Rattle.migrate.specs.declared.arriving.ArrivalVerdict.{ArrivalVerdict}
 use Rattle.migrate.specs.declared.arriving.ArrivalVerdict.TheVariants.{Installs, Repeats, Ignored}
@@ -28,15 +28,16 @@ use Rattle.slot_table.specs.declared.runs.Run.{Run}
 use Rattle.stream_values.specs.Follower.{Follower}
 use Rattle.true_streams.proofs.Following.{IsOn}
 use Rattle.true_streams.specs.Full.{FullStreams}
+use Rattle.node_step.proofs.Lists.{contains_first, contains_more}
 use Rattle.node_step.specs.Claiming.{is_lost}
-use Rattle.node_step.specs.Copies.{keeps_limits}
+use Rattle.node_step.specs.Copies.{keep_limits}
 use Rattle.node_step.specs.Messages.{written_by_message}
 use Rattle.node_step.specs.State.{NodeState}
-use Rattle.node_step.specs.Streams.{Requests, deletion, written_by_ack, written_by_claim, written_by_copy, written_by_loss, written_by_request}
+use Rattle.node_step.specs.Streams.{Requests, deletion, written_by_ack, written_by_claim, written_by_copy, written_by_loss, written_by_pair, written_by_pairs, written_by_request}
 use Rattle.node_step.specs.declared.response.Response.{Response}
 use Rattle.node_step.specs.declared.response.Response.TheVariants.{Nothing, Opened, Parked, Replied}
-use Rattle.promoted_prefix.proofs.Frozen.{HasShortFrozen, IsShortKey}
-use Rattle.promoted_prefix.proofs.Growing.{IsSound}
+use Rattle.promoted_prefix.proofs.Frozen.{AreShortKeys, HasShortFrozen}
+use Rattle.promoted_prefix.proofs.Growing.{HaveRequests, IsSound}
 use Rattle.promoted_prefix.proofs.Short.{IsShort, two_words}
 use Rattle.promoted_prefix.proofs.Stored.{CanBeMade, key_there_short, none_can, replayed_can, request_short}
 
@@ -70,21 +71,36 @@ request_writes words request command (Replied answer) = if_written _
 
 -- ---- a message
 
-copy_writes : (keyspace : Keyspace) (key : List ℕ) (value : Value) → HasRequest (key, value) → (verdict : ArrivalVerdict) → AreRequests (written_by_copy keyspace key value verdict)
-copy_writes keyspace key value has Installs = if_there (is_some (fin_map.get keyspace key))
+pair_writes : (keyspace : Keyspace) (key : List ℕ) (value : Value) → HasRequest (key, value) → AreRequests (written_by_pair keyspace key value)
+pair_writes keyspace key value has = if_there (is_some (fin_map.get keyspace key))
   where
     if_there : (b : Bool) → AreRequests (cond b (deletion key ∷ rebuilding key value ∷ []) (rebuilding key value ∷ []))
     if_there true = All-cons IsRequest (deletion key) (rebuilding key value ∷ []) (deletion_is key (request_short key value has.1)) (one_is (rebuilding key value) has.1)
     if_there false = one_is (rebuilding key value) has.1
-copy_writes keyspace key value has Repeats = none_are
-copy_writes keyspace key value has Ignored = none_are
 
-ack_writes : (move : Option Move) → IsShortKey (frozen_key move) → (from number copy : ℕ) → AreRequests (written_by_ack (acknowledged_key move from number copy))
-ack_writes move short from number copy = by_key (acknowledged_key move from number copy) refl
+pairs_write : (keyspace : Keyspace) (pairs : List (List ℕ × Value)) → HaveRequests pairs → AreRequests (written_by_pairs keyspace pairs)
+pairs_write keyspace [] have = none_are
+pairs_write keyspace (pair ∷ pairs) have =
+    All-append IsRequest (written_by_pair keyspace pair.0 pair.1) (written_by_pairs (fin_map.insert keyspace pair.0 pair.1) pairs)
+    (pair_writes keyspace pair.0 pair.1 (have pair.0 pair.1 (contains_first {X = List ℕ × Value} pair pairs)))
+    (pairs_write (fin_map.insert keyspace pair.0 pair.1) pairs (λ key value among. have key value (contains_more {X = List ℕ × Value} pair (key, value) pairs among)))
+
+copy_writes : (keyspace : Keyspace) (pairs : List (List ℕ × Value)) → HaveRequests pairs → (verdict : ArrivalVerdict) → AreRequests (written_by_copy keyspace pairs verdict)
+copy_writes keyspace pairs have Installs = pairs_write keyspace pairs have
+copy_writes keyspace pairs have Repeats = none_are
+copy_writes keyspace pairs have Ignored = none_are
+
+all_deletions_are : (keys : List (List ℕ)) → ((key : List ℕ) → Contains keys key → IsShort key) → AreRequests (map deletion keys)
+all_deletions_are [] short = none_are
+all_deletions_are (key ∷ keys) short =
+    All-cons IsRequest (deletion key) (map deletion keys) (deletion_is key (short key (contains_first key keys))) (all_deletions_are keys (λ q among. short q (contains_more key q keys among)))
+
+ack_writes : (move : Option Move) → AreShortKeys (frozen_keys move) → (from number copy : ℕ) → AreRequests (written_by_ack (acknowledged_keys move from number copy))
+ack_writes move short from number copy = by_keys (acknowledged_keys move from number copy) refl
   where
-    by_key : (key : Option (List ℕ)) → acknowledged_key move from number copy ≡ key → AreRequests (written_by_ack key)
-    by_key None is = none_are
-    by_key (Some key) is = one_is (deletion key) (deletion_is key (subst IsShortKey (acknowledged_is_frozen move from number copy key is) short))
+    by_keys : (keys : Option (List (List ℕ))) → acknowledged_keys move from number copy ≡ keys → AreRequests (written_by_ack keys)
+    by_keys None is = none_are
+    by_keys (Some keys) is = all_deletions_are keys (subst AreShortKeys (acknowledged_is_frozen move from number copy keys is) short)
 
 -- what is among the keys behind one is among all of them
 further : (one : Bool) (others : Bool) → others ≡ true → (one || others) ≡ true
@@ -114,8 +130,8 @@ claim_writes node can from runs = by_sender (from == node.number)
         (keys_short (fin_map.keys node.keyspace) (λ key among. key_there_short node.keyspace can key (fin_map.contains_key-keys node.keyspace key ∙ among)))
 
 pub message_writes : (full : FullStreams) (node : NodeState) → CanBeMade node.keyspace → HasShortFrozen node.moves → (from : ℕ) (said : Body) → IsSound full said → AreRequests (written_by_message node from said)
-message_writes full node can short from (body.Copy slot number copy key value) sound =
-    copy_writes node.keyspace key value sound (arrival_verdict (move_of node.moves slot) from number copy (keeps_limits key value))
+message_writes full node can short from (body.Copy slot number copy pairs) sound =
+    copy_writes node.keyspace pairs sound (arrival_verdict (move_of node.moves slot) from number copy (keep_limits pairs))
 message_writes full node can short from (body.Ack slot number copy) sound = ack_writes (move_of node.moves slot) (short slot) from number copy
 message_writes full node can short from (body.Drained slot number epoch) sound = none_are
 message_writes full node can short from (body.Claim slots replaced) sound = claim_writes node can from slots

@@ -1,9 +1,9 @@
 -- What holds of the commands that words are read as, where that holds of their words.
-use Rattle.std.proofs.Common.{ℕ, ℤ, zero, suc, List, [], ◌∷◌, Option, Some, None}
+use Rattle.std.proofs.Common.{ℕ, ℤ, Bool, true, false, cond, zero, suc, List, [], ◌∷◌, Option, Some, None}
 use Rattle.std.specs.List.{AllByRecursion}
 use Rattle.std.specs.Option.{option_map}
 use Rattle.std.specs.Prelude.{Result, Ok, Err, ⊤}
-use Rattle.command_table.specs.ClusterTable.{asking, keys_in_slot, migration, move_number, on_slot, ordered, slot_of, with_import, with_migration, with_subcommand, with_subcommands, with_timeout, order_of, timeout_of}
+use Rattle.command_table.specs.ClusterTable.{are_keys, asking, keys_in_slot, migration, move_number, on_slot, ordered, slot_of, with_import, with_migration, with_subcommand, with_subcommands, with_timeout, order_of, timeout_of}
 use Rattle.command_table.specs.Names.{subcommand_of}
 use Rattle.command_table.specs.Numbers.{count_of, natural, number_of}
 use Rattle.command_table.specs.Pairs.{pairs_of}
@@ -16,6 +16,7 @@ use Rattle.command_table.specs.declared.command.DataCommand.{DataCommand}
 use Rattle.command_table.specs.declared.command.DataCommand.TheVariants.{Echo, Hset, Ping, Set}
 use Rattle.command_table.specs.declared.command.SlotOrder.{SlotOrder}
 use Rattle.command_table.specs.declared.fault.CommandFault.{CommandFault}
+use Rattle.command_table.specs.declared.fault.CommandFault.TheVariants.{Syntax}
 use Rattle.command_table.specs.declared.names.Name.{Name}
 use Rattle.command_table.specs.declared.names.Name.TheVariants as name
 use Rattle.command_table.specs.declared.names.Subcommand.{Subcommand}
@@ -88,7 +89,7 @@ module _ (Word : List ℕ → Type 0) (Says : DataCommand → Type 0) where
   field_pairs each [] are = tt
   field_pairs each (key ∷ words) are = pairs name.Hset (Hset key) (λ x xs of. each key x xs are.0 of) (pairs_of words) (pairs_are words are.1)
 
-  condition : (key value : List ℕ) → ((when : Condition) → Says (Set key value when)) → (found : Option Condition) → Holds (with_condition key value found)
+  pub condition : (key value : List ℕ) → ((when : Condition) → Says (Set key value when)) → (found : Option Condition) → Holds (with_condition key value found)
   condition key value each None = tt
   condition key value each (Some when) = each when
 
@@ -168,11 +169,11 @@ module _ (Word : List ℕ → Type 0) (Says : DataCommand → Type 0) where
   timeout_read make (Some zero) (Some timeout) = tt
   timeout_read make (Some (suc database)) timeout = tt
 
-  migration_at : (host : List ℕ) (port : Option ℤ) (key : List ℕ) (database timeout : Option ℤ) → Holds (migration host port key database timeout)
-  migration_at host None key database timeout = tt
-  migration_at host (Some port) key None timeout = tt
-  migration_at host (Some port) key (Some database) None = tt
-  migration_at host (Some port) key (Some database) (Some timeout) = timeout_read _ (natural database) (timeout_of timeout)
+  migration_at : (host : List ℕ) (port : Option ℤ) (keys : List (List ℕ)) (database timeout : Option ℤ) → Holds (migration host port keys database timeout)
+  migration_at host None keys database timeout = tt
+  migration_at host (Some port) keys None timeout = tt
+  migration_at host (Some port) keys (Some database) None = tt
+  migration_at host (Some port) keys (Some database) (Some timeout) = timeout_read _ (natural database) (timeout_of timeout)
 
   pub migration_read : (arguments : List (List ℕ)) → Holds (with_migration arguments)
   migration_read [] = tt
@@ -180,5 +181,9 @@ module _ (Word : List ℕ → Type 0) (Says : DataCommand → Type 0) where
   migration_read (a ∷ b ∷ []) = tt
   migration_read (a ∷ b ∷ c ∷ []) = tt
   migration_read (a ∷ b ∷ c ∷ d ∷ []) = tt
-  migration_read (host ∷ port ∷ key ∷ database ∷ timeout ∷ []) = migration_at host (number_of port) key (number_of database) (number_of timeout)
-  migration_read (a ∷ b ∷ c ∷ d ∷ e ∷ f ∷ arguments) = tt
+  migration_read (host ∷ port ∷ key ∷ database ∷ timeout ∷ []) = migration_at host (number_of port) (key ∷ []) (number_of database) (number_of timeout)
+  migration_read (host ∷ port ∷ place ∷ database ∷ timeout ∷ word ∷ keys) = by_words (are_keys place word keys)
+    where
+      by_words : (b : Bool) → Holds (cond b (migration host (number_of port) keys (number_of database) (number_of timeout)) (Err Syntax))
+      by_words true = migration_at host (number_of port) keys (number_of database) (number_of timeout)
+      by_words false = tt

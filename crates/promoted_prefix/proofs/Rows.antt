@@ -1,6 +1,6 @@
 -- What each row of a step leaves of the stream and the keyspace, beside what it writes.
 use Rattle.std.proofs.Common.{◌≡◌, ◌==◌, ℕ, Bool, true, false, cond, List, [], Option, Some, None, refl}
-use Rattle.std.specs.Prelude.{All, Result, Ok, Err}
+use Rattle.std.specs.Prelude.{Result, Ok, Err}
 use Rattle.command_table.specs.Table.{command_of}
 use Rattle.command_table.specs.declared.command.ClusterCommand.{ClusterCommand}
 use Rattle.command_table.specs.declared.command.ClusterCommand.TheVariants as cluster
@@ -14,9 +14,8 @@ use Rattle.connections.specs.declared.conn.Conn.{Conn}
 use Rattle.connections.specs.declared.conn.Connection.{Connection}
 use Rattle.key_slot.specs.Slot.{hash_slot}
 use Rattle.keyspace.specs.Commands.{replay_from}
-use Rattle.keyspace.specs.Rebuild.{IsStored}
 use Rattle.keyspace.specs.declared.value.Value.{Value}
-use Rattle.migrate.specs.Acknowledging.{acknowledged_key}
+use Rattle.migrate.specs.Acknowledging.{acknowledged_keys}
 use Rattle.migrate.specs.Arriving.{arrival_verdict}
 use Rattle.migrate.specs.declared.arriving.ArrivalVerdict.{ArrivalVerdict}
 use Rattle.migrate.specs.declared.arriving.ArrivalVerdict.TheVariants.{Installs, Repeats, Ignored}
@@ -24,7 +23,6 @@ use Rattle.migrate.specs.declared.sending.CopyVerdict.{CopyVerdict}
 use Rattle.migrate.specs.declared.sending.CopyVerdict.TheVariants as copies
 use Rattle.redirect.specs.declared.decision.Decision.{Decision}
 use Rattle.redirect.specs.declared.decision.Decision.TheVariants.{Serve, ServeImport, CrossSlot, Down, TryAgain, Ask, Moved}
-use Rattle.resp_values.specs.Request.{IsRequest}
 use Rattle.slot_state.specs.Moves.{move_of}
 use Rattle.slot_state.specs.declared.ending.NodeVerdict.{NodeVerdict}
 use Rattle.slot_state.specs.declared.ending.NodeVerdict.TheVariants as ending
@@ -32,13 +30,14 @@ use Rattle.slot_table.specs.Claims.{merged}
 use Rattle.slot_table.specs.declared.runs.Run.{Run}
 use Rattle.node_step.specs.Claiming.{claim, claimed_by, is_lost}
 use Rattle.node_step.specs.Commands.{command_outcome, decision_on}
-use Rattle.node_step.specs.Copies.{acknowledged, acknowledgement, arrival, arrived, copy_outcome, copy_verdict_on, keeps_limits, node_at}
+use Rattle.node_step.specs.Copies.{acknowledged, acknowledgement, arrival, arrived, copy_outcome, copy_verdict_on, first_slot, keep_limits, node_at, those_there}
 use Rattle.node_step.specs.Orders.{ending_outcome, ending_verdict}
 use Rattle.node_step.specs.Outcome.{Outcome, silent}
 use Rattle.node_step.specs.Requests.{asking_of, by_command, cluster_outcome, is_numbered, node_with_id, order_outcome}
 use Rattle.node_step.specs.State.{NodeState, is_replica}
 use Rattle.node_step.specs.Streams.{Requests, written_by_ack, written_by_claim, written_by_copy, written_by_loss, written_by_request}
-use Rattle.promoted_prefix.proofs.Deletions.{all_deleted, copied_is}
+use Rattle.promoted_prefix.proofs.Deletions.{all_deleted, copied_are, taken_out}
+use Rattle.promoted_prefix.proofs.Growing.{HaveRequests}
 use Rattle.promoted_prefix.proofs.Writes.{executed_is_written}
 
 -- a row leaves the stream as it is, and the keyspace that these requests leave
@@ -84,13 +83,14 @@ module _ (words : List (List ℕ)) (node : NodeState) where
   order_does command slot Migrating other number = record { number = refl; role = refl; stream = refl; keyspace = refl }
   order_does command slot Node other number = ending_does command slot (ending_verdict node slot other number)
 
-  copy_does : (command : Result Command CommandFault) (conn : Conn) (slot : ℕ) (key : List ℕ) (ticks : ℕ) (verdict : CopyVerdict) → Answers command (copy_outcome node conn slot key ticks verdict)
-  copy_does command conn slot key ticks copies.WrongTarget = record { number = refl; role = refl; stream = refl; keyspace = refl }
-  copy_does command conn slot key ticks copies.NoKey = record { number = refl; role = refl; stream = refl; keyspace = refl }
-  copy_does command conn slot key ticks copies.CopyOutstanding = record { number = refl; role = refl; stream = refl; keyspace = refl }
-  copy_does command conn slot key ticks copies.Exhausted = record { number = refl; role = refl; stream = refl; keyspace = refl }
-  copy_does command conn slot key ticks (copies.SendAgain to number copy) = record { number = refl; role = refl; stream = refl; keyspace = refl }
-  copy_does command conn slot key ticks (copies.Copies to number copy) = record { number = refl; role = refl; stream = refl; keyspace = refl }
+  copy_does : (command : Result Command CommandFault) (conn : Conn) (slot : ℕ) (keys : List (List ℕ)) (ticks : ℕ) (verdict : CopyVerdict) → Answers command (copy_outcome node conn slot keys ticks verdict)
+  copy_does command conn slot keys ticks copies.CrossSlot = record { number = refl; role = refl; stream = refl; keyspace = refl }
+  copy_does command conn slot keys ticks copies.WrongTarget = record { number = refl; role = refl; stream = refl; keyspace = refl }
+  copy_does command conn slot keys ticks copies.NoKey = record { number = refl; role = refl; stream = refl; keyspace = refl }
+  copy_does command conn slot keys ticks copies.CopyOutstanding = record { number = refl; role = refl; stream = refl; keyspace = refl }
+  copy_does command conn slot keys ticks copies.Exhausted = record { number = refl; role = refl; stream = refl; keyspace = refl }
+  copy_does command conn slot keys ticks (copies.SendAgain to number copy) = record { number = refl; role = refl; stream = refl; keyspace = refl }
+  copy_does command conn slot keys ticks (copies.Copies to number copy) = record { number = refl; role = refl; stream = refl; keyspace = refl }
 
   cluster_does : (command : Result Command CommandFault) (conn : Conn) (which : ClusterCommand) → Answers command (cluster_outcome node conn which)
   cluster_does command conn (cluster.KeySlot key) = record { number = refl; role = refl; stream = refl; keyspace = refl }
@@ -102,7 +102,7 @@ module _ (words : List (List ℕ)) (node : NodeState) where
   cluster_does command conn (cluster.SetSlot slot order id number) = order_does command slot order (node_with_id node id) number
   cluster_does command conn cluster.Numbered = record { number = refl; role = refl; stream = refl; keyspace = refl }
   cluster_does command conn (cluster.Asking number) = record { number = refl; role = refl; stream = refl; keyspace = refl }
-  cluster_does command conn (cluster.Migrate host port key timeout) = copy_does command conn (hash_slot key) key timeout (copy_verdict_on node key (node_at node host port))
+  cluster_does command conn (cluster.Migrate host port keys timeout) = copy_does command conn (first_slot keys) (those_there node.keyspace keys) timeout (copy_verdict_on node keys (node_at node host port))
 
   pub request_leaves : (conn : Conn) (connection : Option Connection) (command : Result Command CommandFault) → command_of words ≡ command → Answers command (by_command node conn connection command)
   request_leaves conn connection (Err fault) reads = record { number = refl; role = refl; stream = refl; keyspace = refl }
@@ -112,23 +112,22 @@ module _ (words : List (List ℕ)) (node : NodeState) where
 -- ---- messages
 
 module _ (node : NodeState) where
-  arrived_does : (from slot number copy : ℕ) (key : List ℕ) (value : Value) → IsStored value → (verdict : ArrivalVerdict) → All IsRequest (written_by_copy node.keyspace key value verdict)
-      → Leaves node (written_by_copy node.keyspace key value verdict) (arrived node from slot number copy key value verdict)
-  arrived_does from slot number copy key value stored Installs are = record { number = refl; role = refl; stream = refl; keyspace = copied_is node.keyspace key value stored are }
-  arrived_does from slot number copy key value stored Repeats are = record { number = refl; role = refl; stream = refl; keyspace = refl }
-  arrived_does from slot number copy key value stored Ignored are = record { number = refl; role = refl; stream = refl; keyspace = refl }
+  arrived_does : (from slot number copy : ℕ) (pairs : List (List ℕ × Value)) → HaveRequests pairs → (verdict : ArrivalVerdict)
+      → Leaves node (written_by_copy node.keyspace pairs verdict) (arrived node from slot number copy pairs verdict)
+  arrived_does from slot number copy pairs have Installs = record { number = refl; role = refl; stream = refl; keyspace = copied_are node.keyspace pairs have }
+  arrived_does from slot number copy pairs have Repeats = record { number = refl; role = refl; stream = refl; keyspace = refl }
+  arrived_does from slot number copy pairs have Ignored = record { number = refl; role = refl; stream = refl; keyspace = refl }
 
-  pub arrival_leaves : (from slot number copy : ℕ) (key : List ℕ) (value : Value) → IsStored value
-      → All IsRequest (written_by_copy node.keyspace key value (arrival_verdict (move_of node.moves slot) from number copy (keeps_limits key value)))
-      → Leaves node (written_by_copy node.keyspace key value (arrival_verdict (move_of node.moves slot) from number copy (keeps_limits key value))) (arrival node from slot number copy key value)
-  arrival_leaves from slot number copy key value stored = arrived_does from slot number copy key value stored (arrival_verdict (move_of node.moves slot) from number copy (keeps_limits key value))
+  pub arrival_leaves : (from slot number copy : ℕ) (pairs : List (List ℕ × Value)) → HaveRequests pairs
+      → Leaves node (written_by_copy node.keyspace pairs (arrival_verdict (move_of node.moves slot) from number copy (keep_limits pairs))) (arrival node from slot number copy pairs)
+  arrival_leaves from slot number copy pairs have = arrived_does from slot number copy pairs have (arrival_verdict (move_of node.moves slot) from number copy (keep_limits pairs))
 
-  acknowledged_does : (slot number copy : ℕ) (key : Option (List ℕ)) → Leaves node (written_by_ack key) (acknowledged node slot number copy key)
+  acknowledged_does : (slot number copy : ℕ) (keys : Option (List (List ℕ))) → Leaves node (written_by_ack keys) (acknowledged node slot number copy keys)
   acknowledged_does slot number copy None = record { number = refl; role = refl; stream = refl; keyspace = refl }
-  acknowledged_does slot number copy (Some key) = record { number = refl; role = refl; stream = refl; keyspace = refl }
+  acknowledged_does slot number copy (Some keys) = record { number = refl; role = refl; stream = refl; keyspace = taken_out node.keyspace keys }
 
-  pub acknowledgement_leaves : (from slot number copy : ℕ) → Leaves node (written_by_ack (acknowledged_key (move_of node.moves slot) from number copy)) (acknowledgement node from slot number copy)
-  acknowledgement_leaves from slot number copy = acknowledged_does slot number copy (acknowledged_key (move_of node.moves slot) from number copy)
+  pub acknowledgement_leaves : (from slot number copy : ℕ) → Leaves node (written_by_ack (acknowledged_keys (move_of node.moves slot) from number copy)) (acknowledgement node from slot number copy)
+  acknowledgement_leaves from slot number copy = acknowledged_does slot number copy (acknowledged_keys (move_of node.moves slot) from number copy)
 
   pub claim_leaves : (from : ℕ) (runs : List (Run ℕ)) → Leaves node (written_by_claim node from runs) (claim node from runs)
   claim_leaves from runs = by_sender (from == node.number)

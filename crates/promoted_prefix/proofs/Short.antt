@@ -7,7 +7,8 @@ use Rattle.std.specs.Prelude.{decimal, nat_le}
 use Rattle.hash.specs.Pairs.{Pairs}
 use Rattle.hash.specs.Size.{size_of, words_of}
 use Rattle.keyspace.proofs.Fitting.{words_count}
-use Rattle.keyspace.specs.Rebuilding.{fits_hash, rebuilding}
+use Rattle.keyspace.specs.Rebuilding.{fits_hash, fits_request, rebuilding}
+use Rattle.keyspace.specs.Strings.{fits_string}
 use Rattle.keyspace.specs.declared.value.Value.TheVariants.{Str, Hash}
 use Rattle.resp_values.proofs.Each.{each_by_index, each_by_recursion}
 use Rattle.resp_values.proofs.Spellings.{bulk_len, request_len}
@@ -27,63 +28,69 @@ AreShortPairs pairs = AllByRecursion IsShortPair pairs
 -- ---- how long they are spelled
 
 -- a count of words, or a length, has at most seven digits
-header_most : (mark number : ℕ) → number ≤ 2 ^ 20 → length (header_spelling mark number) ≤ 10
+header_most : (mark number : ℕ) → number ≤ 2 ^ 23 → length (header_spelling mark number) ≤ 10
 header_most mark number small =
     let digits = length-decimal-le 7 number (omega arith) (omega (arith, small)) (omega (arith, small)) in
     omega (arith, digits, length-append (decimal number) crlf)
 
-header_least : (mark number : ℕ) → number ≤ 2 ^ 20 → 4 ≤ length (header_spelling mark number)
+header_least : (mark number : ℕ) → number ≤ 2 ^ 23 → 4 ≤ length (header_spelling mark number)
 header_least mark number small =
     let some = decimal_nonempty number (omega (arith, small)) in
     omega (arith, some, length-append (decimal number) crlf)
 
-bulk_most : (word : List ℕ) → IsShort word → length (bulk_spelling word) ≤ 2 ^ 20 + 12
+header_three : (mark : ℕ) → length (header_spelling mark 3) ≤ 4
+header_three mark =
+    let digits = length-decimal-le 1 3 (omega arith) (omega arith) (omega arith) in
+    omega (arith, digits, length-append (decimal 3) crlf)
+
+bulk_most : (word : List ℕ) → IsShort word → length (bulk_spelling word) ≤ length word + 12
 bulk_most word short =
     let head = header_most 36 (length word) short in
-    omega (arith, short, head, bulk_len word)
+    omega (arith, head, bulk_len word)
 
 pub bulk_least : (word : List ℕ) → IsShort word → 6 ≤ length (bulk_spelling word)
 bulk_least word short =
     let head = header_least 36 (length word) short in
     omega (arith, head, bulk_len word)
 
--- ---- two and three words
-
-pub two_words : (first second : List ℕ) → IsShort first → IsShort second → IsRequest (first ∷ second ∷ [])
-two_words first second one other = record {
-  some = omega arith;
-  limits = record {
-    each = record { few = omega arith; short = each_by_index IsShort (first ∷ second ∷ []) (one, (other, tt)) };
-    all = omega (
+-- what stands before the words of a request is spelled in 13 bytes or more, where its first word has three letters or more
+pub front_least : (name : List ℕ) (words : List (List ℕ)) → IsRequest (name ∷ words) → 3 ≤ length name → 13 + length (bulks_spelling words) ≤ MOST_REQUEST_BYTES
+front_least name words request long =
+    let few = request.limits.each.few in
+    let short : IsShort name = (each_by_recursion IsShort (name ∷ words) request.limits.each.short).0 in
+    omega (
       arith,
-      request_len (first ∷ second ∷ []),
-      header_most 42 2 (omega arith),
-      length-append (bulk_spelling first) (bulks_spelling (second ∷ [])),
-      length-append {A = ℕ} (bulk_spelling second) [],
-      bulk_most first one,
-      bulk_most second other,
-    );
-  };
-}
+      long,
+      request.limits.all,
+      request_len (name ∷ words),
+      header_least 42 (length (name ∷ words)) (omega (arith, few)),
+      length-append (bulk_spelling name) (bulks_spelling words),
+      bulk_len name,
+      header_least 36 (length name) short,
+    )
 
-three_words : (first second third : List ℕ) → IsShort first → IsShort second → IsShort third → IsRequest (first ∷ second ∷ third ∷ [])
-three_words first second third one other last = record {
-  some = omega arith;
-  limits = record {
-    each = record { few = omega arith; short = each_by_index IsShort (first ∷ second ∷ third ∷ []) (one, (other, (last, tt))) };
-    all = omega (
-      arith,
-      request_len (first ∷ second ∷ third ∷ []),
-      header_most 42 3 (omega arith),
-      length-append (bulk_spelling first) (bulks_spelling (second ∷ third ∷ [])),
-      length-append (bulk_spelling second) (bulks_spelling (third ∷ [])),
-      length-append {A = ℕ} (bulk_spelling third) [],
-      bulk_most first one,
-      bulk_most second other,
-      bulk_most third last,
-    );
-  };
-}
+-- ---- a name and a key
+
+pub two_words : (name key : List ℕ) → length name ≤ 4 → IsShort key → IsRequest (name ∷ key ∷ [])
+two_words name key named short =
+    let short_name : IsShort name = omega (arith, named) in
+    record {
+      some = omega arith;
+      limits = record {
+        each = record { few = omega arith; short = each_by_index IsShort (name ∷ key ∷ []) (short_name, (short, tt)) };
+        all = omega (
+          arith,
+          named,
+          short,
+          request_len (name ∷ key ∷ []),
+          header_most 42 2 (omega arith),
+          length-append (bulk_spelling name) (bulks_spelling (key ∷ [])),
+          length-append {A = ℕ} (bulk_spelling key) [],
+          bulk_most name short_name,
+          bulk_most key short,
+        );
+      };
+    }
 
 -- the key of a request is short
 pub first_short : (name key : List ℕ) (words : List (List ℕ)) → IsRequest (name ∷ key ∷ words) → IsShort key
@@ -91,8 +98,39 @@ first_short name key words request = (each_by_recursion IsShort (name ∷ key �
 
 -- ---- the request that makes a key with its value
 
-pub string_is : (key bytes : List ℕ) → IsShort key → IsShort bytes → IsRequest (rebuilding key (Str bytes))
-string_is key bytes short_key short = three_words (codes "SET") key bytes (omega arith) short_key short
+module _ (key bytes : List ℕ) (short_key : IsShort key) (short : IsShort bytes) where
+  with_string : length (request_spelling (rebuilding key (Str bytes))) ≤ MOST_REQUEST_BYTES → IsRequest (rebuilding key (Str bytes))
+  with_string all = record {
+    some = omega arith;
+    limits = record { each = record { few = omega arith; short = each_by_index IsShort (rebuilding key (Str bytes)) (omega arith, (short_key, (short, tt))) }; all = all };
+  }
+
+  -- there is room for the key and the string
+  pub string_is : 13 + length (bulk_spelling key) + length (bulk_spelling bytes) ≤ MOST_REQUEST_BYTES → IsRequest (rebuilding key (Str bytes))
+  string_is room = with_string (omega (
+    arith,
+    room,
+    request_len (rebuilding key (Str bytes)),
+    header_three 42,
+    header_three 36,
+    bulk_len (codes "SET"),
+    length-append (bulk_spelling (codes "SET")) (bulks_spelling (key ∷ bytes ∷ [])),
+    length-append (bulk_spelling key) (bulks_spelling (bytes ∷ [])),
+    length-append {A = ℕ} (bulk_spelling bytes) [],
+  ))
+
+-- or it was asked for
+pub fitting_is : (key bytes : List ℕ) → IsShort key → fits_string key bytes ≡ true → IsRequest (rebuilding key (Str bytes))
+fitting_is key bytes short_key fits =
+    let parts = and_parts (nat_le (length bytes) MOST_WORD_BYTES) (fits_request (rebuilding key (Str bytes))) fits in
+    let asked = and_parts (nat_le (length (rebuilding key (Str bytes))) MOST_WORDS) (nat_le (length (request_spelling (rebuilding key (Str bytes)))) MOST_REQUEST_BYTES) parts.1 in
+    with_string key bytes short_key (leb-true _ _ parts.0) (leb-true _ _ asked.1)
+
+-- a short string beside any key
+pub short_string_is : (key bytes : List ℕ) → IsShort key → length bytes ≤ 21 → IsRequest (rebuilding key (Str bytes))
+short_string_is key bytes short_key few =
+    let short : IsShort bytes = omega (arith, few) in
+    string_is key bytes short_key short (omega (arith, short_key, few, bulk_most key short_key, bulk_most bytes short))
 
 fields_short : (pairs : Pairs) → AreShortPairs pairs → AllByRecursion IsShort (words_of pairs)
 fields_short [] short = tt

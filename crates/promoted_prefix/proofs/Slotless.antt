@@ -18,7 +18,7 @@ use Rattle.command_table.specs.declared.fault.CommandFault.{CommandFault}
 use Rattle.connections.specs.declared.conn.Conn.{Conn}
 use Rattle.connections.specs.declared.conn.Connection.{Connection}
 use Rattle.key_slot.specs.Slot.{hash_slot}
-use Rattle.migrate.specs.Acknowledging.{acknowledged_key}
+use Rattle.migrate.specs.Acknowledging.{acknowledged_keys}
 use Rattle.migrate.specs.Arriving.{arrival_verdict, changed_at}
 use Rattle.migrate.specs.Draining.{note_drained}
 use Rattle.migrate.specs.Losing.{is_leaving}
@@ -45,11 +45,12 @@ use Rattle.slot_table.specs.Claims.{merged}
 use Rattle.slot_table.specs.Table.{owner_at, owner_in}
 use Rattle.slot_table.specs.declared.entry.SlotEntry.{SlotEntry}
 use Rattle.slot_table.specs.declared.runs.Run.{Run}
+use Rattle.node_step.proofs.Copied.{copied_next, sent_again_of}
 use Rattle.node_step.proofs.Merging.{claimed_owner, length_merged, merged_cases}
-use Rattle.node_step.proofs.Verdicts.{ack_counts, copy_arrives, copy_is_again, copy_is_next, copy_repeats, import_ends, serves, serves_import}
+use Rattle.node_step.proofs.Verdicts.{ack_counts, copy_arrives, copy_repeats, import_ends, serves, serves_import}
 use Rattle.node_step.specs.Claiming.{claim, claimed_by, is_lost, is_owner}
 use Rattle.node_step.specs.Commands.{asked_of, command_outcome, decision_on}
-use Rattle.node_step.specs.Copies.{acknowledged, acknowledgement, arrival, arrived, copy_outcome, copy_verdict_on, keeps_limits, node_at, noted}
+use Rattle.node_step.specs.Copies.{acknowledged, acknowledgement, arrival, arrived, copy_outcome, copy_verdict_on, first_slot, keep_limits, node_at, noted, those_there}
 use Rattle.node_step.specs.Orders.{ending_outcome, ending_verdict, import_outcome, migrate_outcome}
 use Rattle.node_step.specs.Outcome.{Outcome, silent}
 use Rattle.node_step.specs.Requests.{asking_of, by_command, cluster_outcome, is_numbered, node_with_id, order_outcome}
@@ -122,15 +123,15 @@ module _ (n : ℕ) (node : NodeState) (stands : IsSlotless n node) where
     ending_stays slot other asked (ending.Ends drained) is =
         let facts = import_ends (standing node slot) (move_of node.moves slot) other asked drained is in absurd (no_some (stands.idle slot) facts.3)
 
-    copy_stays : (conn : Conn) (key : List ℕ) (ticks : ℕ) (target : Option ℕ) (verdict : CopyVerdict) → copy_verdict_on node key target ≡ verdict → Answers (copy_outcome node conn (hash_slot key) key ticks verdict)
-    copy_stays conn key ticks target copies.WrongTarget is = plain _ _ refl refl refl refl refl
-    copy_stays conn key ticks target copies.NoKey is = plain _ _ refl refl refl refl refl
-    copy_stays conn key ticks target copies.CopyOutstanding is = plain _ _ refl refl refl refl refl
-    copy_stays conn key ticks target copies.Exhausted is = plain _ _ refl refl refl refl refl
-    copy_stays conn key ticks target (copies.SendAgain to number copy) is =
-        let facts = copy_is_again _ target key (is_some (fin_map.get node.keyspace key)) to number copy is in absurd (no_some (stands.idle _) facts.1)
-    copy_stays conn key ticks target (copies.Copies to number copy) is =
-        let facts = copy_is_next _ target key (is_some (fin_map.get node.keyspace key)) to number copy is in absurd (no_some (stands.idle _) facts.1)
+    copy_stays : (conn : Conn) (named : List (List ℕ)) (ticks : ℕ) (target : Option ℕ) (verdict : CopyVerdict) → copy_verdict_on node named target ≡ verdict
+        → Answers (copy_outcome node conn (first_slot named) (those_there node.keyspace named) ticks verdict)
+    copy_stays conn named ticks target copies.CrossSlot is = plain _ _ refl refl refl refl refl
+    copy_stays conn named ticks target copies.WrongTarget is = plain _ _ refl refl refl refl refl
+    copy_stays conn named ticks target copies.NoKey is = plain _ _ refl refl refl refl refl
+    copy_stays conn named ticks target copies.CopyOutstanding is = plain _ _ refl refl refl refl refl
+    copy_stays conn named ticks target copies.Exhausted is = plain _ _ refl refl refl refl refl
+    copy_stays conn named ticks target (copies.SendAgain to number copy) is = absurd (no_some (stands.idle _) (sent_again_of node named target to number copy is).1)
+    copy_stays conn named ticks target (copies.Copies to number copy) is = absurd (no_some (stands.idle _) (copied_next node named target to number copy is).move)
 
     order_stays : (slot : ℕ) (order : SlotOrder) (other number : Option ℕ) → Answers (order_outcome node slot order other number)
     order_stays slot Importing other number = import_stays slot other number _ refl
@@ -147,7 +148,7 @@ module _ (n : ℕ) (node : NodeState) (stands : IsSlotless n node) where
     cluster_stays conn (cluster.SetSlot slot order id number) = order_stays slot order (node_with_id node id) number
     cluster_stays conn cluster.Numbered = plain _ _ refl refl refl refl refl
     cluster_stays conn (cluster.Asking number) = plain _ _ refl refl refl refl refl
-    cluster_stays conn (cluster.Migrate host port key timeout) = copy_stays conn key timeout (node_at node host port) _ refl
+    cluster_stays conn (cluster.Migrate host port keys timeout) = copy_stays conn keys timeout (node_at node host port) _ refl
 
   -- ---- commands on keys
 
@@ -196,24 +197,24 @@ module _ (n : ℕ) (node : NodeState) (stands : IsSlotless n node) where
 
   -- ---- messages
 
-  arrived_stays : (from slot number copy : ℕ) (key : List ℕ) (value : Value) (verdict : ArrivalVerdict) → arrival_verdict (move_of node.moves slot) from number copy (keeps_limits key value) ≡ verdict
-      → Stays n (written_by_copy node.keyspace key value verdict) (arrived node from slot number copy key value verdict)
-  arrived_stays from slot number copy key value Ignored is = plain _ _ refl refl refl refl refl
-  arrived_stays from slot number copy key value Repeats is =
-      let facts = copy_repeats (move_of node.moves slot) from number copy (keeps_limits key value) is in absurd (no_some (stands.idle slot) facts.2)
-  arrived_stays from slot number copy key value Installs is =
-      let facts = copy_arrives (move_of node.moves slot) from number copy (keeps_limits key value) is in absurd (no_some (stands.idle slot) facts.2)
+  arrived_stays : (from slot number copy : ℕ) (pairs : List (List ℕ × Value)) (verdict : ArrivalVerdict) → arrival_verdict (move_of node.moves slot) from number copy (keep_limits pairs) ≡ verdict
+      → Stays n (written_by_copy node.keyspace pairs verdict) (arrived node from slot number copy pairs verdict)
+  arrived_stays from slot number copy pairs Ignored is = plain _ _ refl refl refl refl refl
+  arrived_stays from slot number copy pairs Repeats is =
+      let facts = copy_repeats (move_of node.moves slot) from number copy (keep_limits pairs) is in absurd (no_some (stands.idle slot) facts.2)
+  arrived_stays from slot number copy pairs Installs is =
+      let facts = copy_arrives (move_of node.moves slot) from number copy (keep_limits pairs) is in absurd (no_some (stands.idle slot) facts.2)
 
-  pub arrival_stays : (from slot number copy : ℕ) (key : List ℕ) (value : Value)
-      → Stays n (written_by_copy node.keyspace key value (arrival_verdict (move_of node.moves slot) from number copy (keeps_limits key value))) (arrival node from slot number copy key value)
-  arrival_stays from slot number copy key value = arrived_stays from slot number copy key value (arrival_verdict (move_of node.moves slot) from number copy (keeps_limits key value)) refl
+  pub arrival_stays : (from slot number copy : ℕ) (pairs : List (List ℕ × Value))
+      → Stays n (written_by_copy node.keyspace pairs (arrival_verdict (move_of node.moves slot) from number copy (keep_limits pairs))) (arrival node from slot number copy pairs)
+  arrival_stays from slot number copy pairs = arrived_stays from slot number copy pairs (arrival_verdict (move_of node.moves slot) from number copy (keep_limits pairs)) refl
 
-  acknowledged_stays : (from slot number copy : ℕ) (key : Option (List ℕ)) → acknowledged_key (move_of node.moves slot) from number copy ≡ key → Stays n (written_by_ack key) (acknowledged node slot number copy key)
+  acknowledged_stays : (from slot number copy : ℕ) (keys : Option (List (List ℕ))) → acknowledged_keys (move_of node.moves slot) from number copy ≡ keys → Stays n (written_by_ack keys) (acknowledged node slot number copy keys)
   acknowledged_stays from slot number copy None is = plain _ _ refl refl refl refl refl
-  acknowledged_stays from slot number copy (Some key) is = absurd (no_some (stands.idle slot) (ack_counts (move_of node.moves slot) from number copy key is))
+  acknowledged_stays from slot number copy (Some keys) is = absurd (no_some (stands.idle slot) (ack_counts (move_of node.moves slot) from number copy keys is))
 
-  pub acknowledgement_stays : (from slot number copy : ℕ) → Stays n (written_by_ack (acknowledged_key (move_of node.moves slot) from number copy)) (acknowledgement node from slot number copy)
-  acknowledgement_stays from slot number copy = acknowledged_stays from slot number copy (acknowledged_key (move_of node.moves slot) from number copy) refl
+  pub acknowledgement_stays : (from slot number copy : ℕ) → Stays n (written_by_ack (acknowledged_keys (move_of node.moves slot) from number copy)) (acknowledgement node from slot number copy)
+  acknowledgement_stays from slot number copy = acknowledged_stays from slot number copy (acknowledged_keys (move_of node.moves slot) from number copy) refl
 
   pub noted_stays : (from slot number epoch : ℕ) → IsSlotless n (noted node from slot number epoch).state
   noted_stays from slot number epoch =

@@ -1,6 +1,5 @@
 -- Each key of a keyspace can be made again by a request, whatever requests made it.
-use Rattle.std.proofs.Common.{◌≡◌, ◌<◌, ◌^◌, ℕ, ℤ, pos, negsuc, Bool, true, false, true≢false, cond, List, [], ◌∷◌, ◌++◌, length, FitsSigned, w64, Option, Some, None, refl, sym, subst, arith}
-use Rattle.std.proofs.lemmas.Bool.{ltb-false}
+use Rattle.std.proofs.Common.{◌≡◌, ◌<◌, ◌≤◌, ◌^◌, ℕ, ℤ, pos, negsuc, Bool, true, false, true≢false, cond, List, [], ◌∷◌, ◌++◌, length, FitsSigned, w64, Option, Some, None, refl, sym, subst, arith}
 use Rattle.std.proofs.lemmas.Fmt.{length_signed_le}
 use Rattle.std.proofs.lemmas.List.Elements.{All-head, All-tail}
 use Rattle.std.specs.Cmp.Lexicographic.{slice_cmp}
@@ -9,7 +8,7 @@ use Rattle.std.specs.Fmt.{signed_decimal}
 use Rattle.std.specs.Int.Signed.{mag}
 use Rattle.std.specs.List.{IsDistinct}
 use Rattle.std.specs.Ordering.{nat_cmp}
-use Rattle.std.specs.Prelude.{◌+ℤ◌, neg_ℤ, codes, All, Result, Ok, Err, ⊤, is_some, nat_lt}
+use Rattle.std.specs.Prelude.{◌+ℤ◌, neg_ℤ, codes, All, Result, Ok, Err, ⊤, is_some}
 use Rattle.command_table.proofs.NumberTexts.{fits_only_if}
 use Rattle.command_table.specs.Keys.{data_keys, pair_keys}
 use Rattle.command_table.specs.Numbers.{fits, number_of}
@@ -32,17 +31,15 @@ use Rattle.keyspace.specs.Keyspace.{Keyspace, changed, hash_of}
 use Rattle.keyspace.specs.Numbers.{fitting_number}
 use Rattle.keyspace.specs.Rebuilding.{fits_hash, rebuilding}
 use Rattle.keyspace.specs.Replay.{HasRequest}
-use Rattle.keyspace.specs.Strings.{all_removed, append_of, fitting, getdel_of, getset_of, holds, number_at, number_left, number_or, set_of, setnx_of, string_left, string_of, strings_left, sum_of}
+use Rattle.keyspace.specs.Strings.{all_removed, append_of, fits_string, fitting, getdel_of, getset_of, holds, number_at, number_left, number_or, set_of, setnx_of, string_left, string_of, strings_left, sum_of}
 use Rattle.keyspace.specs.declared.value.Value.{Value}
 use Rattle.keyspace.specs.declared.value.Value.TheVariants.{Str, Hash}
-use Rattle.resp_values.proofs.Each.{each_by_recursion}
 use Rattle.resp_values.specs.Request.{IsRequest}
-use Rattle.resp_values.specs.declared.words.TheConstants.{MOST_WORD_BYTES}
 use Rattle.resp_values.specs.declared.reply.Reply.{Reply}
 use Rattle.resp_values.specs.declared.reply.Reply.TheVariants.{Integer}
 use Rattle.promoted_prefix.proofs.Fields.{IsMade, removals_made, set_short, sets_distinct, sets_short}
-use Rattle.promoted_prefix.proofs.Short.{AreShortPairs, IsShort, first_short, hash_is, pairs_short, string_is, two_words}
-use Rattle.promoted_prefix.proofs.ShortWords.{HasShort, HasShortWords, words_short}
+use Rattle.promoted_prefix.proofs.Short.{AreShortPairs, IsShort, first_short, fitting_is, hash_is, pairs_short, short_string_is, two_words}
+use Rattle.promoted_prefix.proofs.ShortWords.{AreStrings, HasShort, HasShortWords, words_short}
 
 -- the key can be made with its value, if it has one
 abbrev pub IsLeft : List ℕ → Option Value → Type 0
@@ -90,33 +87,34 @@ left_can (key ∷ keys) (value ∷ values) keyspace can are = left_can keys valu
 abbrev IsLeftBy : List ℕ → Effect → Type 0
 IsLeftBy key effect = AreLeft (key ∷ []) effect.leaves
 
-module _ (key : List ℕ) (short_key : IsShort key) where
-  string_can : (bytes : List ℕ) → IsShort bytes → IsLeft key (Some (Str bytes))
-  string_can bytes short = (tt, string_is key bytes short_key short)
+module _ (key : List ℕ) where
+  string_can : (bytes : List ℕ) → IsRequest (rebuilding key (Str bytes)) → IsLeft key (Some (Str bytes))
+  string_can bytes request = (tt, request)
 
-  set_can : (value : List ℕ) → IsShort value → (b : Bool) → IsLeftBy key (set_of value b)
-  set_can value short true = (string_can value short, tt)
-  set_can value short false = tt
+  set_can : (value : List ℕ) → IsRequest (rebuilding key (Str value)) → (b : Bool) → IsLeftBy key (set_of value b)
+  set_can value request true = (string_can value request, tt)
+  set_can value request false = tt
 
-  setnx_can : (value : List ℕ) → IsShort value → (old : Option Value) → IsLeftBy key (setnx_of value old)
-  setnx_can value short None = (string_can value short, tt)
-  setnx_can value short (Some old) = tt
+  setnx_can : (value : List ℕ) → IsRequest (rebuilding key (Str value)) → (old : Option Value) → IsLeftBy key (setnx_of value old)
+  setnx_can value request None = (string_can value request, tt)
+  setnx_can value request (Some old) = tt
 
-  getset_can : (value : List ℕ) → IsShort value → (old : Option Value) → IsLeftBy key (getset_of value old)
-  getset_can value short None = (string_can value short, tt)
-  getset_can value short (Some (Str bytes)) = (string_can value short, tt)
-  getset_can value short (Some (Hash pairs)) = tt
+  getset_can : (value : List ℕ) → IsRequest (rebuilding key (Str value)) → (old : Option Value) → IsLeftBy key (getset_of value old)
+  getset_can value request None = (string_can value request, tt)
+  getset_can value request (Some (Str bytes)) = (string_can value request, tt)
+  getset_can value request (Some (Hash pairs)) = tt
 
-  fitting_can : (bytes : List ℕ) → IsLeftBy key (string_left (fitting bytes))
-  fitting_can bytes = by_length (nat_lt MOST_WORD_BYTES (length bytes)) refl
-    where
-      by_length : (b : Bool) → nat_lt MOST_WORD_BYTES (length bytes) ≡ b → IsLeftBy key (string_left (cond b None (Some bytes)))
-      by_length true is = tt
-      by_length false is = (string_can bytes (ltb-false _ _ is), tt)
+  module _ (short_key : IsShort key) where
+    fitting_can : (bytes : List ℕ) → IsLeftBy key (string_left (fitting key bytes))
+    fitting_can bytes = by_fit (fits_string key bytes) refl
+      where
+        by_fit : (b : Bool) → fits_string key bytes ≡ b → IsLeftBy key (string_left (cond b (Some bytes) None))
+        by_fit true fits = (string_can bytes (fitting_is key bytes short_key fits), tt)
+        by_fit false too_long = tt
 
-  append_can : (bytes : List ℕ) (old : Option (List ℕ)) → IsLeftBy key (append_of bytes old)
-  append_can bytes None = tt
-  append_can bytes (Some string) = fitting_can (string ++ bytes)
+    append_can : (bytes : List ℕ) (old : Option (List ℕ)) → IsLeftBy key (append_of key bytes old)
+    append_can bytes None = tt
+    append_can bytes (Some string) = fitting_can (string ++ bytes)
 
 getdel_can : (key : List ℕ) (old : Option Value) → IsLeftBy key (getdel_of old)
 getdel_can key None = tt
@@ -126,7 +124,7 @@ getdel_can key (Some (Hash pairs)) = tt
 -- ---- numbers
 
 -- the text of a number that fits is short
-text_short : (n : ℤ) → fits n ≡ true → IsShort (signed_decimal n)
+text_short : (n : ℤ) → fits n ≡ true → length (signed_decimal n) ≤ 21
 text_short n is =
     let small : mag n < 2 ^ 63 = by n (fits_only_if n is) in
     omega (arith, length_signed_le 20 n (omega (arith, small)) small)
@@ -137,7 +135,7 @@ text_short n is =
 
 -- a sum has a short text, if it fits
 abbrev HasShortText : Result ℤ ErrorLine → Type 0
-HasShortText (Ok n) = IsShort (signed_decimal n)
+HasShortText (Ok n) = length (signed_decimal n) ≤ 21
 HasShortText (Err fault) = ⊤
 
 sum_short : (increment : Option ℤ) (stored : Result ℤ ErrorLine) → HasShortText (sum_of increment stored)
@@ -152,7 +150,7 @@ sum_short (Some increment) (Ok stored) = by_fit _ refl
 
 number_can : (key : List ℕ) → IsShort key → (n : Result ℤ ErrorLine) → HasShortText n → IsLeftBy key (number_left n)
 number_can key short (Err fault) text = tt
-number_can key short (Ok n) text = (string_can key short (signed_decimal n) text, tt)
+number_can key short (Ok n) text = (string_can key (signed_decimal n) (short_string_is key (signed_decimal n) short text), tt)
 
 -- ---- hashes
 
@@ -201,8 +199,8 @@ module _ (key : List ℕ) (short_key : IsShort key) where
 
   hincrby_can : (field : List ℕ) → IsShort field → (old : Option Pairs) → HasMade key old → (n : Result ℤ ErrorLine) → HasShortText n → IsLeftBy key (field_left key field (known old) n)
   hincrby_can field short_field old made (Err fault) text = tt
-  hincrby_can field short_field None made (Ok n) text = field_can _ field (signed_decimal n) [] short_field text no_fields tt
-  hincrby_can field short_field (Some pairs) made (Ok n) text = field_can _ field (signed_decimal n) pairs short_field text made.0 made.1
+  hincrby_can field short_field None made (Ok n) text = field_can _ field (signed_decimal n) [] short_field (omega (arith, text)) no_fields tt
+  hincrby_can field short_field (Some pairs) made (Ok n) text = field_can _ field (signed_decimal n) pairs short_field (omega (arith, text)) made.0 made.1
 
 -- fields are removed
 hdel_can : (key : List ℕ) → IsShort key → (names : List (List ℕ)) (old : Option Value) → IsLeft key old → IsLeftBy key (on_fields (fields_of old) (hdel_of names))
@@ -212,21 +210,21 @@ hdel_can key short names (Some (Hash pairs)) is = (made_can key _ (removals_made
 
 -- ---- any command
 
-strings_can : (pairs : List (List ℕ × List ℕ)) → AreShortPairs pairs → AreLeft (pair_keys pairs) (strings_left pairs)
-strings_can [] short = tt
-strings_can (pair ∷ pairs) short = (string_can pair.0 short.0.0 pair.1 short.0.1, strings_can pairs short.1)
+strings_can : (pairs : List (List ℕ × List ℕ)) → AreStrings pairs → AreLeft (pair_keys pairs) (strings_left pairs)
+strings_can [] are = tt
+strings_can (pair ∷ pairs) are = (string_can pair.0 pair.1 are.0, strings_can pairs are.1)
 
 removed_can : (keys : List (List ℕ)) → AreLeft keys (all_removed keys)
 removed_can [] = tt
 removed_can (key ∷ keys) = (tt, removed_can keys)
 
 effect_can : (command : DataCommand) (keyspace : Keyspace) → HasShort command → CanBeMade keyspace → AreLeft (data_keys command) (effect_in keyspace command).leaves
-effect_can (Set key value condition) keyspace short can = set_can key short.0 value short.1 (holds condition (fin_map.get keyspace key))
+effect_can (Set key value condition) keyspace short can = set_can key value short (holds condition (fin_map.get keyspace key))
 effect_can (Mset pairs) keyspace short can = strings_can pairs short
-effect_can (Setnx key value) keyspace short can = setnx_can key short.0 value short.1 (fin_map.get keyspace key)
-effect_can (Getset key value) keyspace short can = getset_can key short.0 value short.1 (fin_map.get keyspace key)
+effect_can (Setnx key value) keyspace short can = setnx_can key value short (fin_map.get keyspace key)
+effect_can (Getset key value) keyspace short can = getset_can key value short (fin_map.get keyspace key)
 effect_can (Getdel key) keyspace short can = getdel_can key (fin_map.get keyspace key)
-effect_can (Append key value) keyspace short can = append_can key short.0 value (string_of (fin_map.get keyspace key))
+effect_can (Append key value) keyspace short can = append_can key short value (string_of (fin_map.get keyspace key))
 effect_can (Incr key) keyspace short can = number_can key short _ (sum_short (Some (pos 1)) (number_at (fin_map.get keyspace key)))
 effect_can (Decr key) keyspace short can = number_can key short _ (sum_short (Some (neg_ℤ (pos 1))) (number_at (fin_map.get keyspace key)))
 effect_can (Incrby key increment) keyspace short can = number_can key short _ (sum_short (number_of increment) (number_at (fin_map.get keyspace key)))
@@ -250,7 +248,7 @@ replayed_can [] keyspace are can = can
 replayed_can (words ∷ requests) keyspace are can =
     let request : IsRequest words = All-head IsRequest words requests are in
     replayed_can requests (exec_words keyspace words).after (All-tail IsRequest words requests are)
-    (executed_can keyspace (command_of words) (words_short words (each_by_recursion IsShort words request.limits.each.short)) can)
+    (executed_can keyspace (command_of words) (words_short words request) can)
 
 pub none_can : CanBeMade fin_map.empty
 none_can key = subst (IsLeft key) (sym (fin_map.get-empty (slice_cmp nat_cmp) key)) tt

@@ -29,6 +29,7 @@ use Rattle.node_step.specs.Replicas.{follower_of, sync_answer}
 use Rattle.node_step.specs.State.{NodeState}
 use Rattle.node_step.specs.Streams.{Requests}
 use Rattle.node_step.specs.declared.promotion.Promotion.{Promotion}
+use Rattle.promoted_prefix.proofs.Deletions.{replayed}
 use Rattle.promoted_prefix.proofs.Growing.{Grows, IsSound, at_first, at_grown, base_more, longer_grows, longer_here, one_id, part_of, same_ids}
 use Rattle.promoted_prefix.specs.Law.{GoesOn}
 use Rattle.promoted_prefix.specs.Written.{begun_from, longer}
@@ -40,10 +41,6 @@ pub record HasWhole (full : FullStreams) (n : ℕ) (follower : Follower) : Type 
   pub whole : follower.stream.partial ≡ []
   pub ends : received follower.stream ≡ length (full follower.stream.held.id)
   pub former : IsTrueBase full follower.stream.held.id follower.stream.former
-
-replayed : (requests others : Requests) (keyspace : Keyspace) → (replay_from keyspace (requests ++ others)).last ≡ (replay_from (replay_from keyspace requests).last others).last
-replayed [] others keyspace = refl
-replayed (words ∷ requests) others keyspace = replayed requests others (exec_words keyspace words).after
 
 -- what is put behind a list stands at its end
 at_end : (full more : List ℕ) → At (full ++ more) (length full) more

@@ -58,9 +58,9 @@ string_left_so : (bytes : Option (List ℕ)) → NothingLeft (string_left bytes)
 string_left_so None is = refl
 string_left_so (Some bytes) is = no_error is
 
-append_left : (bytes : List ℕ) (old : Option (List ℕ)) → NothingLeft (append_of bytes old)
-append_left bytes None is = refl
-append_left bytes (Some string) is = string_left_so (fitting _) is
+append_left : (key bytes : List ℕ) (old : Option (List ℕ)) → NothingLeft (append_of key bytes old)
+append_left key bytes None is = refl
+append_left key bytes (Some string) is = string_left_so (fitting key _) is
 
 number_left_so : (n : Result ℤ ErrorLine) → NothingLeft (number_left n)
 number_left_so (Err fault) is = refl
@@ -91,7 +91,7 @@ error_leaves (Mset pairs) values is = no_error is
 error_leaves (Setnx key value) values is = setnx_left value _ is
 error_leaves (Getset key value) values is = getset_left value _ is
 error_leaves (Getdel key) values is = getdel_left _ is
-error_leaves (Append key value) values is = append_left value (string_of (first_of values)) is
+error_leaves (Append key value) values is = append_left key value (string_of (first_of values)) is
 error_leaves (Incr key) values is = number_left_so _ is
 error_leaves (Decr key) values is = number_left_so _ is
 error_leaves (Incrby key increment) values is = number_left_so _ is

@@ -15,7 +15,7 @@ use Rattle.slot_state.specs.declared.running.Move.{Move}
 use Rattle.slot_state.specs.declared.running.Move.TheVariants.{Leaves, Comes}
 use Rattle.slot_state.specs.declared.state.SlotState.{SlotState}
 use Rattle.slot_state.specs.declared.state.SlotState.TheVariants.{Owned, Foreign, Moving}
-use Rattle.redirect.specs.Asked.{Asked, all_there, are_several, bytes_of, is_one_of, is_right, none_there}
+use Rattle.redirect.specs.Asked.{Asked, all_there, are_several, bytes_of, is_frozen, is_right, none_there}
 use Rattle.redirect.specs.Decision.{at_owner, by_keys, coming, decision_at, has_other_slot, if_owned, in_slot, leaving, state_at}
 use Rattle.redirect.specs.Meaning.{AreInTwoSlots, IsOwned, IsSlotOf, is_kept}
 use Rattle.redirect.specs.declared.decision.Decision.{Decision}
@@ -79,10 +79,10 @@ either P true x y p q = p
 either P false x y p q = q
 
 -- what holds of all decisions in a slot that leaves holds of the one
-leaving-one : (P : Decision → Type 0) (elsewhere : Decision) (frozen : Option (List ℕ)) (asked : Asked) → P (TryAgain Frozen) → P Serve → P elsewhere → P (TryAgain SomeAreMissing)
+leaving-one : (P : Decision → Type 0) (elsewhere : Decision) (frozen : Option (List (List ℕ))) (asked : Asked) → P (TryAgain Frozen) → P Serve → P elsewhere → P (TryAgain SomeAreMissing)
     → P (leaving elsewhere frozen asked)
-leaving-one P elsewhere frozen asked is_frozen all none some =
-    either P (is_one_of frozen asked.keys) _ _ is_frozen (either P (all_there asked) _ _ all (either P (none_there asked) _ _ none some))
+leaving-one P elsewhere frozen asked held all none some =
+    either P (is_frozen frozen asked.keys) _ _ held (either P (all_there asked) _ _ all (either P (none_there asked) _ _ none some))
 
 coming-one : (P : Decision → Type 0) (number : ℕ) (asked : Asked) → P (TryAgain SomeAreMissing) → P (ServeImport number) → P (coming number asked)
 coming-one P number asked some serves = either P (are_several asked.keys && not (all_there asked)) _ _ some serves
@@ -145,7 +145,7 @@ in_slot-asked slot owner move from number last drained asked is right =
     ap (λ m. in_slot slot owner (Moving m) asked) is ∙ ap (λ b. cond b (coming number asked) (at_owner slot owner)) right
 
 -- a slot that leaves, and has an owner
-pub in_slot-leaving : (slot : ℕ) (has : Option ℕ) (owner : ℕ) (move : Move) (to number copies : ℕ) (frozen : Option (List ℕ)) (asked : Asked) → has ≡ Some owner
+pub in_slot-leaving : (slot : ℕ) (has : Option ℕ) (owner : ℕ) (move : Move) (to number copies : ℕ) (frozen : Option (List (List ℕ))) (asked : Asked) → has ≡ Some owner
     → move ≡ Leaves to number copies frozen → in_slot slot has (Moving move) asked ≡ leaving (Ask slot to number) frozen asked
 in_slot-leaving slot has owner move to number copies frozen asked owns is =
     ap (λ m. in_slot slot has (Moving m) asked) is ∙ ap (λ o. if_owned o (leaving (Ask slot to number) frozen asked)) owns

@@ -34,7 +34,7 @@ some_at_source : decided 2 at_source (command (codes "{foo}1" ∷ codes "{foo}2"
     ≡ TryAgain SomeAreMissing
 some_at_source = refl
 
-frozen_at_source : decided 2 (Leaves 1 7 1 (Some (codes "foo"))) (command (codes "foo" ∷ []) (true ∷ []) No)
+frozen_at_source : decided 2 (Leaves 1 7 1 (Some (codes "foo" ∷ []))) (command (codes "foo" ∷ []) (true ∷ []) No)
     ≡ TryAgain Frozen
 frozen_at_source = refl
 
@@ -69,3 +69,16 @@ others_name_it = refl
 
 is_down : in_slot 12182 None (state_of None None 1) (command (codes "foo" ∷ []) (false ∷ []) No) ≡ Down
 is_down = refl
+
+-- two keys are frozen at the source: a command that names one of them is refused, and another one goes on
+abbrev two_frozen : Move
+two_frozen = Leaves 1 3 1 (Some (codes "{a}2" ∷ codes "{a}1" ∷ []))
+
+one_of_two_frozen : decided 2 two_frozen (command (codes "{a}1" ∷ []) (true ∷ []) No) ≡ TryAgain Frozen
+one_of_two_frozen = refl
+
+second_named_frozen : decided 2 two_frozen (command (codes "{a}3" ∷ codes "{a}2" ∷ []) (true ∷ true ∷ []) No) ≡ TryAgain Frozen
+second_named_frozen = refl
+
+beside_two_frozen : decided 2 two_frozen (command (codes "{a}9" ∷ []) (false ∷ []) No) ≡ Ask 12182 1 3
+beside_two_frozen = refl

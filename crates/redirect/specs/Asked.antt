@@ -33,9 +33,13 @@ are_several [] = false
 are_several (key ∷ others) = list_any (λ other. not (pointwise nat_eq other key)) others
 
 -- the key is one of these
-abbrev pub is_one_of : Option (List ℕ) → List (List ℕ) → Bool
-is_one_of None keys = false
-is_one_of (Some key) keys = list_any (λ other. pointwise nat_eq other key) keys
+abbrev pub is_one_of : List (List ℕ) → List ℕ → Bool
+is_one_of keys key = list_any (λ other. pointwise nat_eq other key) keys
+
+-- one of the keys is in the copy that is outstanding, if there is one
+abbrev pub is_frozen : Option (List (List ℕ)) → List (List ℕ) → Bool
+is_frozen None keys = false
+is_frozen (Some frozen) keys = list_any (λ key. is_one_of frozen key) keys
 
 -- all keys are there
 abbrev pub all_there : Asked → Bool

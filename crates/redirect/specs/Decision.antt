@@ -11,7 +11,7 @@ use Rattle.slot_state.specs.declared.running.Move.{Move}
 use Rattle.slot_state.specs.declared.running.Move.TheVariants.{Leaves, Comes}
 use Rattle.slot_state.specs.declared.state.SlotState.{SlotState}
 use Rattle.slot_state.specs.declared.state.SlotState.TheVariants.{Owned, Foreign, Moving}
-use Rattle.redirect.specs.Asked.{Asked, is_right, are_several, is_one_of, all_there, none_there}
+use Rattle.redirect.specs.Asked.{Asked, is_right, are_several, is_frozen, all_there, none_there}
 use Rattle.redirect.specs.declared.decision.Decision.{Decision}
 use Rattle.redirect.specs.declared.decision.Decision.TheVariants.{Serve, ServeImport, CrossSlot, Down, TryAgain, Ask, Moved}
 use Rattle.redirect.specs.declared.decision.Reason.TheVariants.{Frozen, SomeAreMissing}
@@ -29,9 +29,9 @@ at_owner slot (Some owner) = Moved slot owner
 -- in a slot that leaves: a key is frozen, all are there, none is there, some are there
 -- (a frozen key isn't served, or this goes wrong: node 0 sends b = 1 to node 1, then serves SET b 2;
 -- the acknowledgement deletes b = 2 at node 0, and node 1 goes on with b = 1)
-abbrev pub leaving : Decision → Option (List ℕ) → Asked → Decision
+abbrev pub leaving : Decision → Option (List (List ℕ)) → Asked → Decision
 leaving elsewhere frozen asked =
-    if is_one_of frozen asked.keys then TryAgain Frozen
+    if is_frozen frozen asked.keys then TryAgain Frozen
     else (if all_there asked then Serve
     else (if none_there asked then elsewhere else TryAgain SomeAreMissing))
 

@@ -3,10 +3,10 @@ ghost use Rattle.std.specs.Prelude.{◌≡◌, nat_eq, not};
 ghost use Rattle.std.specs.Option.{option_copied};
 ghost use Rattle.std.specs.Cmp.Lexicographic.{pointwise};
 ghost use Rattle.std.specs.List.{list_all, list_any};
-ghost use Rattle.redirect.specs.Asked.{bytes_of, is_right, are_several, is_one_of};
+ghost use Rattle.redirect.specs.Asked.{bytes_of, is_frozen, is_one_of, is_right, are_several};
 
 use byte_string::ByteString;
-use slot_state::MoveNo;
+use slot_state::{Keys, MoveNo};
 
 /// What an ASKING allows the next command of its connection.
 #[derive(Clone, Copy, PartialEq, Eq, Debug)]
@@ -40,26 +40,33 @@ pub(crate) fn are_several(keys: &[&[u8]]) -> bool
     }
 }
 
-// Whether the key is one of these.
-pub(crate) fn is_one_of(key: Option<&ByteString>, keys: &[&[u8]]) -> bool
-    ensures { result ≡ is_one_of (option_copied key.entry) (bytes_of keys.now) }
+// Whether one of the keys is in the copy that is outstanding, if there is one.
+pub(crate) fn is_frozen(frozen: Option<&Keys>, keys: &[&[u8]]) -> bool
+    ensures { result ≡ is_frozen (option_copied frozen.entry) (bytes_of keys.now) }
 {
-    match key {
+    match frozen {
         None => false,
-        Some(key) => has(keys, key.as_slice()),
+        Some(frozen) => is_any_of(frozen.as_slice(), keys),
     }
+}
+
+// Whether one of the keys is among the others.
+fn is_any_of(others: &[ByteString], keys: &[&[u8]]) -> bool
+    ensures { result ≡ list_any (λ key. is_one_of others.now key.now) keys.now }
+{
+    keys.iter().any(|key| is_one_of(others, key))
+}
+
+fn is_one_of(keys: &[ByteString], key: &[u8]) -> bool
+    ensures { result ≡ is_one_of keys.now key.now }
+{
+    keys.iter().any(|other| other.as_slice() == key)
 }
 
 fn has_another(keys: &[&[u8]], key: &[u8]) -> bool
     ensures { result ≡ list_any (λ other. not (pointwise nat_eq other.now key.now)) keys.now }
 {
     keys.iter().any(|other| *other != key)
-}
-
-fn has(keys: &[&[u8]], key: &[u8]) -> bool
-    ensures { result ≡ list_any (λ other. pointwise nat_eq other.now key.now) keys.now }
-{
-    keys.iter().any(|other| *other == key)
 }
 
 pub(crate) fn are_all(there: &[bool]) -> bool

@@ -10,10 +10,9 @@ ghost use Rattle.redirect.specs.Asked.{Asked, asked, bytes_of};
 ghost use Rattle.redirect.specs.Decision.{decision, decision_at, in_slot, at_owner, coming, leaving};
 ghost use Rattle.redirect.specs.Meaning.{AreInTwoSlots, IsOwned, IsSlotOf};
 
-use crate::asked::{Asking, are_all, are_several, is_any, is_one_of, is_right};
-use byte_string::ByteString;
+use crate::asked::{Asking, are_all, are_several, is_any, is_frozen, is_right};
 use key_slot::{Slot, slot};
-use slot_state::{Move, MoveNo, SlotMoves, SlotState};
+use slot_state::{Keys, Move, MoveNo, SlotMoves, SlotState};
 use slot_table::{NodeNo, SlotTable};
 
 /// What a node does with a command.
@@ -215,15 +214,10 @@ fn coming(number: MoveNo, keys: &[&[u8]], there: &[bool]) -> Decision
 }
 
 // The decision in a slot that leaves the node; `elsewhere` is the one where no key is there.
-fn leaving(
-    elsewhere: Decision,
-    frozen: Option<&ByteString>,
-    keys: &[&[u8]],
-    there: &[bool],
-) -> Decision
+fn leaving(elsewhere: Decision, frozen: Option<&Keys>, keys: &[&[u8]], there: &[bool]) -> Decision
     ensures { (asking : Asking) → result ≡ leaving elsewhere (option_copied frozen.entry) (asked keys.now there.now asking) }
 {
-    if is_one_of(frozen, keys) {
+    if is_frozen(frozen, keys) {
         return Decision::TryAgain(Reason::Frozen);
     }
     if are_all(there) {

@@ -4,8 +4,7 @@ use Rattle.command_table.specs.declared.command.ClusterCommand.{ClusterCommand}
 use Rattle.command_table.specs.declared.command.ClusterCommand.TheVariants.{Migrate, SetSlot}
 use Rattle.command_table.specs.declared.command.SlotOrder.{SlotOrder}
 use Rattle.connections.specs.declared.conn.Conn.{Conn}
-use Rattle.key_slot.specs.Slot.{hash_slot}
-use Rattle.node_step.specs.Copies.{copy_outcome, copy_verdict_on, node_at}
+use Rattle.node_step.specs.Copies.{copy_outcome, copy_verdict_on, first_slot, node_at, those_there}
 use Rattle.node_step.specs.Outcome.{Outcome, stamped}
 use Rattle.node_step.specs.Requests.{cluster_outcome, node_with_id, order_outcome, using_up}
 use Rattle.node_step.specs.State.{NodeState}
@@ -101,35 +100,35 @@ record IsCopyRepeat (first : Outcome) (node : NodeState) (outcome : Outcome) : T
   response : outcome.response ≢ Nothing → outcome.response ≡ first.response
   sent : outcome.response ≢ Nothing → outcome.sent ≡ first.sent
 
-module _ (host : List ℕ) (port : ℤ) (key : List ℕ) (timeout ticks : ℕ) where
+module _ (host : List ℕ) (port : ℤ) (keys : List (List ℕ)) (timeout ticks : ℕ) where
   second_copy : (old after later : NodeState) (conn other : Conn) (first second : Outcome) → first.response ≢ Nothing → after ≡ first.state → KeepsAllButConnections after later
-      → Came (Migrate host port key timeout) old conn first → Came (Migrate host port key ticks) later other second → IsCopyRepeat first later second
+      → Came (Migrate host port keys timeout) old conn first → Came (Migrate host port keys ticks) later other second → IsCopyRepeat first later second
   second_copy old after later conn other first second took_it are keeps (ignored is) next = absurd (took_it (ap (λ (o : Outcome). o.response) is))
   second_copy old after later conn other first second took_it are keeps (took is) (ignored nothing) =
       subst (IsCopyRepeat first later) (sym nothing)
       (record { state = refl; released = refl; response = λ answers. absurd (answers refl); sent = λ answers. absurd (answers refl) })
   second_copy old after later conn other first second took_it are keeps (took is) (took next) =
       let node : NodeState = using_up old conn in
-      let ordered : Outcome = copy_outcome node conn (hash_slot key) key timeout (copy_verdict_on node key (node_at node host port)) in
+      let ordered : Outcome = copy_outcome node conn (first_slot keys) (those_there node.keyspace keys) timeout (copy_verdict_on node keys (node_at node host port)) in
       let found : NodeState = behind ordered later.connections in
       let same : found ≡ later = sym (keeps ∙ ap (λ (n : NodeState). record n { connections = later.connections }) (are ∙ ap (λ (o : Outcome). o.state) is)) in
-      let only : OnlySends (using_up found other) ordered (cluster_outcome (using_up found other) other (Migrate host port key ticks)) =
-      copy_repeats node (using_up found other).connections conn other key timeout ticks host port (copy_verdict_on node key (node_at node host port)) refl in
-      let repeat : IsCopyRepeat ordered found (cluster_outcome (using_up found other) other (Migrate host port key ticks)) =
+      let only : OnlySends (using_up found other) ordered (cluster_outcome (using_up found other) other (Migrate host port keys ticks)) =
+      copy_repeats node (using_up found other).connections conn other keys timeout ticks host port (copy_verdict_on node keys (node_at node host port)) refl in
+      let repeat : IsCopyRepeat ordered found (cluster_outcome (using_up found other) other (Migrate host port keys ticks)) =
       record { state = only.state; released = only.released; response = λ answers. only.response; sent = λ answers. only.sent } in
       subst (IsCopyRepeat first later) (sym next)
-      (subst (λ (n : NodeState). IsCopyRepeat first n (cluster_outcome (using_up n other) other (Migrate host port key ticks))) same
-      (subst (λ (o : Outcome). IsCopyRepeat o found (cluster_outcome (using_up found other) other (Migrate host port key ticks))) (sym is) repeat))
+      (subst (λ (n : NodeState). IsCopyRepeat first n (cluster_outcome (using_up n other) other (Migrate host port keys ticks))) same
+      (subst (λ (o : Outcome). IsCopyRepeat o found (cluster_outcome (using_up found other) other (Migrate host port keys ticks))) (sym is) repeat))
 
 pub are_sent_again : CopiesAreSentAgain
-are_sent_again host port key timeout ticks old after later new outputs again first took_it keeps second =
+are_sent_again host port keys timeout ticks old after later new outputs again first took_it keeps second =
     let before : Outcome = first.step.outcome in
     let outcome : Outcome = second.step.outcome in
-    let first_response : outputs.response ≡ before.response = responds (Migrate host port key timeout) old outputs after first in
-    let response : again.response ≡ outcome.response = responds (Migrate host port key ticks) later again new second in
+    let first_response : outputs.response ≡ before.response = responds (Migrate host port keys timeout) old outputs after first in
+    let response : again.response ≡ outcome.response = responds (Migrate host port keys ticks) later again new second in
     let repeat : IsCopyRepeat before later outcome =
-    second_copy host port key timeout ticks old after later first.conn second.conn before outcome (λ nothing. took_it (first_response ∙ nothing)) first.step.state keeps
-    (came (Migrate host port key timeout) old outputs after first) (came (Migrate host port key ticks) later again new second) in
+    second_copy host port keys timeout ticks old after later first.conn second.conn before outcome (λ nothing. took_it (first_response ∙ nothing)) first.step.state keeps
+    (came (Migrate host port keys timeout) old outputs after first) (came (Migrate host port keys ticks) later again new second) in
     let as_before : IsTaken again → again.sent ≡ map (stamped outcome.state.number second.ticket outcome.state.current_epoch) before.sent =
     λ takes. ap (λ (o : Outputs). o.sent) second.step.outputs_are
     ∙ ap (map (stamped outcome.state.number second.ticket outcome.state.current_epoch)) (repeat.sent (λ nothing. takes (response ∙ nothing))) in

@@ -66,6 +66,6 @@ pub record IsOnlySentAgain (old new : NodeState) (outputs again : Outputs) : Typ
 
 -- a copy that was ordered is the one that the same order sends again, also with another time to wait for
 abbrev pub CopiesAreSentAgain : Type 0
-CopiesAreSentAgain = (host : List ℕ) (port : ℤ) (key : List ℕ) (timeout other : ℕ) (old after later new : NodeState) (outputs again : Outputs)
-    → IsGiven (Migrate host port key timeout) old outputs after → IsTaken outputs → KeepsAllButConnections after later
-    → IsGiven (Migrate host port key other) later again new → IsOnlySentAgain later new outputs again
+CopiesAreSentAgain = (host : List ℕ) (port : ℤ) (keys : List (List ℕ)) (timeout other : ℕ) (old after later new : NodeState) (outputs again : Outputs)
+    → IsGiven (Migrate host port keys timeout) old outputs after → IsTaken outputs → KeepsAllButConnections after later
+    → IsGiven (Migrate host port keys other) later again new → IsOnlySentAgain later new outputs again

@@ -1,19 +1,17 @@
 -- What is written, as it is decided.
 use Rattle.std.proofs.Common.{◌≡◌, ◌&&◌, ℕ, Bool, true, false, not, List, [], ◌∷◌, append-nil, refl, sym, ap, ◌∙◌}
-use Rattle.std.specs.FinMap as fin_map
-use Rattle.std.specs.Prelude.{Result, is_some}
+use Rattle.std.specs.Prelude.{Result}
 use Rattle.command_table.specs.declared.command.Command.{Command}
 use Rattle.command_table.specs.declared.fault.CommandFault.{CommandFault}
 use Rattle.keyspace.specs.Keyspace.{Keyspace}
 use Rattle.keyspace.specs.declared.value.Value.{Value}
 use Rattle.migrate.specs.declared.arriving.ArrivalVerdict.{ArrivalVerdict}
-use Rattle.migrate.specs.declared.arriving.ArrivalVerdict.TheVariants.{Ignored, Installs, Repeats}
 use Rattle.node_step.specs.Streams.{Requests, is_error, is_executed, is_written, written_by_copy, written_by_request}
 use Rattle.node_step.specs.declared.response.Response.{Response}
 use Rattle.node_step.specs.declared.response.Response.TheVariants.{Nothing, Opened, Parked, Replied}
 use Rattle.resp2.specs.Stream.{stream_spelling}
 use Rattle.resp_values.specs.Request.{request_spelling}
-use Rattle.replica_rows.specs.Recording.{installing, is_done, written_if}
+use Rattle.replica_rows.specs.Recording.{is_done, written_if}
 
 -- one request alone
 pub one_request : (words : List (List ℕ)) → request_spelling words ≡ stream_spelling (words ∷ [])
@@ -51,14 +49,7 @@ request_written words is_write recorded response bytes command spelled test is =
     spelled ∙ ap (λ (requests : Requests). stream_spelling requests)
     (ap (λ t. written_if t words) (test ∙ ap (λ w. w && is_done response) is) ∙ as_written words command response)
 
--- a copy by the verdict on it
-copy_by : (keyspace : Keyspace) (key : List ℕ) (value : Value) (verdict : ArrivalVerdict) → installing (is_some (fin_map.get keyspace key)) key value verdict ≡ written_by_copy keyspace key value verdict
-copy_by keyspace key value Installs = refl
-copy_by keyspace key value Repeats = refl
-copy_by keyspace key value Ignored = refl
-
-pub copy_written : (keyspace : Keyspace) (key : List ℕ) (value : Value) (there : Bool) (verdict other : ArrivalVerdict) (bytes : List ℕ) → bytes ≡ stream_spelling (installing there key value verdict)
-    → there ≡ is_some (fin_map.get keyspace key) → verdict ≡ other → bytes ≡ stream_spelling (written_by_copy keyspace key value other)
-copy_written keyspace key value there verdict other bytes spelled is same =
-    spelled ∙ ap (λ (requests : Requests). stream_spelling requests)
-    (ap (λ t. installing t key value verdict) is ∙ copy_by keyspace key value verdict ∙ ap (written_by_copy keyspace key value) same)
+-- a copy with that verdict
+pub copy_written : (keyspace : Keyspace) (pairs : List (List ℕ × Value)) (verdict other : ArrivalVerdict) (bytes : List ℕ) → bytes ≡ stream_spelling (written_by_copy keyspace pairs verdict)
+    → verdict ≡ other → bytes ≡ stream_spelling (written_by_copy keyspace pairs other)
+copy_written keyspace pairs verdict other bytes spelled same = spelled ∙ ap (λ (v : ArrivalVerdict). stream_spelling (written_by_copy keyspace pairs v)) same

@@ -4,8 +4,6 @@ use Rattle.bus.specs.declared.message.Body.{Body}
 use Rattle.bus.specs.declared.message.Body.TheVariants.{Piece}
 use Rattle.keyspace.specs.Rebuilding.{rebuilding}
 use Rattle.keyspace.specs.declared.value.Value.{Value}
-use Rattle.migrate.specs.declared.arriving.ArrivalVerdict.{ArrivalVerdict}
-use Rattle.migrate.specs.declared.arriving.ArrivalVerdict.TheVariants.{Ignored, Installs, Repeats}
 use Rattle.node_parts.specs.declared.draft.Draft.{Draft}
 use Rattle.node_step.specs.Orders.{to_all}
 use Rattle.node_step.specs.Roles.{replicas_of}
@@ -24,11 +22,9 @@ rebuilt is_there key value = if is_there then deletion key ∷ rebuilding key va
 abbrev pub deletion_bytes : List ℕ → List ℕ
 deletion_bytes key = request_spelling (deletion key)
 
--- by the verdict on a copy
-abbrev pub installing : Bool → List ℕ → Value → ArrivalVerdict → Requests
-installing is_there key value Installs = rebuilt is_there key value
-installing is_there key value Repeats = []
-installing is_there key value Ignored = []
+-- and of one that comes only where the key is there
+abbrev pub deletion_if : Bool → List ℕ → List ℕ
+deletion_if is_there key = if is_there then deletion_bytes key else []
 
 -- the request, if it is to be written
 abbrev pub written_if : Bool → List (List ℕ) → Requests

@@ -1,10 +1,9 @@
 //! What a step writes, as bytes.
 ghost use Rattle.std.specs.Prelude.{◌≡◌, ◌++◌, IfOk, OnOk, map};
 ghost use Rattle.std.specs.List.{flat_map};
-ghost use Rattle.keyspace.specs.Rebuilding.{rebuilding};
 ghost use Rattle.node_step.specs.Streams.{deletion};
 ghost use Rattle.resp2.specs.Stream.{stream_spelling};
-ghost use Rattle.replica_rows.specs.Recording.{deletion_bytes, rebuilt};
+ghost use Rattle.replica_rows.specs.Recording.{deletion_bytes, deletion_if, rebuilt};
 ghost use Rattle.resp_values.specs.Request.{request_spelling};
 
 use byte_string::ByteString;
@@ -22,35 +21,33 @@ pub(crate) fn request_bytes(alloc: Global, words: &[ByteString]) -> Result<Vec<u
     Ok(bytes)
 }
 
-/// The bytes of the request that makes the key with this value, behind the deletion of the key if it is there.
-#[tactic(auto, using(crate::proofs::SpellingLemmas::rebuilt_alone, crate::proofs::SpellingLemmas::rebuilt_behind))]
-pub(crate) fn rebuilding_bytes(
-    alloc: Global,
+/// Puts the request that makes the key with this value behind the bytes, after the deletion of the key if it is there.
+#[tactic(auto, using(crate::proofs::SpellingLemmas::rebuilt_behind))]
+pub(crate) fn append_rebuilding(
+    bytes: &mut Vec<u8>,
     key: &ByteString,
     value: &Value,
     is_there: bool,
-) -> Result<Vec<u8>, AllocError>
-    ensures { IfOk result (λ bytes. bytes.items ≡ stream_spelling (rebuilt is_there key.now value.now)) }
+) -> Result<(), AllocError>
+    ensures { OnOk result (bytes.new.items ≡ bytes.old.items ++ stream_spelling (rebuilt is_there key.now value.now)) }
 {
-    let words = rebuilding_words(alloc, key, value)?;
-    if !is_there {
-        return request_bytes(alloc, words.as_slice());
-    }
-    replacing_bytes(alloc, key, words.as_slice())
+    let words = rebuilding_words(*bytes.allocator(), key, value)?;
+    append_deletion_if(bytes, key, is_there)?;
+    append_request(bytes, words.as_slice())
 }
 
-// The bytes of the deletion of the key, and then of a request of these words.
-fn replacing_bytes(
-    alloc: Global,
+#[tactic(auto, using(crate::proofs::SpellingLemmas::none_behind))]
+fn append_deletion_if(
+    bytes: &mut Vec<u8>,
     key: &ByteString,
-    words: &[ByteString],
-) -> Result<Vec<u8>, AllocError>
-    ensures { IfOk result (λ bytes. bytes.items ≡ request_spelling (deletion key.now) ++ request_spelling words.now) }
+    is_there: bool,
+) -> Result<(), AllocError>
+    ensures { OnOk result (bytes.new.items ≡ bytes.old.items ++ deletion_if is_there key.now) }
 {
-    let mut bytes = Vec::new(alloc);
-    append_deletion(&mut bytes, key)?;
-    append_request(&mut bytes, words)?;
-    Ok(bytes)
+    if is_there {
+        return append_deletion(bytes, key);
+    }
+    Ok(())
 }
 
 /// The bytes of the deletions of these keys.

@@ -1,23 +1,25 @@
 //! What is written by requests and messages, as the bytes of requests. Mostly that is nothing, which takes no memory.
-ghost use Rattle.std.specs.Prelude.{◌≡◌, ◌&&◌, Result, IfOk, filter, map};
+ghost use Rattle.std.specs.Prelude.{◌≡◌, ◌&&◌, ◌||◌, Result, IfOk, filter, is_some, map, nat_eq};
+ghost use Rattle.std.specs.Cmp.Lexicographic.{pointwise};
+ghost use Rattle.std.specs.List.{list_any};
 ghost use Rattle.std.specs.FinMap as fin_map;
 ghost use Rattle.command_table.specs.declared.command.Command.{Command};
 ghost use Rattle.command_table.specs.declared.fault.CommandFault.{CommandFault};
-ghost use Rattle.migrate.specs.Acknowledging.{acknowledged_key};
+ghost use Rattle.migrate.specs.Acknowledging.{acknowledged_keys};
 ghost use Rattle.migrate.specs.Arriving.{arrival_verdict};
-ghost use Rattle.node_step.specs.Copies.{keeps_limits};
-ghost use Rattle.node_step.specs.Streams.{deletion, is_error, is_executed, is_written, written_by_ack, written_by_copy, written_by_request};
+ghost use Rattle.node_step.specs.Copies.{keep_limits};
+ghost use Rattle.node_step.specs.Streams.{deletion, is_error, is_executed, is_written, written_by_ack, written_by_copy, written_by_pairs, written_by_request};
 ghost use Rattle.resp2.specs.Stream.{stream_spelling};
 ghost use Rattle.node_step.specs.declared.response.Why.TheVariants.{Decided};
 ghost use Rattle.slot_pairs.specs.Several.{is_in_one};
 ghost use Rattle.slot_state.specs.Moves.{move_of};
-ghost use Rattle.replica_rows.specs.Recording.{installing, is_done, written_if};
+ghost use Rattle.replica_rows.specs.Recording.{is_done, written_if};
 
-use crate::spelling::{deletions_bytes, rebuilding_bytes, request_bytes};
+use crate::spelling::{append_rebuilding, deletions_bytes, request_bytes};
 use byte_string::ByteString;
 use key_slot::Slot;
-use keyspace::{Store, Value, value_fits};
-use migrate::{ArrivalVerdict, acknowledged_key, arrival_verdict};
+use keyspace::{Store, value_fits};
+use migrate::{ArrivalVerdict, acknowledged_keys, arrival_verdict};
 use node_parts::NodeParts;
 use node_step::{Response, Why};
 use redirect::Decision;
@@ -28,7 +30,7 @@ use slot_state::MoveNo;
 use slot_store::{SlotKeys, SlotParts};
 use slot_table::NodeNo;
 use std::alloc::{AllocError, Global};
-use std::slice;
+use stream_values::Pair;
 
 /// A write that was executed without an error is written in the words of its request.
 #[tactic(auto, using(crate::proofs::WriteLemmas::request_written))]
@@ -106,7 +108,7 @@ fn is_error(reply: &Reply) -> bool
     matches!(reply, Reply::Error(_))
 }
 
-/// A copy that is installed is written as the request that makes its key.
+/// A copy that is installed is written as the requests that make its keys.
 #[tactic(auto, using(crate::proofs::WriteLemmas::copy_written))]
 pub fn written_by_copy<S: SlotParts + SlotKeys, T: Stream>(
     node: &NodeParts<S, T>,
@@ -114,34 +116,76 @@ pub fn written_by_copy<S: SlotParts + SlotKeys, T: Stream>(
     slot: Slot,
     number: MoveNo,
     copy: u64,
-    key: &ByteString,
-    value: &Value,
+    pairs: &[Pair],
 ) -> Result<Vec<u8>, AllocError>
-    ensures { IfOk result (λ bytes. bytes.items ≡ stream_spelling (written_by_copy node.now.keyspace key.now value.now
-        (arrival_verdict (move_of node.now.moves slot) from number copy (keeps_limits key.now value.now)))) }
+    ensures { IfOk result (λ bytes. bytes.items ≡ stream_spelling (written_by_copy node.now.keyspace pairs.now
+        (arrival_verdict (move_of node.now.moves slot) from number copy (keep_limits pairs.now)))) }
 {
-    let fits = value_fits(key, value);
+    let fits = keep_limits(pairs);
     let verdict = arrival_verdict(node.moves.get(slot), from, number, copy, fits);
-    let is_there = node.store.get(key).is_some();
-    installed_bytes(node.alloc, verdict, is_there, key, value)
+    copied_bytes(node, verdict, pairs)
 }
 
-fn installed_bytes(
-    alloc: Global,
+// Whether the requests that make the keys with their values keep the limits.
+fn keep_limits(pairs: &[Pair]) -> bool
+    ensures { result ≡ keep_limits pairs.now }
+{
+    pairs
+        .iter()
+        .all(|pair| value_fits(pair.key(), pair.value()))
+}
+
+// The requests of a copy with that verdict.
+fn copied_bytes<S: SlotParts + SlotKeys, T: Stream>(
+    node: &NodeParts<S, T>,
     verdict: ArrivalVerdict,
-    is_there: bool,
-    key: &ByteString,
-    value: &Value,
+    pairs: &[Pair],
 ) -> Result<Vec<u8>, AllocError>
-    ensures { IfOk result (λ bytes. bytes.items ≡ stream_spelling (installing is_there key.now value.now verdict)) }
+    ensures { IfOk result (λ bytes. bytes.items ≡ stream_spelling (written_by_copy node.now.keyspace pairs.now verdict)) }
 {
     match verdict {
-        ArrivalVerdict::Installs => rebuilding_bytes(alloc, key, value, is_there),
-        ArrivalVerdict::Repeats | ArrivalVerdict::Ignored => Ok(Vec::new(alloc)),
+        ArrivalVerdict::Installs => installed_bytes(node, pairs),
+        ArrivalVerdict::Repeats | ArrivalVerdict::Ignored => Ok(Vec::new(node.alloc)),
     }
 }
 
-/// A copy that is acknowledged is written as the deletion of its key.
+// The requests that make all keys, one after another.
+fn installed_bytes<S: SlotParts + SlotKeys, T: Stream>(
+    node: &NodeParts<S, T>,
+    pairs: &[Pair],
+) -> Result<Vec<u8>, AllocError>
+    ensures { IfOk result (λ bytes. bytes.items ≡ stream_spelling (written_by_pairs node.now.keyspace pairs.now)) }
+{
+    let mut bytes = Vec::new(node.alloc);
+    for place in 0..pairs.len() {
+        let pair = &pairs[place];
+        let is_there = is_there_behind(node, &pairs[..place], pair.key());
+        append_rebuilding(&mut bytes, pair.key(), pair.value(), is_there)?;
+    }
+    Ok(bytes)
+}
+
+// Whether the key is there once these pairs are.
+fn is_there_behind<S: SlotParts + SlotKeys, T: Stream>(
+    node: &NodeParts<S, T>,
+    pairs: &[Pair],
+    key: &ByteString,
+) -> bool
+    ensures { result ≡ (is_some (fin_map.get node.now.keyspace key.now) || list_any (λ pair. pointwise nat_eq pair.0 key.now) pairs.now) }
+{
+    node.store.get(key).is_some() || has_key(pairs, key)
+}
+
+// Whether one of the pairs is at the key.
+fn has_key(pairs: &[Pair], key: &ByteString) -> bool
+    ensures { result ≡ list_any (λ pair. pointwise nat_eq pair.0 key.now) pairs.now }
+{
+    pairs
+        .iter()
+        .any(|pair| pair.key().as_slice() == key.as_slice())
+}
+
+/// A copy that is acknowledged is written as the deletions of its keys.
 pub fn written_by_ack<S: SlotParts + SlotKeys, T: Stream>(
     node: &NodeParts<S, T>,
     from: NodeNo,
@@ -149,10 +193,10 @@ pub fn written_by_ack<S: SlotParts + SlotKeys, T: Stream>(
     number: MoveNo,
     copy: u64,
 ) -> Result<Vec<u8>, AllocError>
-    ensures { IfOk result (λ bytes. bytes.items ≡ stream_spelling (written_by_ack (acknowledged_key (move_of node.now.moves slot) from number copy))) }
+    ensures { IfOk result (λ bytes. bytes.items ≡ stream_spelling (written_by_ack (acknowledged_keys (move_of node.now.moves slot) from number copy))) }
 {
-    match acknowledged_key(node.moves.get(slot), from, number, copy) {
-        Some(key) => deletions_bytes(node.alloc, slice::from_ref(key)),
+    match acknowledged_keys(node.moves.get(slot), from, number, copy) {
+        Some(keys) => deletions_bytes(node.alloc, keys.as_slice()),
         None => Ok(Vec::new(node.alloc)),
     }
 }

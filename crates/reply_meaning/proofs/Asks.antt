@@ -44,7 +44,7 @@ use Rattle.slot_state.specs.Importing.{import_verdict}
 use Rattle.slot_state.specs.Migrating.{migrate_verdict}
 use Rattle.slot_state.specs.Moves.{last_move_of, move_of}
 use Rattle.node_step.specs.Commands.{ask_reply, command_outcome, decision_on, moved_reply, named}
-use Rattle.node_step.specs.Copies.{copy_outcome, copy_verdict_on, node_at}
+use Rattle.node_step.specs.Copies.{copy_outcome, copy_verdict_on, first_slot, node_at, those_there}
 use Rattle.node_step.specs.Orders.{done, ending_outcome, ending_verdict, import_reply, migrate_reply}
 use Rattle.node_step.specs.Outcome.{error}
 use Rattle.node_step.specs.Reports.{id_reply}
@@ -269,13 +269,14 @@ order_right node slot Migrating other number =
     right_if_none node _ _ (migrate_is_none (migrate_verdict (standing node slot) (move_of node.moves slot) (last_move_of node.moves slot) other number))
 order_right node slot Node other number = ending_right node slot (ending_verdict node slot other number)
 
-copy_right : (node : NodeState) (conn : Conn) (slot : ℕ) (key : List ℕ) (ticks : ℕ) (verdict : CopyVerdict) → Says (IsRight node) (copy_outcome node conn slot key ticks verdict).response
-copy_right node conn slot key ticks copies.WrongTarget = right_if_none node _ _ (line_is_none line.WrongTarget)
-copy_right node conn slot key ticks copies.NoKey = right_if_none node _ _ (told_is_none (Simple (codes "NOKEY")) refl)
-copy_right node conn slot key ticks copies.CopyOutstanding = right_if_none node _ _ (line_is_none line.CopyOutstanding)
-copy_right node conn slot key ticks copies.Exhausted = tt
-copy_right node conn slot key ticks (copies.SendAgain to number copy) = tt
-copy_right node conn slot key ticks (copies.Copies to number copy) = tt
+copy_right : (node : NodeState) (conn : Conn) (slot : ℕ) (keys : List (List ℕ)) (ticks : ℕ) (verdict : CopyVerdict) → Says (IsRight node) (copy_outcome node conn slot keys ticks verdict).response
+copy_right node conn slot keys ticks copies.CrossSlot = right_if_none node _ _ (line_is_none line.CrossSlot)
+copy_right node conn slot keys ticks copies.WrongTarget = right_if_none node _ _ (line_is_none line.WrongTarget)
+copy_right node conn slot keys ticks copies.NoKey = right_if_none node _ _ (told_is_none (Simple (codes "NOKEY")) refl)
+copy_right node conn slot keys ticks copies.CopyOutstanding = right_if_none node _ _ (line_is_none line.CopyOutstanding)
+copy_right node conn slot keys ticks copies.Exhausted = tt
+copy_right node conn slot keys ticks (copies.SendAgain to number copy) = tt
+copy_right node conn slot keys ticks (copies.Copies to number copy) = tt
 
 cluster_right : (node : NodeState) (conn : Conn) (which : ClusterCommand) → Says (IsRight node) (cluster_outcome node conn which).response
 cluster_right node conn (cluster.KeySlot key) = right_if_none node _ _ (told_is_none _ refl)
@@ -287,7 +288,7 @@ cluster_right node conn (cluster.SlotState slot) = right_if_none node _ _ (told_
 cluster_right node conn (cluster.SetSlot slot which id number) = order_right node slot which (node_with_id node id) number
 cluster_right node conn cluster.Numbered = right_if_none node _ _ done_is_none
 cluster_right node conn (cluster.Asking number) = right_if_none node _ _ done_is_none
-cluster_right node conn (cluster.Migrate host port key timeout) = copy_right node conn _ key timeout (copy_verdict_on node key (node_at node host port))
+cluster_right node conn (cluster.Migrate host port keys timeout) = copy_right node conn (first_slot keys) (those_there node.keyspace keys) timeout (copy_verdict_on node keys (node_at node host port))
 
 -- ---- all words
 

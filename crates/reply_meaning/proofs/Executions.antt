@@ -51,9 +51,9 @@ left_told : (bytes : Option (List ℕ)) → IsTold (string_left bytes).reply
 left_told None = refl
 left_told (Some bytes) = refl
 
-append_told : (bytes : List ℕ) (string : Option (List ℕ)) → IsTold (append_of bytes string).reply
-append_told bytes None = refl
-append_told bytes (Some string) = left_told _
+append_told : (key bytes : List ℕ) (string : Option (List ℕ)) → IsTold (append_of key bytes string).reply
+append_told key bytes None = refl
+append_told key bytes (Some string) = left_told _
 
 length_told : (string : Option (List ℕ)) → IsTold (length_reply string)
 length_told None = refl
@@ -146,7 +146,7 @@ told (Mset pairs) values = refl
 told (Setnx key value) values = setnx_told value (first_of values)
 told (Getset key value) values = getset_told value (first_of values)
 told (Getdel key) values = getdel_told (first_of values)
-told (Append key value) values = append_told value (string_of (first_of values))
+told (Append key value) values = append_told key value (string_of (first_of values))
 told (Incr key) values = counted (Some (pos 1)) (first_of values)
 told (Decr key) values = counted (Some (neg_ℤ (pos 1))) (first_of values)
 told (Incrby key increment) values = counted (number_of increment) (first_of values)

@@ -29,7 +29,7 @@ use Rattle.slot_state.specs.declared.ending.NodeVerdict.{NodeVerdict}
 use Rattle.slot_state.specs.declared.ending.NodeVerdict.TheVariants as ending
 use Rattle.smart_client.specs.Words.{asking_words}
 use Rattle.node_step.specs.Commands.{ask_reply, command_outcome, decision_on, moved_reply, named}
-use Rattle.node_step.specs.Copies.{copy_outcome, copy_verdict_on, node_at}
+use Rattle.node_step.specs.Copies.{copy_outcome, copy_verdict_on, first_slot, node_at, those_there}
 use Rattle.node_step.specs.Orders.{done, ending_outcome, ending_verdict}
 use Rattle.node_step.specs.Outcome.{Outcome, silent}
 use Rattle.node_step.specs.Requests.{asking_of, by_command, cluster_outcome, is_numbered, node_with_id, order_outcome, request_outcome, using_up}
@@ -69,13 +69,14 @@ order_idle node slot Importing other number = refl
 order_idle node slot Migrating other number = refl
 order_idle node slot Node other number = ending_idle node slot (ending_verdict node slot other number)
 
-copy_idle : (node : NodeState) (conn : Conn) (slot : ℕ) (key : List ℕ) (ticks : ℕ) (verdict : CopyVerdict) → Says IsIdle (copy_outcome node conn slot key ticks verdict).response
-copy_idle node conn slot key ticks copies.WrongTarget = refl
-copy_idle node conn slot key ticks copies.NoKey = refl
-copy_idle node conn slot key ticks copies.CopyOutstanding = refl
-copy_idle node conn slot key ticks copies.Exhausted = tt
-copy_idle node conn slot key ticks (copies.SendAgain to number copy) = tt
-copy_idle node conn slot key ticks (copies.Copies to number copy) = tt
+copy_idle : (node : NodeState) (conn : Conn) (slot : ℕ) (keys : List (List ℕ)) (ticks : ℕ) (verdict : CopyVerdict) → Says IsIdle (copy_outcome node conn slot keys ticks verdict).response
+copy_idle node conn slot keys ticks copies.CrossSlot = refl
+copy_idle node conn slot keys ticks copies.WrongTarget = refl
+copy_idle node conn slot keys ticks copies.NoKey = refl
+copy_idle node conn slot keys ticks copies.CopyOutstanding = refl
+copy_idle node conn slot keys ticks copies.Exhausted = tt
+copy_idle node conn slot keys ticks (copies.SendAgain to number copy) = tt
+copy_idle node conn slot keys ticks (copies.Copies to number copy) = tt
 
 cluster_idle : (node : NodeState) (conn : Conn) (which : ClusterCommand) → Says IsIdle (cluster_outcome node conn which).response
 cluster_idle node conn (cluster.KeySlot key) = refl
@@ -87,7 +88,7 @@ cluster_idle node conn (cluster.SlotState slot) = refl
 cluster_idle node conn (cluster.SetSlot slot which id number) = order_idle node slot which (node_with_id node id) number
 cluster_idle node conn cluster.Numbered = refl
 cluster_idle node conn (cluster.Asking number) = refl
-cluster_idle node conn (cluster.Migrate host port key timeout) = copy_idle node conn _ key timeout (copy_verdict_on node key (node_at node host port))
+cluster_idle node conn (cluster.Migrate host port keys timeout) = copy_idle node conn (first_slot keys) (those_there node.keyspace keys) timeout (copy_verdict_on node keys (node_at node host port))
 
 words_idle : (node : NodeState) (conn : Conn) (connection : Option Connection) (words : Result Command CommandFault) → IsOfCluster words
     → Says IsIdle (by_command node conn connection words).response

@@ -1,7 +1,7 @@
 -- Which words are a command on keys, and why others are none.
-use Rattle.std.proofs.Common.{◌≡◌, ℕ, true, false, List, [], ◌∷◌, Option, Some, None, refl, zero, suc}
+use Rattle.std.proofs.Common.{◌≡◌, ℕ, Bool, true, false, cond, List, [], ◌∷◌, Option, Some, None, refl, zero, suc}
 use Rattle.std.specs.Prelude.{Result, Ok, Err, ℤ}
-use Rattle.command_table.specs.ClusterTable.{asking, keys_in_slot, migration, move_number, on_slot, order_of, ordered, slot_of, timeout_of, with_import, with_migration, with_subcommand, with_subcommands, with_timeout}
+use Rattle.command_table.specs.ClusterTable.{are_keys, asking, keys_in_slot, migration, move_number, on_slot, order_of, ordered, slot_of, timeout_of, with_import, with_migration, with_subcommand, with_subcommands, with_timeout}
 use Rattle.command_table.specs.ErrorLine.{line_of}
 use Rattle.command_table.specs.Names.{name_of, subcommand_of}
 use Rattle.command_table.specs.Numbers.{count_of, natural, number_of}
@@ -238,11 +238,11 @@ timeout make (Some zero) None = none Syntax
 timeout make (Some zero) (Some ticks) = order (make ticks)
 timeout make (Some (suc database)) ticks = none Syntax
 
-migrated : (host : List ℕ) (port : Option ℤ) (key : List ℕ) (database ticks : Option ℤ) → IsOfCluster (migration host port key database ticks)
-migrated host None key database ticks = none NotAnInteger
-migrated host (Some port) key None ticks = none NotAnInteger
-migrated host (Some port) key (Some database) None = none NotAnInteger
-migrated host (Some port) key (Some database) (Some ticks) = timeout (cluster.Migrate host port key) (natural database) (timeout_of ticks)
+migrated : (host : List ℕ) (port : Option ℤ) (keys : List (List ℕ)) (database ticks : Option ℤ) → IsOfCluster (migration host port keys database ticks)
+migrated host None keys database ticks = none NotAnInteger
+migrated host (Some port) keys None ticks = none NotAnInteger
+migrated host (Some port) keys (Some database) None = none NotAnInteger
+migrated host (Some port) keys (Some database) (Some ticks) = timeout (cluster.Migrate host port keys) (natural database) (timeout_of ticks)
 
 migrate : (arguments : List (List ℕ)) → IsOfCluster (with_migration arguments)
 migrate [] = none (Arity name.Migrate)
@@ -250,8 +250,12 @@ migrate (a ∷ []) = none (Arity name.Migrate)
 migrate (a ∷ b ∷ []) = none (Arity name.Migrate)
 migrate (a ∷ b ∷ c ∷ []) = none (Arity name.Migrate)
 migrate (a ∷ b ∷ c ∷ d ∷ []) = none (Arity name.Migrate)
-migrate (host ∷ port ∷ key ∷ database ∷ ticks ∷ []) = migrated host (number_of port) key (number_of database) (number_of ticks)
-migrate (a ∷ b ∷ c ∷ d ∷ e ∷ f ∷ rest) = none (Arity name.Migrate)
+migrate (host ∷ port ∷ key ∷ database ∷ ticks ∷ []) = migrated host (number_of port) (key ∷ []) (number_of database) (number_of ticks)
+migrate (host ∷ port ∷ place ∷ database ∷ ticks ∷ word ∷ keys) = by_words (are_keys place word keys)
+  where
+    by_words : (b : Bool) → IsOfCluster (cond b (migration host (number_of port) keys (number_of database) (number_of ticks)) (Err Syntax))
+    by_words true = migrated host (number_of port) keys (number_of database) (number_of ticks)
+    by_words false = none Syntax
 
 about_cluster : (n : Name) (arguments : List (List ℕ)) → is_of_cluster (Some n) ≡ true → IsOfCluster (with_arguments n arguments)
 about_cluster name.Get arguments is = cc

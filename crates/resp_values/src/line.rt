@@ -9,7 +9,7 @@ use std::alloc::AllocError;
 use std::marker::Model;
 
 /// A text on one line, as simple strings and errors carry it.
-#[derive(Debug, Drop)]
+#[derive(Debug)]
 pub struct Line {
     text: Bytes,
 }
@@ -23,6 +23,12 @@ impl Model for Line {
     ghost view = { λ line. line.text };
 
     ghost invariant = { λ line. IsTrue (is_one_line line.text) };
+}
+
+impl Drop for Line {
+    fn drop(self) {
+        let Line { text: _ } = self;
+    }
 }
 
 impl Line {

@@ -11,14 +11,14 @@ use std::marker::Model;
 /// The most words of a request.
 pub const MOST_WORDS: usize = 65_536;
 
-/// The most bytes of a word: one mebibyte.
-pub const MOST_WORD_BYTES: usize = 1_048_576;
+/// The most bytes of a word: eight mebibytes.
+pub const MOST_WORD_BYTES: usize = 8_388_608;
 
 /// The most bytes of a request, its counts, lengths and line ends among them: 16 mebibytes.
 pub const MOST_REQUEST_BYTES: usize = 16_777_216;
 
 /// The words of one request, the command's name first: at least one, and within the limits.
-#[derive(Debug, Drop)]
+#[derive(Debug)]
 pub struct Words {
     items: Vec<ByteString>,
 }
@@ -32,6 +32,12 @@ impl Model for Words {
     ghost view = { λ words. words.items.items };
 
     ghost invariant = { λ words. IsRequest words.items.items };
+}
+
+impl Drop for Words {
+    fn drop(self) {
+        let Words { items: _ } = self;
+    }
 }
 
 impl Words {
@@ -122,7 +128,7 @@ fn fit_in_request(words: &[ByteString]) -> bool
 fn bulk_len(word: &ByteString) -> usize
     requires { length word.now ≤ MOST_WORD_BYTES }
     ensures len { result ≡ length (bulk_spelling word.now) }
-    ensures small { result < 2 ^ 63 + 2 ^ 21 }
+    ensures small { result < 2 ^ 63 + 2 ^ 24 }
 {
     header_len(word.len()) + word.len() + 2
 }

@@ -13,7 +13,7 @@ use Rattle.simulator.specs.Escaping.{escaped}
 
 -- what a message says, by its kind
 abbrev pub kind : Body → List ℕ
-kind (Copy slot number copy key value) = codes "Copy"
+kind (Copy slot number copy pairs) = codes "Copy"
 kind (Ack slot number copy) = codes "Ack"
 kind (Drained slot number epoch) = codes "Drained"
 kind (Claim claim replaced) = codes "Claim"

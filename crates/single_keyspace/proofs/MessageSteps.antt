@@ -1,14 +1,12 @@
 -- Steps that take messages, and ticks.
-use Rattle.std.proofs.Common.{◌≡◌, ◌≢◌, ◌≤◌, ◌+◌, ◌==◌, ◌&&◌, ℕ, List, [], ◌∷◌, map, Bool, true, false, cond, Option, Some, None, Contains, refl, sym, ap, subst, ◌∙◌, inl, inr, arith}
-use Rattle.std.proofs.lemmas.Bool.{and_parts, both_ways, cases_eq, eqb-true, eqb-false, ne_eqb}
-use Rattle.std.proofs.lemmas.Cmp.{nat_list_cmp_total}
+use Rattle.std.proofs.Common.{◌≡◌, ◌≤◌, ◌+◌, ◌==◌, ◌&&◌, ℕ, List, [], ◌∷◌, map, Bool, true, false, cond, Option, Some, None, Contains, refl, sym, ap, subst, ◌∙◌, inl, inr, arith}
+use Rattle.std.proofs.lemmas.Bool.{and_parts, both_ways, cases_eq, eqb-true, eqb-false}
 use Rattle.std.specs.FinMap as fin_map
+use Rattle.std.specs.Map.{keys_of}
 use Rattle.std.specs.List.{flat_map}
 use Rattle.std.specs.Prelude.{is_some}
-use Rattle.key_slot.specs.Slot.{hash_slot}
 use Rattle.keyspace.specs.Keyspace.{Keyspace}
 use Rattle.keyspace.specs.declared.value.Value.{Value}
-use Rattle.slot_store.specs.InSlot.{is_in_slot}
 use Rattle.slot_table.specs.Claims.{merged}
 use Rattle.slot_table.specs.Runs.{runs_of}
 use Rattle.slot_table.specs.Table.{claim_at}
@@ -16,7 +14,7 @@ use Rattle.slot_table.specs.declared.runs.Run.{Run}
 use Rattle.slot_state.specs.Moves.{Moves, move_of}
 use Rattle.slot_state.specs.declared.running.Move.{Move}
 use Rattle.slot_state.specs.declared.running.Move.TheVariants.{Leaves, Comes}
-use Rattle.migrate.specs.Acknowledging.{acknowledged_key, unfrozen}
+use Rattle.migrate.specs.Acknowledging.{acknowledged_keys, unfrozen}
 use Rattle.migrate.specs.Arriving.{arrival_verdict, changed_at, one_more}
 use Rattle.migrate.specs.Draining.{note_drained}
 use Rattle.migrate.specs.declared.arriving.ArrivalVerdict.{ArrivalVerdict}
@@ -30,7 +28,7 @@ use Rattle.one_slot.specs.Sent.Sent.{Drained, Copy, Ack, Claimed}
 use Rattle.node_step.specs.Claiming.{claim, claimed_by, with_table}
 use Rattle.connections.specs.Connections.{all_freed, waiting}
 use Rattle.connections.specs.Waiting.{is_for}
-use Rattle.node_step.specs.Copies.{acknowledged, arrived, keeps_limits, noted}
+use Rattle.node_step.specs.Copies.{acknowledged, arrived, keep_limits, noted, with_copied, without}
 use Rattle.stream_values.specs.Syncing.{answer_to}
 use Rattle.stream_values.specs.declared.answer.SyncAnswer.{SyncAnswer}
 use Rattle.stream_values.specs.declared.answer.SyncAnswer.TheVariants as answers
@@ -61,18 +59,14 @@ use Rattle.single_keyspace.proofs.Lists.{contains_nothing, contains_one, from_fl
 use Rattle.single_keyspace.proofs.Lost.{claims_hold, length_merged}
 use Rattle.single_keyspace.proofs.Maps.{put_here}
 use Rattle.single_keyspace.proofs.Moved.{with_move, moved_here, moved_apart}
-use Rattle.single_keyspace.proofs.MovesHold.{arriving_is_there, frozen_is_there, valued_in_slot, copy_installed_holds, copy_acknowledged_holds, drained_noted_holds}
-use Rattle.single_keyspace.proofs.OrderSteps.{copy_justified}
+use Rattle.single_keyspace.proofs.MovesHold.{arriving_are_there, frozen_here, valued_in_slot, copy_installed_holds, copy_acknowledged_holds, drained_noted_holds}
 use Rattle.single_keyspace.proofs.Running.{got_from_entry}
 use Rattle.single_keyspace.proofs.Seen.{SlotWas, again, holds_but, same_values, same_view}
 use Rattle.single_keyspace.proofs.Roles.{no_messages_from_master}
-use Rattle.single_keyspace.proofs.Sendings.{AreJustified, IsJustified, IsInstalled, both_justified, claim_justified, one_justified, to_all_justified, drained_if_empty_justified, drained_since_justified}
+use Rattle.single_keyspace.proofs.Sendings.{AreJustified, IsJustified, IsInstalled, both_justified, claim_justified, one_justified, to_all_justified, drained_if_empty_justified, drained_since_justified, outstanding_justified}
 use Rattle.single_keyspace.proofs.Steps.{StepStands, nothing_sent, quiet, quiet_still, recorded_stands}
-use Rattle.single_keyspace.proofs.Values.{is_key, puts_here, puts_elsewhere}
+use Rattle.single_keyspace.proofs.Values.{AreInSlot, elsewhere, puts_here, removes_here, with_copied_apart, without_apart}
 use Rattle.single_keyspace.proofs.Verdicts.{copy_arrives, copy_repeats, ack_counts}
-
-in_one_slot : (slot other : ℕ) (key : List ℕ) → is_in_slot slot key ≡ true → other ≢ slot → is_in_slot other key ≡ false
-in_one_slot slot other key inside apart = ne_eqb (hash_slot key) other (λ same. apart (sym same ∙ eqb-true (hash_slot key) slot inside))
 
 -- the move of a slot, put again
 put_again : (node : NodeState) (slot : ℕ) (move : Move) → move_of node.moves slot ≡ Some move → (other : ℕ) → view_of (record node { moves = with_move node.moves slot move }) other ≡ view_of node other
@@ -91,11 +85,11 @@ module _ {past : List Entry} {n : ℕ} {before : NodeState} {one : Keyspace} (wa
 
   -- ---- a copy
 
-  module _ (slot number copy : ℕ) (key : List ℕ) (value : Value) (is : message.body ≡ body.Copy slot number copy key value) where
-    copy_said : IsSent (was slot).top (was slot).seen (Copy message.from n number copy key value)
+  module _ (slot number copy : ℕ) (pairs : List (List ℕ × Value)) (is : message.body ≡ body.Copy slot number copy pairs) where
+    copy_said : IsSent (was slot).top (was slot).seen (Copy message.from n number copy pairs)
     copy_said =
-        subst (λ (t : ℕ). IsSent (was slot).top (was slot).seen (Copy message.from t number copy key value)) to_here
-        (said slot (body.Copy slot number copy key value) (Copy message.from message.to number copy key value) is (refl, refl))
+        subst (λ (t : ℕ). IsSent (was slot).top (was slot).seen (Copy message.from t number copy pairs)) to_here
+        (said slot (body.Copy slot number copy pairs) (Copy message.from message.to number copy pairs) is (refl, refl))
 
     ack_justified : (node : NodeState) (copied : ℕ) (drained : Option ℕ) → move_of node.moves slot ≡ Some (Comes message.from number copied drained) → copy ≤ copied
         → AreJustified past n node ((message.from, body.Ack slot number copy) ∷ [])
@@ -105,8 +99,7 @@ module _ {past : List Entry} {n : ℕ} {before : NodeState} {one : Keyspace} (wa
           drained = drained;
           move = move;
           reached = reached;
-          key = key;
-          value = value;
+          pairs = pairs;
           message = message;
           sent = sent;
           from_there = refl;
@@ -115,50 +108,48 @@ module _ {past : List Entry} {n : ℕ} {before : NodeState} {one : Keyspace} (wa
         } in
         subst (λ (p : ℕ × Body). IsJustified past n node p.0 p.1) (contains_one (message.from, body.Ack slot number copy) (to, said) among) installed
 
-    pub arrival_stands : (verdict : ArrivalVerdict) → arrival_verdict (move_of before.moves slot) message.from number copy (keeps_limits key value) ≡ verdict
-        → StepStands was None (arrived before message.from slot number copy key value verdict)
+    pub arrival_stands : (verdict : ArrivalVerdict) → arrival_verdict (move_of before.moves slot) message.from number copy (keep_limits pairs) ≡ verdict
+        → StepStands was None (arrived before message.from slot number copy pairs verdict)
     arrival_stands Ignored counts =
-        quiet_still was None refl refl (arrived before message.from slot number copy key value Ignored) (record { number_is = stands.number_is; slots = stands.slots; is_master = stands.is_master }) (λ other. refl)
-        (nothing_sent past n (arrived before message.from slot number copy key value Ignored).state)
+        quiet_still was None refl refl (arrived before message.from slot number copy pairs Ignored) (record { number_is = stands.number_is; slots = stands.slots; is_master = stands.is_master }) (λ other. refl)
+        (nothing_sent past n (arrived before message.from slot number copy pairs Ignored).state)
     arrival_stands Repeats counts =
-        let facts = copy_repeats (move_of before.moves slot) message.from number copy (keeps_limits key value) counts in
-        quiet_still was None refl refl (arrived before message.from slot number copy key value Repeats) (record { number_is = stands.number_is; slots = stands.slots; is_master = stands.is_master }) (λ other. refl)
-        (ack_justified (arrived before message.from slot number copy key value Repeats).state facts.0 facts.1 facts.2 facts.3)
+        let facts = copy_repeats (move_of before.moves slot) message.from number copy (keep_limits pairs) counts in
+        quiet_still was None refl refl (arrived before message.from slot number copy pairs Repeats) (record { number_is = stands.number_is; slots = stands.slots; is_master = stands.is_master }) (λ other. refl)
+        (ack_justified (arrived before message.from slot number copy pairs Repeats).state facts.0 facts.1 facts.2 facts.3)
     arrival_stands Installs counts =
-        let facts = copy_arrives (move_of before.moves slot) message.from number copy (keeps_limits key value) counts in
+        let facts = copy_arrives (move_of before.moves slot) message.from number copy (keep_limits pairs) counts in
         let copied : ℕ = facts.0 in
         let drained : Option ℕ = facts.1 in
         let move : Move = Comes message.from number (copied + 1) drained in
-        let keyspace : Keyspace = fin_map.insert before.keyspace key value in
-        let next_said : IsSent (was slot).top (was slot).seen (Copy message.from n number (copied + 1) key value) =
-        subst (λ (c : ℕ). IsSent (was slot).top (was slot).seen (Copy message.from n number c key value)) facts.3 copy_said in
-        let inside : is_in_slot slot key ≡ true =
-        valued_in_slot one slot key value
-        (arriving_is_there (was slot).holds n message.from number copied drained key value (ap (λ (v : View Value). v.move) (was slot).here ∙ facts.2) next_said) in
-        let put : (q : List ℕ) → fin_map.get keyspace q ≡ cond (is_key q key) (Some value) (fin_map.get before.keyspace q) = λ q. fin_map.get-insert nat_list_cmp_total before.keyspace key value q in
+        let keyspace : Keyspace = with_copied before.keyspace pairs in
+        let next_said : IsSent (was slot).top (was slot).seen (Copy message.from n number (copied + 1) pairs) =
+        subst (λ (c : ℕ). IsSent (was slot).top (was slot).seen (Copy message.from n number c pairs)) facts.3 copy_said in
+        let inside : AreInSlot slot (keys_of pairs) = λ key among.
+        let there = arriving_are_there (was slot).holds n message.from number copied drained pairs (ap (λ (v : View Value). v.move) (was slot).here ∙ facts.2) next_said key among in
+        valued_in_slot one slot key there.0 there.1 in
         let after : NodeState = record before { keyspace = keyspace; moves = with_move before.moves slot move } in
         let reached : copy ≤ copied + 1 = omega (arith, facts.3) in
         subst (λ (m : Moves). StepStands was None (record (silent (record before { keyspace = keyspace; moves = m })) { sent = (message.from, body.Ack slot number copy) ∷ [] }))
         (sym (ap (changed_at before.moves slot one_more) facts.2))
         (quiet was None refl refl (record (silent after) { sent = (message.from, body.Ack slot number copy) ∷ [] }) (record { number_is = stands.number_is; slots = stands.slots; is_master = stands.is_master })
         (holds_but was after one slot
-        (copy_installed_holds (was slot) message.from number copied drained key value keyspace facts.2 next_said (puts_here before.keyspace keyspace slot key (Some value) inside put))
-        (λ other apart. moved_apart before keyspace slot move other apart (same_values (puts_elsewhere before.keyspace keyspace other key (Some value) (in_one_slot slot other key inside apart) put)))
+        (copy_installed_holds (was slot) message.from number copied drained pairs keyspace facts.2 next_said (puts_here before.keyspace slot pairs inside))
+        (λ other apart. moved_apart before keyspace slot move other apart (same_values (elsewhere before.keyspace keyspace slot other (keys_of pairs) inside apart (with_copied_apart before.keyspace pairs))))
         (λ other apart q. refl))
         (ack_justified after (copied + 1) drained (put_here before.moves.running slot move) reached))
 
   -- ---- an acknowledgement
 
-  pub acknowledgement_stands : (slot number copy : ℕ) → message.body ≡ body.Ack slot number copy → (key : Option (List ℕ)) → acknowledged_key (move_of before.moves slot) message.from number copy ≡ key
-      → StepStands was None (acknowledged before slot number copy key)
+  pub acknowledgement_stands : (slot number copy : ℕ) → message.body ≡ body.Ack slot number copy → (keys : Option (List (List ℕ))) → acknowledged_keys (move_of before.moves slot) message.from number copy ≡ keys
+      → StepStands was None (acknowledged before slot number copy keys)
   acknowledgement_stands slot number copy is None counts = quiet_still was None refl refl (silent before) stands (λ other. refl) (nothing_sent past n before)
-  acknowledgement_stands slot number copy is (Some key) counts =
-      let counted : move_of before.moves slot ≡ Some (Leaves message.from number copy (Some key)) = ack_counts (move_of before.moves slot) message.from number copy key counts in
+  acknowledgement_stands slot number copy is (Some keys) counts =
+      let counted : move_of before.moves slot ≡ Some (Leaves message.from number copy (Some keys)) = ack_counts (move_of before.moves slot) message.from number copy keys counts in
       let move : Move = Leaves message.from number copy None in
-      let keyspace : Keyspace = fin_map.remove before.keyspace key in
-      let there = frozen_is_there (was slot).holds n message.from number copy key (ap (λ (v : View Value). v.move) (was slot).here ∙ counted) in
-      let inside : is_in_slot slot key ≡ true = valued_in_slot one slot key there.0 there.1 in
-      let put : (q : List ℕ) → fin_map.get keyspace q ≡ cond (is_key q key) None (fin_map.get before.keyspace q) = λ q. fin_map.get-remove nat_list_cmp_total before.keyspace key q in
+      let keyspace : Keyspace = without before.keyspace keys in
+      let frozen = frozen_here (was slot).holds n message.from number copy keys (ap (λ (v : View Value). v.move) (was slot).here ∙ counted) in
+      let inside : AreInSlot slot keys = λ key among. let there = frozen.here key among in valued_in_slot one slot key there.0 ((was slot).holds.keys.here n key there.0 there.1) in
       let acked : IsSent (was slot).top (was slot).seen (Ack message.from n number copy) =
       subst (λ (t : ℕ). IsSent (was slot).top (was slot).seen (Ack message.from t number copy)) to_here
       (said slot (body.Ack slot number copy) (Ack message.from message.to number copy) is (refl, refl)) in
@@ -169,8 +160,8 @@ module _ {past : List Entry} {n : ℕ} {before : NodeState} {one : Keyspace} (wa
       (quiet was None refl refl (record (silent after) { released = map (release done) (waiting before.connections (is_for slot number copy)); sent = drained_since before.keyspace after slot })
       (record { number_is = stands.number_is; slots = stands.slots; is_master = stands.is_master })
       (holds_but was after one slot
-      (copy_acknowledged_holds (was slot) message.from number copy key keyspace counted acked (puts_here before.keyspace keyspace slot key None inside put))
-      (λ other apart. moved_apart before keyspace slot move other apart (same_values (puts_elsewhere before.keyspace keyspace other key None (in_one_slot slot other key inside apart) put)))
+      (copy_acknowledged_holds (was slot) message.from number copy keys keyspace counted acked (removes_here before.keyspace slot keys inside))
+      (λ other apart. moved_apart before keyspace slot move other apart (same_values (elsewhere before.keyspace keyspace slot other keys inside apart (without_apart before.keyspace keys))))
       (λ other apart q. refl))
       (drained_since_justified past n after slot before.keyspace))
 
@@ -264,9 +255,9 @@ module _ {past : List Entry} {n : ℕ} {before : NodeState} {one : Keyspace} (wa
   -- ---- any message
 
   so_taken_stands : (choice : Choice) (said : Body) → message.body ≡ said → StepStands was None (taken_so before message.from choice said)
-  so_taken_stands choice (body.Copy slot number copy key value) is =
-      arrival_stands slot number copy key value is (arrival_verdict (move_of before.moves slot) message.from number copy (keeps_limits key value)) refl
-  so_taken_stands choice (body.Ack slot number copy) is = acknowledgement_stands slot number copy is (acknowledged_key (move_of before.moves slot) message.from number copy) refl
+  so_taken_stands choice (body.Copy slot number copy pairs) is =
+      arrival_stands slot number copy pairs is (arrival_verdict (move_of before.moves slot) message.from number copy (keep_limits pairs)) refl
+  so_taken_stands choice (body.Ack slot number copy) is = acknowledgement_stands slot number copy is (acknowledged_keys (move_of before.moves slot) message.from number copy) refl
   so_taken_stands choice (body.Drained slot number epoch) is = drained_stands slot number epoch is
   so_taken_stands choice (body.Claim runs replaced) is = claims_stand runs replaced is
   so_taken_stands choice (body.Report suspects) is = quiet_still was None refl refl (silent before) stands (λ slot. refl) (nothing_sent past n before)
@@ -308,9 +299,7 @@ module _ {past : List Entry} {n : ℕ} {before : NodeState} {one : Keyspace} (wa
       by_move : (slot : ℕ) (move : Move) → move_of before.moves slot ≡ Some move → AreJustified past n (older before) (sent_again before (slot, move))
       by_move slot (Comes from number last drained) is = λ to said among. absurd (contains_nothing (to, said) among)
       by_move slot (Leaves to number copies None) is = drained_if_empty_justified past n (older before) slot
-      by_move slot (Leaves to number copies (Some key)) is =
-          let there = frozen_is_there (was slot).holds n to number copies key (ap (λ (v : View Value). v.move) (was slot).here ∙ is) in
-          copy_justified past n (older before) slot to number copies key is (valued_in_slot one slot key there.0 there.1)
+      by_move slot (Leaves to number copies (Some keys)) is = outstanding_justified past n (older before) slot (Some (Leaves to number copies (Some keys))) is
 
       sent_of_moves : AreJustified past n before (flat_map (sent_again before) (fin_map.entries before.moves.running))
       sent_of_moves to said among =

@@ -1,8 +1,9 @@
 -- What holds of a slot whose move begins, changes or ends.
-use Rattle.std.proofs.Common.{◌≡◌, ◌≢◌, ◌<◌, ◌+◌, ℕ, List, true, cond, Option, Some, None, length, refl, sym, ap, subst, ◌∙◌, inl, inr, arith}
+use Rattle.std.proofs.Common.{◌≡◌, ◌≢◌, ◌<◌, ◌+◌, ℕ, List, true, cond, Option, Some, None, Contains, length, refl, sym, ap, subst, ◌∙◌, inl, inr, arith}
 use Rattle.std.proofs.lemmas.Bool.{cases_eq, cases_Bool}
 use Rattle.std.proofs.lemmas.List.{get_or-set_same, get_or-set_other}
 use Rattle.std.specs.FinMap as map
+use Rattle.std.specs.Map.{keys_of}
 use Rattle.std.specs.Prelude.{slice_set}
 use Rattle.keyspace.specs.Keyspace.{Keyspace}
 use Rattle.keyspace.specs.declared.value.Value.{Value}
@@ -13,10 +14,10 @@ use Rattle.slot_state.specs.Moves.{move_of, last_move_of, begun, ended}
 use Rattle.slot_state.specs.declared.running.Move.{Move}
 use Rattle.slot_state.specs.declared.running.Move.TheVariants.{Leaves, Comes}
 use Rattle.one_slot.specs.View.{View, Views}
-use Rattle.one_slot.specs.Slot.{Holds, IsComing, IsCounted, installed}
+use Rattle.one_slot.specs.Slot.{Holds, IsComing, IsCounted, IsFrozen, installed}
 use Rattle.one_slot.specs.Sent.{IsSent}
 use Rattle.one_slot.specs.Sent.Sent.{Drained, Copy, Ack}
-use Rattle.one_slot.specs.Events.{Changes, Keeps, Puts}
+use Rattle.one_slot.specs.Events.{Changes, CopyIsOrdered, Keeps, Puts, Removes}
 use Rattle.one_slot.proofs.Sendings.{coming_apart, live_copy}
 use Rattle.one_slot.proofs.ViewLemmas.{none_or_some, installed_here}
 use Rattle.node_step.specs.State.{NodeState}
@@ -32,13 +33,24 @@ reached changes same = record { here = changes.here ∙ same; there = changes.th
 
 -- ---- keys on their way
 
--- the copy that comes next is of a key that the one keyspace has with that value
-pub arriving_is_there : {top : SlotEntry} {seen : Views Value} {one : List ℕ → Option Value} → Holds top seen one → (n from number copied : ℕ) (drained : Option ℕ) (key : List ℕ) (value : Value)
-    → (seen n).move ≡ Some (Comes from number copied drained) → IsSent top seen (Copy from n number (copied + 1) key value) → one key ≡ Some value
-arriving_is_there {top = top} {seen = seen} holds n from number copied drained key value is sent =
+-- the frozen keys are at their node
+pub frozen_here : {top : SlotEntry} {seen : Views Value} {one : List ℕ → Option Value} → Holds top seen one → (n to number copies : ℕ) (keys : List (List ℕ))
+    → (seen n).move ≡ Some (Leaves to number copies (Some keys)) → IsFrozen (seen n) copies keys
+frozen_here {top = top} {seen = seen} holds n to number copies keys is =
+    elim (cases_eq n top.owner) [
+      | inl same ↦
+          subst (λ (i : ℕ). (seen i).move ≡ Some (Leaves to number copies (Some keys)) → IsFrozen (seen i) copies keys) (sym same) (holds.holder.frozen to number copies keys) is
+      | inr other ↦ absurd ((holds.others n other).thawed to number copies keys is)
+    ]
+
+-- the copy that comes next is of the keys that are frozen at the holder
+pub arriving_are_there : {top : SlotEntry} {seen : Views Value} {one : List ℕ → Option Value} → Holds top seen one → (n from number copied : ℕ) (drained : Option ℕ) (pairs : List (List ℕ × Value))
+    → (seen n).move ≡ Some (Comes from number copied drained) → IsSent top seen (Copy from n number (copied + 1) pairs)
+    → (key : List ℕ) → Contains (keys_of pairs) key → (x : Value) × (one key ≡ Some x)
+arriving_are_there {top = top} {seen = seen} holds n from number copied drained pairs is sent key among =
     let coming : IsComing (seen n) number = record { from = from; copied = copied; drained = drained; is = is } in
     let apart : n ≢ top.owner = coming_apart holds n number coming in
-    let live = live_copy holds from n number (copied + 1) key value coming sent in
+    let live = live_copy holds from n number (copied + 1) pairs coming sent in
     let here : installed (seen n).move top.owner number ≡ copied =
     ap (λ (m : Option Move). installed m top.owner number) is ∙ installed_here from number copied drained top.owner number live.source refl in
     let count : IsCounted live.copies live.frozen copied =
@@ -46,18 +58,12 @@ arriving_is_there {top = top} {seen = seen} holds n from number copied drained k
     let last_copy : copied + 1 ≡ live.copies = omega (arith, count.next, live.made) in
     elim (none_or_some live.frozen) [
       | inl none ↦ absurd (omega (arith, count.settled none, last_copy))
-      | inr some ↦ let newest = live.newest some.0 last_copy some.1 in holds.keys.here top.owner key value newest.1
-    ]
-
--- and so is a frozen key
-pub frozen_is_there : {top : SlotEntry} {seen : Views Value} {one : List ℕ → Option Value} → Holds top seen one → (n to number copies : ℕ) (key : List ℕ)
-    → (seen n).move ≡ Some (Leaves to number copies (Some key)) → (x : Value) × (one key ≡ Some x)
-frozen_is_there {top = top} {seen = seen} holds n to number copies key is =
-    elim (cases_eq n top.owner) [
-      | inl same ↦
-          let frozen = holds.holder.frozen to number copies key (subst (λ (i : ℕ). (seen i).move ≡ Some (Leaves to number copies (Some key))) same is) in
-          (frozen.value, holds.keys.here top.owner key frozen.value frozen.here)
-      | inr other ↦ absurd ((holds.others n other).thawed to number copies key is)
+      | inr some ↦
+          let newest = live.newest some.0 last_copy some.1 in
+          let leaves : (seen top.owner).move ≡ Some (Leaves n number live.copies (Some (keys_of pairs))) =
+          live.leaves ∙ ap (λ (f : Option (List (List ℕ))). Some (Leaves n number live.copies f)) (some.1 ∙ ap Some newest.0) in
+          let there = (holds.holder.frozen n number live.copies (keys_of pairs) leaves).here key among in
+          (there.0, holds.keys.here top.owner key there.0 there.1)
     ]
 
 -- what has a value of the slot is in it
@@ -106,27 +112,27 @@ module _ {past : List Entry} {n : ℕ} {before : NodeState} {one : Keyspace} {sl
       still new ((laws new).migration_begins to number (record { idle = idle; owner = owner; other = other; above = above })
       (reached changes (begun_here before slot number (Leaves to number 0 None))))
 
-  pub copy_ordered_holds : (to number copies : ℕ) (key : List ℕ) (value : Value) → move_of before.moves slot ≡ Some (Leaves to number copies None) → values_in before.keyspace slot key ≡ Some value
-      → HoldsAfter was (record before { moves = with_move before.moves slot (Leaves to number (copies + 1) (Some key)) }) one
-  copy_ordered_holds to number copies key value move here =
+  pub copy_ordered_holds : (to number copies : ℕ) (keys : List (List ℕ)) → CopyIsOrdered (view_of before slot) to number copies keys
+      → HoldsAfter was (record before { moves = with_move before.moves slot (Leaves to number (copies + 1) (Some keys)) }) one
+  copy_ordered_holds to number copies keys ordered =
       λ new changes.
-      still new ((laws new).copy_ordered to number copies key value (record { move = move; here = here })
-      (reached changes (moved_here before before.keyspace slot (Leaves to number (copies + 1) (Some key)))))
+      still new ((laws new).copy_ordered to number copies keys ordered
+      (reached changes (moved_here before before.keyspace slot (Leaves to number (copies + 1) (Some keys)))))
 
-  pub copy_installed_holds : (from number copied : ℕ) (drained : Option ℕ) (key : List ℕ) (value : Value) (keyspace : Keyspace) → move_of before.moves slot ≡ Some (Comes from number copied drained)
-      → IsSent was.top was.seen (Copy from n number (copied + 1) key value) → Puts (values_in before.keyspace slot) (values_in keyspace slot) key (Some value)
+  pub copy_installed_holds : (from number copied : ℕ) (drained : Option ℕ) (pairs : List (List ℕ × Value)) (keyspace : Keyspace) → move_of before.moves slot ≡ Some (Comes from number copied drained)
+      → IsSent was.top was.seen (Copy from n number (copied + 1) pairs) → Puts (values_in before.keyspace slot) (values_in keyspace slot) pairs
       → HoldsAfter was (record before { keyspace = keyspace; moves = with_move before.moves slot (Comes from number (copied + 1) drained) }) one
-  copy_installed_holds from number copied drained key value keyspace move sent puts =
+  copy_installed_holds from number copied drained pairs keyspace move sent puts =
       λ new changes.
-      still new ((laws new).copy_installed from number copied drained key value (values_in keyspace slot) move sent puts
+      still new ((laws new).copy_installed from number copied drained pairs (values_in keyspace slot) move sent puts
       (reached changes (moved_here before keyspace slot (Comes from number (copied + 1) drained))))
 
-  pub copy_acknowledged_holds : (to number copies : ℕ) (key : List ℕ) (keyspace : Keyspace) → move_of before.moves slot ≡ Some (Leaves to number copies (Some key))
-      → IsSent was.top was.seen (Ack to n number copies) → Puts (values_in before.keyspace slot) (values_in keyspace slot) key None
+  pub copy_acknowledged_holds : (to number copies : ℕ) (keys : List (List ℕ)) (keyspace : Keyspace) → move_of before.moves slot ≡ Some (Leaves to number copies (Some keys))
+      → IsSent was.top was.seen (Ack to n number copies) → Removes (values_in before.keyspace slot) (values_in keyspace slot) keys
       → HoldsAfter was (record before { keyspace = keyspace; moves = with_move before.moves slot (Leaves to number copies None) }) one
-  copy_acknowledged_holds to number copies key keyspace move sent puts =
+  copy_acknowledged_holds to number copies keys keyspace move sent removes =
       λ new changes.
-      still new ((laws new).copy_acknowledged to number copies key (values_in keyspace slot) move sent puts
+      still new ((laws new).copy_acknowledged to number copies keys (values_in keyspace slot) move sent removes
       (reached changes (moved_here before keyspace slot (Leaves to number copies None))))
 
   pub drained_noted_holds : (from number copied : ℕ) (drained : Option ℕ) (epoch : ℕ) → move_of before.moves slot ≡ Some (Comes from number copied drained)

@@ -1,13 +1,8 @@
 -- Steps that answer orders to move slots.
-use Rattle.std.proofs.Common.{◌≡◌, ◌<◌, ◌+◌, ℕ, List, [], true, Option, Some, None, Contains, refl, sym, ap, subst, ◌∙◌, arith}
-use Rattle.std.proofs.lemmas.Bool.{eq-eqb}
+use Rattle.std.proofs.Common.{◌≡◌, ◌<◌, ◌+◌, ℕ, List, [], Option, Some, None, refl, sym, ap, subst, ◌∙◌, arith}
 use Rattle.std.proofs.lemmas.List.{length-set}
-use Rattle.std.specs.FinMap as fin_map
-use Rattle.std.specs.Prelude.{is_some, max}
-use Rattle.key_slot.specs.Slot.{hash_slot}
+use Rattle.std.specs.Prelude.{max}
 use Rattle.keyspace.specs.Keyspace.{Keyspace}
-use Rattle.keyspace.specs.declared.value.Value.{Value}
-use Rattle.slot_store.specs.InSlot.{is_in_slot}
 use Rattle.slot_table.specs.Runs.{runs_of}
 use Rattle.slot_table.specs.Table.{claim_at}
 use Rattle.slot_state.specs.Moves.{move_of, last_move_of, begun}
@@ -25,8 +20,8 @@ use Rattle.migrate.specs.declared.sending.CopyVerdict.{CopyVerdict}
 use Rattle.migrate.specs.declared.sending.CopyVerdict.TheVariants as copies
 use Rattle.bus.specs.declared.message.Body.{Body}
 use Rattle.bus.specs.declared.message.Body.TheVariants as body
-use Rattle.node_step.proofs.Outstanding.{again_leaves}
-use Rattle.node_step.specs.Copies.{copy_of, copy_outcome, copy_verdict_on, outstanding, parked}
+use Rattle.node_step.proofs.Copied.{are_there, copied_next}
+use Rattle.node_step.specs.Copies.{copy_outcome, copy_verdict_on, first_slot, parked, those_there}
 use Rattle.node_step.specs.Orders.{claim_of, ending_outcome, ending_verdict, import_outcome, migrate_outcome, new_epoch, others, with_slot}
 use Rattle.node_step.specs.Outcome.{Outcome}
 use Rattle.node_step.specs.Slots.{slot_epoch}
@@ -34,34 +29,17 @@ use Rattle.node_step.specs.State.{NodeState, standing}
 use Rattle.connections.specs.declared.conn.Conn.{Conn}
 use Rattle.world_run.specs.Executed.{answered_with, if_served, redirection_in}
 use Rattle.world_run.specs.Run.{Entry}
+use Rattle.one_slot.specs.Events.{CopyIsOrdered}
 use Rattle.single_keyspace.specs.Slots.{view_of}
 use Rattle.single_keyspace.specs.Stands.{NodeStands}
-use Rattle.single_keyspace.proofs.Lists.{contains_nothing, contains_one, from_map}
-use Rattle.single_keyspace.proofs.Maps.{put_here}
+use Rattle.single_keyspace.proofs.Lists.{from_map}
 use Rattle.single_keyspace.proofs.Moved.{with_move, begun_apart, moved_apart}
 use Rattle.single_keyspace.proofs.MovesHold.{import_begun_holds, migration_begun_holds, copy_ordered_holds, import_ended_holds, with_entry, ended_apart}
 use Rattle.single_keyspace.proofs.Seen.{SlotWas, HoldsAfter, holds_but}
-use Rattle.single_keyspace.proofs.Sendings.{AreJustified, IsJustified, claim_justified, drained_if_empty_justified}
+use Rattle.single_keyspace.proofs.Sendings.{AreJustified, IsJustified, claim_justified, drained_if_empty_justified, outstanding_justified}
 use Rattle.single_keyspace.proofs.Steps.{StepStands, nothing_sent, quiet, quiet_still}
-use Rattle.single_keyspace.proofs.Values.{some_value, value_here}
-use Rattle.single_keyspace.proofs.Verdicts.{import_begins, migration_begins, import_ends, copy_is_next}
-
--- the copy of a frozen key, where that is of the slot
-pub copy_justified : (past : List Entry) (n : ℕ) (node : NodeState) (slot to number copy : ℕ) (key : List ℕ) → move_of node.moves slot ≡ Some (Leaves to number copy (Some key)) → is_in_slot slot key ≡ true
-    → AreJustified past n node (outstanding node.keyspace slot (Some (Leaves to number copy (Some key))))
-copy_justified past n node slot to number copy key move inside other said among = by_value (fin_map.get node.keyspace key) refl among
-  where
-    by_value : (o : Option Value) → fin_map.get node.keyspace key ≡ o → Contains (copy_of slot to number copy key o) (other, said) → IsJustified past n node other said
-    by_value None is among = absurd (contains_nothing (other, said) among)
-    by_value (Some value) is among =
-        subst (λ (p : ℕ × Body). IsJustified past n node p.0 p.1) (contains_one (to, body.Copy slot number copy key value) (other, said) among)
-        (move, value_here node.keyspace slot key inside ∙ is)
-
--- what is outstanding behind an order
-outstanding_justified : (past : List Entry) (n : ℕ) (node : NodeState) (slot to number copy : ℕ) (key : List ℕ) → move_of node.moves slot ≡ Some (Leaves to number copy (Some key)) → is_in_slot slot key ≡ true
-    → AreJustified past n node (outstanding node.keyspace slot (move_of node.moves slot))
-outstanding_justified past n node slot to number copy key move inside =
-    subst (λ (own : Option Move). AreJustified past n node (outstanding node.keyspace slot own)) (sym move) (copy_justified past n node slot to number copy key move inside)
+use Rattle.single_keyspace.proofs.Values.{value_here}
+use Rattle.single_keyspace.proofs.Verdicts.{import_begins, migration_begins, import_ends}
 
 module _ {past : List Entry} {n : ℕ} {before : NodeState} {one : Keyspace} (was : (slot : ℕ) → SlotWas past n before one slot) (stands : NodeStands n before) (words : List (List ℕ)) where
   abbrev Answers : Outcome → Type 0
@@ -144,28 +122,33 @@ module _ {past : List Entry} {n : ℕ} {before : NodeState} {one : Keyspace} (wa
 
   -- ---- MIGRATE
 
-  pub copy_stands : (conn : Conn) (key : List ℕ) (ticks : ℕ) (target : Option ℕ) (verdict : CopyVerdict) → copy_verdict_on before key target ≡ verdict → Answers (copy_outcome before conn (hash_slot key) key ticks verdict)
-  copy_stands conn key ticks target copies.WrongTarget is = refused (copy_outcome before conn (hash_slot key) key ticks copies.WrongTarget) refl refl refl refl
-  copy_stands conn key ticks target copies.NoKey is = refused (copy_outcome before conn (hash_slot key) key ticks copies.NoKey) refl refl refl refl
-  copy_stands conn key ticks target copies.CopyOutstanding is = refused (copy_outcome before conn (hash_slot key) key ticks copies.CopyOutstanding) refl refl refl refl
-  copy_stands conn key ticks target copies.Exhausted is = refused (copy_outcome before conn (hash_slot key) key ticks copies.Exhausted) refl refl refl refl
-  copy_stands conn key ticks target (copies.SendAgain to number copy) is =
-      let slot : ℕ = hash_slot key in
+  pub copy_stands : (conn : Conn) (named : List (List ℕ)) (ticks : ℕ) (target : Option ℕ) (verdict : CopyVerdict) → copy_verdict_on before named target ≡ verdict
+      → Answers (copy_outcome before conn (first_slot named) (those_there before.keyspace named) ticks verdict)
+  copy_stands conn named ticks target copies.CrossSlot is = refused (copy_outcome before conn (first_slot named) (those_there before.keyspace named) ticks copies.CrossSlot) refl refl refl refl
+  copy_stands conn named ticks target copies.WrongTarget is = refused (copy_outcome before conn (first_slot named) (those_there before.keyspace named) ticks copies.WrongTarget) refl refl refl refl
+  copy_stands conn named ticks target copies.NoKey is = refused (copy_outcome before conn (first_slot named) (those_there before.keyspace named) ticks copies.NoKey) refl refl refl refl
+  copy_stands conn named ticks target copies.CopyOutstanding is = refused (copy_outcome before conn (first_slot named) (those_there before.keyspace named) ticks copies.CopyOutstanding) refl refl refl refl
+  copy_stands conn named ticks target copies.Exhausted is = refused (copy_outcome before conn (first_slot named) (those_there before.keyspace named) ticks copies.Exhausted) refl refl refl refl
+  copy_stands conn named ticks target (copies.SendAgain to number copy) is =
+      let slot : ℕ = first_slot named in
       let after : NodeState = parked before conn slot number copy ticks in
-      quiet_still was _ refl refl (copy_outcome before conn (hash_slot key) key ticks (copies.SendAgain to number copy)) (record { number_is = stands.number_is; slots = stands.slots; is_master = stands.is_master }) (λ other. refl)
-      (outstanding_justified past n after slot to number copy key
-      (again_leaves (move_of before.moves slot) target key (is_some (fin_map.get before.keyspace key)) to number copy is) (eq-eqb (hash_slot key) slot refl))
-  copy_stands conn key ticks target (copies.Copies to number copy) is =
-      let slot : ℕ = hash_slot key in
-      let facts = copy_is_next (move_of before.moves slot) target key (is_some (fin_map.get before.keyspace key)) to number copy is in
-      let there = some_value (fin_map.get before.keyspace key) facts.3 in
-      let inside : is_in_slot slot key ≡ true = eq-eqb (hash_slot key) slot refl in
-      let moved : NodeState = record before { moves = with_move before.moves slot (Leaves to number copy (Some key)) } in
+      quiet_still was _ refl refl (copy_outcome before conn slot (those_there before.keyspace named) ticks (copies.SendAgain to number copy)) (record { number_is = stands.number_is; slots = stands.slots; is_master = stands.is_master }) (λ other. refl)
+      (outstanding_justified past n after slot (move_of before.moves slot) refl)
+  copy_stands conn named ticks target (copies.Copies to number copy) is =
+      let slot : ℕ = first_slot named in
+      let keys : List (List ℕ) = those_there before.keyspace named in
+      let next = copied_next before named target to number copy is in
+      let moved : NodeState = record before { moves = with_move before.moves slot (Leaves to number copy (Some keys)) } in
       let after : NodeState = parked moved conn slot number copy ticks in
-      quiet was _ refl refl (copy_outcome before conn (hash_slot key) key ticks (copies.Copies to number copy)) (record { number_is = stands.number_is; slots = stands.slots; is_master = stands.is_master })
+      let ordered : CopyIsOrdered (view_of before slot) to number next.made keys = record {
+        move = next.move;
+        one = next.one;
+        among = next.among;
+        here = λ key among. let there = are_there before.keyspace named key among in (there.1.0, value_here before.keyspace slot key (next.inside key there.0) ∙ there.1.1);
+      } in
+      quiet was _ refl refl (copy_outcome before conn slot keys ticks (copies.Copies to number copy)) (record { number_is = stands.number_is; slots = stands.slots; is_master = stands.is_master })
       (holds_but was after one slot
-      (subst (λ (c : ℕ). HoldsAfter (was slot) (record before { moves = with_move before.moves slot (Leaves to number c (Some key)) }) one) (sym facts.2)
-      (copy_ordered_holds (was slot) to number facts.0 key there.0 facts.1 (value_here before.keyspace slot key inside ∙ there.1)))
-      (λ other apart. moved_apart before before.keyspace slot (Leaves to number copy (Some key)) other apart refl) (λ other apart key. refl))
-      (outstanding_justified past n after slot to number copy key
-      (put_here before.moves.running slot (Leaves to number copy (Some key))) inside)
+      (subst (λ (c : ℕ). HoldsAfter (was slot) (record before { moves = with_move before.moves slot (Leaves to number c (Some keys)) }) one) (sym next.copy_is)
+      (copy_ordered_holds (was slot) to number next.made keys ordered))
+      (λ other apart. moved_apart before before.keyspace slot (Leaves to number copy (Some keys)) other apart refl) (λ other apart key. refl))
+      (outstanding_justified past n after slot (move_of moved.moves slot) refl)

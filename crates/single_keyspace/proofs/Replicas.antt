@@ -16,7 +16,6 @@ use Rattle.command_table.specs.declared.command.DataCommand.{DataCommand}
 use Rattle.command_table.specs.declared.command.SlotOrder.{SlotOrder}
 use Rattle.command_table.specs.declared.command.SlotOrder.TheVariants.{Importing, Migrating, Node}
 use Rattle.command_table.specs.declared.fault.CommandFault.{CommandFault}
-use Rattle.key_slot.specs.Slot.{hash_slot}
 use Rattle.keyspace.specs.Commands.{exec, execution_of}
 use Rattle.keyspace.specs.Keyspace.{Keyspace}
 use Rattle.keyspace.specs.Locality.{CommandsAreLocal}
@@ -47,7 +46,7 @@ use Rattle.redirect.specs.Decision.{by_keys}
 use Rattle.redirect.specs.declared.asked.Asking.{Asking}
 use Rattle.redirect.specs.declared.decision.Decision.{Decision}
 use Rattle.redirect.specs.declared.decision.Decision.TheVariants.{Serve, ServeImport, CrossSlot, Down, TryAgain, Ask, Moved}
-use Rattle.migrate.specs.Acknowledging.{acknowledged_key}
+use Rattle.migrate.specs.Acknowledging.{acknowledged_keys}
 use Rattle.migrate.specs.Arriving.{arrival_verdict}
 use Rattle.migrate.specs.Draining.{note_drained}
 use Rattle.migrate.specs.Arriving.{changed_at}
@@ -70,7 +69,8 @@ use Rattle.stream_values.specs.declared.sync.Sync.{Sync}
 use Rattle.one_slot.specs.Sent.{Sent}
 use Rattle.node_step.specs.Claiming.{claim, claimed_by}
 use Rattle.node_step.specs.Commands.{command_outcome, decision_on, drained_by_command, executed, served, asked_of}
-use Rattle.node_step.specs.Copies.{acknowledged, arrived, copy_outcome, copy_verdict_on, keeps_limits, node_at, noted}
+use Rattle.node_step.proofs.Copied.{copied_next, sent_again_of}
+use Rattle.node_step.specs.Copies.{acknowledged, arrived, copy_outcome, copy_verdict_on, first_slot, keep_limits, node_at, noted, those_there}
 use Rattle.node_step.proofs.Ready.{in_election_keeps, ready_keeps}
 use Rattle.node_step.specs.Failing.{a_tick_older, members_of}
 use Rattle.node_step.specs.Messages.{Choice, delivered, ready, taken, taken_so, written_by_message}
@@ -103,7 +103,7 @@ use Rattle.single_keyspace.proofs.Served.{decided_in, one_reply}
 use Rattle.node_step.proofs.Recorded.{recorded_promoted, recorded_response}
 use Rattle.single_keyspace.proofs.Steps.{RepliesAs, next_of}
 use Rattle.single_keyspace.proofs.Values.{values_alike}
-use Rattle.single_keyspace.proofs.Verdicts.{ack_counts, asks, copy_arrives, copy_is_again, copy_is_next, copy_repeats, import_ends, serves, serves_import}
+use Rattle.single_keyspace.proofs.Verdicts.{ack_counts, asks, copy_arrives, copy_repeats, import_ends, serves, serves_import}
 
 -- the step is no promotion that ends the one keyspace
 abbrev pub IsNoEnd : Outcome → Type 0
@@ -225,15 +225,15 @@ module _ {n : ℕ} {before : NodeState} (one : Keyspace) (stands : ReplicaStands
     ending_replica slot other asked (ending.Ends drained) is =
         let facts = import_ends (standing before slot) (move_of before.moves slot) other asked drained is in absurd (no_some (stands.idle slot) facts.3)
 
-    copy_replica : (conn : Conn) (key : List ℕ) (ticks : ℕ) (target : Option ℕ) (verdict : CopyVerdict) → copy_verdict_on before key target ≡ verdict → Answers (copy_outcome before conn (hash_slot key) key ticks verdict)
-    copy_replica conn key ticks target copies.WrongTarget is = plain _ refl refl (copy_outcome before conn (hash_slot key) key ticks copies.WrongTarget) refl refl refl refl refl
-    copy_replica conn key ticks target copies.NoKey is = plain _ refl refl (copy_outcome before conn (hash_slot key) key ticks copies.NoKey) refl refl refl refl refl
-    copy_replica conn key ticks target copies.CopyOutstanding is = plain _ refl refl (copy_outcome before conn (hash_slot key) key ticks copies.CopyOutstanding) refl refl refl refl refl
-    copy_replica conn key ticks target copies.Exhausted is = plain _ refl refl (copy_outcome before conn (hash_slot key) key ticks copies.Exhausted) refl refl refl refl refl
-    copy_replica conn key ticks target (copies.SendAgain to number copy) is =
-        let facts = copy_is_again _ target key (is_some (fin_map.get before.keyspace key)) to number copy is in absurd (no_some (stands.idle _) facts.1)
-    copy_replica conn key ticks target (copies.Copies to number copy) is =
-        let facts = copy_is_next _ target key (is_some (fin_map.get before.keyspace key)) to number copy is in absurd (no_some (stands.idle _) facts.1)
+    copy_replica : (conn : Conn) (named : List (List ℕ)) (ticks : ℕ) (target : Option ℕ) (verdict : CopyVerdict) → copy_verdict_on before named target ≡ verdict
+        → Answers (copy_outcome before conn (first_slot named) (those_there before.keyspace named) ticks verdict)
+    copy_replica conn named ticks target copies.CrossSlot is = plain _ refl refl (copy_outcome before conn (first_slot named) (those_there before.keyspace named) ticks copies.CrossSlot) refl refl refl refl refl
+    copy_replica conn named ticks target copies.WrongTarget is = plain _ refl refl (copy_outcome before conn (first_slot named) (those_there before.keyspace named) ticks copies.WrongTarget) refl refl refl refl refl
+    copy_replica conn named ticks target copies.NoKey is = plain _ refl refl (copy_outcome before conn (first_slot named) (those_there before.keyspace named) ticks copies.NoKey) refl refl refl refl refl
+    copy_replica conn named ticks target copies.CopyOutstanding is = plain _ refl refl (copy_outcome before conn (first_slot named) (those_there before.keyspace named) ticks copies.CopyOutstanding) refl refl refl refl refl
+    copy_replica conn named ticks target copies.Exhausted is = plain _ refl refl (copy_outcome before conn (first_slot named) (those_there before.keyspace named) ticks copies.Exhausted) refl refl refl refl refl
+    copy_replica conn named ticks target (copies.SendAgain to number copy) is = absurd (no_some (stands.idle _) (sent_again_of before named target to number copy is).1)
+    copy_replica conn named ticks target (copies.Copies to number copy) is = absurd (no_some (stands.idle _) (copied_next before named target to number copy is).move)
 
     -- ---- commands on keys
 
@@ -311,7 +311,7 @@ module _ {n : ℕ} {before : NodeState} (one : Keyspace) (stands : ReplicaStands
     cluster_replica conn (cluster.SetSlot slot order id number) = order_replica slot order (node_with_id before id) number
     cluster_replica conn cluster.Numbered = plain _ refl refl (cluster_outcome before conn cluster.Numbered) refl refl refl refl refl
     cluster_replica conn (cluster.Asking number) = plain _ refl refl (cluster_outcome before conn (cluster.Asking number)) refl refl refl refl refl
-    cluster_replica conn (cluster.Migrate host port key timeout) = copy_replica conn key timeout (node_at before host port) (copy_verdict_on before key (node_at before host port)) refl
+    cluster_replica conn (cluster.Migrate host port keys timeout) = copy_replica conn keys timeout (node_at before host port) (copy_verdict_on before keys (node_at before host port)) refl
 
     command_replica : (conn : Conn) (connection : Option Connection) (command : Result Command CommandFault) → command_of words ≡ command → Answers (by_command before conn connection command)
     command_replica conn connection (Err fault) reads = plain _ refl refl (by_command before conn connection (Err fault)) refl refl refl refl refl
@@ -321,17 +321,17 @@ module _ {n : ℕ} {before : NodeState} (one : Keyspace) (stands : ReplicaStands
 
   -- ---- messages
 
-  copy_arrives_replica : (from slot number copy : ℕ) (key : List ℕ) (value : Value) (verdict : ArrivalVerdict)
-      → arrival_verdict (move_of before.moves slot) from number copy (keeps_limits key value) ≡ verdict → ReplicaStep n one None (arrived before from slot number copy key value verdict)
-  copy_arrives_replica from slot number copy key value Ignored is = plain None refl refl (arrived before from slot number copy key value Ignored) refl refl refl refl refl
-  copy_arrives_replica from slot number copy key value Repeats is =
-      let facts = copy_repeats (move_of before.moves slot) from number copy (keeps_limits key value) is in absurd (no_some (stands.idle slot) facts.2)
-  copy_arrives_replica from slot number copy key value Installs is =
-      let facts = copy_arrives (move_of before.moves slot) from number copy (keeps_limits key value) is in absurd (no_some (stands.idle slot) facts.2)
+  copy_arrives_replica : (from slot number copy : ℕ) (pairs : List (List ℕ × Value)) (verdict : ArrivalVerdict)
+      → arrival_verdict (move_of before.moves slot) from number copy (keep_limits pairs) ≡ verdict → ReplicaStep n one None (arrived before from slot number copy pairs verdict)
+  copy_arrives_replica from slot number copy pairs Ignored is = plain None refl refl (arrived before from slot number copy pairs Ignored) refl refl refl refl refl
+  copy_arrives_replica from slot number copy pairs Repeats is =
+      let facts = copy_repeats (move_of before.moves slot) from number copy (keep_limits pairs) is in absurd (no_some (stands.idle slot) facts.2)
+  copy_arrives_replica from slot number copy pairs Installs is =
+      let facts = copy_arrives (move_of before.moves slot) from number copy (keep_limits pairs) is in absurd (no_some (stands.idle slot) facts.2)
 
-  ack_replica : (from slot number copy : ℕ) (key : Option (List ℕ)) → acknowledged_key (move_of before.moves slot) from number copy ≡ key → ReplicaStep n one None (acknowledged before slot number copy key)
+  ack_replica : (from slot number copy : ℕ) (keys : Option (List (List ℕ))) → acknowledged_keys (move_of before.moves slot) from number copy ≡ keys → ReplicaStep n one None (acknowledged before slot number copy keys)
   ack_replica from slot number copy None is = plain None refl refl (silent before) refl refl refl refl refl
-  ack_replica from slot number copy (Some key) is = absurd (no_some (stands.idle slot) (ack_counts (move_of before.moves slot) from number copy key is))
+  ack_replica from slot number copy (Some keys) is = absurd (no_some (stands.idle slot) (ack_counts (move_of before.moves slot) from number copy keys is))
 
   drained_replica : (from slot number epoch : ℕ) → ReplicaStep n one None (noted before from slot number epoch)
   drained_replica from slot number epoch =
@@ -397,9 +397,9 @@ module _ {n : ℕ} {before : NodeState} (one : Keyspace) (stands : ReplicaStands
       by_master (Some master) not_now = absurd (both_ways true not_now refl)
 
   so_taken_replica : (from : ℕ) (choice : Choice) (said : Body) → IsNoEnd (taken_so before from choice said) → ReplicaStep n one None (taken_so before from choice said)
-  so_taken_replica from choice (body.Copy slot number copy key value) not_now =
-      copy_arrives_replica from slot number copy key value (arrival_verdict (move_of before.moves slot) from number copy (keeps_limits key value)) refl
-  so_taken_replica from choice (body.Ack slot number copy) not_now = ack_replica from slot number copy (acknowledged_key (move_of before.moves slot) from number copy) refl
+  so_taken_replica from choice (body.Copy slot number copy pairs) not_now =
+      copy_arrives_replica from slot number copy pairs (arrival_verdict (move_of before.moves slot) from number copy (keep_limits pairs)) refl
+  so_taken_replica from choice (body.Ack slot number copy) not_now = ack_replica from slot number copy (acknowledged_keys (move_of before.moves slot) from number copy) refl
   so_taken_replica from choice (body.Drained slot number epoch) not_now = drained_replica from slot number epoch
   so_taken_replica from choice (body.Claim runs replaced) not_now = claim_replica from runs
   so_taken_replica from choice (body.Report suspects) not_now = plain None refl refl (silent before) refl refl refl refl refl

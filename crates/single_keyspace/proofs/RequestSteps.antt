@@ -122,8 +122,8 @@ module _ {past : List Entry} {n : ℕ} {before : NodeState} {one : Keyspace} (wa
   cluster_stands conn (cluster.Asking number) =
       quiet_still was _ refl refl (cluster_outcome before conn (cluster.Asking number)) (record { number_is = stands.number_is; slots = stands.slots; is_master = stands.is_master }) (λ slot. refl)
       (nothing_sent past n (cluster_outcome before conn (cluster.Asking number)).state)
-  cluster_stands conn (cluster.Migrate host port key timeout) =
-      copy_stands was stands words conn key timeout (node_at before host port) (copy_verdict_on before key (node_at before host port)) refl
+  cluster_stands conn (cluster.Migrate host port keys timeout) =
+      copy_stands was stands words conn keys timeout (node_at before host port) (copy_verdict_on before keys (node_at before host port)) refl
 
   -- ---- any command
 

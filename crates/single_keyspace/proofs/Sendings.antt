@@ -1,11 +1,12 @@
 -- What a node may send, by its state, and that it is true of the slot.
-use Rattle.std.proofs.Common.{length, ◌≡◌, ◌≤◌, ◌==◌, ℕ, List, [], ◌∷◌, ◌++◌, false, Option, Some, None, All, Contains, refl, sym, ap, ap₂, subst, ◌∙◌, inl, inr, arith}
+use Rattle.std.proofs.Common.{length, ◌≡◌, ◌≤◌, ◌==◌, ℕ, List, [], ◌∷◌, ◌++◌, true, false, Option, Some, None, All, Contains, refl, sym, ap, ap₂, subst, ◌∙◌, inl, inr, arith}
 use Rattle.std.proofs.lemmas.Bool.{cases_Bool, cases_eq, cond-true, cond-false, eqb-true, ltb-false}
 use Rattle.std.proofs.lemmas.List.Elements.{All-head, All-tail, Contains-append_cases}
 use Rattle.std.proofs.lemmas.Map.Lookups.{exact_bytes}
 use Rattle.std.specs.Cmp.Lexicographic.{slice_cmp}
 use Rattle.std.specs.Ordering.{nat_cmp}
 use Rattle.std.specs.FinMap as fin_map
+use Rattle.std.specs.Map.{keys_of}
 use Rattle.key_slot.specs.SlotRange.{is_in}
 use Rattle.keyspace.specs.Keyspace.{Keyspace}
 use Rattle.keyspace.specs.declared.value.Value.{Value}
@@ -25,10 +26,14 @@ use Rattle.bus.specs.declared.message.Message.{Message}
 use Rattle.bus.specs.declared.message.Replaced.{Replaced}
 use Rattle.std.specs.Prelude.{⊤}
 use Rattle.one_slot.specs.View.{View, Views}
-use Rattle.one_slot.specs.Slot.{Holds, IsLeaving}
+use Rattle.one_slot.specs.Slot.{Holds, IsFrozen, IsLeaving}
 use Rattle.one_slot.specs.Sent.{Sent, IsSent}
 use Rattle.one_slot.specs.Sent.Sent.{Drained, Copy}
+use Rattle.one_slot.specs.Events.{CopyIsSent}
+use Rattle.one_slot.proofs.KeyLemmas.{Contains-keys}
 use Rattle.one_slot.proofs.Sendings.{drained-is_sent}
+use Rattle.node_step.proofs.Copied.{pairs_are_of, pairs_have}
+use Rattle.node_step.specs.Copies.{outstanding, pairs_at}
 use Rattle.node_step.specs.Slots.{has_keys, slot_epoch, epoch_in_table, drained, drained_by, drained_if_empty, drained_since}
 use Rattle.node_step.specs.Orders.{to_all}
 use Rattle.node_step.specs.State.{NodeState}
@@ -37,7 +42,9 @@ use Rattle.single_keyspace.specs.Slots.{values_in, view_of}
 use Rattle.single_keyspace.specs.Stands.{Says}
 use Rattle.single_keyspace.proofs.Laws.{laws_at}
 use Rattle.single_keyspace.proofs.Lists.{contains_nothing, contains_one, from_map}
+use Rattle.single_keyspace.proofs.MovesHold.{frozen_here, valued_in_slot}
 use Rattle.single_keyspace.proofs.Seen.{no_some, same_some}
+use Rattle.single_keyspace.proofs.Values.{value_here}
 
 -- a copy of that number was sent to the node before, and it is installed
 pub record IsInstalled (past : List Entry) (n : ℕ) (moves : Moves) (to slot number count : ℕ) : Type 0 where
@@ -45,25 +52,30 @@ pub record IsInstalled (past : List Entry) (n : ℕ) (moves : Moves) (to slot nu
   pub drained : Option ℕ
   pub move : move_of moves slot ≡ Some (Comes to number copied drained)
   pub reached : count ≤ copied
-  pub key : List ℕ
-  pub value : Value
+  pub pairs : List (List ℕ × Value)
   pub message : Message
   pub sent : Contains (sent_by past) message
   pub from_there : message.from ≡ to
   pub to_here : message.to ≡ n
-  pub says : message.body ≡ body.Copy slot number count key value
+  pub says : message.body ≡ body.Copy slot number count pairs
 
 -- the slot leaves, and no key of it is left
 pub record IsLeft (moves : Moves) (keyspace : Keyspace) (table : List (Option SlotEntry)) (to slot number epoch : ℕ) : Type 0 where
   pub copies : ℕ
-  pub frozen : Option (List ℕ)
+  pub frozen : Option (List (List ℕ))
   pub move : move_of moves slot ≡ Some (Leaves to number copies frozen)
   pub epoch_is : epoch ≡ epoch_in_table (entry_at table slot)
   pub empty : has_keys keyspace slot ≡ false
 
+-- it is the outstanding copy
+pub record IsOutstanding (moves : Moves) (keyspace : Keyspace) (to slot number copy : ℕ) (pairs : List (List ℕ × Value)) : Type 0 where
+  pub keys : List (List ℕ)
+  pub move : move_of moves slot ≡ Some (Leaves to number copy (Some keys))
+  pub are : pairs ≡ pairs_at keyspace keys
+
 -- by what the node has of slots alone, so that nothing else of it matters
 abbrev pub IsJustifiedBy : List Entry → ℕ → Moves → Keyspace → List (Option SlotEntry) → ℕ → Body → Type 0
-IsJustifiedBy past n moves keyspace table to (body.Copy slot number copy key value) = (move_of moves slot ≡ Some (Leaves to number copy (Some key))) × (values_in keyspace slot key ≡ Some value)
+IsJustifiedBy past n moves keyspace table to (body.Copy slot number copy pairs) = IsOutstanding moves keyspace to slot number copy pairs
 IsJustifiedBy past n moves keyspace table to (body.Ack slot number copy) = IsInstalled past n moves to slot number copy
 IsJustifiedBy past n moves keyspace table to (body.Drained slot number epoch) = IsLeft moves keyspace table to slot number epoch
 IsJustifiedBy past n moves keyspace table to (body.Claim runs replaced) = (slot epoch : ℕ) → claimed runs n slot ≡ Some (record { epoch = epoch; owner = n }) → entry_at table slot ≡ Some (record { epoch = epoch; owner = n })
@@ -119,25 +131,43 @@ left_is_true {top = top} {seen = seen} {n = n} {slot = slot} node holds here to 
       | inr other ↦ inl (holds.stale n other to number leaving)
     ]
 
+-- the outstanding copy has just the frozen keys with their values
+outstanding_sent : (node : NodeState) (slot to number copy : ℕ) (keys : List (List ℕ)) → move_of node.moves slot ≡ Some (Leaves to number copy (Some keys)) → IsFrozen (view_of node slot) copy keys
+    → CopyIsSent (view_of node slot) to number copy (pairs_at node.keyspace keys)
+outstanding_sent node slot to number copy keys move frozen =
+    let inside : (key : List ℕ) → Contains keys key → is_in_slot slot key ≡ true = λ key among. let there = frozen.here key among in valued_in_slot node.keyspace slot key there.0 there.1 in
+    let there : (key : List ℕ) → Contains keys key → (x : Value) × (fin_map.get node.keyspace key ≡ Some x) = λ key among.
+    let at = frozen.here key among in (at.0, sym (value_here node.keyspace slot key (inside key among)) ∙ at.1) in
+    let same : keys_of (pairs_at node.keyspace keys) ≡ keys = pairs_are_of node.keyspace keys there in
+    record {
+      move = move ∙ ap (λ (ks : List (List ℕ)). Some (Leaves to number copy (Some ks))) (sym same);
+      one = frozen.one;
+      among = subst (λ (ks : List (List ℕ)). Contains ks frozen.one) (sym same) frozen.among;
+      here = λ key x among.
+          let named : Contains keys key = subst (λ (ks : List (List ℕ)). Contains ks key) same (Contains-keys (pairs_at node.keyspace keys) key x among) in
+          value_here node.keyspace slot key (inside key named) ∙ pairs_have node.keyspace keys key x among;
+      each = λ key among. frozen.here key (subst (λ (ks : List (List ℕ)). Contains ks key) same among);
+    }
+
 module _ (past : List Entry) (node : NodeState) {top : SlotEntry} {seen : Views Value} {one : List ℕ → Option Value} {n : ℕ} {slot : ℕ} (holds : Holds top seen one) (here : seen n ≡ view_of node slot)
     (history : (message : Message) (sent : Sent Value) → Contains (sent_by past) message → Says slot message.from message.to message.body sent → IsSent top seen sent) where
   pub justified_is_true : (to : ℕ) (body : Body) (sent : Sent Value) → IsJustified past n node to body → Says slot n to body sent → IsSent top seen sent
-  justified_is_true to (body.Copy other number copy key value) sent just says =
-      subst (IsSent top seen) (sym says.1)
-      ((laws_at top seen one n (view_of node slot) holds here).copy_sent to number copy key value
-      (record {
-        move = subst (λ (s : ℕ). move_of node.moves s ≡ Some (Leaves to number copy (Some key))) says.0 just.0;
-        here = subst (λ (s : ℕ). values_in node.keyspace s key ≡ Some value) says.0 just.1;
-      }))
+  justified_is_true to (body.Copy other number copy pairs) sent just says =
+      let move : move_of node.moves slot ≡ Some (Leaves to number copy (Some just.keys)) = subst (λ (s : ℕ). move_of node.moves s ≡ Some (Leaves to number copy (Some just.keys))) says.0 just.move in
+      let frozen : IsFrozen (view_of node slot) copy just.keys =
+      subst (λ (v : View Value). IsFrozen v copy just.keys) here (frozen_here holds n to number copy just.keys (ap (λ (v : View Value). v.move) here ∙ move)) in
+      subst (IsSent top seen) (sym (says.1 ∙ ap (λ (ps : List (List ℕ × Value)). Copy n to number copy ps) just.are))
+      ((laws_at top seen one n (view_of node slot) holds here).copy_sent to number copy (pairs_at node.keyspace just.keys)
+      (outstanding_sent node slot to number copy just.keys move frozen))
   justified_is_true to (body.Ack other number copy) sent just says =
-      let copied : IsSent top seen (Copy just.message.from just.message.to number copy just.key just.value) =
+      let copied : IsSent top seen (Copy just.message.from just.message.to number copy just.pairs) =
       history just.message _ just.sent
-      (subst (λ (b : Body). Says slot just.message.from just.message.to b (Copy just.message.from just.message.to number copy just.key just.value)) (sym just.says) (says.0, refl)) in
+      (subst (λ (b : Body). Says slot just.message.from just.message.to b (Copy just.message.from just.message.to number copy just.pairs)) (sym just.says) (says.0, refl)) in
       subst (IsSent top seen) (sym says.1)
-      ((laws_at top seen one n (view_of node slot) holds here).ack_sent to number copy just.copied just.drained just.key just.value
+      ((laws_at top seen one n (view_of node slot) holds here).ack_sent to number copy just.copied just.drained just.pairs
       (subst (λ (s : ℕ). move_of node.moves s ≡ Some (Comes to number just.copied just.drained)) says.0 just.move)
       just.reached
-      (subst (IsSent top seen) (ap₂ (λ (f t : ℕ). Copy f t number copy just.key just.value) just.from_there just.to_here) copied))
+      (subst (IsSent top seen) (ap₂ (λ (f t : ℕ). Copy f t number copy just.pairs) just.from_there just.to_here) copied))
   justified_is_true to (body.Drained other number epoch) sent just says =
       subst (IsSent top seen) (sym says.1) (left_is_true node holds here to number epoch (subst (λ (s : ℕ). IsLeft node.moves node.keyspace node.table to s number epoch) says.0 just))
   justified_is_true to (body.Claim runs replaced) sent just says =
@@ -176,6 +206,16 @@ module _ (past : List Entry) (n : ℕ) (node : NodeState) (slot : ℕ) where
         | inl some ↦ drained_if_empty_justified to body (subst (λ (l : List (ℕ × Body)). Contains l (to, body)) (cond-true (has_keys before slot) (drained_if_empty node slot) [] some) among)
         | inr none ↦ absurd (contains_nothing (to, body) (subst (λ (l : List (ℕ × Body)). Contains l (to, body)) (cond-false (has_keys before slot) (drained_if_empty node slot) [] none) among))
       ]
+
+-- ---- the outstanding copy
+
+pub outstanding_justified : (past : List Entry) (n : ℕ) (node : NodeState) (slot : ℕ) (move : Option Move) → move_of node.moves slot ≡ move → AreJustified past n node (outstanding node.keyspace slot move)
+outstanding_justified past n node slot None is to said among = absurd (contains_nothing (to, said) among)
+outstanding_justified past n node slot (Some (Comes from number last drained)) is to said among = absurd (contains_nothing (to, said) among)
+outstanding_justified past n node slot (Some (Leaves other number copies None)) is to said among = absurd (contains_nothing (to, said) among)
+outstanding_justified past n node slot (Some (Leaves other number copies (Some keys))) is to said among =
+    subst (λ (p : ℕ × Body). IsJustified past n node p.0 p.1) (contains_one (other, body.Copy slot number copies (pairs_at node.keyspace keys)) (to, said) among)
+    (record { keys = keys; move = is; are = refl })
 
 -- ---- claims
 

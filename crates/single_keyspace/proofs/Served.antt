@@ -16,13 +16,14 @@ use Rattle.keyspace.specs.declared.value.Value.{Value}
 use Rattle.slot_store.specs.InSlot.{is_in_slot}
 use Rattle.slot_table.specs.Table.{owner_at}
 use Rattle.slot_state.specs.Moves.{move_of}
-use Rattle.redirect.specs.Asked.{is_one_of}
+use Rattle.redirect.specs.Asked.{is_frozen, is_one_of}
 use Rattle.redirect.specs.Decision.{has_other_slot, by_keys, decision_at}
 use Rattle.redirect.specs.declared.asked.Asking.{Asking}
 use Rattle.redirect.specs.declared.decision.Decision.{Decision}
 use Rattle.redirect.specs.declared.decision.Decision.TheVariants.{Serve, ServeImport, CrossSlot, Ask}
 use Rattle.one_slot.specs.View.{Views}
 use Rattle.one_slot.specs.Sent.{IsSent}
+use Rattle.one_slot.specs.Slot.{Freezes}
 use Rattle.one_slot.specs.Sent.Sent.{Told}
 use Rattle.one_slot.specs.Events.{Changes, Keeps, IsServed, OwnerServes, LeavingServes, IsAsked}
 use Rattle.node_step.specs.Commands.{asked_of, decision_on, executed}
@@ -31,7 +32,7 @@ use Rattle.world_run.specs.Run.{Entry}
 use Rattle.single_keyspace.specs.Slots.{values_in, view_of}
 use Rattle.single_keyspace.proofs.Laws.{EventLaws, ViewLaws, ImportServes, events_at, laws_at}
 use Rattle.single_keyspace.proofs.Lists.{first_or_more, contains_first, contains_nothing, no_element, each_element, mapped}
-use Rattle.single_keyspace.proofs.Seen.{no_some, SlotWas, HoldsAfter, holds_but, holds_untouched, same_values, same_view}
+use Rattle.single_keyspace.proofs.Seen.{SlotWas, HoldsAfter, holds_but, holds_untouched, same_values, same_view}
 use Rattle.single_keyspace.proofs.Values.{no_value, some_value, values_alike, value_here}
 use Rattle.single_keyspace.specs.Stands.{BeginsIn}
 use Rattle.single_keyspace.proofs.Verdicts.{bytes_themselves, serves, serves_import, asks}
@@ -66,12 +67,12 @@ module _ (keyspace : Keyspace) (slot : ℕ) (keys : List (List ℕ)) (inside : (
       value_here keyspace slot key (in_it key among)
       ∙ no_value (fin_map.get keyspace key) (no_element (λ (is : Bool). is) (map tests keys) (tests key) (not-true (list_any (λ (is : Bool). is) (map tests keys)) none) (mapped tests keys key among))
 
-pub not_frozen : (frozen : Option (List ℕ)) (keys : List (List ℕ)) → is_one_of frozen keys ≡ false → (key : List ℕ) → frozen ≡ Some key → ¬ Contains keys key
-not_frozen None keys none key is = absurd (no_some refl is)
-not_frozen (Some frozen) keys none key is = λ among.
-    let same : frozen ≡ key = cc in
-    both_ways (pointwise nat_eq key frozen) (no_element (λ (other : List ℕ). pointwise nat_eq other frozen) keys key none among)
-    (ap (pointwise nat_eq key) same ∙ bytes_themselves key)
+pub not_frozen : (frozen : Option (List (List ℕ))) (keys : List (List ℕ)) → is_frozen frozen keys ≡ false → (key : List ℕ) → Freezes frozen key → ¬ Contains keys key
+not_frozen None keys none key freezes = absurd freezes
+not_frozen (Some frozen) keys none key freezes = λ among.
+    both_ways (pointwise nat_eq key key)
+    (no_element (λ (other : List ℕ). pointwise nat_eq other key) frozen key (no_element (λ (named : List ℕ). is_one_of frozen named) keys key none among) freezes)
+    (bytes_themselves key)
 
 -- ---- execution
 

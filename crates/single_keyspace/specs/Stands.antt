@@ -26,7 +26,7 @@ use Rattle.single_keyspace.specs.Slots.{values_in, views, first_of, is_hidden}
 
 -- what a message from one node to another says of a slot
 abbrev pub Says : ℕ → ℕ → ℕ → Body → Sent Value → Type 0
-Says slot from to (body.Copy other number copy key value) sent = (other ≡ slot) × (sent ≡ Copy from to number copy key value)
+Says slot from to (body.Copy other number copy pairs) sent = (other ≡ slot) × (sent ≡ Copy from to number copy pairs)
 Says slot from to (body.Ack other number copy) sent = (other ≡ slot) × (sent ≡ Ack from to number copy)
 Says slot from to (body.Drained other number epoch) sent = (other ≡ slot) × (sent ≡ Drained from to number epoch)
 Says slot from to (body.Claim runs replaced) sent = (epoch : ℕ) × (claimed runs from slot ≡ Some (record { epoch = epoch; owner = from })) × (sent ≡ Claimed from epoch)

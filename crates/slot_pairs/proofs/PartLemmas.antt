@@ -60,7 +60,7 @@ unfolding IsStrictlySortedBy
 sorted_from_rising [] rise = tt
 sorted_from_rising (entry ∷ entries) rise = both _ _ (all_below entry.0 entries rise.0) (sorted_from_rising entries rise.1)
 
-entries_of_map : (m : KeyMap Value) → IsOrdered m → m.entries ≡ map.entries (keyspace_of m.entries)
+pub entries_of_map : (m : KeyMap Value) → IsOrdered m → m.entries ≡ map.entries (keyspace_of m.entries)
 entries_of_map m ordered =
     same_entries (slice_cmp nat_cmp) nat_list_cmp_total exact_bytes m.entries (map.entries (keyspace_of m.entries)) (sorted_from_rising m.entries ordered) (map.entries_sorted (keyspace_of m.entries))
     (λ q. sym (map.get-from_entries nat_list_cmp_total m.entries q) ∙ map.get-entries (keyspace_of m.entries) q)

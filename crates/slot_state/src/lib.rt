@@ -3,6 +3,7 @@
 
 mod ending;
 mod importing;
+mod keys;
 mod migrating;
 mod numbering;
 mod order;
@@ -13,6 +14,7 @@ mod state;
 pub use ending::{NodeVerdict, epoch_after_import};
 pub use importing::ImportVerdict;
 pub use key_slot::MoveNo;
+pub use keys::Keys;
 pub use migrating::MigrateVerdict;
 pub use order::{Order, Standing};
 pub use running::Move;

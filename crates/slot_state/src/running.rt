@@ -1,10 +1,10 @@
 //! A move of a slot that is under way.
-use byte_string::ByteString;
+use crate::keys::Keys;
 use key_slot::MoveNo;
 use slot_table::{Epoch, NodeNo};
 
 /// A node's part in a move of a slot.
-#[derive(PartialEq, Eq, Debug, Drop)]
+#[derive(Debug, Drop)]
 pub enum Move {
     /// The slot leaves this node, which is MIGRATING it.
     Leaves {
@@ -14,8 +14,8 @@ pub enum Move {
         number: MoveNo,
         /// How many copies of keys were made, which have the numbers from 1 to this one.
         copies: u64,
-        /// The key whose copy is not acknowledged yet, if there is one.
-        frozen: Option<ByteString>,
+        /// The keys whose copy is not acknowledged yet, if there is one.
+        frozen: Option<Keys>,
     },
     /// The slot comes to this node, which is IMPORTING it.
     Comes {

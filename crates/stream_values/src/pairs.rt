@@ -8,7 +8,7 @@ use std::marker::Model;
 use std::sync::Arc;
 
 /// A key with its value.
-#[derive(Debug, Drop)]
+#[derive(Debug)]
 pub struct Pair {
     key: ByteString,
     value: Value,
@@ -21,6 +21,12 @@ impl Model for Pair {
     ghost Value = { List ℕ × KeyValue };
 
     ghost view = { λ pair. (pair.key, pair.value) };
+}
+
+impl Drop for Pair {
+    fn drop(self) {
+        let Pair { key: _, value: _ } = self;
+    }
 }
 
 impl Pair {
@@ -47,7 +53,7 @@ impl Pair {
 }
 
 /// Keys with their values. A copy shares the list, and takes no memory.
-#[derive(Debug, Drop)]
+#[derive(Debug)]
 pub struct Pairs {
     pairs: Arc<Vec<Pair>>,
 }
@@ -59,6 +65,12 @@ impl Model for Pairs {
     ghost Value = { List (List ℕ × KeyValue) };
 
     ghost view = { λ pairs. pairs.pairs.value.items };
+}
+
+impl Drop for Pairs {
+    fn drop(self) {
+        let Pairs { pairs: _ } = self;
+    }
 }
 
 impl Pairs {

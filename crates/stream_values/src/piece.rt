@@ -10,7 +10,7 @@ use std::marker::Model;
 /// A part of a stream, as a master sends it to its replicas: some bytes, and the offset of the first of them.
 ///
 /// A copy of it shares the bytes from 4,096 on. They end below 2 ^ 64.
-#[derive(Debug, Drop)]
+#[derive(Debug)]
 pub struct Piece {
     stream: StreamId,
     from: u64,
@@ -32,6 +32,17 @@ impl Model for Piece {
     } };
 
     ghost invariant = { λ piece. piece.from + length piece.bytes < 2 ^ 64 };
+}
+
+impl Drop for Piece {
+    fn drop(self) {
+        let Piece {
+            stream: _,
+            from: _,
+            bytes: _,
+            base: _,
+        } = self;
+    }
 }
 
 impl Piece {

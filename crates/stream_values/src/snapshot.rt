@@ -6,7 +6,7 @@ use crate::stream_id::StreamId;
 use std::alloc::AllocError;
 
 /// What a stream's writes up to an offset leave. A copy shares the pairs.
-#[derive(Debug, Drop)]
+#[derive(Debug)]
 pub struct Snapshot {
     /// The stream.
     pub stream: StreamId,
@@ -14,6 +14,16 @@ pub struct Snapshot {
     pub offset: u64,
     /// All keys with their values.
     pub pairs: Pairs,
+}
+
+impl Drop for Snapshot {
+    fn drop(self) {
+        let Snapshot {
+            stream: _,
+            offset: _,
+            pairs: _,
+        } = self;
+    }
 }
 
 impl Clone for Snapshot {

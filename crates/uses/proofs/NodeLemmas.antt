@@ -20,7 +20,7 @@ use Rattle.slot_state.specs.declared.state.SlotState.{SlotState}
 use Rattle.slot_state.specs.declared.state.SlotState.TheVariants.{Owned, Foreign, Moving}
 use Rattle.key_slot.specs.Slot.{hash_slot}
 use Rattle.slot_table.specs.Table.{owner_at}
-use Rattle.redirect.specs.Asked.{Asked, is_one_of}
+use Rattle.redirect.specs.Asked.{Asked, is_frozen}
 use Rattle.redirect.specs.Decision.{decision, in_slot, leaving, state_at}
 use Rattle.redirect.specs.declared.asked.Asking.TheVariants.{No}
 use Rattle.redirect.specs.declared.decision.Decision.{Decision}
@@ -81,12 +81,12 @@ abbrev asked_one : List ℕ → Bool → Asked
 asked_one key there = record { keys = key ∷ []; there = there ∷ []; asking = No }
 
 -- in a slot that leaves, a key that is served is served once it is there
-leaving_still : (elsewhere : Decision) (frozen : Option (List ℕ)) (key : List ℕ) (there : Bool) → leaving elsewhere frozen (asked_one key there) ≡ Serve
+leaving_still : (elsewhere : Decision) (frozen : Option (List (List ℕ))) (key : List ℕ) (there : Bool) → leaving elsewhere frozen (asked_one key there) ≡ Serve
     → leaving elsewhere frozen (asked_one key true) ≡ Serve
 leaving_still elsewhere frozen key true serves = serves
-leaving_still elsewhere frozen key false serves = by (is_one_of frozen (key ∷ [])) serves
+leaving_still elsewhere frozen key false serves = by (is_frozen frozen (key ∷ [])) serves
   where
-    by : (is_frozen : Bool) → (if is_frozen then TryAgain Frozen else elsewhere) ≡ Serve → (if is_frozen then TryAgain Frozen else Serve) ≡ Serve
+    by : (held : Bool) → (if held then TryAgain Frozen else elsewhere) ≡ Serve → (if held then TryAgain Frozen else Serve) ≡ Serve
     by true serves = serves
     by false serves = refl
 

@@ -19,8 +19,7 @@ pub fn set_then_get<K: Deployment, L: Log>(
     key: &ByteString,
     value: &ByteString,
 ) -> Result<Entered<K>, StepFault>
-    requires key { length key.now ≤ MOST_WORD_BYTES }
-    requires value { length value.now ≤ MOST_WORD_BYTES }
+    requires { IsRequest (codes "SET" ∷ key.now ∷ value.now ∷ []) }
     ensures answer { IfOk result (λ entered. IsServedBy cell.old.state (key.now ∷ []) → entered.outputs.response ≡ served (Bulk value.now)) }
     ensures entered { OnOk result (length cell.new.journal ≡ length cell.old.journal + 3) }
 {
@@ -36,8 +35,7 @@ pub fn set_then_get<K: Deployment, L: Log>(
 }
 
 fn set_words(alloc: Global, key: &ByteString, value: &ByteString) -> Result<Words, AllocError>
-    requires key { length key.now ≤ MOST_WORD_BYTES }
-    requires value { length value.now ≤ MOST_WORD_BYTES }
+    requires { IsRequest (codes "SET" ∷ key.now ∷ value.now ∷ []) }
     ensures { IfOk result (λ words. words ≡ codes "SET" ∷ key.now ∷ value.now ∷ []) }
 {
     let name = ByteString::inline(b"SET");

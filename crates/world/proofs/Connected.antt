@@ -23,10 +23,10 @@ use Rattle.connections.specs.declared.conn.Connection.{Connection}
 use Rattle.connections.specs.declared.conn.Wait.{Wait}
 use Rattle.key_slot.specs.Slot.{hash_slot}
 use Rattle.keyspace.specs.Keyspace.{Keyspace}
-use Rattle.migrate.specs.Acknowledging.{acknowledged_key}
+use Rattle.migrate.specs.Acknowledging.{acknowledged_keys}
 use Rattle.migrate.specs.declared.sending.CopyVerdict.{CopyVerdict}
 use Rattle.migrate.specs.declared.sending.CopyVerdict.TheVariants as copies
-use Rattle.redirect.specs.Asked.{Asked, are_several, all_there, is_one_of, is_right, none_there}
+use Rattle.redirect.specs.Asked.{Asked, are_several, all_there, is_frozen, is_right, none_there}
 use Rattle.redirect.specs.Decision.{at_owner, by_keys, coming, has_other_slot, in_slot}
 use Rattle.redirect.specs.declared.asked.Asking.{Asking}
 use Rattle.redirect.specs.declared.asked.Asking.TheVariants.{No}
@@ -44,7 +44,7 @@ use Rattle.slot_table.specs.Claims.{merged}
 use Rattle.slot_table.specs.declared.entry.SlotEntry.{SlotEntry}
 use Rattle.node_step.specs.Claiming.{claimed_by}
 use Rattle.node_step.specs.Commands.{asked_of, command_outcome, decision_on}
-use Rattle.node_step.specs.Copies.{acknowledged, copy_outcome, copy_verdict_on, node_at, waiting_for}
+use Rattle.node_step.specs.Copies.{acknowledged, copy_outcome, copy_verdict_on, first_slot, node_at, those_there, waiting_for}
 use Rattle.node_step.proofs.Kept.{pieced_keeps, recorded_keeps, restored_keeps, synced_is}
 use Rattle.node_step.proofs.Recorded.{recorded_response}
 use Rattle.election.specs.Electing.{counted, elected}
@@ -275,20 +275,21 @@ order_stays node slot Importing other number = still refl refl
 order_stays node slot Migrating other number = still refl refl
 order_stays node slot Node other number = ending_stays node slot (ending_verdict node slot other number)
 
-copy_stays : (node : NodeState) (conn : Conn) (key : List ℕ) (ticks : ℕ) (verdict : CopyVerdict) → Stays node (copy_outcome node conn (hash_slot key) key ticks verdict).state
-copy_stays node conn key ticks copies.WrongTarget = still refl refl
-copy_stays node conn key ticks copies.NoKey = still refl refl
-copy_stays node conn key ticks copies.CopyOutstanding = still refl refl
-copy_stays node conn key ticks copies.Exhausted = still refl refl
-copy_stays node conn key ticks (copies.SendAgain to number copy) = record {
+copy_stays : (node : NodeState) (conn : Conn) (slot : ℕ) (keys : List (List ℕ)) (ticks : ℕ) (verdict : CopyVerdict) → Stays node (copy_outcome node conn slot keys ticks verdict).state
+copy_stays node conn slot keys ticks copies.CrossSlot = still refl refl
+copy_stays node conn slot keys ticks copies.WrongTarget = still refl refl
+copy_stays node conn slot keys ticks copies.NoKey = still refl refl
+copy_stays node conn slot keys ticks copies.CopyOutstanding = still refl refl
+copy_stays node conn slot keys ticks copies.Exhausted = still refl refl
+copy_stays node conn slot keys ticks (copies.SendAgain to number copy) = record {
   config = refl;
-  opens = same_opens node.connections conn (waiting_for (hash_slot key) number copy ticks) (λ connection. refl);
-  asking = same_asking node.connections conn (waiting_for (hash_slot key) number copy ticks) (λ connection. refl) (λ connection. refl);
+  opens = same_opens node.connections conn (waiting_for slot number copy ticks) (λ connection. refl);
+  asking = same_asking node.connections conn (waiting_for slot number copy ticks) (λ connection. refl) (λ connection. refl);
 }
-copy_stays node conn key ticks (copies.Copies to number copy) = record {
+copy_stays node conn slot keys ticks (copies.Copies to number copy) = record {
   config = refl;
-  opens = same_opens node.connections conn (waiting_for (hash_slot key) number copy ticks) (λ connection. refl);
-  asking = same_asking node.connections conn (waiting_for (hash_slot key) number copy ticks) (λ connection. refl) (λ connection. refl);
+  opens = same_opens node.connections conn (waiting_for slot number copy ticks) (λ connection. refl);
+  asking = same_asking node.connections conn (waiting_for slot number copy ticks) (λ connection. refl) (λ connection. refl);
 }
 
 -- the state after a command: all connections allow what they did, or the command was ASKING
@@ -309,7 +310,7 @@ cluster_after node conn cluster.Numbered = inl (record {
   asking = same_asking node.connections conn (λ connection. record connection { numbered = true }) (λ connection. refl) (λ connection. refl);
 })
 cluster_after node conn (cluster.Asking number) = inr (number, refl, refl)
-cluster_after node conn (cluster.Migrate host port key timeout) = inl (copy_stays node conn key timeout (copy_verdict_on node key (node_at node host port)))
+cluster_after node conn (cluster.Migrate host port keys timeout) = inl (copy_stays node conn (first_slot keys) (those_there node.keyspace keys) timeout (copy_verdict_on node keys (node_at node host port)))
 
 command_after : (node : NodeState) (conn : Conn) (connection : Option Connection) (command : Result Command CommandFault)
     → IsAfter node conn command (by_command node conn connection command).state
@@ -411,9 +412,9 @@ module _ (node : NodeState) (from epoch : ℕ) (masters : List (Option ℕ)) (he
   abbrev heard : NodeState
   heard = record node { current_epoch = epoch; masters = masters; health = health; candidate = candidate }
 
-  acknowledged_stays : (slot number copy : ℕ) (key : Option (List ℕ)) → Stays node (acknowledged heard slot number copy key).state
+  acknowledged_stays : (slot number copy : ℕ) (keys : Option (List (List ℕ))) → Stays node (acknowledged heard slot number copy keys).state
   acknowledged_stays slot number copy None = still refl refl
-  acknowledged_stays slot number copy (Some key) = record { config = refl; opens = refl; asking = all_freed_asking node.connections _ }
+  acknowledged_stays slot number copy (Some keys) = record { config = refl; opens = refl; asking = all_freed_asking node.connections _ }
 
   claim_stays : (is_own : Bool) (table : List (Option SlotEntry)) → Stays node (cond is_own (silent heard) (claimed_by heard table)).state
   claim_stays true table = still refl refl
@@ -428,8 +429,8 @@ module _ (node : NodeState) (from epoch : ℕ) (masters : List (Option ℕ)) (he
       by_master (Some master) = still refl refl
 
   taken_so_stays : (body : Body) → Stays node (taken_so heard from choice body).state
-  taken_so_stays (Copy slot number copy key value) = still refl refl
-  taken_so_stays (Ack slot number copy) = acknowledged_stays slot number copy (acknowledged_key (move_of node.moves slot) from number copy)
+  taken_so_stays (Copy slot number copy pairs) = still refl refl
+  taken_so_stays (Ack slot number copy) = acknowledged_stays slot number copy (acknowledged_keys (move_of node.moves slot) from number copy)
   taken_so_stays (Drained slot number epoch) = still refl refl
   taken_so_stays (Claim slots replaced) = claim_stays (from == node.number) (merged node.table slots from)
   taken_so_stays (Report suspects) = still refl refl
@@ -597,7 +598,7 @@ slot_allowed slot owner (Moving (Comes from move last drained)) asked number = b
     by_right false is = owner_allowed asked.asking number slot owner
 slot_allowed slot None (Moving (Goes to move copies frozen)) asked number = λ same. absurd (cc)
 slot_allowed slot (Some owner) (Moving (Goes to move copies frozen)) asked number =
-    either (IsAllowed asked.asking number) (is_one_of frozen asked.keys) _ _ (λ same. absurd (cc))
+    either (IsAllowed asked.asking number) (is_frozen frozen asked.keys) _ _ (λ same. absurd (cc))
     (either (IsAllowed asked.asking number) (all_there asked) _ _ (λ same. absurd (cc))
     (either (IsAllowed asked.asking number) (none_there asked) _ _ (λ same. absurd (cc)) (λ same. absurd (cc))))
 slot_allowed slot None Owned asked number = λ same. absurd (cc)
@@ -645,13 +646,14 @@ module _ (asking : Asking) (number : ℕ) where
   order_allowed node slot Migrating other move = λ is. absurd (no_some refl is)
   order_allowed node slot Node other move = ending_allowed node slot (ending_verdict node slot other move)
 
-  copy_allowed : (node : NodeState) (conn : Conn) (key : List ℕ) (ticks : ℕ) (verdict : CopyVerdict) → Allows (copy_outcome node conn (hash_slot key) key ticks verdict).response
-  copy_allowed node conn key ticks copies.WrongTarget = λ is. absurd (no_some refl is)
-  copy_allowed node conn key ticks copies.NoKey = λ is. absurd (no_some refl is)
-  copy_allowed node conn key ticks copies.CopyOutstanding = λ is. absurd (no_some refl is)
-  copy_allowed node conn key ticks copies.Exhausted = tt
-  copy_allowed node conn key ticks (copies.SendAgain to move copy) = tt
-  copy_allowed node conn key ticks (copies.Copies to move copy) = tt
+  copy_allowed : (node : NodeState) (conn : Conn) (slot : ℕ) (keys : List (List ℕ)) (ticks : ℕ) (verdict : CopyVerdict) → Allows (copy_outcome node conn slot keys ticks verdict).response
+  copy_allowed node conn slot keys ticks copies.CrossSlot = λ is. absurd (no_some refl is)
+  copy_allowed node conn slot keys ticks copies.WrongTarget = λ is. absurd (no_some refl is)
+  copy_allowed node conn slot keys ticks copies.NoKey = λ is. absurd (no_some refl is)
+  copy_allowed node conn slot keys ticks copies.CopyOutstanding = λ is. absurd (no_some refl is)
+  copy_allowed node conn slot keys ticks copies.Exhausted = tt
+  copy_allowed node conn slot keys ticks (copies.SendAgain to move copy) = tt
+  copy_allowed node conn slot keys ticks (copies.Copies to move copy) = tt
 
   cluster_allowed : (node : NodeState) (conn : Conn) (command : ClusterCommand) → Allows (cluster_outcome node conn command).response
   cluster_allowed node conn (cluster.KeySlot key) = λ is. absurd (no_some refl is)
@@ -663,7 +665,7 @@ module _ (asking : Asking) (number : ℕ) where
   cluster_allowed node conn (cluster.SetSlot slot order id move) = order_allowed node slot order (node_with_id node id) move
   cluster_allowed node conn cluster.Numbered = λ is. absurd (no_some refl is)
   cluster_allowed node conn (cluster.Asking move) = λ is. absurd (no_some refl is)
-  cluster_allowed node conn (cluster.Migrate host port key timeout) = copy_allowed node conn key timeout (copy_verdict_on node key (node_at node host port))
+  cluster_allowed node conn (cluster.Migrate host port keys timeout) = copy_allowed node conn (first_slot keys) (those_there node.keyspace keys) timeout (copy_verdict_on node keys (node_at node host port))
 
 command_allowed : (node : NodeState) (conn : Conn) (connection : Option Connection) (command : Result Command CommandFault) (number : ℕ)
     → Says (AnswersAllowed (asking_of connection) number) (by_command node conn connection command).response

@@ -19,8 +19,7 @@ use Rattle.connections.specs.Connections.{Closes, ConnectionTable, Opens, aged, 
 use Rattle.connections.specs.declared.conn.Conn.{Conn}
 use Rattle.connections.specs.declared.conn.Connection.{Connection}
 use Rattle.connections.specs.declared.conn.Wait.{Wait}
-use Rattle.key_slot.specs.Slot.{hash_slot}
-use Rattle.migrate.specs.Acknowledging.{acknowledged_key}
+use Rattle.migrate.specs.Acknowledging.{acknowledged_keys}
 use Rattle.migrate.specs.declared.sending.CopyVerdict.{CopyVerdict}
 use Rattle.migrate.specs.declared.sending.CopyVerdict.TheVariants as copies
 use Rattle.redirect.specs.declared.asked.Asking.TheVariants.{No}
@@ -32,7 +31,7 @@ use Rattle.slot_state.specs.declared.ending.NodeVerdict.TheVariants as ending
 use Rattle.slot_table.specs.Claims.{merged}
 use Rattle.node_step.specs.Claiming.{claimed_by}
 use Rattle.node_step.specs.Commands.{command_outcome, decision_on}
-use Rattle.node_step.specs.Copies.{acknowledged, arrival, copy_outcome, copy_verdict_on, node_at, noted, waiting_for}
+use Rattle.node_step.specs.Copies.{acknowledged, arrival, copy_outcome, copy_verdict_on, first_slot, node_at, noted, those_there, waiting_for}
 use Rattle.node_step.proofs.Kept.{pieced_keeps, restored_keeps, synced_is}
 use Rattle.election.specs.Electing.{elected}
 use Rattle.election.specs.Health.{Candidate, Health}
@@ -239,19 +238,20 @@ order_keeps node conn slot Importing named number other free may = may
 order_keeps node conn slot Migrating named number other free may = may
 order_keeps node conn slot Node named number other free may = ending_keeps node conn slot (ending_verdict node slot named number) other free may
 
-parked_keeps : (node : NodeState) (conn : Conn) (key : List ℕ) (number copy ticks : ℕ) (other : Conn) → IsFree conn Parked other → may_at node.connections other ≡ true
-    → may_at (with_change node.connections conn (waiting_for (hash_slot key) number copy ticks)) other ≡ true
-parked_keeps node conn key number copy ticks other (inl apart) may =
-    ap may_ask (unchanged_there node.connections conn (waiting_for (hash_slot key) number copy ticks) (λ connection. refl) other apart) ∙ may
-parked_keeps node conn key number copy ticks other (inr replied) may = absurd replied
+parked_keeps : (node : NodeState) (conn : Conn) (slot number copy ticks : ℕ) (other : Conn) → IsFree conn Parked other → may_at node.connections other ≡ true
+    → may_at (with_change node.connections conn (waiting_for slot number copy ticks)) other ≡ true
+parked_keeps node conn slot number copy ticks other (inl apart) may =
+    ap may_ask (unchanged_there node.connections conn (waiting_for slot number copy ticks) (λ connection. refl) other apart) ∙ may
+parked_keeps node conn slot number copy ticks other (inr replied) may = absurd replied
 
-copy_keeps : (node : NodeState) (conn : Conn) (key : List ℕ) (ticks : ℕ) (verdict : CopyVerdict) → Keeps conn node (copy_outcome node conn (hash_slot key) key ticks verdict)
-copy_keeps node conn key ticks copies.WrongTarget other free may = may
-copy_keeps node conn key ticks copies.NoKey other free may = may
-copy_keeps node conn key ticks copies.CopyOutstanding other free may = may
-copy_keeps node conn key ticks copies.Exhausted other free may = may
-copy_keeps node conn key ticks (copies.SendAgain to number copy) other free may = parked_keeps node conn key number copy ticks other free may
-copy_keeps node conn key ticks (copies.Copies to number copy) other free may = parked_keeps node conn key number copy ticks other free may
+copy_keeps : (node : NodeState) (conn : Conn) (slot : ℕ) (keys : List (List ℕ)) (ticks : ℕ) (verdict : CopyVerdict) → Keeps conn node (copy_outcome node conn slot keys ticks verdict)
+copy_keeps node conn slot keys ticks copies.CrossSlot other free may = may
+copy_keeps node conn slot keys ticks copies.WrongTarget other free may = may
+copy_keeps node conn slot keys ticks copies.NoKey other free may = may
+copy_keeps node conn slot keys ticks copies.CopyOutstanding other free may = may
+copy_keeps node conn slot keys ticks copies.Exhausted other free may = may
+copy_keeps node conn slot keys ticks (copies.SendAgain to number copy) other free may = parked_keeps node conn slot number copy ticks other free may
+copy_keeps node conn slot keys ticks (copies.Copies to number copy) other free may = parked_keeps node conn slot number copy ticks other free may
 
 cluster_keeps : (node : NodeState) (conn : Conn) (command : ClusterCommand) → Keeps conn node (cluster_outcome node conn command)
 cluster_keeps node conn (cluster.KeySlot key) other free may = may
@@ -265,7 +265,7 @@ cluster_keeps node conn cluster.Numbered other free may =
     changed_may node.connections conn (λ connection. record connection { numbered = true }) (λ connection. refl) (λ connection. refl) other ∙ may
 cluster_keeps node conn (cluster.Asking number) other free may =
     changed_may node.connections conn (λ connection. record connection { asking = asking_for number }) (λ connection. refl) (λ connection. refl) other ∙ may
-cluster_keeps node conn (cluster.Migrate host port key timeout) other free may = copy_keeps node conn key timeout (copy_verdict_on node key (node_at node host port)) other free may
+cluster_keeps node conn (cluster.Migrate host port keys timeout) other free may = copy_keeps node conn (first_slot keys) (those_there node.keyspace keys) timeout (copy_verdict_on node keys (node_at node host port)) other free may
 
 command_keeps : (node : NodeState) (conn : Conn) (connection : Option Connection) (command : Result Command CommandFault) → Keeps conn node (by_command node conn connection command)
 command_keeps node conn connection (Err fault) other free may = may
@@ -291,13 +291,14 @@ order_frees node slot Importing named number = refl
 order_frees node slot Migrating named number = refl
 order_frees node slot Node named number = ending_frees node slot (ending_verdict node slot named number)
 
-copy_frees : (node : NodeState) (conn : Conn) (key : List ℕ) (ticks : ℕ) (verdict : CopyVerdict) → (copy_outcome node conn (hash_slot key) key ticks verdict).released ≡ []
-copy_frees node conn key ticks copies.WrongTarget = refl
-copy_frees node conn key ticks copies.NoKey = refl
-copy_frees node conn key ticks copies.CopyOutstanding = refl
-copy_frees node conn key ticks copies.Exhausted = refl
-copy_frees node conn key ticks (copies.SendAgain to number copy) = refl
-copy_frees node conn key ticks (copies.Copies to number copy) = refl
+copy_frees : (node : NodeState) (conn : Conn) (slot : ℕ) (keys : List (List ℕ)) (ticks : ℕ) (verdict : CopyVerdict) → (copy_outcome node conn slot keys ticks verdict).released ≡ []
+copy_frees node conn slot keys ticks copies.CrossSlot = refl
+copy_frees node conn slot keys ticks copies.WrongTarget = refl
+copy_frees node conn slot keys ticks copies.NoKey = refl
+copy_frees node conn slot keys ticks copies.CopyOutstanding = refl
+copy_frees node conn slot keys ticks copies.Exhausted = refl
+copy_frees node conn slot keys ticks (copies.SendAgain to number copy) = refl
+copy_frees node conn slot keys ticks (copies.Copies to number copy) = refl
 
 cluster_frees : (node : NodeState) (conn : Conn) (command : ClusterCommand) → (cluster_outcome node conn command).released ≡ []
 cluster_frees node conn (cluster.KeySlot key) = refl
@@ -309,7 +310,7 @@ cluster_frees node conn (cluster.SlotState slot) = refl
 cluster_frees node conn (cluster.SetSlot slot order id number) = order_frees node slot order (node_with_id node id) number
 cluster_frees node conn cluster.Numbered = refl
 cluster_frees node conn (cluster.Asking number) = refl
-cluster_frees node conn (cluster.Migrate host port key timeout) = copy_frees node conn key timeout (copy_verdict_on node key (node_at node host port))
+cluster_frees node conn (cluster.Migrate host port keys timeout) = copy_frees node conn (first_slot keys) (those_there node.keyspace keys) timeout (copy_verdict_on node keys (node_at node host port))
 
 data_frees : (node : NodeState) (numbered : Bool) (command : DataCommand) (why : Decision) → (command_outcome node numbered command why).released ≡ []
 data_frees node numbered command Serve = refl
@@ -358,9 +359,9 @@ same_ready event old outcome same none = record {
 silent_ready : (event : Event) (old : NodeState) (outcome : Outcome) → outcome ≡ silent old → KeepsReady event old outcome
 silent_ready event old outcome is = subst (KeepsReady event old) (sym is) (same_ready event old (silent old) refl refl)
 
-acknowledged_ready : (event : Event) (old node : NodeState) (slot number copy : ℕ) (key : Option (List ℕ)) → node.connections ≡ old.connections → KeepsReady event old (acknowledged node slot number copy key)
+acknowledged_ready : (event : Event) (old node : NodeState) (slot number copy : ℕ) (keys : Option (List (List ℕ))) → node.connections ≡ old.connections → KeepsReady event old (acknowledged node slot number copy keys)
 acknowledged_ready event old node slot number copy None same = same_ready event old (silent node) same refl
-acknowledged_ready event old node slot number copy (Some key) same = record {
+acknowledged_ready event old node slot number copy (Some keys) same = record {
   ready = λ other spared may. all_freed_may node.connections _ other (ap (λ (table : ConnectionTable). may_at table other) same ∙ may);
   freed = λ one among. ap (λ (table : ConnectionTable). may_at table one.conn) (sym same) ∙ those_waited node.connections _ _ one among;
 }
@@ -393,8 +394,8 @@ module _ (event : Event) (old : NodeState) (epoch : ℕ) (masters : List (Option
       by_master (Some master) = same_ready event old (promotion node elected.epoch (Some master)) same refl
 
   taken_so_ready : (from : ℕ) (choice : Choice) (body : Body) → KeepsReady event old (taken_so heard from choice body)
-  taken_so_ready from choice (Copy slot number copy key value) = same_ready event old (arrival heard from slot number copy key value) refl refl
-  taken_so_ready from choice (Ack slot number copy) = acknowledged_ready event old heard slot number copy (acknowledged_key (move_of old.moves slot) from number copy) refl
+  taken_so_ready from choice (Copy slot number copy pairs) = same_ready event old (arrival heard from slot number copy pairs) refl refl
+  taken_so_ready from choice (Ack slot number copy) = acknowledged_ready event old heard slot number copy (acknowledged_keys (move_of old.moves slot) from number copy) refl
   taken_so_ready from choice (Drained slot number drained) = same_ready event old (noted heard from slot number drained) refl refl
   taken_so_ready from choice (Claim runs replaced) = by_own (from == old.number)
     where

@@ -6,4 +6,4 @@ use Rattle.migrate.proofs.sending.freeze.Goals as goal
 pub returns-in-Some : goal.returns-in-Some
 returns-in-Some c =
     where_lent _ _ c.in-Some.is (c.get_mut.follows.holds c.put_frozen.new.running)
-    ∙ changed-changed_at c.args.moves.now c.args.slot _ _ c.in-Some.ensures.value (with_frozen c.args.copy c.args.key) c.put_frozen.ensures
+    ∙ changed-changed_at c.args.moves.now c.args.slot _ _ c.in-Some.ensures.value (with_frozen c.args.copy c.args.keys) c.put_frozen.ensures

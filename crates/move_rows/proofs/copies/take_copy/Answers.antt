@@ -5,23 +5,23 @@ use Rattle.node_step.specs.State.{NodeState}
 use Rattle.move_rows.proofs.ArrivalLemmas.{ignores_copy, installs_copy, repeats_copy}
 use Rattle.move_rows.proofs.copies.take_copy.Goals as goal
 
-pub returns-in_ok-change-in-Installs : goal.returns-in_ok-change-in-Installs
-returns-in_ok-change-in-Installs g c =
+pub returns-in_ok-plan-in-Installs : goal.returns-in_ok-plan-in-Installs
+returns-in_ok-plan-in-Installs g c =
     let name = c.args.name in
-    installs_copy c.args.node.now c.args.from name.slot name.number name.copy c.args.key.now c.args.value.now c.value_fits-fits.result c.arrival_verdict-verdict.result _ _ c.args.draft.now.plan c.write_releases.new.draft
-    (c.arrival_verdict-verdict.ensures ∙ ap (λ move. arrival_verdict move c.args.from name.number name.copy c.value_fits-fits.result) (c.get.ensures ∙ ap (λ (node : NodeState). move_of node.moves name.slot) c.node.view_is))
-    c.value_fits-fits.ensures c.new.ensures (c.in_ok-bodies.ensures ∙ c.acknowledgement-word.ensures) _ c.in-Installs.is c.in_ok-change-in-Installs.ensures c.write_releases.ensures
+    installs_copy c.args.node.now c.args.from name.slot name.number name.copy c.args.pairs.now c.keep_limits-fits.result c.arrival_verdict-verdict.result _ _ c.in_ok-plan-in-Installs.plan c.write_releases.new.draft
+    (c.arrival_verdict-verdict.ensures ∙ ap (λ move. arrival_verdict move c.args.from name.number name.copy c.keep_limits-fits.result) (c.get.ensures ∙ ap (λ (node : NodeState). move_of node.moves name.slot) c.node.view_is))
+    c.keep_limits-fits.ensures c.new.ensures (c.in_ok-bodies.ensures ∙ c.acknowledgement-word.ensures) c.in-Installs.is c.in_ok-plan-in-Installs.ensures c.write_releases.ensures
 
 pub returns-in-Repeats : goal.returns-in-Repeats
 returns-in-Repeats g c =
     let name = c.args.name in
-    repeats_copy c.args.node.now c.args.from name.slot name.number name.copy c.args.key.now c.args.value.now c.value_fits-fits.result c.arrival_verdict-verdict.result _ _ c.args.draft.now.plan c.write_releases-in-Repeats.new.draft
-    (c.arrival_verdict-verdict.ensures ∙ ap (λ move. arrival_verdict move c.args.from name.number name.copy c.value_fits-fits.result) (c.get.ensures ∙ ap (λ (node : NodeState). move_of node.moves name.slot) c.node.view_is))
-    c.value_fits-fits.ensures c.new-in-Repeats.ensures (c.in_ok-bodies.ensures ∙ c.acknowledgement-word.ensures) c.in-Repeats.is c.write_releases-in-Repeats.ensures
+    repeats_copy c.args.node.now c.args.from name.slot name.number name.copy c.args.pairs.now c.keep_limits-fits.result c.arrival_verdict-verdict.result _ _ c.args.draft.now.plan c.write_releases-in-Repeats.new.draft
+    (c.arrival_verdict-verdict.ensures ∙ ap (λ move. arrival_verdict move c.args.from name.number name.copy c.keep_limits-fits.result) (c.get.ensures ∙ ap (λ (node : NodeState). move_of node.moves name.slot) c.node.view_is))
+    c.keep_limits-fits.ensures c.new-in-Repeats.ensures (c.in_ok-bodies.ensures ∙ c.acknowledgement-word.ensures) c.in-Repeats.is c.write_releases-in-Repeats.ensures
 
 pub returns-in-Ignored : goal.returns-in-Ignored
 returns-in-Ignored g c =
     let name = c.args.name in
-    ignores_copy c.args.node.now c.args.from name.slot name.number name.copy c.args.key.now c.args.value.now c.value_fits-fits.result c.arrival_verdict-verdict.result _ _ c.args.draft.now.plan c.write_releases-in-Ignored.new.draft
-    (c.arrival_verdict-verdict.ensures ∙ ap (λ move. arrival_verdict move c.args.from name.number name.copy c.value_fits-fits.result) (c.get.ensures ∙ ap (λ (node : NodeState). move_of node.moves name.slot) c.node.view_is))
-    c.value_fits-fits.ensures c.new-in-Ignored.ensures (c.in_ok-bodies.ensures ∙ c.acknowledgement-word.ensures) c.in-Ignored.is c.write_releases-in-Ignored.ensures
+    ignores_copy c.args.node.now c.args.from name.slot name.number name.copy c.args.pairs.now c.keep_limits-fits.result c.arrival_verdict-verdict.result _ _ c.args.draft.now.plan c.write_releases-in-Ignored.new.draft
+    (c.arrival_verdict-verdict.ensures ∙ ap (λ move. arrival_verdict move c.args.from name.number name.copy c.keep_limits-fits.result) (c.get.ensures ∙ ap (λ (node : NodeState). move_of node.moves name.slot) c.node.view_is))
+    c.keep_limits-fits.ensures c.new-in-Ignored.ensures (c.in_ok-bodies.ensures ∙ c.acknowledgement-word.ensures) c.in-Ignored.is c.write_releases-in-Ignored.ensures

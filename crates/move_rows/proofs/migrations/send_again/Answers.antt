@@ -1,10 +1,16 @@
-use Rattle.std.proofs.Common.{refl, ◌∙◌}
-use Rattle.move_rows.proofs.SendingLemmas.{sends_copy}
+use Rattle.std.proofs.Common.{refl, ap, ◌∙◌}
+use Rattle.node_step.specs.Copies.{outstanding}
 use Rattle.node_step.specs.Requests.{using_up}
+use Rattle.node_step.specs.State.{NodeState}
+use Rattle.slot_state.specs.Moves.{move_of}
+use Rattle.move_rows.proofs.SendingLemmas.{sends_again}
 use Rattle.move_rows.proofs.migrations.send_again.Goals as goal
 
 pub returns : goal.returns
 returns g c =
     let old = c.args.node.now in
-    sends_copy old (using_up old c.args.conn) c.args.conn c.args.key.now c.args.to c.args.wait _ c.write_parked.new.draft c.requires.leaves
-    (c.in_ok-bodies.ensures ∙ c.in_ok-body.ensures) (c.write_parked.ensures _ refl)
+    let wait = c.args.wait in
+    sends_again old (using_up old c.args.conn) c.args.conn wait _ c.write_parked.new.draft
+    (c.in_ok-bodies.ensures ∙ c.in_ok-body.ensures
+    ∙ ap (outstanding old.keyspace wait.slot) (c.get.ensures ∙ ap (λ (node : NodeState). move_of node.moves wait.slot) c.node.view_is))
+    (c.write_parked.ensures _ refl)

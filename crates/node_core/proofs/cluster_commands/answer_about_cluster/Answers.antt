@@ -4,11 +4,10 @@ use Rattle.std.specs.Str.{bytes_eq}
 use Rattle.cluster_config.specs.declared.config.NodeConfig.{NodeConfig}
 use Rattle.command_table.specs.declared.command.ClusterCommand.{ClusterCommand}
 use Rattle.command_table.specs.declared.command.Command.TheVariants.{Cluster}
-use Rattle.key_slot.specs.Slot.{hash_slot}
 use Rattle.node_core.specs.Comes.{AnswersSo}
 use Rattle.node_parts.specs.Drafts.{Drafts}
 use Rattle.node_core.proofs.AnswerLemmas.{asking_answered, migration_answered, migration_exhausted, order_answered, order_exhausted}
-use Rattle.node_step.specs.Copies.{copy_outcome, copy_verdict_on, is_at}
+use Rattle.node_step.specs.Copies.{copy_outcome, copy_verdict_on, first_slot, is_at, those_there}
 use Rattle.node_step.specs.Requests.{has_copy_number, has_number, using_up}
 use Rattle.node_step.specs.State.{NodeState}
 use Rattle.node_core.proofs.cluster_commands.answer_about_cluster.Goals as goal
@@ -30,31 +29,31 @@ returns-in_ok-obey-in-SetSlot-clause-answer g c =
     (c.node_with_id.ensures ∙ ap (λ id. position (λ (node : NodeConfig). bytes_eq node.id id) c.node.inside.config.nodes) (c.as_slice.ensures ∙ c.deref.ensures))
     c.in_ok-obey-in-SetSlot.ensures.obeys)
 
-pub returns-in_err-migrate_key-in-Migrate-clause-exhausted : goal.returns-in_err-migrate_key-in-Migrate-clause-exhausted
-returns-in_err-migrate_key-in-Migrate-clause-exhausted g c = λ exhausted.
+pub returns-in_err-migrate_keys-in-Migrate-clause-exhausted : goal.returns-in_err-migrate_keys-in-Migrate-clause-exhausted
+returns-in_err-migrate_keys-in-Migrate-clause-exhausted g c = λ exhausted.
     let target = c.node_at-target.result in
     let same_port : to_z w64 (of_z w64 c.in-Migrate.port) ≡ c.in-Migrate.port = search rules in
     subst (λ (command : ClusterCommand). has_number (using_up c.args.node.now c.args.conn) (Ok (Cluster command)) ≡ false) (sym c.in-Migrate.is)
-    (migration_exhausted c.args.node.now c.args.conn c.in-Migrate.host c.in-Migrate.port c.in-Migrate.key c.in-Migrate.timeout target c.node.inside.config.nodes
+    (migration_exhausted c.args.node.now c.args.conn c.in-Migrate.host c.in-Migrate.port c.in-Migrate.keys c.in-Migrate.timeout target c.node.inside.config.nodes
     (ap (λ (node : NodeState). node.config.nodes) c.node.view_is)
     (c.node_at-target.ensures ∙ ap (λ port. position (is_at c.as_slice-in-Migrate.result.now port) c.node.inside.config.nodes) same_port
     ∙ ap (λ host. position (is_at host c.in-Migrate.port) c.node.inside.config.nodes) (c.as_slice-in-Migrate.ensures ∙ c.deref-in-Migrate.ensures))
-    (subst (λ (key : List ℕ). has_copy_number (copy_verdict_on c.args.node.now key target) ≡ false) c.bytes.ensures
-    (c.in_err-migrate_key-in-Migrate.ensures.exhausted (search rules))))
+    (subst (λ (keys : List (List ℕ)). has_copy_number (copy_verdict_on c.args.node.now keys target) ≡ false) c.as_slice-in-Migrate-2.ensures.words
+    (c.in_err-migrate_keys-in-Migrate.ensures.exhausted (search rules))))
 
-pub returns-in_ok-migrate_key-in-Migrate-clause-answer : goal.returns-in_ok-migrate_key-in-Migrate-clause-answer
-returns-in_ok-migrate_key-in-Migrate-clause-answer g c =
-    let draft = c.migrate_key.new.draft in
+pub returns-in_ok-migrate_keys-in-Migrate-clause-answer : goal.returns-in_ok-migrate_keys-in-Migrate-clause-answer
+returns-in_ok-migrate_keys-in-Migrate-clause-answer g c =
+    let draft = c.migrate_keys.new.draft in
     let target = c.node_at-target.result in
     let same_port : to_z w64 (of_z w64 c.in-Migrate.port) ≡ c.in-Migrate.port = search rules in
     subst (λ (command : ClusterCommand). AnswersSo c.args.node.now c.args.conn (Ok (Cluster command)) draft) (sym c.in-Migrate.is)
-    (migration_answered c.args.node.now c.args.conn c.in-Migrate.host c.in-Migrate.port c.in-Migrate.key c.in-Migrate.timeout target c.node.inside.config.nodes
+    (migration_answered c.args.node.now c.args.conn c.in-Migrate.host c.in-Migrate.port c.in-Migrate.keys c.in-Migrate.timeout target c.node.inside.config.nodes
     draft (ap (λ (node : NodeState). node.config.nodes) c.node.view_is)
     (c.node_at-target.ensures ∙ ap (λ port. position (is_at c.as_slice-in-Migrate.result.now port) c.node.inside.config.nodes) same_port
     ∙ ap (λ host. position (is_at host c.in-Migrate.port) c.node.inside.config.nodes) (c.as_slice-in-Migrate.ensures ∙ c.deref-in-Migrate.ensures))
-    (subst (λ (key : List ℕ). has_copy_number (copy_verdict_on c.args.node.now key target) ≡ true) c.bytes.ensures c.in_ok-migrate_key-in-Migrate.ensures.number)
-    (subst (λ (key : List ℕ). Drafts c.args.node.now (copy_outcome (using_up c.args.node.now c.args.conn) c.args.conn (hash_slot key) key c.in-Migrate.timeout (copy_verdict_on c.args.node.now key target)) draft)
-    c.bytes.ensures c.in_ok-migrate_key-in-Migrate.ensures.draft))
+    (subst (λ (keys : List (List ℕ)). has_copy_number (copy_verdict_on c.args.node.now keys target) ≡ true) c.as_slice-in-Migrate-2.ensures.words c.in_ok-migrate_keys-in-Migrate.ensures.number)
+    (subst (λ (keys : List (List ℕ)). Drafts c.args.node.now (copy_outcome (using_up c.args.node.now c.args.conn) c.args.conn (first_slot keys) (those_there c.args.node.now.keyspace keys) c.in-Migrate.timeout (copy_verdict_on c.args.node.now keys target)) draft)
+    c.as_slice-in-Migrate-2.ensures.words c.in_ok-migrate_keys-in-Migrate.ensures.draft))
 
 pub returns-in-Asking-clause-answer : goal.returns-in-Asking-clause-answer
 returns-in-Asking-clause-answer g c =

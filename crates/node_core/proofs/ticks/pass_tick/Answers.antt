@@ -1,7 +1,9 @@
+use Rattle.std.proofs.Common.{◌∙◌, ap}
 use Rattle.node_core.proofs.TickLemmas.{tick_is_step}
+use Rattle.node_step.specs.Failing.{a_tick_older}
 use Rattle.node_core.proofs.ticks.pass_tick.Goals as goal
 
 pub returns-clause-step : goal.returns-clause-step
 returns-clause-step g c =
-    tick_is_step c.args.ticket c.args.node.now c.grow_older.new.self c.begin_election.new.self c.in_ok-epoch.epoch c.draft_tick.new.draft c.grow_older.ensures c.in_ok-epoch.ensures.epoch
+    tick_is_step c.args.ticket c.args.node.now c.grow_older.new.self c.begin_election.new.self c.in_ok-epoch.epoch c.draft_tick.new.draft (c.grow_older.ensures ∙ ap a_tick_older c.keep_claim.ensures) c.in_ok-epoch.ensures.epoch
     c.in_ok-epoch.ensures.begun c.in_ok-make.field-0.0 c.make.new.self c.in_ok-epoch.ensures.left c.in_ok-draft_tick.ensures c.in_ok-make.ensures.outputs c.in_ok-make.ensures.state

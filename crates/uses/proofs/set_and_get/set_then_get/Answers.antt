@@ -1,7 +1,11 @@
 use Rattle.std.proofs.Common.{arith, sym, ◌∙◌}
+use Rattle.uses.proofs.FewWords.{key_is_short}
 use Rattle.uses.proofs.NodeLemmas.{set_is_got, one_entry}
 use Rattle.uses.proofs.OutcomeLemmas.{if_ok, on_ok_from_if_ok}
 use Rattle.uses.proofs.set_and_get.set_then_get.Goals as goal
+
+pub get_words-requires : goal.get_words-requires
+get_words-requires g c = key_is_short c.args.key.now c.args.value.now c.requires
 
 pub returns-clause-answer : goal.returns-clause-answer
 returns-clause-answer g c =

@@ -11,6 +11,6 @@ returns-clause-ok g c =
     let change = c.args.change.now in
     let bytes = c.args.bytes.now in
     subst (λ (node : NodeState). IsMade node plan change bytes c.finish.new.self) c.self.view_is
-    (both_halves _ c.finish.new.self plan _ c.begin.new.moves c.write.new.stream.stream change c.begin.new.change bytes
-    (subst (λ (node : NodeState). CanBeMade node plan change) (sym c.self.view_is) c.requires) c.in_ok-begin.ensures.begun c.in_ok-begin.ensures.left
+    (both_halves _ c.finish.new.self plan _ c.begin.new.moves c.write.new.stream.stream change bytes
+    (subst (λ (node : NodeState). CanBeMade node plan change) (sym c.self.view_is) c.requires) c.in_ok-begin.ensures.begun
     (subst (λ stream. GoesOn bytes stream c.write.new.stream.stream) c.in_ok-make_room.ensures.stream c.write.ensures) c.finish.ensures)

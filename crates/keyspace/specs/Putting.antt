@@ -1,0 +1,9 @@
+-- Values that are put at keys, one after another.
+use Rattle.std.specs.Prelude.{ℕ, List, [], ◌∷◌}
+use Rattle.std.specs.FinMap as map
+use Rattle.keyspace.specs.Keyspace.{Keyspace}
+use Rattle.keyspace.specs.declared.value.Value.{Value}
+
+abbrev pub with_pairs : Keyspace → List (List ℕ × Value) → Keyspace
+with_pairs keyspace [] = keyspace
+with_pairs keyspace (pair ∷ pairs) = with_pairs (map.insert keyspace pair.0 pair.1) pairs
