@@ -113,20 +113,23 @@ def play_masters(judge):
 
 
 def play_backlogs(judge):
-    """How many bytes of its stream a node keeps: by an option, as the configuration has it, or else 16 MiB where there are replicas."""
+    """How many bytes of its stream a node keeps: none without replicas; else by an option, as the configuration has it, or 16 MiB."""
     for backlog in ("0", "16777217", "18446744073709551615"):
         sentence = f"rcluster: backlog: {backlog} isn't from 1 to 16777216 (K8)\n"
         for more in ((), ("--check",)):
             came = program.run("serve", "--masters", "1", "--backlog", backlog, *more)
             judge.equal(f"{' '.join(('a backlog of', backlog, *more))}", came, (1, b"fault K8\n", sentence.encode()))
     least = addresses("--replicas", "1", "--backlog", "1")
-    for what, options, wanted in [
-        ("a replica, and nothing said", ("--replicas", "1"), 16),
-        ("a replica, and a backlog", ("--replicas", "1", "--backlog", str(4 << 20)), 4),
+    for what, options, backlog in [
+        ("a replica, and nothing said", ("--replicas", "1"), 16 << 20),
+        ("a replica, and a backlog", ("--replicas", "1", "--backlog", str(4 << 20)), 4 << 20),
     ]:
-        judge.equal(f"{what}: MiB that each node keeps", round((addresses(*options) - least) / 2 / (1 << 20)), wanted)
+        # The bytes lie in eight pages, and one more is filled meanwhile.
+        pages = round((addresses(*options) - least) / 2 / (backlog // 8))
+        judge.equal(f"{what}: pages of an eighth of the backlog that each node has", pages, 9)
     least = addresses("--backlog", "1")
-    judge.equal("no replica, and nothing said: MiB that the node keeps", round((addresses() - least) / (1 << 20)), 1)
+    for what, options in [("nothing said", ()), ("a backlog", ("--backlog", str(16 << 20)))]:
+        judge.equal(f"no replica, and {what}: MiB that the node keeps", round((addresses(*options) - least) / (1 << 20)), 0)
 
 
 def addresses(*options):
