@@ -99,11 +99,12 @@ def throughput(report, scale):
                 for pipeline in (1, 16):
                     for command in ("SET", "GET"):
                         compare(report, ours, theirs, command, size, keys, pipeline, scale)
-    with servers.rcluster() as ours, servers.redis() as theirs:
-        for it in (ours, theirs):
-            fill(it.port, 10, MIB)
-        for command in ("SET", "GET"):
-            compare(report, ours, theirs, command, MIB, 10, 1, scale / 50)
+    for mebibytes in (1, 8):
+        with servers.rcluster() as ours, servers.redis() as theirs:
+            for it in (ours, theirs):
+                fill(it.port, 10, mebibytes * MIB)
+            for command in ("SET", "GET"):
+                compare(report, ours, theirs, command, mebibytes * MIB, 10, 1, scale / 50 / mebibytes)
 
 
 def compare(report, ours, theirs, command, size, keys, pipeline, scale):
