@@ -1,9 +1,10 @@
 -- What a node sent carries its number, and the ticket of the step that sent it.
-use Rattle.std.proofs.Common.{◌≡◌, ◌==◌, ◌∙◌, ℕ, Bool, true, false, cond, List, [], ◌∷◌, Option, None, Some, is_some, map, refl, sym, ap, subst, inl, inr}
+use Rattle.std.proofs.Common.{◌≡◌, ◌==◌, ◌&&◌, ◌∙◌, ℕ, Bool, true, false, cond, List, [], ◌∷◌, Option, None, Some, is_some, map, refl, sym, ap, subst, inl, inr}
 use Rattle.std.specs.Prelude.{Contains, MatchBool, Result, Ok, Err}
 use Rattle.std.proofs.lemmas.List.Elements.{Contains-append_cases}
 use Rattle.bus.specs.declared.message.Body.{Body}
-use Rattle.bus.specs.declared.message.Body.TheVariants.{Copy, Ack, Drained, Claim, Report, Request as Requested, Grant, Sync, Piece, Snapshot}
+use Rattle.bus.specs.declared.message.Body.TheVariants.{Copy, Ack, Drained, Claim, Report, Request as Requested, Grant, Sync, Piece, Snapshot, Pause, Paused}
+use Rattle.bus.specs.declared.message.Handing.{Handing}
 use Rattle.bus.specs.declared.message.Message.{Message}
 use Rattle.command_table.specs.Table.{command_of}
 use Rattle.command_table.specs.declared.command.ClusterCommand.{ClusterCommand}
@@ -25,17 +26,18 @@ use Rattle.node_step.specs.Claiming.{claimed_by}
 use Rattle.node_step.specs.Commands.{command_outcome, decision_on}
 use Rattle.node_step.specs.Copies.{acknowledged, copy_outcome, copy_verdict_on, first_slot, node_at, those_there}
 use Rattle.node_step.proofs.Kept.{pieced_keeps, recorded_keeps, restored_keeps, synced_is}
-use Rattle.election.specs.Electing.{elected}
+use Rattle.election.specs.Electing.{counted, elected}
 use Rattle.election.specs.declared.running.Elected.{Elected}
 use Rattle.node_step.proofs.Ready.{in_election_keeps, ready_keeps}
 use Rattle.node_step.specs.Failing.{a_tick_older, members_of}
 use Rattle.node_step.specs.Messages.{Choice, delivered, ready, taken, taken_so, written_by_message}
-use Rattle.node_step.specs.Promotion.{promotion}
+use Rattle.node_step.specs.Handovers.{failover, handing_over, is_at_end, may_pause, noting}
+use Rattle.node_step.specs.Promotion.{handed_promotion, promotion}
 use Rattle.node_step.specs.Voting.{due_epoch, if_elected}
 use Rattle.node_step.specs.Orders.{ending_outcome, ending_verdict}
 use Rattle.node_step.specs.Outcome.{Outcome, silent, stamped}
 use Rattle.node_step.specs.Requests.{asking_of, by_command, cluster_outcome, is_numbered, node_with_id, order_outcome, request_outcome, using_up}
-use Rattle.node_step.specs.State.{NodeState, own_master}
+use Rattle.node_step.specs.State.{NodeState, is_replica, own_master}
 use Rattle.node_step.specs.Ticks.{slots_tick}
 use Rattle.node_step.specs.Step.{IsAnswering, IsClosing, MayCome, NodeStep, written}
 use Rattle.node_step.specs.declared.event.Event.{Event}
@@ -44,8 +46,10 @@ use Rattle.node_step.specs.declared.outputs.Outputs.{Outputs}
 use Rattle.redirect.specs.declared.decision.Decision.{Decision}
 use Rattle.redirect.specs.declared.decision.Decision.TheVariants.{Serve, ServeImport, CrossSlot, Down, TryAgain, Ask, Moved}
 use Rattle.slot_state.specs.Moves.{move_of}
+use Rattle.stream_values.specs.Stream.{is_same}
 use Rattle.slot_state.specs.declared.ending.NodeVerdict.{NodeVerdict}
 use Rattle.slot_state.specs.declared.ending.NodeVerdict.TheVariants as ending
+use Rattle.slot_state.specs.declared.copy_id.CopyId.{CopyId}
 use Rattle.slot_table.specs.Claims.{merged}
 use Rattle.slot_table.specs.declared.entry.SlotEntry.{SlotEntry}
 use Rattle.node_cell.specs.Journal.{IsHistory, Leads, ticket_of}
@@ -93,6 +97,10 @@ copy_stays node conn slot keys ticks copies.Exhausted = refl
 copy_stays node conn slot keys ticks (copies.SendAgain to number copy) = refl
 copy_stays node conn slot keys ticks (copies.Copies to number copy) = refl
 
+failover_stays : (node : NodeState) (master : Option ℕ) → Stays node (failover node master)
+failover_stays node None = refl
+failover_stays node (Some master) = refl
+
 cluster_stays : (node : NodeState) (conn : Conn) (command : ClusterCommand) → Stays node (cluster_outcome node conn command)
 cluster_stays node conn (cluster.KeySlot key) = refl
 cluster_stays node conn cluster.MyId = refl
@@ -102,6 +110,7 @@ cluster_stays node conn (cluster.GetKeysInSlot slot count) = refl
 cluster_stays node conn (cluster.SlotState slot) = refl
 cluster_stays node conn (cluster.SetSlot slot order id number) = order_stays node slot order (node_with_id node id) number
 cluster_stays node conn cluster.Numbered = refl
+cluster_stays node conn cluster.Failover = failover_stays node (own_master node)
 cluster_stays node conn (cluster.Asking number) = refl
 cluster_stays node conn (cluster.Migrate host port keys timeout) = copy_stays node conn (first_slot keys) (those_there node.keyspace keys) timeout (copy_verdict_on node keys (node_at node host port))
 
@@ -113,22 +122,35 @@ words_stay node conn connection (Ok (Data command)) = command_stays node (is_num
 request_stays : (node : NodeState) (conn : Conn) (words : List (List ℕ)) → Stays node (request_outcome node conn (command_of words))
 request_stays node conn words = words_stay (using_up node conn) conn (connection_at node.connections conn) (command_of words)
 
-acknowledged_stays : (node : NodeState) (slot number copy : ℕ) (keys : Option (List (List ℕ))) → Stays node (acknowledged node slot number copy keys)
-acknowledged_stays node slot number copy None = refl
-acknowledged_stays node slot number copy (Some keys) = refl
+acknowledged_stays : (node : NodeState) (id : CopyId) (keys : Option (List (List ℕ))) → Stays node (acknowledged node id keys)
+acknowledged_stays node id None = refl
+acknowledged_stays node id (Some keys) = refl
 
 -- what comes of a vote, whether it elects the node or not
-elected_keeps : (P : Outcome → Type 0) (node : NodeState) (won : Option Elected) → P (silent node) → ((epoch master : ℕ) → P (promotion node epoch (Some master))) → P (if_elected node won)
-elected_keeps P node None silent_one promoted = silent_one
-elected_keeps P node (Some elected) silent_one promoted = by_master (own_master node)
+voted_stays : (node : NodeState) (won : Option Elected) → Stays node (if_elected node won)
+voted_stays node None = refl
+voted_stays node (Some elected) = by_plan node.candidate.planned
   where
-    by_master : (master : Option ℕ) → P (promotion node elected.epoch master)
-    by_master None = silent_one
-    by_master (Some master) = promoted elected.epoch master
+    by_master : (master : Option ℕ) → (promotion node elected.epoch master).state.number ≡ node.number
+    by_master None = refl
+    by_master (Some master) = refl
+
+    by_place : (at_end : Bool) (handed : Outcome) → handed.state.number ≡ node.number → (cond at_end handed (silent node)).state.number ≡ node.number
+    by_place true handed same = same
+    by_place false handed same = refl
+
+    by_note : (master : Option ℕ) (note : Option Handing) → (handed_promotion node elected.epoch master note).state.number ≡ node.number
+    by_note None note = refl
+    by_note (Some master) None = refl
+    by_note (Some master) (Some handing) = by_place (is_at_end node.stream (Some handing)) _ refl
+
+    by_plan : (planned : Bool) → (cond planned (handed_promotion node elected.epoch (own_master node) node.handover.note) (promotion node elected.epoch (own_master node))).state.number ≡ node.number
+    by_plan true = by_note (own_master node) node.handover.note
+    by_plan false = by_master (own_master node)
 
 taken_so_stays : (node : NodeState) (from : ℕ) (choice : Choice) (body : Body) → Stays node (taken_so node from choice body)
-taken_so_stays node from choice (Copy slot number copy pairs) = refl
-taken_so_stays node from choice (Ack slot number copy) = acknowledged_stays node slot number copy (acknowledged_keys (move_of node.moves slot) from number copy)
+taken_so_stays node from choice (Copy id pairs) = refl
+taken_so_stays node from choice (Ack id) = acknowledged_stays node id (acknowledged_keys (move_of node.moves id.slot) from id.number id.copy)
 taken_so_stays node from choice (Drained slot number epoch) = refl
 taken_so_stays node from choice (Claim slots replaced) = by_own (from == node.number) (merged node.table slots from)
   where
@@ -137,10 +159,20 @@ taken_so_stays node from choice (Claim slots replaced) = by_own (from == node.nu
     by_own false table = refl
 taken_so_stays node from choice (Report suspects) = refl
 taken_so_stays node from choice (Requested request) = refl
-taken_so_stays node from choice (Grant epoch) = elected_keeps (Stays node) _ (elected node.candidate (members_of node) from epoch) refl (λ won master. refl)
+taken_so_stays node from choice (Grant epoch) = voted_stays (record node { candidate = counted node.candidate (members_of node) from epoch }) (elected node.candidate (members_of node) from epoch)
 taken_so_stays node from choice (Sync sync) = synced_is (Stays node) node from sync refl refl
 taken_so_stays node from choice (Piece piece) = pieced_keeps (IsOfNumber node) node (λ stream keyspace. refl) from piece choice.follower
 taken_so_stays node from choice (Snapshot snapshot) = restored_keeps (IsOfNumber node) node (λ stream keyspace. refl) from snapshot
+taken_so_stays node from choice (Pause stream) = by_test (may_pause node from stream)
+  where
+    by_test : (b : Bool) → (cond b (handing_over node from) (silent node)).state.number ≡ node.number
+    by_test true = refl
+    by_test false = refl
+taken_so_stays node from choice (Paused handing) = by_test (is_replica node && is_same handing.stream node.stream.held.id)
+  where
+    by_test : (b : Bool) → (cond b (record node { handover = noting node.handover handing }) node).number ≡ node.number
+    by_test true = refl
+    by_test false = refl
 
 taken_stays : (node : NodeState) (from : ℕ) (choice : Choice) (body : Body) → Stays node (taken node from choice body)
 taken_stays node from choice body =
@@ -152,7 +184,8 @@ delivered_stays node message choice = by_node (message.to == node.number)
     by_node : (here : Bool) → (cond here (taken (ready node message) message.from choice message.body) (silent node)).state.number ≡ node.number
     by_node true =
         ready_keeps (λ (own : NodeState). (taken own message.from choice message.body).state.number ≡ node.number) node message
-        (λ epoch masters health candidate as_before goes. taken_stays (record node { current_epoch = epoch; masters = masters; health = health; candidate = candidate }) message.from choice message.body)
+        (λ epoch masters health candidate handover as_before goes.
+        taken_stays (record node { current_epoch = epoch; masters = masters; health = health; candidate = candidate; handover = handover }) message.from choice message.body)
     by_node false = refl
 
 close_stays : (old : NodeState) (conn : Conn) (is_open : Bool) (outcome : Outcome) → MatchBool is_open (IsClosing old conn outcome) (outcome ≡ silent old) → Stays old outcome
@@ -172,7 +205,7 @@ event_stays old (Request conn words) outcome may = answer_stays old conn words (
 event_stays old (Deliver message) outcome may = ap (λ (o : Outcome). o.state.number) may.comes_to ∙ delivered_stays old message may.choice
 event_stays old Tick outcome may =
     let aged = a_tick_older (slots_tick old).state in
-    ap (λ (o : Outcome). o.state.number) may.comes_to ∙ in_election_keeps (IsOfNumber old) aged (due_epoch aged) (λ current candidate. refl)
+    ap (λ (o : Outcome). o.state.number) may.comes_to ∙ in_election_keeps (IsOfNumber old) aged (due_epoch aged) (λ current candidate handover. refl)
 
 -- ---- what it sends
 

@@ -1,11 +1,11 @@
 //! Whether two messages are the same.
 ghost use Rattle.std.specs.Prelude.{◌≡◌, ◌≢◌, true, false};
 
-use bus::{Body, Message};
+use bus::{Body, Handing, Message};
 use hash::Hash;
-use keyspace::Value;
+use keyspace::{Pair, Value};
 use slot_table::{Epoch, Run};
-use stream_values::{Pair, Piece, Snapshot};
+use stream_values::{Piece, Snapshot};
 
 /// Whether both messages say the same, from the same step to the same node.
 pub(crate) fn is_same_message(one: &Message, other: &Message) -> bool
@@ -25,32 +25,13 @@ fn is_same_body(one: &Body, other: &Body) -> bool
 {
     match (one, other) {
         (
+            Body::Copy { id, pairs },
             Body::Copy {
-                slot,
-                number,
-                copy,
-                pairs,
-            },
-            Body::Copy {
-                slot: other_slot,
-                number: other_number,
-                copy: other_copy,
+                id: other_id,
                 pairs: other_pairs,
             },
-        ) => {
-            slot == other_slot
-                && number == other_number
-                && copy == other_copy
-                && are_same_pairs(pairs.as_slice(), other_pairs.as_slice())
-        }
-        (
-            Body::Ack { slot, number, copy },
-            Body::Ack {
-                slot: other_slot,
-                number: other_number,
-                copy: other_copy,
-            },
-        ) => slot == other_slot && number == other_number && copy == other_copy,
+        ) => id == other_id && are_same_pairs(pairs.as_slice(), other_pairs.as_slice()),
+        (Body::Ack(id), Body::Ack(other)) => id == other,
         (
             Body::Drained {
                 slot,
@@ -74,6 +55,8 @@ fn is_same_body(one: &Body, other: &Body) -> bool
         (Body::Sync(sync), Body::Sync(other)) => sync == other,
         (Body::Piece(piece), Body::Piece(other)) => is_same_piece(piece, other),
         (Body::Snapshot(snapshot), Body::Snapshot(other)) => is_same_snapshot(snapshot, other),
+        (Body::Pause(stream), Body::Pause(other)) => stream == other,
+        (Body::Paused(handing), Body::Paused(other)) => is_same_handing(handing, other),
         _ => false,
     }
 }
@@ -102,6 +85,15 @@ fn is_same_snapshot(one: &Snapshot, other: &Snapshot) -> bool
     one.stream == other.stream
         && one.offset == other.offset
         && are_same_pairs(one.pairs.as_slice(), other.pairs.as_slice())
+}
+
+fn is_same_handing(one: &Handing, other: &Handing) -> bool
+    ensures same { result ≡ true → one.now ≡ other.now }
+    ensures differ { result ≡ false → one.now ≢ other.now }
+{
+    one.stream == other.stream
+        && one.offset == other.offset
+        && are_same_runs(one.slots.runs(), other.slots.runs())
 }
 
 fn are_same_pairs(one: &[Pair], other: &[Pair]) -> bool

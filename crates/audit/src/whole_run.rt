@@ -64,9 +64,9 @@ impl WorldRun {
 
     /// How many entries it has: as many as tickets were drawn.
     ///
-    /// They are a run of the cluster. So the replies of the commands that its nodes executed up to the first promotion are those of one
-    /// keyspace, if its clients kept to the asking rule up to there, and always if no slot began to come to a node up to there. No epoch
-    /// has two masters, and each promoted node begins with the prefix of its master's stream that its offset names.
+    /// They are a run of the cluster. So the replies of the commands that its nodes executed up to the first unplanned promotion are
+    /// those of one keyspace, if its clients kept to the asking rule up to there, and always if no slot began to come to a node up to
+    /// there. No epoch has two masters, and each promoted node begins with the prefix of its master's stream that its offset names.
     pub fn steps(&self) -> u64
         ensures count { result ≡ length self.now.entries }
         ensures run { IsRun self.now.config self.now.entries }

@@ -3,10 +3,11 @@ ghost use Rattle.std.specs.Prelude.{◌≡◌};
 
 use crate::suspects::Suspects;
 use key_slot::Slot;
-use slot_state::MoveNo;
+use keyspace::Pairs;
+use slot_state::{CopyId, MoveNo};
 use slot_table::{Claim, Epoch, NodeNo};
 use std::alloc::AllocError;
-use stream_values::{Pairs, Piece, Snapshot, StreamId, Sync};
+use stream_values::{Piece, Snapshot, StreamId, Sync};
 
 /// Whose place a node took as it was promoted, and where its own stream begins.
 #[derive(Clone, Copy, PartialEq, Eq, Debug)]
@@ -26,6 +27,31 @@ pub struct Request {
     pub epoch: Epoch,
     /// The master.
     pub master: NodeNo,
+    /// The master hands its slots over to the sender.
+    pub planned: bool,
+}
+
+/// What a master hands over to a replica, and where: it serves nothing any more.
+#[derive(Debug, Drop)]
+pub struct Handing {
+    /// The master's stream.
+    pub stream: StreamId,
+    /// Where it ends.
+    pub offset: u64,
+    /// The master's slots, each in its epoch.
+    pub slots: Claim,
+}
+
+impl Clone for Handing {
+    ghost is_clone = { λ handing copy. copy ≡ handing };
+
+    fn clone(&self) -> Result<Handing, AllocError> {
+        Ok(Handing {
+            stream: self.stream,
+            offset: self.offset,
+            slots: self.slots.clone()?,
+        })
+    }
 }
 
 /// What a message says.
@@ -33,24 +59,13 @@ pub struct Request {
 pub enum Body {
     /// Keys with their values, on their way to the node that their slot goes to. They are sent again until they are acknowledged.
     Copy {
-        /// The slot of the keys.
-        slot: Slot,
-        /// The move of the slot.
-        number: MoveNo,
-        /// The number of the copy in this move, from 1 on.
-        copy: u64,
+        /// Which copy it is.
+        id: CopyId,
         /// The keys, each with what the sender has at it.
         pairs: Pairs,
     },
     /// The answer to a copy: it was installed at the sender of this message.
-    Ack {
-        /// The slot of the keys.
-        slot: Slot,
-        /// The move of the slot.
-        number: MoveNo,
-        /// The number of the copy in this move.
-        copy: u64,
-    },
+    Ack(CopyId),
     /// The sender has no key of the slot left, which it gives away.
     Drained {
         /// The slot.
@@ -74,6 +89,10 @@ pub enum Body {
     Piece(Piece),
     /// All that the sender has at an offset of its stream.
     Snapshot(Snapshot),
+    /// The sender, a replica, wants its master to hand over; it has a part of this stream.
+    Pause(StreamId),
+    /// The sender, a master, hands its slots over to the replica that the message is for.
+    Paused(Handing),
 }
 
 impl Clone for Body {
@@ -81,22 +100,11 @@ impl Clone for Body {
 
     fn clone(&self) -> Result<Body, AllocError> {
         match self {
-            Body::Copy {
-                slot,
-                number,
-                copy,
-                pairs,
-            } => Ok(Body::Copy {
-                slot: *slot,
-                number: *number,
-                copy: *copy,
+            Body::Copy { id, pairs } => Ok(Body::Copy {
+                id: *id,
                 pairs: pairs.clone()?,
             }),
-            Body::Ack { slot, number, copy } => Ok(Body::Ack {
-                slot: *slot,
-                number: *number,
-                copy: *copy,
-            }),
+            Body::Ack(id) => Ok(Body::Ack(*id)),
             Body::Drained {
                 slot,
                 number,
@@ -113,6 +121,8 @@ impl Clone for Body {
             Body::Sync(sync) => Ok(Body::Sync(*sync)),
             Body::Piece(piece) => Ok(Body::Piece(piece.clone()?)),
             Body::Snapshot(snapshot) => Ok(Body::Snapshot(snapshot.clone()?)),
+            Body::Pause(stream) => Ok(Body::Pause(*stream)),
+            Body::Paused(handing) => Ok(Body::Paused(handing.clone()?)),
         }
     }
 }

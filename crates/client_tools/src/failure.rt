@@ -15,6 +15,25 @@ pub enum ToolFault {
     Client(ClientFault),
     /// A run that moves slots could not go on.
     Reshard(ReshardFault),
+    /// A replica isn't known to have taken the place of its master.
+    Handover(HandoverFault),
+}
+
+/// Why a replica isn't known to have taken the place of its master.
+#[derive(Clone, Copy)]
+pub enum HandoverFault {
+    /// No node of the id is found.
+    NotFound,
+    /// The node is a master.
+    IsMaster,
+    /// A slot of its master is on the move, and so it wasn't asked.
+    SlotMoves,
+    /// It was asked, and hasn't done so in time. It may do so yet.
+    NotInTime,
+    /// A node can't be reached, or the connection to it failed.
+    NotReached,
+    /// A reply is none that a node gives there.
+    BadReply,
 }
 
 /// Why a tool stops: the fault, and a sentence that says what is wrong and where.
@@ -34,6 +53,16 @@ impl ToolFailure {
             detail: detail.ok(),
         }
     }
+
+    /// Whether a handover asked a node that can't be reached, or the connection to which failed.
+    pub(crate) fn is_unreached(&self) -> bool {
+        matches!(self.fault, ToolFault::Handover(HandoverFault::NotReached))
+    }
+
+    /// Whether it was answered as no node does.
+    pub(crate) fn is_strange(&self) -> bool {
+        matches!(self.fault, ToolFault::Handover(HandoverFault::BadReply))
+    }
 }
 
 impl From<ToolFault> for ToolFailure {
@@ -42,6 +71,12 @@ impl From<ToolFault> for ToolFailure {
             fault,
             detail: None,
         }
+    }
+}
+
+impl From<HandoverFault> for ToolFailure {
+    fn from(fault: HandoverFault) -> ToolFailure {
+        ToolFailure::from(ToolFault::Handover(fault))
     }
 }
 

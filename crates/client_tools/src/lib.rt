@@ -1,14 +1,22 @@
-//! What `rcluster cli` and `rcluster reshard` do: one command on a cluster, and slots that move from one of its masters to another.
+//! What `rcluster cli`, `rcluster reshard` and `rcluster failover` do: one command on a cluster, slots that move from one of its masters to
+//! another, and a replica that takes the place of its master.
 #![tactic(auto)]
 
 mod calling;
 mod failure;
+mod finding;
+mod handing_over;
+mod moving;
 mod output;
+mod patience;
 mod patient;
 mod progress;
+mod questions;
 mod resharding;
 mod runtime;
 mod shown;
+mod slot_map;
+mod slot_report;
 mod sockets;
 mod target;
 mod telling;
@@ -16,7 +24,8 @@ mod waiting;
 mod watched;
 
 pub use calling::{Request, call};
-pub use failure::{ToolFailure, ToolFault};
+pub use failure::{HandoverFault, ToolFailure, ToolFault};
+pub use handing_over::{Handover, hand_over};
 pub use progress::Terminals;
 pub use resharding::{Move, reshard};
 pub use runtime::ToolRuntime;

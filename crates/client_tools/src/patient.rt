@@ -57,7 +57,8 @@ impl<R: Eprint + Clock + Drop, N: Network + Drop> Network for Patient<'_, R, N> 
     }
 }
 
-fn end_wait<R: Clock>(rt: &R, seen: &RefCell<Seen>) {
+/// The run has come on, and waits anew.
+pub(crate) fn end_wait<R: Clock>(rt: &R, seen: &RefCell<Seen>) {
     if let Ok(mut seen) = seen.try_borrow_mut() {
         seen.waiting.end(rt);
     }
@@ -71,16 +72,17 @@ fn refusals_after(refusals: u64, event: &Event) -> u64 {
     }
 }
 
-fn pause<R: Clock>(rt: &R, refusals: u64) {
+/// Lets others run before the repetition of that number, and waits as long as [`wait_before`] says.
+pub(crate) fn pause<R: Clock>(rt: &R, repetition: u64) {
     yield_now();
-    let milliseconds = wait_before(refusals);
+    let milliseconds = wait_before(repetition);
     if milliseconds > 0 {
         sleep(rt, Duration::from_millis(milliseconds));
     }
 }
 
-// How many milliseconds it waits before the repetition of that number.
-fn wait_before(repetition: u64) -> u64 {
+/// How many milliseconds it waits before the repetition of that number.
+pub(crate) fn wait_before(repetition: u64) -> u64 {
     match repetition {
         0..=9 => 0,
         10 => 1,

@@ -8,7 +8,7 @@ use crate::runtime::ToolRuntime;
 use crate::shown::Shown;
 use crate::sockets::{Sockets, no_address};
 use crate::telling::{run_failure, unlisted_failure};
-use crate::waiting::Waiting;
+use crate::waiting::{Waiting, time_since};
 use crate::watched::{Seen, Watched};
 use bytes::Bytes;
 use cluster_config::NodeId;
@@ -20,7 +20,7 @@ use smart_client::{Connections, Network};
 use std::alloc::{AllocError, Global};
 use std::cell::RefCell;
 use std::rt::Clock;
-use std::time::{Duration, Instant};
+use std::time::Instant;
 
 /// The slots that are to be moved, the masters that they leave and come to, and the node that is asked who these are.
 #[derive(Drop)]
@@ -197,10 +197,7 @@ impl Done {
         }
         let moved = imports_of(seen);
         let before = self.slots.saturating_sub(moved);
-        let took = self
-            .begun
-            .and_then(|begun| begun.elapsed(rt).ok())
-            .unwrap_or(Duration::ZERO);
+        let took = time_since(rt, self.begun);
         let _told = eprintln!(rt;
             "rcluster: slots moved: {moved}, keys moved: {}, slots that were there before: {before}, seconds: {}.{:03}",
             self.keys,
@@ -258,7 +255,8 @@ fn range_in(text: &str) -> Option<SlotRange> {
     Some(SlotRange { first, last })
 }
 
-fn count_of(slots: &SlotRange) -> u64 {
+/// How many slots there are, of which the last isn't below the first.
+pub(crate) fn count_of(slots: &SlotRange) -> u64 {
     let behind = u64::from(slots.last.get()) + 1;
     behind.saturating_sub(u64::from(slots.first.get()))
 }

@@ -1,8 +1,10 @@
-//! What standard error says of a call or a run that stopped: the node, and what it answered.
+//! What standard error says of a call, a run or a handover that stopped: the node, and what it answered.
 
-use crate::failure::{ToolFailure, ToolFault};
+use crate::failure::{HandoverFault, ToolFailure, ToolFault};
 use crate::shown::Shown;
 use crate::watched::Seen;
+use cluster_config::NodeId;
+use redirection::Address;
 use resharder::ReshardFault;
 use smart_client::ClientFault;
 use std::alloc::{AllocError, Global};
@@ -126,6 +128,93 @@ fn unlisted_text(alloc: Global, seen: &Seen, id: &str) -> Result<String, AllocEr
     Ok(text)
 }
 
+/// The failure of a handover, with what was seen where it says nothing itself.
+pub(crate) fn handover_failure(
+    alloc: Global,
+    failure: ToolFailure,
+    seen: &RefCell<Seen>,
+) -> ToolFailure {
+    let ToolFailure { fault, detail } = failure;
+    match detail {
+        Some(text) => ToolFailure {
+            fault,
+            detail: Some(text),
+        },
+        None => ToolFailure {
+            fault,
+            detail: handover_text(alloc, fault, seen),
+        },
+    }
+}
+
+fn handover_text(alloc: Global, fault: ToolFault, seen: &RefCell<Seen>) -> Option<String> {
+    let ToolFault::Handover(fault) = fault else {
+        return None;
+    };
+    let seen = seen.try_borrow().ok()?;
+    match fault {
+        HandoverFault::NotReached if seen.has_place() => only_unreached_text(alloc, &seen).ok(),
+        HandoverFault::BadReply if seen.has_answer() => only_answer_text(alloc, &seen).ok(),
+        _ => None,
+    }
+}
+
+fn only_unreached_text(alloc: Global, seen: &Seen) -> Result<String, AllocError> {
+    let unreached = Unreached { seen };
+    format!(in alloc; "{unreached}")
+}
+
+fn only_answer_text(alloc: Global, seen: &Seen) -> Result<String, AllocError> {
+    let answered = Answered { seen };
+    format!(in alloc; "{answered}, which no node does")
+}
+
+/// Why no replica takes the place of this node's master: it has none.
+pub(crate) fn master_failure(alloc: Global, node: &NodeId) -> ToolFailure {
+    let text = format!(in alloc; "{} is a master, and takes nobody's place", Named(node));
+    ToolFailure::new(ToolFault::Handover(HandoverFault::IsMaster), text)
+}
+
+/// Why it isn't known where the replica is: the node with this id is at the address.
+pub(crate) fn unfound_failure(
+    alloc: Global,
+    at: &Address,
+    id: &NodeId,
+    replica: &NodeId,
+) -> ToolFailure {
+    let text = format!(in alloc;
+        "{} is {}, and no node tells where its replicas listen: --addr has to be the address of {}",
+        Place(at),
+        Named(id),
+        Named(replica)
+    );
+    ToolFailure::new(ToolFault::Handover(HandoverFault::NotFound), text)
+}
+
+/// Why a run ends that has waited for so many seconds: the replica has no slot yet.
+pub(crate) fn late_failure(alloc: Global, replica: &NodeId, seconds: u64) -> ToolFailure {
+    let text = format!(in alloc;
+        "{} hasn't taken the place of its master within {seconds} seconds; it goes on to ask, and takes it once no slot of the master is on the move and more than half of the voters vote for it",
+        Named(replica)
+    );
+    ToolFailure::new(ToolFault::Handover(HandoverFault::NotInTime), text)
+}
+
+/// Why a run ends that has waited for so many seconds: the node at the address doesn't list the replica, which has slots.
+pub(crate) fn unknown_failure(
+    alloc: Global,
+    at: &Address,
+    replica: &NodeId,
+    seconds: u64,
+) -> ToolFailure {
+    let text = format!(in alloc;
+        "{} has taken the place of its master, and {} doesn't know of it after {seconds} seconds",
+        Named(replica),
+        Place(at)
+    );
+    ToolFailure::new(ToolFault::Handover(HandoverFault::NotInTime), text)
+}
+
 // What the node in use answered, and to which request.
 #[derive(Clone, Copy)]
 struct Answered<'a> {
@@ -157,6 +246,44 @@ impl fmt::Display for Awaited<'_> {
             return write!(f, "{} hasn't answered {} yet", seen.place, seen.request);
         }
         write!(f, "{}, and is asked again", Answered { seen })
+    }
+}
+
+/// What a handover waits for: that the node at the address lists the replica.
+#[derive(Clone, Copy)]
+pub(crate) struct Unlisted<'a> {
+    /// The address.
+    pub(crate) at: &'a Address,
+    /// The replica.
+    pub(crate) node: &'a NodeId,
+}
+
+impl fmt::Display for Unlisted<'_> {
+    fn fmt<W: fmt::Write>(&self, f: &mut fmt::Formatter<W>) -> fmt::Result {
+        let place = Place(self.at);
+        let node = Named(self.node);
+        write!(f, "{place} lists no slot of {node} yet")
+    }
+}
+
+/// A node by its id.
+#[derive(Clone, Copy)]
+pub(crate) struct Named<'a>(pub(crate) &'a NodeId);
+
+impl fmt::Display for Named<'_> {
+    fn fmt<W: fmt::Write>(&self, f: &mut fmt::Formatter<W>) -> fmt::Result {
+        write!(f, "node {}", Shown(self.0.bytes().as_slice()))
+    }
+}
+
+// `host:port`
+#[derive(Clone, Copy)]
+struct Place<'a>(&'a Address);
+
+impl fmt::Display for Place<'_> {
+    fn fmt<W: fmt::Write>(&self, f: &mut fmt::Formatter<W>) -> fmt::Result {
+        let host = str::from_utf8(self.0.host().as_slice()).unwrap_or("");
+        write!(f, "{host}:{}", self.0.port())
     }
 }
 

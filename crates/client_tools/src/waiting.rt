@@ -4,6 +4,7 @@ use crate::progress::Terminals;
 use crate::telling::Awaited;
 use crate::watched::Seen;
 use std::cell::RefCell;
+use std::fmt::Display;
 use std::rt::Clock;
 use std::time::{Duration, Instant};
 
@@ -66,14 +67,39 @@ pub(crate) fn tell_wait<R: Eprint + Clock>(rt: &R, seen: &RefCell<Seen>) -> bool
     let Some(seconds) = seen.waiting.take_due(rt) else {
         return false;
     };
+    let terminals = seen.waiting.terminals;
+    tell(rt, terminals, seconds, Awaited { seen: &*seen });
+    true
+}
+
+/// Tells for how long the run has waited, and that it waits for this, where it is time to.
+pub(crate) fn tell_wait_for<R: Eprint + Clock, W: Display + Drop>(
+    rt: &R,
+    seen: &RefCell<Seen>,
+    awaited: W,
+) {
+    let Ok(mut seen) = seen.try_borrow_mut() else {
+        return;
+    };
+    let Some(seconds) = seen.waiting.take_due(rt) else {
+        return;
+    };
+    let terminals = seen.waiting.terminals;
+    tell(rt, terminals, seconds, awaited);
+}
+
+// Where it can't be told, the run waits all the same.
+fn tell<R: Eprint, W: Display + Drop>(rt: &R, terminals: Terminals, seconds: u64, awaited: W) {
     // The line on a terminal that tells how far the run has come is written anew behind this one.
-    if seen.waiting.terminals.has_errors {
+    if terminals.has_errors {
         let _gone = eprint!(rt; "\r{:<70}\r", "");
     }
-    // Where it can't be told, the run waits all the same.
-    let _told = eprintln!(rt;
-        "rcluster: waiting for {seconds} seconds so far: {}",
-        Awaited { seen: &*seen }
-    );
-    true
+    let _told = eprintln!(rt; "rcluster: waiting for {seconds} seconds so far: {awaited}");
+}
+
+/// How much time has passed since then. Without a clock it is none.
+pub(crate) fn time_since<R: Clock>(rt: &R, begun: Option<Instant>) -> Duration {
+    begun
+        .and_then(|begun| begun.elapsed(rt).ok())
+        .unwrap_or(Duration::ZERO)
 }

@@ -8,7 +8,7 @@ use Rattle.command_table.specs.declared.names.Name.TheVariants as name
 use Rattle.command_table.specs.declared.command.Command.TheVariants.{Data, Cluster}
 use Rattle.command_table.specs.declared.command.DataCommand.TheVariants.{Ping, Echo, Get, Set, Mget, Mset, Setnx, Getset, Getdel, Append, Incr, Decr, Incrby, Strlen, Del, Exists, TypeOf, Hset, Hsetnx, Hget, Hmget, Hdel, Hlen, Hgetall, Hincrby}
 use Rattle.command_table.specs.declared.command.Condition.TheVariants.{Always, IfMissing, IfThere}
-use Rattle.command_table.specs.declared.command.ClusterCommand.TheVariants.{KeySlot, MyId, Slots, CountKeysInSlot, GetKeysInSlot, SlotState, SetSlot, Numbered, Asking, Migrate}
+use Rattle.command_table.specs.declared.command.ClusterCommand.TheVariants.{KeySlot, MyId, Slots, CountKeysInSlot, GetKeysInSlot, SlotState, SetSlot, Numbered, Failover, Asking, Migrate}
 use Rattle.command_table.specs.declared.command.SlotOrder.TheVariants.{Importing, Migrating, Node}
 use Rattle.command_table.specs.declared.fault.CommandFault.TheVariants.{Unknown, UnknownSubcommand, Arity, Syntax, InvalidSlot, NotAnInteger}
 
@@ -241,6 +241,12 @@ setslot_stable = refl
 
 numbered : command_of (codes "cluster" ∷ codes "numbered" ∷ []) ≡ Ok (Cluster Numbered)
 numbered = refl
+
+failover : command_of (codes "CLUSTER" ∷ codes "failover" ∷ []) ≡ Ok (Cluster Failover)
+failover = refl
+
+failover_more : command_of (codes "CLUSTER" ∷ codes "FAILOVER" ∷ codes "FORCE" ∷ []) ≡ Err (Arity name.Cluster)
+failover_more = refl
 
 asking_any : command_of (codes "asking" ∷ []) ≡ Ok (Cluster (Asking None))
 asking_any = refl

@@ -60,6 +60,7 @@ fn with_subcommand<'w>(
             );
         }
         (Subcommand::Numbered, []) => ClusterCommand::Numbered,
+        (Subcommand::Failover, []) => ClusterCommand::Failover,
         _ => return Err(CommandFault::Arity(Name::Cluster)),
     };
     Ok(Command::Cluster(command))

@@ -1,5 +1,5 @@
 -- Which words are a command about the cluster (Redis command reference, "CLUSTER KEYSLOT", "CLUSTER MYID", "CLUSTER SLOTS",
--- "CLUSTER COUNTKEYSINSLOT", "CLUSTER GETKEYSINSLOT", "CLUSTER SETSLOT", "ASKING", "MIGRATE"). Numbers of moves, SLOTSTATE and
+-- "CLUSTER COUNTKEYSINSLOT", "CLUSTER GETKEYSINSLOT", "CLUSTER SETSLOT", "CLUSTER FAILOVER", "ASKING", "MIGRATE"). Numbers of moves, SLOTSTATE and
 -- NUMBERED are this project's own. Of several faults the first row tells which.
 use Rattle.std.specs.Prelude.{◌==◌, ◌&&◌, List, [], ◌∷◌, length, ℕ, ℤ, zero, nat_le, Bool, Option, Some, None, option_and_then, Result, Ok, Err, codes, if◌then◌else◌}
 use Rattle.std.specs.Str.{str_eq_ignore_ascii_case}
@@ -11,7 +11,7 @@ use Rattle.command_table.specs.declared.names.Subcommand.TheVariants as subcomma
 use Rattle.command_table.specs.declared.command.Command.{Command}
 use Rattle.command_table.specs.declared.command.Command.TheVariants.{Cluster}
 use Rattle.command_table.specs.declared.command.ClusterCommand.{ClusterCommand}
-use Rattle.command_table.specs.declared.command.ClusterCommand.TheVariants.{KeySlot, MyId, Slots, CountKeysInSlot, GetKeysInSlot, SlotState, SetSlot, Numbered, Asking, Migrate}
+use Rattle.command_table.specs.declared.command.ClusterCommand.TheVariants.{KeySlot, MyId, Slots, CountKeysInSlot, GetKeysInSlot, SlotState, SetSlot, Numbered, Failover, Asking, Migrate}
 use Rattle.command_table.specs.declared.command.TheConstants.{MOST_MIGRATED_KEYS}
 use Rattle.command_table.specs.declared.command.SlotOrder.{SlotOrder}
 use Rattle.command_table.specs.declared.command.SlotOrder.TheVariants.{Importing, Migrating, Node}
@@ -73,6 +73,7 @@ with_subcommand (Some subcommand.SlotState) (slot ∷ []) = on_slot SlotState (s
 with_subcommand (Some subcommand.SetSlot) (slot ∷ order ∷ node ∷ []) = set_slot slot order node None
 with_subcommand (Some subcommand.SetSlot) (slot ∷ order ∷ node ∷ number ∷ []) = set_slot slot order node (Some number)
 with_subcommand (Some subcommand.Numbered) [] = Ok (Cluster Numbered)
+with_subcommand (Some subcommand.Failover) [] = Ok (Cluster Failover)
 with_subcommand (Some _) _ = Err (Arity name.Cluster)
 
 -- CLUSTER has subcommands

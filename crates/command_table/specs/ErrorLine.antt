@@ -4,7 +4,7 @@ use Rattle.command_table.specs.Names.{name_text}
 use Rattle.command_table.specs.declared.fault.CommandFault.{CommandFault}
 use Rattle.command_table.specs.declared.fault.CommandFault.TheVariants.{Unknown, UnknownSubcommand, Arity, Syntax, InvalidSlot, NotAnInteger as NoInteger}
 use Rattle.command_table.specs.declared.error_line.ErrorLine.{ErrorLine}
-use Rattle.command_table.specs.declared.error_line.ErrorLine.TheVariants.{Protocol, OutOfMemory, Exhausted, UnknownCommand, UnknownSubcommand as UnknownWord, WrongArity, Syntax as WrongSyntax, CrossSlot, SlotDown, TooLong, NotAnInteger, HashNotAnInteger, Overflow, WrongType, InvalidSlot as WrongSlot, SomeKeysMissing, KeyFrozen, TableNotUpdated, OldMove, SlotBusy, NotOwner, AlreadyOwner, NotDrained, UnknownNode, CopyOutstanding, WrongTarget, NotAcknowledged}
+use Rattle.command_table.specs.declared.error_line.ErrorLine.TheVariants.{Protocol, OutOfMemory, Exhausted, UnknownCommand, UnknownSubcommand as UnknownWord, WrongArity, Syntax as WrongSyntax, CrossSlot, SlotDown, TooLong, NotAnInteger, HashNotAnInteger, Overflow, WrongType, InvalidSlot as WrongSlot, SomeKeysMissing, KeyFrozen, HandingOver, TableNotUpdated, OldMove, SlotBusy, NotOwner, AlreadyOwner, NotDrained, UnknownNode, CopyOutstanding, WrongTarget, NotAcknowledged, NotReplica, NodePaused}
 
 -- what follows the `-`
 abbrev pub error_text : ErrorLine → List ℕ
@@ -24,6 +24,7 @@ error_text WrongType = codes "WRONGTYPE Operation against a key holding the wron
 error_text WrongSlot = codes "ERR Invalid slot"
 error_text SomeKeysMissing = codes "TRYAGAIN Multiple keys request during rehashing of slot"
 error_text KeyFrozen = codes "TRYAGAIN Key is being moved"
+error_text HandingOver = codes "TRYAGAIN Node is handing over"
 error_text TableNotUpdated = codes "TRYAGAIN Slot table not yet updated"
 error_text OldMove = codes "ERR move number is not above the last one"
 error_text SlotBusy = codes "ERR slot is already being moved"
@@ -34,6 +35,8 @@ error_text UnknownNode = codes "ERR unknown node"
 error_text CopyOutstanding = codes "TRYAGAIN Another copy is outstanding"
 error_text WrongTarget = codes "ERR slot is not migrating to that address"
 error_text NotAcknowledged = codes "IOERR copy not acknowledged"
+error_text NotReplica = codes "ERR node is not a replica"
+error_text NodePaused = codes "ERR node is handing over"
 error_text (WrongArity name) = codes "ERR wrong number of arguments for '" ++ name_text name ++ codes "' command"
 
 -- the reply to words that are not a command

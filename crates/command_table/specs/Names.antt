@@ -4,7 +4,7 @@ use Rattle.std.specs.Str.{str_eq_ignore_ascii_case}
 use Rattle.command_table.specs.declared.names.Name.{Name}
 use Rattle.command_table.specs.declared.names.Name.TheVariants.{Get, Set, Ping, Echo, Hget, Hset, Mget, Mset, Setnx, Getset, Getdel, Append, Incr, Decr, Incrby, Strlen, Del, Exists, TypeOf, Hsetnx, Hmget, Hdel, Hexists, Hlen, Hstrlen, Hkeys, Hvals, Hgetall, Hincrby, Cluster, Asking, Migrate}
 use Rattle.command_table.specs.declared.names.Subcommand.{Subcommand}
-use Rattle.command_table.specs.declared.names.Subcommand.TheVariants.{KeySlot, MyId, Slots, CountKeysInSlot, GetKeysInSlot, SlotState, SetSlot, Numbered}
+use Rattle.command_table.specs.declared.names.Subcommand.TheVariants.{KeySlot, MyId, Slots, CountKeysInSlot, GetKeysInSlot, SlotState, SetSlot, Numbered, Failover}
 
 -- each name in lower case
 abbrev pub name_text : Name → List ℕ
@@ -58,9 +58,10 @@ subcommand_text GetKeysInSlot = codes "getkeysinslot"
 subcommand_text SlotState = codes "slotstate"
 subcommand_text SetSlot = codes "setslot"
 subcommand_text Numbered = codes "numbered"
+subcommand_text Failover = codes "failover"
 
 abbrev pub subcommands : List Subcommand
-subcommands = KeySlot ∷ MyId ∷ Slots ∷ CountKeysInSlot ∷ GetKeysInSlot ∷ SlotState ∷ SetSlot ∷ Numbered ∷ []
+subcommands = KeySlot ∷ MyId ∷ Slots ∷ CountKeysInSlot ∷ GetKeysInSlot ∷ SlotState ∷ SetSlot ∷ Numbered ∷ Failover ∷ []
 
 -- the subcommand that a word spells, in letters of any case
 abbrev pub subcommand_of : List ℕ → Option Subcommand

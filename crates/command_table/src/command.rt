@@ -422,6 +422,8 @@ pub enum ClusterCommand<'w> {
     },
     /// Has the number of the move in each ASK error of the connection from now on.
     Numbered,
+    /// Has a replica take the place of its master, which hands its slots over.
+    Failover,
     /// Allows the next request of the connection in a slot that comes to the node.
     Asking {
         /// The number of the only move that this is for, or None for any.

@@ -43,6 +43,8 @@ pub enum ErrorLine {
     SomeKeysMissing,
     /// The key is on its way to another node, and stays as it is until it has arrived.
     KeyFrozen,
+    /// The node hands its slots over to a replica.
+    HandingOver,
     /// The table of this node names another owner of the slot so far.
     TableNotUpdated,
     /// The node took part in a move of the slot with this number or a greater one.
@@ -63,6 +65,10 @@ pub enum ErrorLine {
     WrongTarget,
     /// Whether the key has arrived is not known.
     NotAcknowledged,
+    /// The node has no master whose place it could take.
+    NotReplica,
+    /// The node hands its slots over, and takes part in no move.
+    NodePaused,
 }
 
 impl ErrorLine {
@@ -92,6 +98,7 @@ impl ErrorLine {
                 b"TRYAGAIN Multiple keys request during rehashing of slot"
             }
             ErrorLine::KeyFrozen => b"TRYAGAIN Key is being moved",
+            ErrorLine::HandingOver => b"TRYAGAIN Node is handing over",
             ErrorLine::TableNotUpdated => b"TRYAGAIN Slot table not yet updated",
             ErrorLine::OldMove => b"ERR move number is not above the last one",
             ErrorLine::SlotBusy => b"ERR slot is already being moved",
@@ -102,6 +109,8 @@ impl ErrorLine {
             ErrorLine::CopyOutstanding => b"TRYAGAIN Another copy is outstanding",
             ErrorLine::WrongTarget => b"ERR slot is not migrating to that address",
             ErrorLine::NotAcknowledged => b"IOERR copy not acknowledged",
+            ErrorLine::NotReplica => b"ERR node is not a replica",
+            ErrorLine::NodePaused => b"ERR node is handing over",
         }
     }
 

@@ -136,9 +136,11 @@ pub enum Subcommand {
     SetSlot,
     /// CLUSTER NUMBERED
     Numbered,
+    /// CLUSTER FAILOVER
+    Failover,
 }
 
-const SUBCOMMANDS: [Subcommand; 8] = [
+const SUBCOMMANDS: [Subcommand; 9] = [
     Subcommand::KeySlot,
     Subcommand::MyId,
     Subcommand::Slots,
@@ -147,6 +149,7 @@ const SUBCOMMANDS: [Subcommand; 8] = [
     Subcommand::SlotState,
     Subcommand::SetSlot,
     Subcommand::Numbered,
+    Subcommand::Failover,
 ];
 
 impl Subcommand {
@@ -172,6 +175,7 @@ impl Subcommand {
             Subcommand::SlotState => b"slotstate",
             Subcommand::SetSlot => b"setslot",
             Subcommand::Numbered => b"numbered",
+            Subcommand::Failover => b"failover",
         }
     }
 }

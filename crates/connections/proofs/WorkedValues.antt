@@ -7,10 +7,11 @@ use Rattle.connections.specs.Waiting.{is_for}
 use Rattle.connections.specs.declared.conn.Conn.{Conn}
 use Rattle.connections.specs.declared.conn.Connection.{Connection}
 use Rattle.connections.specs.declared.conn.Wait.{Wait}
+use Rattle.slot_state.specs.Moves.{copy_id}
 
 -- the connection with key 0 waits so long, that with key 1 was closed, and that with key 2 is the fifth with its key
 abbrev waits_for : ℕ → Wait
-waits_for ticks = record { slot = 12182; number = 7; copy = 3; ticks = ticks }
+waits_for ticks = record { id = copy_id 12182 7 3; ticks = ticks }
 
 abbrev first_waits : Wait → Connection
 first_waits wait = record { generation = 0; asking = No; numbered = true; waits = Some wait }
@@ -68,10 +69,10 @@ stays_at_none : all_aged (two_open 0) ≡ two_open 0
 stays_at_none = refl
 
 -- the acknowledgement of this copy frees who waits for it, and that of another nobody
-is_acknowledged : may_ask (connection_at (all_freed (two_open 5) (is_for 12182 7 3)) first) ≡ true
+is_acknowledged : may_ask (connection_at (all_freed (two_open 5) (is_for (copy_id 12182 7 3))) first) ≡ true
 is_acknowledged = refl
 
-another_is : all_freed (two_open 5) (is_for 12182 7 4) ≡ two_open 5
+another_is : all_freed (two_open 5) (is_for (copy_id 12182 7 4)) ≡ two_open 5
 another_is = refl
 
 -- nothing is changed for a former generation

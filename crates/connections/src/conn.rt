@@ -1,8 +1,7 @@
 //! What a node knows of a connection.
 
-use key_slot::Slot;
 use redirect::Asking;
-use slot_state::MoveNo;
+use slot_state::CopyId;
 
 /// The name of a connection at its node.
 #[derive(Clone, Copy, PartialEq, Eq, Debug)]
@@ -16,12 +15,8 @@ pub struct Conn {
 /// What a connection waits for: the acknowledgement of a copy.
 #[derive(Clone, Copy, PartialEq, Eq, Debug)]
 pub struct Wait {
-    /// The slot of the key that was copied.
-    pub slot: Slot,
-    /// The number of the move.
-    pub number: MoveNo,
-    /// The number of the copy in this move.
-    pub copy: u64,
+    /// The copy.
+    pub id: CopyId,
     /// How many ticks it still waits.
     pub ticks: u32,
 }

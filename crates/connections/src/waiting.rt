@@ -6,7 +6,7 @@ ghost use Rattle.connections.specs.Waiting.{test_of};
 
 use crate::conn::Wait;
 use key_slot::Slot;
-use slot_state::MoveNo;
+use slot_state::CopyId;
 
 /// Which of the connections that wait are meant.
 #[derive(Clone, Copy, Debug)]
@@ -14,14 +14,7 @@ pub enum Waiting<'a> {
     /// Those whose time is over with this tick.
     Over,
     /// Those that wait for the acknowledgement of this copy.
-    For {
-        /// The slot of the key that was copied.
-        slot: Slot,
-        /// The number of the move.
-        number: MoveNo,
-        /// The number of the copy in this move.
-        copy: u64,
-    },
+    For(CopyId),
     /// Those that wait for the acknowledgement of any copy of a key in one of these slots.
     In(&'a [Slot]),
 }
@@ -36,10 +29,8 @@ impl Waiting<'_> {
         };
         match self {
             Waiting::Over => wait.ticks == 1,
-            Waiting::For { slot, number, copy } => {
-                wait.slot == *slot && wait.number == *number && wait.copy == *copy
-            }
-            Waiting::In(slots) => is_one_of(wait.slot, slots),
+            Waiting::For(id) => wait.id == *id,
+            Waiting::In(slots) => is_one_of(wait.id.slot, slots),
         }
     }
 }

@@ -55,7 +55,7 @@ due_once_more : is_due (ticked_candidate (ticked_candidate asking)) alone ≡ tr
 due_once_more = refl
 
 -- it votes for itself, and that elects it
-own_vote : may_grant first_voter alone (ticked after_a_tick) 2 (record { candidate = 1; epoch = 2; master = 0 }) ≡ true
+own_vote : may_grant first_voter alone (ticked after_a_tick) 2 (record { candidate = 1; epoch = 2; master = 0; planned = false }) ≡ true
 own_vote = refl
 
 elects_itself : elected asking alone 1 2 ≡ Some (record { epoch = 2 })
@@ -124,7 +124,7 @@ counts_no_longer = refl
 -- ---- votes: all five hold node 5 failed, none has voted; P is node 6, Q is node 7, both ask in epoch 4
 
 abbrev from_node : ℕ → VoteRequest
-from_node candidate = record { candidate = candidate; epoch = 4; master = 5 }
+from_node candidate = record { candidate = candidate; epoch = 4; master = 5; planned = false }
 
 first_comes : may_grant first_voter (seen_by 4) told 3 (from_node 6) ≡ true
 first_comes = refl
@@ -141,7 +141,7 @@ not_even_again = refl
 over_already : may_grant first_voter (seen_by 4) told 5 (from_node 6) ≡ false
 over_already = refl
 
-not_its_replica : may_grant first_voter (seen_by 4) told 3 (record { candidate = 3; epoch = 4; master = 5 }) ≡ false
+not_its_replica : may_grant first_voter (seen_by 4) told 3 (record { candidate = 3; epoch = 4; master = 5; planned = false }) ≡ false
 not_its_replica = refl
 
 holds_no_failure : may_grant first_voter (seen_by 4) first_health 3 (from_node 6) ≡ false

@@ -54,7 +54,12 @@ next_epoch current = if nat_lt current (2 ^ 64 - 1) then Some (current + 1) else
 -- an election begins without a grant, and ends the one before
 abbrev pub begun : Candidate → Option ℕ → Candidate
 begun candidate None = candidate
-begun candidate (Some epoch) = record candidate { started = Some 0; election = Some (record { epoch = epoch; granted = row false }) }
+begun candidate (Some epoch) = record candidate { started = Some 0; election = Some (record { epoch = epoch; granted = row false }); planned = false }
+
+-- one for which the master hands over is apart from the waits for a failed one
+abbrev pub begun_planned : Candidate → Option ℕ → Candidate
+begun_planned candidate None = candidate
+begun_planned candidate (Some epoch) = record candidate { election = Some (record { epoch = epoch; granted = row false }); planned = true }
 
 -- ---- grants
 

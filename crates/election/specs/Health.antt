@@ -1,6 +1,6 @@
 -- What a node holds of the others, its votes, and its own election (Redis Cluster specification, "Failure detection", "Replica
 -- election and promotion"; rows for 16 nodes, and ages in ticks, are ours).
-use Rattle.std.specs.Prelude.{ℕ, Bool, List, Option, None, replicate}
+use Rattle.std.specs.Prelude.{ℕ, Bool, false, List, Option, None, replicate}
 pub use Rattle.election.specs.declared.report.Report.{Report}
 
 -- for each node the ticks since it was heard of, and its last report: whom that names, and how many ticks ago it came
@@ -18,11 +18,12 @@ pub record Election : Type 0 where
   pub granted : List Bool
 
 -- how many ticks ago the node's own master came to be held failed, and how many ticks ago the node began an election since; the
--- election that runs
+-- election that runs, and whether it is one for which the master hands its slots over
 pub record Candidate : Type 0 where
   pub failed : Option ℕ
   pub started : Option ℕ
   pub election : Option Election
+  pub planned : Bool
 
 -- ---- the start
 
@@ -38,4 +39,4 @@ abbrev pub first_voter : Voter
 first_voter = record { last_vote = 0 }
 
 abbrev pub no_candidate : Candidate
-no_candidate = record { failed = None; started = None; election = None }
+no_candidate = record { failed = None; started = None; election = None; planned = false }

@@ -1,9 +1,9 @@
 //! The election of a replica in the place of its master.
 ghost use Rattle.std.specs.Prelude.{◌≡◌, ◌*◌};
-ghost use Rattle.election.specs.Electing.{after_grant, begun, counted, elected, elected_in, is_due, is_held_failed, is_over, is_past, judged, lasting, next_epoch, ticked_candidate};
+ghost use Rattle.election.specs.Electing.{after_grant, begun, begun_planned, counted, elected, elected_in, is_due, is_held_failed, is_past, judged, lasting, next_epoch, ticked_candidate};
 ghost use Rattle.election.specs.Health.{no_candidate};
 
-use crate::ages::older_if_any;
+use crate::ages::{is_over, older_if_any};
 use crate::health::Health;
 use crate::members::Members;
 use crate::running::{Elected, Election};
@@ -21,6 +21,8 @@ pub struct Candidate {
     started: Option<u32>,
     // The one that runs.
     election: Option<Election>,
+    // Whether the master hands its slots over for it.
+    planned: bool,
 }
 
 impl Model for Candidate {
@@ -32,12 +34,14 @@ impl Model for Candidate {
       failed = candidate.failed;
       started = candidate.started;
       election = candidate.election;
+      planned = candidate.planned;
     } };
 
     ghost inverse = { λ candidate. record {
       failed = candidate.failed;
       started = candidate.started;
       election = candidate.election;
+      planned = candidate.planned;
     } };
 }
 
@@ -50,6 +54,7 @@ impl Candidate {
             failed: None,
             started: None,
             election: None,
+            planned: false,
         }
     }
 
@@ -98,7 +103,26 @@ impl Candidate {
         let epoch = Epoch::new(current.get().checked_add(1)?);
         self.started = Some(0);
         self.election = Some(Election::new(epoch));
+        self.planned = false;
         Some(epoch)
+    }
+
+    /// The same where the master hands its slots over: it is apart from the waits for a master that is held failed.
+    pub fn start_planned(&mut self, current: Epoch) -> Option<Epoch>
+        ensures epoch { result ≡ next_epoch current }
+        ensures state { self.new ≡ begun_planned self.old result }
+    {
+        let next = Epoch::new(current.get().checked_add(1)?);
+        self.election = Some(Election::new(next));
+        self.planned = true;
+        Some(next)
+    }
+
+    /// Whether the master hands its slots over for the election that began last.
+    pub fn is_planned(&self) -> bool
+        ensures { result ≡ self.now.planned }
+    {
+        self.planned
     }
 
     /// A node votes for this one in that epoch. It counts once, if an election of that epoch runs and the node is a voter.
@@ -175,15 +199,5 @@ fn is_past(age: Option<u32>, place: usize) -> bool
     match age {
         None => false,
         Some(age) => place < age as usize,
-    }
-}
-
-// Whether nothing began, or so many ticks ago.
-fn is_over(age: Option<u32>, wait: u64) -> bool
-    ensures { result ≡ is_over age wait }
-{
-    match age {
-        None => true,
-        Some(age) => wait <= age as u64,
     }
 }

@@ -11,6 +11,7 @@ mod rows;
 mod running;
 mod voter;
 
+pub use ages::{is_over, older_if_any};
 pub use candidate::Candidate;
 pub use health::Health;
 pub use law::{

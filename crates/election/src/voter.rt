@@ -17,6 +17,8 @@ pub struct VoteRequest {
     pub epoch: Epoch,
     /// The master.
     pub master: NodeNo,
+    /// The master hands its slots over.
+    pub planned: bool,
 }
 
 /// The last epoch in which a node voted: so it votes at most once an epoch. No call takes memory.
@@ -48,7 +50,7 @@ impl Voter {
     /// Whether the node votes for the candidate, and then that is remembered. `current` is the greatest epoch that the node knows.
     ///
     /// It does if it is a voter, if it has not voted in this epoch or a later one, if the epoch is not below its current one, if it
-    /// takes the candidate for a replica of the master, and if it holds the master failed.
+    /// takes the candidate for a replica of the master, and if it holds the master failed or the master hands over.
     pub fn on_request(
         &mut self,
         members: &Members,
@@ -63,7 +65,7 @@ impl Voter {
             && self.last_vote < request.epoch
             && current <= request.epoch
             && members.follows(request.candidate, request.master)
-            && health.has_failed(members, request.master);
+            && (request.planned || health.has_failed(members, request.master));
         if grants {
             self.last_vote = request.epoch;
         }

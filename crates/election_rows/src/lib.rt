@@ -5,6 +5,6 @@ mod promotion;
 mod signs;
 mod votes;
 
-pub use promotion::promote;
+pub use promotion::{promote, promote_by_plan};
 pub use signs::append_signs;
 pub use votes::{append_requests, write_vote};

@@ -1,9 +1,9 @@
 //! A replica takes the place of its master.
-ghost use Rattle.std.specs.Prelude.{◌≡◌, IfOk, OnOk, Some, length, map};
+ghost use Rattle.std.specs.Prelude.{◌≡◌, IfOk, OnOk, Some, false, length, map, true};
 ghost use Rattle.node_parts.specs.Drafts.{HasNothing, Promotes};
 ghost use Rattle.node_parts.specs.Succession.{replacement};
 ghost use Rattle.node_step.specs.Orders.{others, to_all};
-ghost use Rattle.node_step.specs.Promotion.{entry_after, promotion};
+ghost use Rattle.node_step.specs.Promotion.{entry_after, promotion, promotion_to, table_handed, table_of_master};
 ghost use Rattle.slot_table.specs.Claims.{is_above};
 ghost use Rattle.slot_table.specs.Runs.{runs_of};
 ghost use Rattle.slot_table.specs.Table.{claim_at};
@@ -13,11 +13,11 @@ use key_slot::Slot;
 use node_parts::{Draft, NodeParts, Succession};
 use repl_stream::Stream;
 use slot_store::{SlotKeys, SlotParts};
-use slot_table::{Epoch, NodeNo, SlotEntry, SlotTable};
+use slot_table::{Claim, Epoch, NodeNo, SlotEntry, SlotTable};
 use std::alloc::AllocError;
 use stream_values::StreamId;
 
-/// Promotes the node in the place of its master, by an election of that epoch: all other nodes get its claim.
+/// Promotes the node in the place of its master, by an election of that epoch: all slots that it knows for the master's are its own.
 pub fn promote<S: SlotParts + SlotKeys, T: Stream>(
     node: &NodeParts<S, T>,
     master: NodeNo,
@@ -27,13 +27,47 @@ pub fn promote<S: SlotParts + SlotKeys, T: Stream>(
     requires { HasNothing node.now draft.old }
     ensures { OnOk result (Promotes node.now (promotion node.now epoch (Some master)) draft.new) }
 {
-    let table = table_after(node, master, epoch)?;
-    let bodies = claims(node, &table, replaced(node, master, epoch))?;
     let succession = Succession {
-        table,
+        table: table_of_master(node, master, epoch)?,
         master,
         epoch,
+        planned: false,
     };
+    promote_by(node, succession, draft)
+}
+
+/// Promotes the node in the place of its master, by an election of that epoch for which the master hands over: these slots are its
+/// own.
+pub fn promote_by_plan<S: SlotParts + SlotKeys, T: Stream>(
+    node: &NodeParts<S, T>,
+    master: NodeNo,
+    epoch: Epoch,
+    slots: &Claim,
+    draft: &mut Draft,
+) -> Result<(), AllocError>
+    requires { HasNothing node.now draft.old }
+    ensures { OnOk result (Promotes node.now (promotion_to node.now master epoch true (table_handed node.now slots.now epoch)) draft.new) }
+{
+    let succession = Succession {
+        table: table_handed(node, slots, epoch)?,
+        master,
+        epoch,
+        planned: true,
+    };
+    promote_by(node, succession, draft)
+}
+
+// All other nodes get the node's claim.
+fn promote_by<S: SlotParts + SlotKeys, T: Stream>(
+    node: &NodeParts<S, T>,
+    succession: Succession,
+    draft: &mut Draft,
+) -> Result<(), AllocError>
+    requires { HasNothing node.now draft.old }
+    ensures { OnOk result (Promotes node.now (promotion_to node.now succession.master succession.epoch succession.planned succession.table) draft.new) }
+{
+    let replaced = replaced(node, succession.master, succession.epoch);
+    let bodies = claims(node, &succession.table, replaced)?;
     node.write_promotion(draft, bodies, succession);
     Ok(())
 }
@@ -73,16 +107,30 @@ fn replaced<S: SlotParts + SlotKeys, T: Stream>(
 }
 
 // The slots of the master are the node's own, each in the epoch of its election.
-fn table_after<S: SlotParts + SlotKeys, T: Stream>(
+fn table_of_master<S: SlotParts + SlotKeys, T: Stream>(
     node: &NodeParts<S, T>,
     master: NodeNo,
     epoch: Epoch,
 ) -> Result<SlotTable, AllocError>
-    ensures { IfOk result (λ table. table ≡ map (entry_after master (record { epoch = epoch; owner = node.now.number })) node.now.table) }
+    ensures { IfOk result (λ table. table ≡ table_of_master node.now master epoch) }
 {
     let owner = node.number;
     let mut table = node.table.clone()?;
     claim_all(&mut table, master, &SlotEntry { epoch, owner });
+    Ok(table)
+}
+
+// So are these slots, whatever the node knows of their owners.
+fn table_handed<S: SlotParts + SlotKeys, T: Stream>(
+    node: &NodeParts<S, T>,
+    slots: &Claim,
+    epoch: Epoch,
+) -> Result<SlotTable, AllocError>
+    ensures { IfOk result (λ table. table ≡ table_handed node.now slots.now epoch) }
+{
+    let claim = slots.in_epoch(node.alloc, epoch)?;
+    let mut table = node.table.clone()?;
+    table.take(node.number, &claim);
     Ok(table)
 }
 

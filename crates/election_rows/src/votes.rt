@@ -31,7 +31,11 @@ pub fn append_requests<S: SlotParts + SlotKeys, T: Stream>(
     let Some(master) = node.own_master() else {
         return Ok(());
     };
-    let request = Body::Request(Request { epoch, master });
+    let request = Body::Request(Request {
+        epoch,
+        master,
+        planned: node.may_take_over(),
+    });
     append_to_voters(node, &request, bodies)?;
     Ok(())
 }

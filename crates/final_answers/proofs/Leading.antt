@@ -26,7 +26,7 @@ use Rattle.redirect.specs.Asked.{Asked, all_there, are_several, is_frozen, is_ri
 use Rattle.redirect.specs.Decision.{at_owner, by_keys, has_other_slot, in_slot, state_at}
 use Rattle.redirect.specs.declared.decision.Decision.{Decision}
 use Rattle.redirect.specs.declared.decision.Decision.TheVariants.{Serve, ServeImport, CrossSlot, Down, TryAgain, Ask, Moved}
-use Rattle.redirect.specs.declared.decision.Reason.TheVariants.{Frozen, SomeAreMissing}
+use Rattle.redirect.specs.declared.decision.Reason.TheVariants.{Frozen, SomeAreMissing, HandingOver}
 use Rattle.redirection.specs.Redirection.{IsMove}
 use Rattle.reply_meaning.proofs.Executions.{told}
 use Rattle.reply_meaning.proofs.RefusalKinds.{other_so}
@@ -79,7 +79,7 @@ module _ (slot : ℕ) (below : slot < 16384) where
       either IsSound (is_frozen frozen asked.keys) _ _ tt
       (either IsSound (all_there asked) _ _ tt (either IsSound (none_there asked) (Ask slot to number) (TryAgain SomeAreMissing) (below, is) tt))
   slot_sound None Owned asked is = tt
-  slot_sound (Some owner) Owned asked is = tt
+  slot_sound (Some owner) Owned asked is = either IsSound asked.paused (TryAgain HandingOver) Serve tt tt
   slot_sound owner Foreign asked is = owner_sound owner
 
 state_so : (owner : Option ℕ) (move : Option Move) (node : ℕ) → ((one : Move) → move ≡ Some one → IsNameable one) → MovesSo (state_of owner move node)
@@ -154,6 +154,7 @@ module _ (node : NodeState) (cluster_is : IsCluster node.config) (numbered : Boo
   command_can which Down sound = other node.config.nodes numbered (error_text line.SlotDown) refl
   command_can which (TryAgain Frozen) sound = other node.config.nodes numbered (error_text line.KeyFrozen) refl
   command_can which (TryAgain SomeAreMissing) sound = other node.config.nodes numbered (error_text line.SomeKeysMissing) refl
+  command_can which (TryAgain HandingOver) sound = other node.config.nodes numbered (error_text line.HandingOver) refl
   command_can which (Ask slot to number) sound = ask_can node.config cluster_is slot to number sound numbered (slice_get node.config.nodes to) refl
   command_can which (Moved slot to) sound = moved_can node.config cluster_is slot to sound numbered (slice_get node.config.nodes to) refl
 

@@ -5,7 +5,7 @@ use Rattle.std.specs.FinMap as map
 use Rattle.std.specs.Ordering.{nat_cmp}
 use Rattle.std.specs.Prelude.{◌-◌, MatchBool, Result, Ok, Err, nat_lt, ⊤}
 use Rattle.bus.specs.declared.message.Body.{Body}
-use Rattle.bus.specs.declared.message.Body.TheVariants.{Copy, Ack, Drained, Claim, Report, Request as Requested, Grant, Sync, Piece, Snapshot}
+use Rattle.bus.specs.declared.message.Body.TheVariants.{Copy, Ack, Drained, Claim, Report, Request as Requested, Grant, Sync, Piece, Snapshot, Pause, Paused}
 use Rattle.bus.specs.declared.message.Message.{Message}
 use Rattle.cluster_config.specs.Config.{ClusterConfig}
 use Rattle.command_table.specs.Table.{command_of}
@@ -38,12 +38,12 @@ use Rattle.election.specs.declared.running.Elected.{Elected}
 use Rattle.node_step.proofs.Ready.{in_election_keeps, ready_keeps}
 use Rattle.node_step.specs.Failing.{a_tick_older, members_of}
 use Rattle.node_step.specs.Messages.{Choice, delivered, ready, taken, taken_so, written_by_message}
-use Rattle.node_step.specs.Promotion.{promotion}
+use Rattle.node_step.specs.Promotion.{handed_promotion, promotion, promotion_to, table_handed}
 use Rattle.node_step.specs.Voting.{due_epoch, if_elected}
 use Rattle.node_step.specs.Orders.{ending_outcome, ending_verdict, import_outcome, migrate_outcome}
 use Rattle.node_step.specs.Outcome.{Outcome, silent}
 use Rattle.node_step.specs.Requests.{asking_of, by_command, cluster_outcome, is_numbered, node_with_id, order_outcome, request_outcome, using_up}
-use Rattle.node_step.specs.State.{NodeState, first_state, own_master, standing}
+use Rattle.node_step.specs.State.{NodeState, first_state, is_replica, own_master, standing}
 use Rattle.node_step.specs.Ticks.{slots_tick}
 use Rattle.node_step.specs.Step.{IsAnswering, IsClosing, MayCome, NodeStep, written}
 use Rattle.node_step.specs.declared.event.Event.{Event}
@@ -67,8 +67,13 @@ use Rattle.slot_state.specs.declared.migrating.MigrateVerdict.TheVariants as mig
 use Rattle.slot_state.specs.declared.order.Standing.{Standing}
 use Rattle.slot_state.specs.declared.running.Move.{Move}
 use Rattle.slot_state.specs.declared.running.Move.TheVariants.{Leaves, Comes}
+use Rattle.slot_state.specs.declared.copy_id.CopyId.{CopyId}
 use Rattle.slot_table.specs.Claims.{merged}
 use Rattle.final_answers.proofs.OrderWords.{AsksWithin, words_within}
+use Rattle.node_step.specs.Handovers.{failover, handing_over, is_at_end, may_pause, noting}
+use Rattle.bus.specs.declared.message.Handing.{Handing}
+use Rattle.stream_values.specs.Stream.{is_same}
+use Rattle.slot_table.specs.declared.entry.SlotEntry.{SlotEntry}
 
 abbrev number_of : Move → ℕ
 number_of (Leaves to number copies frozen) = number
@@ -157,7 +162,7 @@ import_beside_so at None last from asked is = new_import_so at.owner at.node las
 import_so : (at : Standing) (move : Option Move) (last : ℕ) (from asked : Option ℕ) → IsMove asked → ImportsSo (import_verdict at move last from asked)
 import_so at move last None asked is = tt
 import_so at move last (Some from) asked is =
-    either ImportsSo (from == at.node) _ _ tt (either ImportsSo at.is_replica _ _ tt (import_beside_so at move last from asked is))
+    either ImportsSo (from == at.node) _ _ tt (either ImportsSo at.is_replica _ _ tt (either ImportsSo at.is_paused _ _ tt (import_beside_so at move last from asked is)))
 
 abbrev MigratesSo : MigrateVerdict → Type 0
 MigratesSo (migrate.Begins to number) = IsMove (Some number)
@@ -180,11 +185,12 @@ migrate_beside_so at None last to asked is = new_migration_so at.owner at.node l
 migrate_so : (at : Standing) (move : Option Move) (last : ℕ) (to asked : Option ℕ) → IsMove asked → MigratesSo (migrate_verdict at move last to asked)
 migrate_so at move last None asked is = tt
 migrate_so at move last (Some to) asked is =
-    either MigratesSo (to == at.node) _ _ tt (either MigratesSo at.is_replica _ _ tt (migrate_beside_so at move last to asked is))
+    either MigratesSo (to == at.node) _ _ tt (either MigratesSo at.is_replica _ _ tt (either MigratesSo at.is_paused _ _ tt (migrate_beside_so at move last to asked is)))
 
 imported_nameable : (node : NodeState) (slot : ℕ) (verdict : ImportVerdict) → ImportsSo verdict → HasNameable node → HasNameable (import_outcome node slot verdict).state
 imported_nameable node slot import.UnknownNode so all = all
 imported_nameable node slot import.Already so all = all
+imported_nameable node slot import.HandingOver so all = all
 imported_nameable node slot import.Busy so all = all
 imported_nameable node slot import.AlreadyOwner so all = all
 imported_nameable node slot import.NotOwner so all = all
@@ -194,6 +200,7 @@ imported_nameable node slot (import.Begins from number) so all = put_nameable no
 migrated_nameable : (node : NodeState) (slot : ℕ) (verdict : MigrateVerdict) → MigratesSo verdict → HasNameable node → HasNameable (migrate_outcome node slot verdict).state
 migrated_nameable node slot migrate.UnknownNode so all = all
 migrated_nameable node slot migrate.Already so all = all
+migrated_nameable node slot migrate.HandingOver so all = all
 migrated_nameable node slot migrate.Busy so all = all
 migrated_nameable node slot migrate.NotOwner so all = all
 migrated_nameable node slot migrate.OldMove so all = all
@@ -261,6 +268,10 @@ command_nameable node numbered command (TryAgain reason) all = all
 command_nameable node numbered command (Ask slot to number) all = all
 command_nameable node numbered command (Moved slot to) all = all
 
+failover_nameable : (node : NodeState) (master : Option ℕ) → HasNameable node → HasNameable (failover node master).state
+failover_nameable node None all = all
+failover_nameable node (Some master) all = all
+
 cluster_nameable : (node : NodeState) (conn : Conn) (command : ClusterCommand) → AsksWithin (Ok (Cluster command)) → HasNameable node → HasNameable (cluster_outcome node conn command).state
 cluster_nameable node conn (cluster.KeySlot key) asks all = all
 cluster_nameable node conn cluster.MyId asks all = all
@@ -270,6 +281,7 @@ cluster_nameable node conn (cluster.GetKeysInSlot slot count) asks all = all
 cluster_nameable node conn (cluster.SlotState slot) asks all = all
 cluster_nameable node conn (cluster.SetSlot slot order id number) asks all = order_nameable node slot order (node_with_id node id) number asks all
 cluster_nameable node conn cluster.Numbered asks all = all
+cluster_nameable node conn cluster.Failover asks all = failover_nameable node (own_master node) all
 cluster_nameable node conn (cluster.Asking number) asks all = all
 cluster_nameable node conn (cluster.Migrate host port keys timeout) asks all =
     copied_nameable node conn (first_slot keys) (those_there node.keyspace keys) timeout (copy_verdict_on node keys (node_at node host port))
@@ -303,23 +315,37 @@ arrival_nameable moves slot arrives.Installs all = changed_nameable moves slot o
 arrival_nameable moves slot arrives.Repeats all = all
 arrival_nameable moves slot arrives.Ignored all = all
 
-acknowledged_nameable : (node : NodeState) (slot number copy : ℕ) (keys : Option (List (List ℕ))) → HasNameable node → HasNameable (acknowledged node slot number copy keys).state
-acknowledged_nameable node slot number copy None all = all
-acknowledged_nameable node slot number copy (Some keys) all = changed_nameable node.moves slot unfrozen unfrozen_same all
+acknowledged_nameable : (node : NodeState) (id : CopyId) (keys : Option (List (List ℕ))) → HasNameable node → HasNameable (acknowledged node id keys).state
+acknowledged_nameable node id None all = all
+acknowledged_nameable node id (Some keys) all = changed_nameable node.moves id.slot unfrozen unfrozen_same all
 
 -- what comes of a vote, whether it elects the node or not
-elected_keeps : (P : Outcome → Type 0) (node : NodeState) (won : Option Elected) → P (silent node) → ((epoch master : ℕ) → P (promotion node epoch (Some master))) → P (if_elected node won)
+elected_keeps : (P : Outcome → Type 0) (node : NodeState) (won : Option Elected) → P (silent node)
+    → ((master epoch : ℕ) (planned : Bool) (table : List (Option SlotEntry)) → P (promotion_to node master epoch planned table)) → P (if_elected node won)
 elected_keeps P node None silent_one promoted = silent_one
-elected_keeps P node (Some elected) silent_one promoted = by_master (own_master node)
+elected_keeps P node (Some elected) silent_one promoted = by_plan node.candidate.planned
   where
     by_master : (master : Option ℕ) → P (promotion node elected.epoch master)
     by_master None = silent_one
-    by_master (Some master) = promoted elected.epoch master
+    by_master (Some master) = promoted master elected.epoch false _
+
+    handed : (master : Option ℕ) (told : Option Handing) → P (handed_promotion node elected.epoch master told)
+    handed None told = silent_one
+    handed (Some master) None = silent_one
+    handed (Some master) (Some handing) = by_place (is_at_end node.stream (Some handing))
+      where
+        by_place : (b : Bool) → P (cond b (promotion_to node master elected.epoch true (table_handed node handing.slots elected.epoch)) (silent node))
+        by_place true = promoted master elected.epoch true _
+        by_place false = silent_one
+
+    by_plan : (planned : Bool) → P (cond planned (handed_promotion node elected.epoch (own_master node) node.handover.note) (promotion node elected.epoch (own_master node)))
+    by_plan true = handed (own_master node) node.handover.note
+    by_plan false = by_master (own_master node)
 
 taken_so_nameable : (node : NodeState) (from : ℕ) (choice : Choice) (body : Body) → HasNameable node → HasNameable (taken_so node from choice body).state
-taken_so_nameable node from choice (Copy slot number copy pairs) all =
-    arrival_nameable node.moves slot (arrival_verdict (move_of node.moves slot) from number copy (keep_limits pairs)) all
-taken_so_nameable node from choice (Ack slot number copy) all = acknowledged_nameable node slot number copy (acknowledged_keys (move_of node.moves slot) from number copy) all
+taken_so_nameable node from choice (Copy id pairs) all =
+    arrival_nameable node.moves id.slot (arrival_verdict (move_of node.moves id.slot) from id.number id.copy (keep_limits pairs)) all
+taken_so_nameable node from choice (Ack id) all = acknowledged_nameable node id (acknowledged_keys (move_of node.moves id.slot) from id.number id.copy) all
 taken_so_nameable node from choice (Drained slot number epoch) all = changed_nameable node.moves slot (note_drained from number epoch) (noted_same from number epoch) all
 taken_so_nameable node from choice (Claim slots replaced) all =
     either (λ (outcome : Outcome). HasNameable outcome.state) (from == node.number) (silent node) (claimed_by node (merged node.table slots from)) all
@@ -327,10 +353,14 @@ taken_so_nameable node from choice (Claim slots replaced) all =
 taken_so_nameable node from choice (Report suspects) all = all
 taken_so_nameable node from choice (Requested request) all = all
 taken_so_nameable node from choice (Grant epoch) all =
-    elected_keeps (λ (outcome : Outcome). HasNameable outcome.state) _ (elected node.candidate (members_of node) from epoch) all (λ won master. all)
+    elected_keeps (λ (outcome : Outcome). HasNameable outcome.state) _ (elected node.candidate (members_of node) from epoch) all (λ master won planned table. all)
 taken_so_nameable node from choice (Sync sync) all = synced_is (λ (outcome : Outcome). HasNameable outcome.state) node from sync all all
 taken_so_nameable node from choice (Piece piece) all = pieced_keeps HasNameable node (λ stream keyspace. all) from piece choice.follower
 taken_so_nameable node from choice (Snapshot snapshot) all = restored_keeps HasNameable node (λ stream keyspace. all) from snapshot
+taken_so_nameable node from choice (Pause stream) all =
+    either (λ (outcome : Outcome). HasNameable outcome.state) (may_pause node from stream) (handing_over node from) (silent node) all all
+taken_so_nameable node from choice (Paused handing) all =
+    either HasNameable (is_replica node && is_same handing.stream node.stream.held.id) (record node { handover = noting node.handover handing }) node all all
 
 taken_nameable : (node : NodeState) (from : ℕ) (choice : Choice) (body : Body) → HasNameable node → HasNameable (taken node from choice body).state
 taken_nameable node from choice body all =
@@ -340,7 +370,7 @@ delivered_nameable : (node : NodeState) (message : Message) (choice : Choice) �
 delivered_nameable node message choice all =
     either (λ (outcome : Outcome). HasNameable outcome.state) (message.to == node.number) (taken (ready node message) message.from choice message.body) (silent node)
     (ready_keeps (λ (own : NodeState). HasNameable (taken own message.from choice message.body).state) node message
-    (λ epoch masters health candidate as_before goes. taken_nameable (record node { current_epoch = epoch; masters = masters; health = health; candidate = candidate }) message.from choice message.body all)) all
+    (λ epoch masters health candidate handover as_before goes. taken_nameable (record node { current_epoch = epoch; masters = masters; health = health; candidate = candidate; handover = handover }) message.from choice message.body all)) all
 
 -- ---- any event
 
@@ -362,7 +392,7 @@ event_nameable old (Request conn words) outcome may all = answer_nameable old co
 event_nameable old (Deliver message) outcome may all = subst (λ (o : Outcome). HasNameable o.state) (sym may.comes_to) (delivered_nameable old message may.choice all)
 event_nameable old Tick outcome may all =
     let aged = a_tick_older (slots_tick old).state in
-    subst (λ (o : Outcome). HasNameable o.state) (sym may.comes_to) (in_election_keeps HasNameable aged (due_epoch aged) (λ current candidate. all))
+    subst (λ (o : Outcome). HasNameable o.state) (sym may.comes_to) (in_election_keeps HasNameable aged (due_epoch aged) (λ current candidate handover. all))
 
 pub step_nameable : (ticket : ℕ) (old new : NodeState) (event : Event) (outputs : Outputs) → NodeStep ticket old event outputs new → HasNameable old → HasNameable new
 step_nameable ticket old new event outputs step all = subst HasNameable (sym step.state) (event_nameable old event step.outcome step.may_come all)

@@ -1,10 +1,10 @@
 -- A connection whose client said CLUSTER NUMBERED stays so while it is open.
-use Rattle.std.proofs.Common.{◌≡◌, ◌≢◌, ◌<◌, ◌==◌, ◌∙◌, ℕ, Bool, true, false, true≢false, cond, List, Option, None, Some, is_some, refl, sym, ap, subst, inl, inr, arith}
+use Rattle.std.proofs.Common.{◌&&◌, ◌≡◌, ◌≢◌, ◌<◌, ◌==◌, ◌∙◌, ℕ, Bool, true, false, true≢false, cond, List, Option, None, Some, is_some, refl, sym, ap, subst, inl, inr, arith}
 use Rattle.std.proofs.Math.ListN.{get_or-map}
 use Rattle.std.proofs.lemmas.Bool.{cases_eq}
 use Rattle.std.specs.Prelude.{MatchBool, Result, Ok, Err}
 use Rattle.bus.specs.declared.message.Body.{Body}
-use Rattle.bus.specs.declared.message.Body.TheVariants.{Copy, Ack, Drained, Claim, Report, Request as Requested, Grant, Sync, Piece, Snapshot}
+use Rattle.bus.specs.declared.message.Body.TheVariants.{Copy, Ack, Drained, Claim, Report, Request as Requested, Grant, Sync, Piece, Snapshot, Pause, Paused}
 use Rattle.bus.specs.declared.message.Message.{Message}
 use Rattle.command_table.specs.Table.{command_of}
 use Rattle.command_table.specs.declared.command.ClusterCommand.{ClusterCommand}
@@ -32,12 +32,12 @@ use Rattle.election.specs.declared.running.Elected.{Elected}
 use Rattle.node_step.proofs.Ready.{in_election_keeps, ready_keeps}
 use Rattle.node_step.specs.Failing.{a_tick_older, members_of}
 use Rattle.node_step.specs.Messages.{Choice, delivered, ready, taken, taken_so, written_by_message}
-use Rattle.node_step.specs.Promotion.{promotion}
+use Rattle.node_step.specs.Promotion.{handed_promotion, promotion, promotion_to, table_handed}
 use Rattle.node_step.specs.Voting.{due_epoch, if_elected}
 use Rattle.node_step.specs.Orders.{ending_outcome, ending_verdict}
 use Rattle.node_step.specs.Outcome.{Outcome, silent}
 use Rattle.node_step.specs.Requests.{asking_for, asking_of, by_command, cluster_outcome, is_numbered, node_with_id, order_outcome, request_outcome, using_up}
-use Rattle.node_step.specs.State.{NodeState, own_master}
+use Rattle.node_step.specs.State.{NodeState, is_replica, own_master}
 use Rattle.node_step.specs.Ticks.{slots_tick}
 use Rattle.node_step.specs.Step.{IsAnswering, IsClosing, MayCome, NodeStep, answered, written}
 use Rattle.node_step.specs.declared.event.Event.{Event}
@@ -48,13 +48,17 @@ use Rattle.node_step.specs.declared.response.Response.TheVariants.{Nothing, Repl
 use Rattle.redirect.specs.declared.asked.Asking.TheVariants.{No}
 use Rattle.redirect.specs.declared.decision.Decision.{Decision}
 use Rattle.redirect.specs.declared.decision.Decision.TheVariants.{Serve, ServeImport, CrossSlot, Down, TryAgain, Ask, Moved}
-use Rattle.slot_state.specs.Moves.{move_of}
+use Rattle.slot_state.specs.Moves.{copy_id, move_of}
 use Rattle.slot_state.specs.declared.ending.NodeVerdict.{NodeVerdict}
 use Rattle.slot_state.specs.declared.ending.NodeVerdict.TheVariants as ending
+use Rattle.slot_state.specs.declared.copy_id.CopyId.{CopyId}
 use Rattle.slot_table.specs.Claims.{merged}
 use Rattle.slot_table.specs.declared.entry.SlotEntry.{SlotEntry}
 use Rattle.smart_client.specs.Words.{numbered_words}
 use Rattle.world.proofs.Connected.{cases_conn, changed, changed_here, is_not_with, unchanged_there}
+use Rattle.node_step.specs.Handovers.{failover, handing_over, is_at_end, may_pause, noting}
+use Rattle.bus.specs.declared.message.Handing.{Handing}
+use Rattle.stream_values.specs.Stream.{is_same}
 
 -- its client said so, or it isn't open any more
 abbrev pub is_introduced : Option Connection → Bool
@@ -170,9 +174,9 @@ order_stays node slot Importing other number conn is = is
 order_stays node slot Migrating other number conn is = is
 order_stays node slot Node other number conn is = ending_stays node slot (ending_verdict node slot other number) conn is
 
-waiting_stays : (node : NodeState) (conn : Conn) (slot number copy ticks : ℕ) (other : Conn) → introduced_at node.connections other ≡ true
-    → introduced_at (with_change node.connections conn (waiting_for slot number copy ticks)) other ≡ true
-waiting_stays node conn slot number copy ticks other is = changed_introduced node.connections conn (waiting_for slot number copy ticks) (λ connection. refl) (λ connection was. was) other is
+waiting_stays : (node : NodeState) (conn : Conn) (id : CopyId) (ticks : ℕ) (other : Conn) → introduced_at node.connections other ≡ true
+    → introduced_at (with_change node.connections conn (waiting_for id ticks)) other ≡ true
+waiting_stays node conn id ticks other is = changed_introduced node.connections conn (waiting_for id ticks) (λ connection. refl) (λ connection was. was) other is
 
 copy_stays : (node : NodeState) (conn : Conn) (slot : ℕ) (keys : List (List ℕ)) (ticks : ℕ) (verdict : CopyVerdict) → Stays node (copy_outcome node conn slot keys ticks verdict).state
 copy_stays node conn slot keys ticks copies.CrossSlot other is = is
@@ -180,8 +184,12 @@ copy_stays node conn slot keys ticks copies.WrongTarget other is = is
 copy_stays node conn slot keys ticks copies.NoKey other is = is
 copy_stays node conn slot keys ticks copies.CopyOutstanding other is = is
 copy_stays node conn slot keys ticks copies.Exhausted other is = is
-copy_stays node conn slot keys ticks (copies.SendAgain to number copy) other is = waiting_stays node conn slot number copy ticks other is
-copy_stays node conn slot keys ticks (copies.Copies to number copy) other is = waiting_stays node conn slot number copy ticks other is
+copy_stays node conn slot keys ticks (copies.SendAgain to number copy) other is = waiting_stays node conn (copy_id slot number copy) ticks other is
+copy_stays node conn slot keys ticks (copies.Copies to number copy) other is = waiting_stays node conn (copy_id slot number copy) ticks other is
+
+failover_stays : (node : NodeState) (master : Option ℕ) → Stays node (failover node master).state
+failover_stays node None other is = is
+failover_stays node (Some master) other is = is
 
 cluster_stays : (node : NodeState) (conn : Conn) (command : ClusterCommand) → Stays node (cluster_outcome node conn command).state
 cluster_stays node conn (cluster.KeySlot key) other is = is
@@ -193,6 +201,7 @@ cluster_stays node conn (cluster.SlotState slot) other is = is
 cluster_stays node conn (cluster.SetSlot slot order id number) other is = order_stays node slot order (node_with_id node id) number other is
 cluster_stays node conn cluster.Numbered other is =
     changed_introduced node.connections conn (λ connection. record connection { numbered = true }) (λ connection. refl) (λ connection was. refl) other is
+cluster_stays node conn cluster.Failover other is = failover_stays node (own_master node) other is
 cluster_stays node conn (cluster.Asking number) other is =
     changed_introduced node.connections conn (λ connection. record connection { asking = asking_for number }) (λ connection. refl) (λ connection was. was) other is
 cluster_stays node conn (cluster.Migrate host port keys timeout) other is = copy_stays node conn (first_slot keys) (those_there node.keyspace keys) timeout (copy_verdict_on node keys (node_at node host port)) other is
@@ -211,22 +220,36 @@ answered_stays : (node : NodeState) (conn : Conn) (words : List (List ℕ)) (dro
 answered_stays node conn words dropped =
     recorded_keeps (Stays node) (request_outcome node conn (command_of words)) (written node conn words) dropped (λ stream. request_stays node conn words)
 
-acknowledged_stays : (node : NodeState) (slot number copy : ℕ) (keys : Option (List (List ℕ))) → Stays node (acknowledged node slot number copy keys).state
-acknowledged_stays node slot number copy None other is = is
-acknowledged_stays node slot number copy (Some keys) other is = all_freed_introduced node.connections _ other ∙ is
+acknowledged_stays : (node : NodeState) (id : CopyId) (keys : Option (List (List ℕ))) → Stays node (acknowledged node id keys).state
+acknowledged_stays node id None other is = is
+acknowledged_stays node id (Some keys) other is = all_freed_introduced node.connections _ other ∙ is
 
 -- what comes of a vote, whether it elects the node or not
-elected_keeps : (P : Outcome → Type 0) (node : NodeState) (won : Option Elected) → P (silent node) → ((epoch master : ℕ) → P (promotion node epoch (Some master))) → P (if_elected node won)
+elected_keeps : (P : Outcome → Type 0) (node : NodeState) (won : Option Elected) → P (silent node)
+    → ((master epoch : ℕ) (planned : Bool) (table : List (Option SlotEntry)) → P (promotion_to node master epoch planned table)) → P (if_elected node won)
 elected_keeps P node None silent_one promoted = silent_one
-elected_keeps P node (Some elected) silent_one promoted = by_master (own_master node)
+elected_keeps P node (Some elected) silent_one promoted = by_plan node.candidate.planned
   where
     by_master : (master : Option ℕ) → P (promotion node elected.epoch master)
     by_master None = silent_one
-    by_master (Some master) = promoted elected.epoch master
+    by_master (Some master) = promoted master elected.epoch false _
+
+    handed : (master : Option ℕ) (told : Option Handing) → P (handed_promotion node elected.epoch master told)
+    handed None told = silent_one
+    handed (Some master) None = silent_one
+    handed (Some master) (Some handing) = by_place (is_at_end node.stream (Some handing))
+      where
+        by_place : (b : Bool) → P (cond b (promotion_to node master elected.epoch true (table_handed node handing.slots elected.epoch)) (silent node))
+        by_place true = promoted master elected.epoch true _
+        by_place false = silent_one
+
+    by_plan : (planned : Bool) → P (cond planned (handed_promotion node elected.epoch (own_master node) node.handover.note) (promotion node elected.epoch (own_master node)))
+    by_plan true = handed (own_master node) node.handover.note
+    by_plan false = by_master (own_master node)
 
 taken_so_stays : (node : NodeState) (from : ℕ) (choice : Choice) (body : Body) → Stays node (taken_so node from choice body).state
-taken_so_stays node from choice (Copy slot number copy pairs) other is = is
-taken_so_stays node from choice (Ack slot number copy) other is = acknowledged_stays node slot number copy (acknowledged_keys (move_of node.moves slot) from number copy) other is
+taken_so_stays node from choice (Copy id pairs) other is = is
+taken_so_stays node from choice (Ack id) other is = acknowledged_stays node id (acknowledged_keys (move_of node.moves id.slot) from id.number id.copy) other is
 taken_so_stays node from choice (Drained slot number epoch) other is = is
 taken_so_stays node from choice (Claim slots replaced) other is = by_own (from == node.number) (merged node.table slots from)
   where
@@ -236,10 +259,20 @@ taken_so_stays node from choice (Claim slots replaced) other is = by_own (from =
 taken_so_stays node from choice (Report suspects) other is = is
 taken_so_stays node from choice (Requested request) other is = is
 taken_so_stays node from choice (Grant epoch) other is =
-    elected_keeps (λ (o : Outcome). introduced_at o.state.connections other ≡ true) _ (elected node.candidate (members_of node) from epoch) is (λ won master. is)
+    elected_keeps (λ (o : Outcome). introduced_at o.state.connections other ≡ true) _ (elected node.candidate (members_of node) from epoch) is (λ master won planned table. is)
 taken_so_stays node from choice (Sync sync) other is = synced_is (λ (o : Outcome). Stays node o.state) node from sync (λ other is. is) (λ other is. is) other is
 taken_so_stays node from choice (Piece piece) other is = pieced_keeps (Stays node) node (λ stream keyspace other is. is) from piece choice.follower other is
 taken_so_stays node from choice (Snapshot snapshot) other is = restored_keeps (Stays node) node (λ stream keyspace other is. is) from snapshot other is
+taken_so_stays node from choice (Pause stream) other is = by_test (may_pause node from stream)
+  where
+    by_test : (b : Bool) → introduced_at (cond b (handing_over node from) (silent node)).state.connections other ≡ true
+    by_test true = is
+    by_test false = is
+taken_so_stays node from choice (Paused handing) other is = by_test (is_replica node && is_same handing.stream node.stream.held.id)
+  where
+    by_test : (b : Bool) → introduced_at (cond b (record node { handover = noting node.handover handing }) node).connections other ≡ true
+    by_test true = is
+    by_test false = is
 
 taken_stays : (node : NodeState) (from : ℕ) (choice : Choice) (body : Body) → Stays node (taken node from choice body).state
 taken_stays node from choice body =
@@ -251,7 +284,7 @@ delivered_stays node message choice other is = by_node (message.to == node.numbe
     by_node : (here : Bool) → introduced_at (cond here (taken (ready node message) message.from choice message.body) (silent node)).state.connections other ≡ true
     by_node true =
         ready_keeps (λ (own : NodeState). introduced_at (taken own message.from choice message.body).state.connections other ≡ true) node message
-        (λ epoch masters health candidate as_before goes. taken_stays (record node { current_epoch = epoch; masters = masters; health = health; candidate = candidate }) message.from choice message.body other is)
+        (λ epoch masters health candidate handover as_before goes. taken_stays (record node { current_epoch = epoch; masters = masters; health = health; candidate = candidate; handover = handover }) message.from choice message.body other is)
     by_node false = is
 
 -- ---- any event
@@ -279,7 +312,7 @@ event_keeps old Tick outcome may other known is =
     let aged = a_tick_older (slots_tick old).state in
     subst (λ (o : Outcome). introduced_at o.state.connections other ≡ true) (sym may.comes_to)
     (in_election_keeps (λ (node : NodeState). introduced_at node.connections other ≡ true) aged (due_epoch aged)
-    (λ current candidate. all_aged_introduced (all_freed old.connections is_over) other ∙ all_freed_introduced old.connections is_over other ∙ is))
+    (λ current candidate handover. all_aged_introduced (all_freed old.connections is_over) other ∙ all_freed_introduced old.connections is_over other ∙ is))
 
 pub step_keeps : (ticket : ℕ) (old new : NodeState) (event : Event) (outputs : Outputs) → NodeStep ticket old event outputs new → Keeps old new
 step_keeps ticket old new event outputs step conn known is =

@@ -85,6 +85,8 @@ subcommand_within (Some subcommand.SetSlot) (slot ∷ order ∷ id ∷ number �
 subcommand_within (Some subcommand.SetSlot) (slot ∷ order ∷ id ∷ number ∷ other ∷ rest) = tt
 subcommand_within (Some subcommand.Numbered) [] = tt
 subcommand_within (Some subcommand.Numbered) (other ∷ rest) = tt
+subcommand_within (Some subcommand.Failover) [] = tt
+subcommand_within (Some subcommand.Failover) (other ∷ rest) = tt
 
 cluster_within : (arguments : List (List ℕ)) → AsksWithin (with_subcommands arguments)
 cluster_within [] = tt

@@ -3,7 +3,7 @@
 use crate::masters::Masters;
 use crate::source::Source;
 use crate::verbs::{
-    AFTER, After, Argument, FEW_REPETITIONS, FEW_TRIES, FIRST_PORT, Kind, VERBS, Verb,
+    AFTER, After, Argument, FEW_REPETITIONS, FEW_SECONDS, FEW_TRIES, FIRST_PORT, Kind, VERBS, Verb,
 };
 use clap::builder::ValueParser;
 use clap::{Arg, ArgAction, ArgMatches, Command, Error};
@@ -28,6 +28,8 @@ pub enum Call<'a> {
     },
     /// To move slots from one master to another.
     Reshard(Resharding<'a>),
+    /// To have a replica take the place of its master.
+    Failover(Failover<'a>),
     /// To play a script in a cluster that a file describes.
     Simulate {
         /// The path of the cluster's file.
@@ -69,6 +71,17 @@ pub struct Resharding<'a> {
     pub slots: &'a str,
     /// How often a node may be asked the same again.
     pub limit: u64,
+}
+
+/// A replica that is to take the place of its master, as the words say it.
+#[derive(Clone, Copy)]
+pub struct Failover<'a> {
+    /// The address of the node that the run begins with.
+    pub address: &'a str,
+    /// The replica, as its id or its number.
+    pub node: &'a str,
+    /// For how many seconds the run may wait.
+    pub seconds: u64,
 }
 
 /// Reads the words of a command line, the program's name first. The other text is that of [`script_help`](crate::script_help).
@@ -180,6 +193,9 @@ fn call_of<'a>(alloc: Global, matches: &ArgMatches<'a>) -> Result<Call<'a>, Erro
     if let Some(reshard) = matches.subcommand_matches("reshard") {
         return Ok(reshard_call(reshard));
     }
+    if let Some(failover) = matches.subcommand_matches("failover") {
+        return Ok(failover_call(failover));
+    }
     Ok(serve_call(alloc, matches.subcommand_matches("serve"))?)
 }
 
@@ -242,6 +258,14 @@ fn reshard_call<'a>(reshard: &ArgMatches<'a>) -> Call<'a> {
         to: text(reshard, "to"),
         slots: text(reshard, "slots"),
         limit: reshard.get_one::<u64>("limit").unwrap_or(FEW_REPETITIONS),
+    })
+}
+
+fn failover_call<'a>(failover: &ArgMatches<'a>) -> Call<'a> {
+    Call::Failover(Failover {
+        address: text(failover, "addr"),
+        node: text(failover, "node"),
+        seconds: failover.get_one::<u64>("wait").unwrap_or(FEW_SECONDS),
     })
 }
 

@@ -9,7 +9,7 @@ mod source;
 mod steps;
 mod verbs;
 
-pub use arguments::{Call, Resharding, Service, read_call};
+pub use arguments::{Call, Failover, Resharding, Service, read_call};
 pub use failure::{InputFailure, InputFault};
 pub use files::{read_cluster, read_steps};
 pub use masters::Masters;

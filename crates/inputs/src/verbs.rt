@@ -12,6 +12,11 @@ pub const FEW_REPETITIONS: u64 = 1000;
 
 const MOST_REPETITIONS: u64 = 1_000_000;
 
+/// For how many seconds a run that hands over waits where nothing is said.
+pub const FEW_SECONDS: u64 = 30;
+
+const MOST_SECONDS: u64 = 1_000_000;
+
 /// After how many ticks at most the program may be asked to end, and a node to stop.
 pub const MOST_TICKS: u64 = 1_000_000;
 
@@ -76,7 +81,7 @@ pub enum Kind {
 }
 
 /// The verbs, in the order of the help.
-pub static VERBS: [Verb; 4] = [
+pub static VERBS: [Verb; 5] = [
     Verb {
         name: "serve",
         about: "Serves all nodes of a cluster, each at its own address",
@@ -112,6 +117,12 @@ pub static VERBS: [Verb; 4] = [
         about: "Moves slots from one master to another, and prints a line for each slot",
         arguments: &[ADDRESS, FROM, TO, SLOTS, LIMIT],
         after: After::Text(AFTER_RESHARD),
+    },
+    Verb {
+        name: "failover",
+        about: "Has a replica take the place of its master, which hands its slots over, and prints a line",
+        arguments: &[REPLICA_ADDRESS, REPLICA, WAIT],
+        after: After::Text(AFTER_FAILOVER),
     },
 ];
 
@@ -220,7 +231,7 @@ const JOURNAL: Argument = Argument {
 const LOG: Argument = Argument {
     name: "log",
     value_name: "",
-    help: "Tells on standard error of each client that can't be served, and why, of each slot that arrives at a node or leaves it, and of each node that is promoted, behind the seconds since the beginning",
+    help: "Tells on standard error of each client that can't be served, and why, of each slot that arrives at a node or leaves it, of each master that hands over, and of each node that is promoted, behind the seconds since the beginning",
     kind: Kind::Flag,
 };
 
@@ -283,6 +294,30 @@ const LIMIT: Argument = Argument {
     kind: Kind::Number {
         least: 0,
         most: MOST_REPETITIONS,
+    },
+};
+
+const REPLICA_ADDRESS: Argument = Argument {
+    name: "addr",
+    value_name: "HOST:PORT",
+    help: "The replica; or any node, where the ids of nodes are their numbers and the ports rise with them, as in a cluster without a file",
+    kind: Kind::Text,
+};
+
+const REPLICA: Argument = Argument {
+    name: "node",
+    value_name: "ID|NUMBER",
+    help: "The replica: its id, or a number from 0 to 15, which stands for the id that has it in hexadecimal digits behind zeros",
+    kind: Kind::Text,
+};
+
+const WAIT: Argument = Argument {
+    name: "wait",
+    value_name: "SECONDS",
+    help: "For how long the run waits, 0 to 1000000, 30 if missing; then it ends with H4, and the replica goes on to ask its master",
+    kind: Kind::Number {
+        least: 0,
+        most: MOST_SECONDS,
     },
 };
 
@@ -355,5 +390,22 @@ Codes:\n  \
 V1  a node was asked the same again as often as --limit allows\n  \
 V2  a node can't be reached, the connection to it failed, or no master with slots has one of the ids\n  \
 V3  a node refused, as where the slot belongs to neither master, or no next number of a move is left\n  \
+F3  memory was refused\n  \
+F4  the output can't be written, and so this code isn't either";
+
+const AFTER_FAILOVER: &str = "\
+Each master is asked first whether a slot of it is on the move: a master with such a slot hands nothing over.\n\
+Where the run waits for three seconds, it tells for what, and again as that wait becomes longer.\n\n\
+Exit status:\n  \
+0  the replica has the slots of its master, and the nodes know of it\n  \
+1  a fault, whose code is printed as `fault H1`\n  \
+2  an argument is wrong or missing\n\n\
+Codes:\n  \
+H1  no node of the id is found from the address\n  \
+H2  the node is a master\n  \
+H3  a slot of the node's master is on the move, and the node was not asked\n  \
+H4  the node was asked, and hasn't taken the place in time; it goes on to ask its master\n  \
+H5  a node can't be reached, or the connection to it failed\n  \
+H6  a node answered as none does\n  \
 F3  memory was refused\n  \
 F4  the output can't be written, and so this code isn't either";

@@ -7,7 +7,8 @@ use Rattle.redirect.specs.declared.decision.Decision.{Decision}
 use Rattle.redirect.specs.declared.decision.Decision.TheVariants.{Serve, ServeImport, CrossSlot, Down, TryAgain, Ask, Moved}
 use Rattle.node_parts.specs.Drafts.{Drafts}
 use Rattle.node_parts.specs.declared.draft.Draft.{Draft}
-use Rattle.key_rows.specs.Refusals.{is_served, refusal}
+use Rattle.key_rows.specs.Refusals.{refusal}
+use Rattle.redirect.specs.Decision.{is_served}
 use Rattle.node_step.specs.Commands.{command_outcome, served}
 use Rattle.node_step.specs.Outcome.{replied}
 use Rattle.node_step.specs.State.{NodeState}

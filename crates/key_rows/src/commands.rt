@@ -7,7 +7,6 @@ ghost use Rattle.keyspace.specs.Keyspace.{Keyspace};
 ghost use Rattle.keyspace.specs.Plan.{committed};
 ghost use Rattle.node_parts.specs.Drafts.{Drafts, HasNothing, bodies_of};
 ghost use Rattle.key_rows.specs.Places.{IsPlaceOf, drained_at};
-ghost use Rattle.key_rows.specs.Refusals.{is_served};
 ghost use Rattle.key_rows.specs.Serving.{served_change};
 ghost use Rattle.node_step.specs.Commands.{command_outcome, decision_on, drained_by_command, executed, served};
 ghost use Rattle.node_step.specs.Requests.{using_up};
@@ -41,7 +40,7 @@ pub fn answer_on_keys<S: SlotParts + SlotKeys, T: Stream>(
     ensures { OnOk result (Drafts node.now (command_outcome (using_up node.now conn) connection.numbered command.now (decision_on node.now command.now connection.asking)) draft.new) }
 {
     let (decision, slot) = decision(node, command, connection.asking)?;
-    if is_served(&decision) {
+    if decision.is_served() {
         return serve(node, conn, slot, command, decision, draft);
     }
     let reply = refusal(node, &decision, connection)?;
@@ -147,20 +146,6 @@ fn served_change(conn: Conn, slot: Slot, command: &DataCommand) -> Change
         Change::Keys { conn, slot }
     } else {
         Change::Asks { conn }
-    }
-}
-
-// Whether the command is executed.
-fn is_served(decision: &Decision) -> bool
-    ensures { result ≡ is_served decision.now }
-{
-    match decision {
-        Decision::Serve | Decision::ServeImport { .. } => true,
-        Decision::CrossSlot
-        | Decision::Down
-        | Decision::TryAgain(_)
-        | Decision::Ask { .. }
-        | Decision::Moved { .. } => false,
     }
 }
 

@@ -1,5 +1,5 @@
 //! What a node decides on a command, and the replies to those that it doesn't serve.
-ghost use Rattle.std.specs.Prelude.{◌≡◌, ◌≢◌, ◌∷◌, [], All, IfOk, is_some, map, slice_get};
+ghost use Rattle.std.specs.Prelude.{◌≡◌, ◌≢◌, ◌∷◌, [], All, IfOk, Some, is_some, map, slice_get};
 ghost use Rattle.std.specs.FinMap as fin_map;
 ghost use Rattle.command_table.specs.Keys.{data_keys};
 ghost use Rattle.key_slot.specs.Slot.{hash_slot};
@@ -9,6 +9,7 @@ ghost use Rattle.node_step.specs.Commands.{ask_reply, decision_on, moved_reply, 
 ghost use Rattle.redirect.specs.Asked.{bytes_of};
 ghost use Rattle.redirect.specs.Decision.{decision};
 ghost use Rattle.redirect.specs.Meaning.{IsSlotOf};
+ghost use Rattle.slot_state.specs.Moves.{move_of};
 
 use byte_string::ByteString;
 use command_table::{DataCommand, ErrorLine};
@@ -20,7 +21,7 @@ use redirect::{Asking, Decision, Reason, decide_at_rest, decide_in_slot};
 use redirection::{ask_reply, moved_reply};
 use repl_stream::Stream;
 use resp_values::Reply;
-use slot_state::MoveNo;
+use slot_state::{Move, MoveNo};
 use slot_store::{SlotKeys, SlotParts};
 use slot_table::NodeNo;
 use std::alloc::{AllocError, Global};
@@ -45,9 +46,9 @@ pub(crate) fn decision<S: SlotParts + SlotKeys, T: Stream>(
         return Ok((Decision::Serve, None));
     };
     let slot = slot(first);
-    let decision = match decide_at_rest(&node.table, &node.moves, node.number, slot, others) {
-        Some(decision) => decision,
-        None => decision_in_move(node, slot, command, keys.as_slice(), asking)?,
+    let decision = match node.moves.get(slot) {
+        None => decide_at_rest(node.standing(slot), slot, others),
+        Some(running) => decision_in_move(node, running, slot, command, keys.as_slice(), asking)?,
     };
     Ok((decision, Some(slot)))
 }
@@ -60,26 +61,21 @@ fn decision_on_key<S: SlotParts + SlotKeys, T: Stream>(
     asking: Asking,
 ) -> Decision
     requires { hash_slot key.now ≡ slot }
-    ensures { result ≡ decision node.now.table node.now.moves node.now.number (record { keys = key.now ∷ []; there = is_some (fin_map.get node.now.keyspace key.now) ∷ []; asking = asking }) }
+    ensures { result ≡ decision node.now.table node.now.moves node.now.number (record { keys = key.now ∷ []; there = is_some (fin_map.get node.now.keyspace key.now) ∷ []; asking = asking; paused = is_some node.now.paused }) }
 {
-    if let Some(decision) = decide_at_rest(&node.table, &node.moves, node.number, slot, &[]) {
-        return decision;
-    }
+    let at = node.standing(slot);
+    let Some(running) = node.moves.get(slot) else {
+        return decide_at_rest(at, slot, &[]);
+    };
     let is_there = node.store.get(key).is_some();
-    decide_in_slot(
-        &node.table,
-        &node.moves,
-        node.number,
-        slot,
-        &[key.as_slice()],
-        &[is_there],
-        asking,
-    )
+    let keys = [key.as_slice()];
+    decide_in_slot(at, Some(running), slot, &keys, &[is_there], asking)
 }
 
-// The decision on a command with several keys, the first of which is in a slot that moves.
+// The decision on a command with several keys, the first of which is in a slot of which that move is under way.
 fn decision_in_move<S: SlotParts + SlotKeys, T: Stream>(
     node: &NodeParts<S, T>,
+    running: &Move,
     slot: Slot,
     command: &DataCommand,
     keys: &[&[u8]],
@@ -87,20 +83,14 @@ fn decision_in_move<S: SlotParts + SlotKeys, T: Stream>(
 ) -> Result<Decision, AllocError>
     requires keys { bytes_of keys.now ≡ data_keys command.now }
     requires slot { IsSlotOf slot (data_keys command.now) }
+    requires under_way { Some running.now ≡ move_of node.now.moves slot }
     ensures decision { IfOk result (λ made. made ≡ decision_on node.now command.now asking) }
     ensures one_slot { IfOk result (λ made. made ≢ Decision.CrossSlot → All (λ key. hash_slot key ≡ slot) (data_keys command.now)) }
 {
     let words = command.key_words(node.alloc)?;
     let there = are_in(node.alloc, &node.store, words.as_slice())?;
-    Ok(decide_in_slot(
-        &node.table,
-        &node.moves,
-        node.number,
-        slot,
-        keys,
-        there.as_slice(),
-        asking,
-    ))
+    let at = node.standing(slot);
+    Ok(decide_in_slot(at, Some(running), slot, keys, there.as_slice(), asking))
 }
 
 /// The reply to a command that isn't served. An ASK line names the move where the connection wants to know it.
@@ -176,5 +166,6 @@ fn reason_line(reason: Reason) -> Reply
     match reason {
         Reason::Frozen => ErrorLine::KeyFrozen.reply(),
         Reason::SomeAreMissing => ErrorLine::SomeKeysMissing.reply(),
+        Reason::HandingOver => ErrorLine::HandingOver.reply(),
     }
 }

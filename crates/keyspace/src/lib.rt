@@ -12,6 +12,7 @@ mod law;
 mod leaving;
 mod limits;
 mod number;
+mod pairs;
 mod planned_fields;
 mod plans;
 mod replay;
@@ -26,7 +27,8 @@ pub use commands::{commands_are_local, exec, plan, plan_command};
 pub use fields::{FieldChanges, change_fields_in};
 pub use law::{commands_execute_in_a_part, parts_make_the_keyspace};
 pub use leaving::leaves_keys;
-pub use limits::value_fits;
+pub use limits::{pairs_fit, value_fits};
+pub use pairs::{Pair, Pairs};
 pub use plans::{Plan, commit};
 pub use replay::{
     rebuilding_makes_the_keyspace, requests_execute_their_commands, writes_leave_the_keyspace,

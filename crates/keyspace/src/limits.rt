@@ -1,11 +1,13 @@
 //! Which values a request can make at a key, and which hashes may so be left there.
 ghost use Rattle.std.specs.Prelude.{◌≡◌, ◌∷◌, ◌<◌, ◌^◌, ◌-◌, [], ℕ, List, codes, length, min};
+ghost use Rattle.std.specs.List.{list_all};
 ghost use Rattle.hash.specs.Pairs.{Pairs};
 ghost use Rattle.hash.specs.Size.{size_of};
 ghost use Rattle.keyspace.specs.Rebuilding.{fits_hash, fits_request, rebuilding};
 ghost use Rattle.keyspace.specs.Strings.{fits_string};
 ghost use Rattle.resp_values.specs.Request.{header_spelling};
 
+use crate::pairs::Pair;
 use crate::value::Value;
 use byte_string::ByteString;
 use hash::{Extent, Hash, bulk_size};
@@ -25,6 +27,15 @@ pub fn value_fits(key: &ByteString, value: &Value) -> bool
         Value::Str(bytes) => string_fits(key, bytes),
         Value::Hash(hash) => fits(key, extent_of(hash.get())),
     }
+}
+
+/// Whether that holds of each of these keys with its value.
+pub fn pairs_fit(pairs: &[Pair]) -> bool
+    ensures { result ≡ list_all (λ pair. fits_request (rebuilding pair.0 pair.1)) pairs.now }
+{
+    pairs
+        .iter()
+        .all(|pair| value_fits(pair.key(), pair.value()))
 }
 
 // Whether SET with the key and the string has no more bytes than a request may have.

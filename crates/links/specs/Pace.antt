@@ -20,7 +20,7 @@ pair_bytes pair = length pair.0 + value_bytes pair.1
 -- the bytes of a stream that a message brings, or those of keys that move. The keys of a snapshot aren't counted
 abbrev pub brought_bytes : Body → ℕ
 brought_bytes (Piece piece) = length piece.bytes
-brought_bytes (Copy slot number copy pairs) = sum_by pair_bytes pairs
+brought_bytes (Copy id pairs) = sum_by pair_bytes pairs
 brought_bytes body = 0
 
 abbrev pub waiting_bytes : List Message → ℕ

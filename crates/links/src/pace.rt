@@ -3,10 +3,9 @@ ghost use Rattle.std.specs.Prelude.{◌≡◌, ◌≤◌, ◌-◌, ◌||◌, len
 ghost use Rattle.links.specs.Pace.{are_many, brought_bytes, pair_bytes, value_bytes, waiting_bytes};
 
 use bus::Body;
-use keyspace::Value;
+use keyspace::{Pair, Value};
 use node_cell::{Deployment, Posted};
 use std::collections::VecDeque;
-use stream_values::Pair;
 
 /// So many messages may wait for a link before whoever makes more should wait, too.
 pub const MOST_WAITING: usize = 4096;
@@ -44,14 +43,16 @@ fn room_after(room: u128, body: &Body) -> Option<u128>
     match body {
         Body::Piece(piece) => room.checked_sub(piece.bytes().len() as u128),
         Body::Copy { pairs, .. } => room_after_pairs(room, pairs.as_slice()),
-        Body::Ack { .. }
+        Body::Ack(_)
         | Body::Drained { .. }
         | Body::Claim(_, _)
         | Body::Report(_)
         | Body::Request(_)
         | Body::Grant(_)
         | Body::Sync(_)
-        | Body::Snapshot(_) => Some(room),
+        | Body::Snapshot(_)
+        | Body::Pause(_)
+        | Body::Paused(_) => Some(room),
     }
 }
 

@@ -18,7 +18,7 @@ until_goes past old (entry ∷ entries) new goes = by_end (ends_one_keyspace (pr
     by_end true rest = record { last = old; goes = refl }
     by_end false rest = record { last = rest.last; goes = (goes.0, goes.1, rest.goes) }
 
--- the entries up to the first promotion are a run
+-- the entries up to the first unplanned promotion are a run
 pub until_is_run : (config : ClusterConfig) (entries : List Entry) → IsRun config entries → IsRun config (until_promotion entries)
 until_is_run config entries run =
     let until = until_goes [] (first_nodes config) entries run.last run.goes in

@@ -6,7 +6,8 @@ use Rattle.std.specs.FinMap as map
 use Rattle.std.specs.Ordering.{nat_cmp}
 use Rattle.std.specs.Prelude.{MatchBool, Result, Ok, Err, is_some, slice_get, slice_set}
 use Rattle.bus.specs.declared.message.Body.{Body}
-use Rattle.bus.specs.declared.message.Body.TheVariants.{Copy, Ack, Drained, Claim, Report, Request as Requested, Grant, Sync, Piece, Snapshot}
+use Rattle.bus.specs.declared.message.Body.TheVariants.{Copy, Ack, Drained, Claim, Report, Request as Requested, Grant, Sync, Piece, Snapshot, Pause, Paused}
+use Rattle.bus.specs.declared.message.Handing.{Handing}
 use Rattle.bus.specs.declared.message.Message.{Message}
 use Rattle.cluster_config.specs.Config.{ClusterConfig}
 use Rattle.command_table.specs.Table.{command_of}
@@ -51,6 +52,7 @@ use Rattle.slot_state.specs.declared.migrating.MigrateVerdict.{MigrateVerdict}
 use Rattle.slot_state.specs.declared.migrating.MigrateVerdict.TheVariants as migrate
 use Rattle.slot_state.specs.declared.running.Move.{Move}
 use Rattle.slot_state.specs.declared.running.Move.TheVariants.{Leaves, Comes}
+use Rattle.slot_state.specs.declared.copy_id.CopyId.{CopyId}
 use Rattle.slot_table.specs.Table.{owner_at}
 use Rattle.slot_table.specs.declared.entry.SlotEntry.{SlotEntry}
 use Rattle.node_step.specs.Claiming.{claimed_by}
@@ -63,8 +65,11 @@ use Rattle.node_step.specs.Messages.{Choice, delivered, ready, taken, taken_so, 
 use Rattle.node_step.specs.Orders.{ending_outcome, ending_verdict, import_outcome, migrate_outcome}
 use Rattle.node_step.specs.Outcome.{Outcome, silent}
 use Rattle.node_step.specs.Requests.{asking_of, by_command, cluster_outcome, is_numbered, node_with_id, order_outcome, request_outcome, using_up}
-use Rattle.node_step.specs.Promotion.{promotion}
-use Rattle.node_step.specs.State.{NodeState, own_master}
+use Rattle.node_step.specs.Handovers.{asked_to_pause, failover, handing_over, is_at_end, may_pause, noting, told_of_handing}
+use Rattle.node_step.specs.Promotion.{handed_promotion, promotion, promotion_to, table_handed}
+use Rattle.node_step.specs.State.{NodeState, is_replica, own_master}
+use Rattle.stream_values.specs.Stream.{is_same}
+use Rattle.stream_values.specs.declared.stream_id.StreamId.{StreamId}
 use Rattle.node_step.specs.Step.{IsAnswering, IsClosing, NodeStep, written}
 use Rattle.node_step.specs.Streams.{Requests, recorded}
 use Rattle.node_step.specs.Ticks.{older, tick}
@@ -168,6 +173,7 @@ module _ (words : List (List ℕ)) (node : NodeState) (settled : IsSettled node.
   import_quiet slot import.Busy = (λ none. settled, λ past n. tt)
   import_quiet slot import.AlreadyOwner = (λ none. settled, λ past n. tt)
   import_quiet slot import.NotOwner = (λ none. settled, λ past n. tt)
+  import_quiet slot import.HandingOver = (λ none. settled, λ past n. tt)
   import_quiet slot import.OldMove = (λ none. settled, λ past n. tt)
   import_quiet slot (import.Begins from number) = (λ none. absurd (true≢false none), λ past n. tt)
 
@@ -176,6 +182,7 @@ module _ (words : List (List ℕ)) (node : NodeState) (settled : IsSettled node.
   migrate_quiet slot migrate.Already = (λ none. settled, λ past n. tt)
   migrate_quiet slot migrate.Busy = (λ none. settled, λ past n. tt)
   migrate_quiet slot migrate.NotOwner = (λ none. settled, λ past n. tt)
+  migrate_quiet slot migrate.HandingOver = (λ none. settled, λ past n. tt)
   migrate_quiet slot migrate.OldMove = (λ none. settled, λ past n. tt)
   migrate_quiet slot (migrate.Begins to number) = (λ none. put_settled node.moves settled slot (begun node.moves slot number (Leaves to number 0 None)) (Leaves to number 0 None) refl refl, λ past n. tt)
 
@@ -201,6 +208,10 @@ module _ (words : List (List ℕ)) (node : NodeState) (settled : IsSettled node.
   copy_quiet conn slot keys ticks (copies.SendAgain to number copy) = (λ none. settled, λ past n. tt)
   copy_quiet conn slot keys ticks (copies.Copies to number copy) = (λ none. put_settled node.moves settled slot (after_copy_order node.moves slot keys (copies.Copies to number copy)) (Leaves to number copy (Some keys)) refl refl, λ past n. tt)
 
+  failover_quiet : (master : Option ℕ) → Quiet (failover node master)
+  failover_quiet None = (λ none. settled, λ past n. tt)
+  failover_quiet (Some master) = (λ none. settled, λ past n. tt)
+
   cluster_quiet : (conn : Conn) (which : ClusterCommand) → Quiet (cluster_outcome node conn which)
   cluster_quiet conn (cluster.KeySlot key) = (λ none. settled, λ past n. tt)
   cluster_quiet conn cluster.MyId = (λ none. settled, λ past n. tt)
@@ -210,6 +221,7 @@ module _ (words : List (List ℕ)) (node : NodeState) (settled : IsSettled node.
   cluster_quiet conn (cluster.SlotState slot) = (λ none. settled, λ past n. tt)
   cluster_quiet conn (cluster.SetSlot slot order id number) = order_quiet slot order (node_with_id node id) number
   cluster_quiet conn cluster.Numbered = (λ none. settled, λ past n. tt)
+  cluster_quiet conn cluster.Failover = failover_quiet (own_master node)
   cluster_quiet conn (cluster.Asking number) = (λ none. settled, λ past n. tt)
   cluster_quiet conn (cluster.Migrate host port keys timeout) = copy_quiet conn (first_slot keys) (those_there node.keyspace keys) timeout (copy_verdict_on node keys (node_at node host port))
 
@@ -247,9 +259,9 @@ module _ (node : NodeState) (settled : IsSettled node.moves) where
   arrival_settled slot Repeats = settled
   arrival_settled slot Ignored = settled
 
-  ack_settled : (slot number copy : ℕ) (keys : Option (List (List ℕ))) → IsSettled (acknowledged node slot number copy keys).state.moves
-  ack_settled slot number copy None = settled
-  ack_settled slot number copy (Some keys) = changed_settled node.moves settled slot unfrozen unfrozen_kind
+  ack_settled : (id : CopyId) (keys : Option (List (List ℕ))) → IsSettled (acknowledged node id keys).state.moves
+  ack_settled id None = settled
+  ack_settled id (Some keys) = changed_settled node.moves settled id.slot unfrozen unfrozen_kind
 
   claim_settled : (own : Bool) (table : List (Option SlotEntry)) → IsSettled (cond own (silent node) (claimed_by node table)).state.moves
   claim_settled true table = settled
@@ -257,15 +269,43 @@ module _ (node : NodeState) (settled : IsSettled node.moves) where
 
   grant_settled : (candidate : Candidate) (won : Option Elected) → IsSettled (if_elected (record node { candidate = candidate }) won).state.moves
   grant_settled candidate None = settled
-  grant_settled candidate (Some won) = by_master (own_master node)
+  grant_settled candidate (Some won) = by_plan candidate.planned
     where
+      handed : (master : Option ℕ) (told : Option Handing) → IsSettled (handed_promotion (record node { candidate = candidate }) won.epoch master told).state.moves
+      handed None told = settled
+      handed (Some master) None = settled
+      handed (Some master) (Some handing) = by_place (is_at_end node.stream (Some handing))
+        where
+          by_place : (b : Bool) → IsSettled (cond b (promotion_to (record node { candidate = candidate }) master won.epoch true (table_handed node handing.slots won.epoch)) (silent (record node { candidate = candidate }))).state.moves
+          by_place true = settled
+          by_place false = settled
+
       by_master : (master : Option ℕ) → IsSettled (promotion (record node { candidate = candidate }) won.epoch master).state.moves
       by_master None = settled
       by_master (Some master) = settled
 
+      by_plan : (planned : Bool)
+          → IsSettled (cond planned (handed_promotion (record node { candidate = candidate }) won.epoch (own_master node) node.handover.note) (promotion (record node { candidate = candidate }) won.epoch (own_master node))).state.moves
+      by_plan true = handed (own_master node) node.handover.note
+      by_plan false = by_master (own_master node)
+
+  pause_settled : (from : ℕ) (stream : StreamId) → IsSettled (asked_to_pause node from stream).state.moves
+  pause_settled from stream = by_test (may_pause node from stream)
+    where
+      by_test : (b : Bool) → IsSettled (cond b (handing_over node from) (silent node)).state.moves
+      by_test true = settled
+      by_test false = settled
+
+  noting_settled : (handing : Handing) → IsSettled (told_of_handing node handing).state.moves
+  noting_settled handing = by_test (is_replica node && is_same handing.stream node.stream.held.id)
+    where
+      by_test : (b : Bool) → IsSettled (cond b (record node { handover = noting node.handover handing }) node).moves
+      by_test true = settled
+      by_test false = settled
+
   taken_so_settled : (from : ℕ) (choice : Choice) (body : Body) → IsSettled (taken_so node from choice body).state.moves
-  taken_so_settled from choice (Copy slot number copy pairs) = arrival_settled slot _
-  taken_so_settled from choice (Ack slot number copy) = ack_settled slot number copy (acknowledged_keys (move_of node.moves slot) from number copy)
+  taken_so_settled from choice (Copy id pairs) = arrival_settled id.slot _
+  taken_so_settled from choice (Ack id) = ack_settled id (acknowledged_keys (move_of node.moves id.slot) from id.number id.copy)
   taken_so_settled from choice (Drained slot number epoch) = changed_settled node.moves settled slot (note_drained from number epoch) (noted_kind from number epoch)
   taken_so_settled from choice (Claim slots replaced) = claim_settled (from == node.number) _
   taken_so_settled from choice (Report suspects) = settled
@@ -274,6 +314,8 @@ module _ (node : NodeState) (settled : IsSettled node.moves) where
   taken_so_settled from choice (Sync sync) = synced_is (λ (o : Outcome). IsSettled o.state.moves) node from sync settled settled
   taken_so_settled from choice (Piece piece) = pieced_keeps (λ (s : NodeState). IsSettled s.moves) node (λ stream keyspace. settled) from piece choice.follower
   taken_so_settled from choice (Snapshot snapshot) = restored_keeps (λ (s : NodeState). IsSettled s.moves) node (λ stream keyspace. settled) from snapshot
+  taken_so_settled from choice (Pause stream) = pause_settled from stream
+  taken_so_settled from choice (Paused handing) = noting_settled handing
 
   taken_settled : (from : ℕ) (choice : Choice) (body : Body) → IsSettled (taken node from choice body).state.moves
   taken_settled from choice body =
@@ -285,12 +327,12 @@ delivered_settled node message choice settled = by_receiver (message.to == node.
     by_receiver : (own : Bool) → IsSettled (cond own (taken (ready node message) message.from choice message.body) (silent node)).state.moves
     by_receiver true =
         ready_keeps (λ (s : NodeState). IsSettled (taken s message.from choice message.body).state.moves) node message
-        (λ epoch masters health candidate role election. taken_settled (record node { current_epoch = epoch; masters = masters; health = health; candidate = candidate }) settled message.from choice message.body)
+        (λ epoch masters health candidate handover role election. taken_settled (record node { current_epoch = epoch; masters = masters; health = health; candidate = candidate; handover = handover }) settled message.from choice message.body)
     by_receiver false = settled
 
 tick_settled : (node : NodeState) → IsSettled node.moves → IsSettled (tick node).state.moves
 tick_settled node settled =
-    in_election_keeps (λ (s : NodeState). IsSettled s.moves) (a_tick_older (older node)) (due_epoch (a_tick_older (older node))) (λ current candidate. settled)
+    in_election_keeps (λ (s : NodeState). IsSettled s.moves) (a_tick_older (older node)) (due_epoch (a_tick_older (older node))) (λ current candidate handover. settled)
 
 -- ---- steps
 

@@ -25,7 +25,7 @@ AreSettled entries = All (λ (entry : Entry). is_import (answered entry.deed) �
 abbrev pub SettledRunsNeedNoAsking : Type 0
 SettledRunsNeedNoAsking = (config : ClusterConfig) (entries : List Entry) → IsRun config entries → AreSettled entries → KeepsAsking [] entries
 
--- where none is up to the first promotion, the replies up to there are those of one keyspace
+-- where none is up to the first unplanned promotion, the replies up to there are those of one keyspace
 abbrev pub SettledRunsAreOfOneKeyspace : Type 0
 SettledRunsAreOfOneKeyspace = (config : ClusterConfig) (entries : List Entry) → IsCluster config → IsRun config entries → AreSettled (until_promotion entries)
     → AreOfOneKeyspace (executed (until_promotion entries))

@@ -14,7 +14,8 @@ pub fn settled_runs_need_no_asking()
     ensures { SettledRunsNeedNoAsking }
 {}
 
-/// So the replies of a run are those of one keyspace up to its first promotion, whoever asked, if no such order is obeyed up to there.
+/// So the replies of a run are those of one keyspace up to its first unplanned promotion, whoever asked, if no such order is obeyed up
+/// to there.
 pub fn settled_runs_are_of_one_keyspace()
     ensures { SettledRunsAreOfOneKeyspace }
 {

@@ -1,5 +1,5 @@
 -- What a verdict tells of the move that it was given on.
-use Rattle.std.proofs.Common.{◌≡◌, ◌+◌, ◌-◌, ◌^◌, ◌==◌, ℕ, Bool, true, false, cond, List, [], ◌∷◌, Option, refl, sym, ap, ◌∙◌}
+use Rattle.std.proofs.Common.{◌≡◌, ◌+◌, ◌-◌, ◌^◌, ◌==◌, ℕ, Bool, true, false, cond, List, [], ◌∷◌, Option, refl, ap}
 use Rattle.std.specs.Prelude.{Some, None, nat_le, nat_lt}
 use Rattle.std.specs.FinMap as map
 use Rattle.std.proofs.lemmas.Bool.{eqb-true}
@@ -9,10 +9,9 @@ use Rattle.slot_state.specs.declared.running.Move.TheVariants.{Leaves, Comes}
 use Rattle.migrate.specs.Acknowledging.{acknowledged_keys, frozen_keys}
 use Rattle.migrate.specs.Arriving.{after_arrival, arrival_verdict, by_number, changed_at, counted, one_more, with_last}
 use Rattle.migrate.specs.Sending.{after_copy_order, are_just, by_keys, copy_verdict, frozen, with_frozen}
-use Rattle.migrate.specs.declared.arriving.ArrivalVerdict.{ArrivalVerdict}
 use Rattle.migrate.specs.declared.arriving.ArrivalVerdict.TheVariants.{Ignored, Installs, Repeats}
 use Rattle.migrate.specs.declared.sending.CopyVerdict.{CopyVerdict}
-use Rattle.migrate.specs.declared.sending.CopyVerdict.TheVariants.{WrongTarget, NoKey, CopyOutstanding, Exhausted, SendAgain, Copies}
+use Rattle.migrate.specs.declared.sending.CopyVerdict.TheVariants.{WrongTarget, CopyOutstanding, Exhausted, SendAgain, Copies}
 
 -- ---- an order to copy keys
 

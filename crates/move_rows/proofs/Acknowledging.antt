@@ -21,6 +21,7 @@ use Rattle.keyspace.specs.declared.value.Value.{Value}
 use Rattle.slot_state.specs.Moves.{Moves, move_of}
 use Rattle.slot_state.specs.declared.running.Move.{Move}
 use Rattle.slot_state.specs.declared.running.Move.TheVariants.{Leaves, Comes}
+use Rattle.slot_state.specs.declared.copy_id.CopyId.{CopyId}
 use Rattle.migrate.proofs.Verdicts.{acknowledged_is_frozen}
 use Rattle.migrate.specs.Acknowledging.{acknowledged_keys, after_ack, frozen_keys, unfrozen}
 use Rattle.migrate.specs.Arriving.{changed_at}
@@ -177,11 +178,11 @@ said_of_last slot m keys words =
     ∙ said_if (has_keys m slot) (list_all (is_among keys) (keys_in m slot)) words
 
 -- what an acknowledgement says of the slot
-said : (slot number copy : ℕ) (old : NodeState) (keys : List (List ℕ))
-    → drained_since old.keyspace (without_keys old slot number copy keys) slot ≡ drained_by_ack old slot keys
-said slot number copy old keys =
-    ap (λ words. cond (has_keys old.keyspace slot) (cond (has_keys (without old.keyspace keys) slot) [] words) []) (drained-after_ack slot (slot_epoch old slot) old.moves)
-    ∙ said_of_last slot old.keyspace keys (drained old slot)
+said : (id : CopyId) (old : NodeState) (keys : List (List ℕ))
+    → drained_since old.keyspace (without_keys old id keys) id.slot ≡ drained_by_ack old id.slot keys
+said id old keys =
+    ap (λ words. cond (has_keys old.keyspace id.slot) (cond (has_keys (without old.keyspace keys) id.slot) [] words) []) (drained-after_ack id.slot (slot_epoch old id.slot) old.moves)
+    ∙ said_of_last id.slot old.keyspace keys (drained old id.slot)
 
 -- ---- drafts
 
@@ -190,24 +191,24 @@ abbrev Lent : Type 0
 Lent = Bor (List (List ℕ))
 
 -- where no copy is outstanding
-pub nothing_acknowledged : (old : NodeState) (from slot number copy : ℕ) (draft : Draft) (lent : Option Lent) → lent ≡ None
-    → option_copied lent ≡ acknowledged_keys (move_of old.moves slot) from number copy → Drafts old (silent old) draft
-    → Drafts old (acknowledgement old from slot number copy) draft
-nothing_acknowledged old from slot number copy draft lent none is drafts =
-    subst (λ found. Drafts old (acknowledged old slot number copy found) draft) (ap option_copied (sym none) ∙ is) drafts
+pub nothing_acknowledged : (old : NodeState) (from : ℕ) (id : CopyId) (draft : Draft) (lent : Option Lent) → lent ≡ None
+    → option_copied lent ≡ acknowledged_keys (move_of old.moves id.slot) from id.number id.copy → Drafts old (silent old) draft
+    → Drafts old (acknowledgement old from id) draft
+nothing_acknowledged old from id draft lent none is drafts =
+    subst (λ found. Drafts old (acknowledged old id found) draft) (ap option_copied (sym none) ∙ is) drafts
 
 -- and where one is
-pub acknowledges : (old : NodeState) (from slot number copy : ℕ) (draft : Draft) (lent : Option Lent) (keys : Lent) (reply : Reply) (released : List Release) (bodies : List (ℕ × Body))
-    → lent ≡ Some keys → option_copied lent ≡ acknowledged_keys (move_of old.moves slot) from number copy → bodies ≡ drained_by_ack old slot keys.now
-    → released ≡ map (release reply) (waiting old.connections (is_for slot number copy)) → reply ≡ done
-    → ((after : NodeState) → after ≡ freed old slot number copy (frozen_keys (move_of old.moves slot)) → Drafts old (record (silent after) { released = released; sent = bodies }) draft)
-    → Drafts old (acknowledgement old from slot number copy) draft
-acknowledges old from slot number copy draft lent keys reply released bodies some is words gives replies drafts =
-    let found : Some keys.now ≡ acknowledged_keys (move_of old.moves slot) from number copy = ap option_copied (sym some) ∙ is in
-    let named : released ≡ map (release done) (waiting old.connections (is_for slot number copy)) = gives ∙ ap (λ r. map (release r) (waiting old.connections (is_for slot number copy))) replies in
-    let after = without_keys old slot number copy keys.now in
-    subst (λ found. Drafts old (acknowledged old slot number copy found) draft) found
-    (subst (λ (sent : List (ℕ × Body)). Drafts old (record (silent after) { released = map (release done) (waiting old.connections (is_for slot number copy)); sent = sent }) draft)
-    (words ∙ sym (said slot number copy old keys.now))
+pub acknowledges : (old : NodeState) (from : ℕ) (id : CopyId) (draft : Draft) (lent : Option Lent) (keys : Lent) (reply : Reply) (released : List Release) (bodies : List (ℕ × Body))
+    → lent ≡ Some keys → option_copied lent ≡ acknowledged_keys (move_of old.moves id.slot) from id.number id.copy → bodies ≡ drained_by_ack old id.slot keys.now
+    → released ≡ map (release reply) (waiting old.connections (is_for id)) → reply ≡ done
+    → ((after : NodeState) → after ≡ freed old id (frozen_keys (move_of old.moves id.slot)) → Drafts old (record (silent after) { released = released; sent = bodies }) draft)
+    → Drafts old (acknowledgement old from id) draft
+acknowledges old from id draft lent keys reply released bodies some is words gives replies drafts =
+    let found : Some keys.now ≡ acknowledged_keys (move_of old.moves id.slot) from id.number id.copy = ap option_copied (sym some) ∙ is in
+    let named : released ≡ map (release done) (waiting old.connections (is_for id)) = gives ∙ ap (λ r. map (release r) (waiting old.connections (is_for id))) replies in
+    let after = without_keys old id keys.now in
+    subst (λ found. Drafts old (acknowledged old id found) draft) found
+    (subst (λ (sent : List (ℕ × Body)). Drafts old (record (silent after) { released = map (release done) (waiting old.connections (is_for id)); sent = sent }) draft)
+    (words ∙ sym (said id old keys.now))
     (subst (λ (r : List Release). Drafts old (record (silent after) { released = r; sent = bodies }) draft) named
-    (drafts after (ap (freed old slot number copy) (sym (acknowledged_is_frozen (move_of old.moves slot) from number copy keys.now (sym found)))))))
+    (drafts after (ap (freed old id) (sym (acknowledged_is_frozen (move_of old.moves id.slot) from id.number id.copy keys.now (sym found)))))))

@@ -49,31 +49,35 @@ begins_drained node slot to number =
 -- ---- a move begins where the slot has none
 
 module _ (from number : ℕ) where
-  not_beside_import : (unknown replica named : Bool) → cond unknown import.UnknownNode (cond replica import.NotOwner (cond named import.Already import.Busy)) ≡ import.Begins from number → ⊥
-  not_beside_import true replica named is = cc
-  not_beside_import false true named is = cc
-  not_beside_import false false true is = cc
-  not_beside_import false false false is = cc
+  not_beside_import : (unknown replica paused named : Bool)
+      → cond unknown import.UnknownNode (cond replica import.NotOwner (cond paused import.HandingOver (cond named import.Already import.Busy))) ≡ import.Begins from number → ⊥
+  not_beside_import true replica paused named is = cc
+  not_beside_import false true paused named is = cc
+  not_beside_import false false true named is = cc
+  not_beside_import false false false true is = cc
+  not_beside_import false false false false is = cc
 
-  not_beside_migration : (unknown replica named : Bool) → cond unknown migrate.UnknownNode (cond replica migrate.NotOwner (cond named migrate.Already migrate.Busy)) ≡ migrate.Begins from number → ⊥
-  not_beside_migration true replica named is = cc
-  not_beside_migration false true named is = cc
-  not_beside_migration false false true is = cc
-  not_beside_migration false false false is = cc
+  not_beside_migration : (unknown replica paused named : Bool)
+      → cond unknown migrate.UnknownNode (cond replica migrate.NotOwner (cond paused migrate.HandingOver (cond named migrate.Already migrate.Busy))) ≡ migrate.Begins from number → ⊥
+  not_beside_migration true replica paused named is = cc
+  not_beside_migration false true paused named is = cc
+  not_beside_migration false false true named is = cc
+  not_beside_migration false false false true is = cc
+  not_beside_migration false false false false is = cc
 
   import_free : (at : Standing) (last : ℕ) (source asked : Option ℕ) (move : Option Move) → import_verdict at move last source asked ≡ import.Begins from number → move ≡ None
   import_free at last source asked None is = refl
   import_free at last None asked (Some move) is = absurd (cc)
   import_free at last (Some source) asked (Some (Comes other own copied drained)) is =
-      absurd (not_beside_import (source == at.node) at.is_replica (other == source && is_named own asked) is)
-  import_free at last (Some source) asked (Some (Leaves to own copies frozen)) is = absurd (not_beside_import (source == at.node) at.is_replica false is)
+      absurd (not_beside_import (source == at.node) at.is_replica at.is_paused (other == source && is_named own asked) is)
+  import_free at last (Some source) asked (Some (Leaves to own copies frozen)) is = absurd (not_beside_import (source == at.node) at.is_replica at.is_paused false is)
 
   migrate_free : (at : Standing) (last : ℕ) (target asked : Option ℕ) (move : Option Move) → migrate_verdict at move last target asked ≡ migrate.Begins from number → move ≡ None
   migrate_free at last target asked None is = refl
   migrate_free at last None asked (Some move) is = absurd (cc)
   migrate_free at last (Some target) asked (Some (Leaves other own copies frozen)) is =
-      absurd (not_beside_migration (target == at.node) at.is_replica (other == target && is_named own asked) is)
-  migrate_free at last (Some target) asked (Some (Comes source own copied drained)) is = absurd (not_beside_migration (target == at.node) at.is_replica false is)
+      absurd (not_beside_migration (target == at.node) at.is_replica at.is_paused (other == target && is_named own asked) is)
+  migrate_free at last (Some target) asked (Some (Comes source own copied drained)) is = absurd (not_beside_migration (target == at.node) at.is_replica at.is_paused false is)
 
 module _ (old : NodeState) (conn : Conn) (order : Order) (plan : Plan) where
   -- ---- an order to import a slot
@@ -89,6 +93,7 @@ module _ (old : NodeState) (conn : Conn) (order : Order) (plan : Plan) where
       record { none = import_free from number (standing old order.slot) (last_move_of old.moves order.slot) order.node order.number (move_of old.moves order.slot) (sym is); state = refl }
   import_leads import.UnknownNode is = refl
   import_leads import.Already is = refl
+  import_leads import.HandingOver is = refl
   import_leads import.Busy is = refl
   import_leads import.AlreadyOwner is = refl
   import_leads import.NotOwner is = refl
@@ -116,6 +121,7 @@ module _ (old : NodeState) (conn : Conn) (order : Order) (plan : Plan) where
       record { none = migrate_free to number (standing old order.slot) (last_move_of old.moves order.slot) order.node order.number (move_of old.moves order.slot) (sym is); state = refl }
   migrate_leads migrate.UnknownNode is = refl
   migrate_leads migrate.Already is = refl
+  migrate_leads migrate.HandingOver is = refl
   migrate_leads migrate.Busy is = refl
   migrate_leads migrate.NotOwner is = refl
   migrate_leads migrate.OldMove is = refl

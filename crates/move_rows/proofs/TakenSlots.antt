@@ -112,22 +112,22 @@ losing_by node table reply lost = record (silent (record node {
   table = table;
   keyspace = fin_map.retain_keys node.keyspace (λ key. not (lost (hash_slot key)));
   moves = after_loss node.moves lost;
-  connections = all_freed node.connections (λ wait. lost wait.slot);
+  connections = all_freed node.connections (λ wait. lost wait.id.slot);
 })) {
-  released = map (release reply) (waiting node.connections (λ wait. lost wait.slot));
+  released = map (release reply) (waiting node.connections (λ wait. lost wait.id.slot));
 }
 
 -- a claim of another node is taken by a draft that loses the slots that it takes
 pub claim_drafted : (old : NodeState) (from : ℕ) (runs : List (Run ℕ)) (claimed : List (Run ℕ)) (lost first : List ℕ) (reply : Reply) (released : List Release) (bodies : List (ℕ × Body)) (draft : Draft) → (from == old.number) ≡ false
     → ((slot : ℕ) → list_any (λ other. other == slot) lost ≡ is_lost old (merged old.table runs from) slot) → first ≡ lost → reply ≡ error line.NotAcknowledged
-    → released ≡ map (release reply) (waiting old.connections (λ wait. list_any (λ other. other == wait.slot) first))
+    → released ≡ map (release reply) (waiting old.connections (λ wait. list_any (λ other. other == wait.id.slot) first))
     → claimed ≡ runs → bodies ≡ [] → Drafts old (record (silent (losing old claimed from lost)) { released = released; sent = bodies }) draft
     → Drafts old (claim old from runs) draft
 claim_drafted old from runs claimed lost first reply released bodies draft other are same replies gives copied none drafts =
     let table = merged old.table runs from in
-    let named : released ≡ map (release (error line.NotAcknowledged)) (waiting old.connections (λ wait. list_any (λ s. s == wait.slot) lost)) =
-    gives ∙ ap (λ slots. map (release reply) (waiting old.connections (λ wait. list_any (λ s. s == wait.slot) slots))) same
-    ∙ ap (λ r. map (release r) (waiting old.connections (λ wait. list_any (λ s. s == wait.slot) lost))) replies in
+    let named : released ≡ map (release (error line.NotAcknowledged)) (waiting old.connections (λ wait. list_any (λ s. s == wait.id.slot) lost)) =
+    gives ∙ ap (λ slots. map (release reply) (waiting old.connections (λ wait. list_any (λ s. s == wait.id.slot) slots))) same
+    ∙ ap (λ r. map (release r) (waiting old.connections (λ wait. list_any (λ s. s == wait.id.slot) lost))) replies in
     let outcome : losing_by old table (error line.NotAcknowledged) (λ slot. list_any (λ s. s == slot) lost) ≡ claim old from runs =
     ap (losing_by old table (error line.NotAcknowledged)) (λ j slot. are slot j)
     ∙ sym (cond-false (from == old.number) (silent old) (claimed_by old table) other) in

@@ -31,6 +31,7 @@ abbrev pub import_change : Conn → ℕ → ImportVerdict → Change
 import_change conn slot (importing.Begins from number) = Imports conn slot from number
 import_change conn slot importing.UnknownNode = Asks conn
 import_change conn slot importing.Already = Asks conn
+import_change conn slot importing.HandingOver = Asks conn
 import_change conn slot importing.Busy = Asks conn
 import_change conn slot importing.AlreadyOwner = Asks conn
 import_change conn slot importing.NotOwner = Asks conn
@@ -40,6 +41,7 @@ abbrev pub migrate_change : Conn → ℕ → MigrateVerdict → Change
 migrate_change conn slot (migrating.Begins to number) = Migrates conn slot to number
 migrate_change conn slot migrating.UnknownNode = Asks conn
 migrate_change conn slot migrating.Already = Asks conn
+migrate_change conn slot migrating.HandingOver = Asks conn
 migrate_change conn slot migrating.Busy = Asks conn
 migrate_change conn slot migrating.NotOwner = Asks conn
 migrate_change conn slot migrating.OldMove = Asks conn

@@ -8,50 +8,37 @@ ghost use Rattle.keyspace.specs.Keyspace.{Keyspace};
 ghost use Rattle.keyspace.specs.Plan.{committed};
 ghost use Rattle.migrate.specs.Sending.{is_among};
 ghost use Rattle.move_rows.specs.LastKeys.{are_last, drained_by_ack};
-ghost use Rattle.node_step.specs.Copies.{ack_by, acknowledgement, arrival, keep_limits, noted, with_copied};
+ghost use Rattle.node_step.specs.Copies.{ack_by, acknowledgement, arrival, noted, with_copied};
 
-use crate::orders::done;
 use bus::Body;
 use byte_string::ByteString;
 use connections::Waiting;
 use key_slot::Slot;
-use keyspace::{Plan, TreeStore, value_fits};
+use keyspace::{Pair, Plan, TreeStore, pairs_fit};
 use migrate::{ArrivalVerdict, acknowledged_keys, arrival_verdict};
-use node_parts::{Change, Draft, NodeParts, listed};
+use node_parts::{Change, Draft, NodeParts, done, listed};
 use node_step::Releases;
 use repl_stream::Stream;
-use slot_state::MoveNo;
+use slot_state::{CopyId, MoveNo};
 use slot_store::{SlotKeys, SlotParts};
 use slot_table::{Epoch, NodeNo};
 use std::alloc::{AllocError, Global};
-use stream_values::Pair;
-
-/// The name of a copy.
-#[derive(Clone, Copy)]
-pub struct CopyName {
-    /// The slot of its keys.
-    pub slot: Slot,
-    /// The number of the move.
-    pub number: MoveNo,
-    /// Its number in the move, from 1 on.
-    pub copy: u64,
-}
 
 /// Installs a copy that arrives, or only acknowledges it again.
 pub fn take_copy<S: SlotParts + SlotKeys, T: Stream>(
     node: &NodeParts<S, T>,
     from: NodeNo,
-    name: CopyName,
+    id: CopyId,
     pairs: &[Pair],
     draft: &mut Draft,
 ) -> Result<(), AllocError>
     requires { HasNothing node.now draft.old }
-    ensures { OnOk result (Drafts node.now (arrival node.now from name.slot name.number name.copy pairs.now) draft.new) }
+    ensures { OnOk result (Drafts node.now (arrival node.now from id pairs.now) draft.new) }
 {
-    let CopyName { slot, number, copy } = name;
-    let fits = keep_limits(pairs);
+    let CopyId { slot, number, copy } = id;
+    let fits = pairs_fit(pairs);
     let verdict = arrival_verdict(node.moves.get(slot), from, number, copy, fits);
-    let word = acknowledgement(verdict, from, CopyName { slot, number, copy });
+    let word = acknowledgement(verdict, from, id);
     let bodies = listed(node.alloc, word)?;
     match verdict {
         ArrivalVerdict::Installs => {
@@ -72,15 +59,6 @@ pub fn take_copy<S: SlotParts + SlotKeys, T: Stream>(
     }
 }
 
-/// Whether the requests that make the keys with their values keep the limits.
-pub fn keep_limits(pairs: &[Pair]) -> bool
-    ensures { result ≡ keep_limits pairs.now }
-{
-    pairs
-        .iter()
-        .all(|pair| value_fits(pair.key(), pair.value()))
-}
-
 // The plan that puts all pairs. Long values share their bytes with the message.
 fn plan_of(alloc: Global, pairs: &[Pair]) -> Result<Plan, AllocError>
     ensures { IfOk result (λ plan. (keyspace : Keyspace) → committed keyspace plan ≡ with_copied keyspace pairs.now) }
@@ -96,20 +74,23 @@ fn plan_of(alloc: Global, pairs: &[Pair]) -> Result<Plan, AllocError>
 pub fn take_ack<S: SlotParts + SlotKeys, T: Stream>(
     node: &NodeParts<S, T>,
     from: NodeNo,
-    name: CopyName,
+    id: CopyId,
     draft: &mut Draft,
 ) -> Result<(), AllocError>
     requires { HasNothing node.now draft.old }
-    ensures { OnOk result (Drafts node.now (acknowledgement node.now from name.slot name.number name.copy) draft.new) }
+    ensures { OnOk result (Drafts node.now (acknowledgement node.now from id) draft.new) }
 {
-    let CopyName { slot, number, copy } = name;
+    let CopyId { slot, number, copy } = id;
     let Some(keys) = acknowledged_keys(node.moves.get(slot), from, number, copy) else {
         node.write_change(draft, Change::Nothing);
         return Ok(());
     };
     let bodies = listed(node.alloc, drained_by_ack(node, slot, keys.as_slice()))?;
-    let released = node.releases(&Waiting::For { slot, number, copy }, &done())?;
-    let change = Change::Frees { slot, number, copy };
+    let waiting = Waiting::For(CopyId { slot, number, copy });
+    let released = node.releases(&waiting, &done())?;
+    let change = Change::Frees {
+        id: CopyId { slot, number, copy },
+    };
     node.write_releases(draft, released, bodies, change);
     Ok(())
 }
@@ -176,15 +157,11 @@ pub fn take_drained<S: SlotParts + SlotKeys, T: Stream>(
 }
 
 // The acknowledgement of a copy.
-fn acknowledgement(verdict: ArrivalVerdict, to: NodeNo, name: CopyName) -> Option<(NodeNo, Body)>
-    ensures { bodies_of result ≡ ack_by to name.slot name.number name.copy verdict }
+fn acknowledgement(verdict: ArrivalVerdict, to: NodeNo, id: CopyId) -> Option<(NodeNo, Body)>
+    ensures { bodies_of result ≡ ack_by to id verdict }
 {
-    let CopyName { slot, number, copy } = name;
     match verdict {
-        ArrivalVerdict::Installs | ArrivalVerdict::Repeats => Some((
-            to,
-            Body::Ack { slot, number, copy },
-        )),
+        ArrivalVerdict::Installs | ArrivalVerdict::Repeats => Some((to, Body::Ack(id))),
         ArrivalVerdict::Ignored => None,
     }
 }

@@ -9,8 +9,8 @@ mod orders;
 mod ticks;
 
 pub use claims::{lost_to, take_claim};
-pub use copies::{CopyName, keep_limits, take_ack, take_copy, take_drained};
+pub use copies::{take_ack, take_copy, take_drained};
 pub use migrations::migrate_keys;
 pub use nodes::{node_at, node_with_id};
-pub use orders::{done, obey};
+pub use orders::obey;
 pub use ticks::sent_again;

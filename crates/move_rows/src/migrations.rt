@@ -20,17 +20,16 @@ use byte_string::ByteString;
 use command_table::ErrorLine;
 use connections::{Conn, Wait};
 use key_slot::{Slot, slot};
-use keyspace::{Store, Value};
+use keyspace::{Pair, Pairs, Store, Value};
 use migrate::{CopyVerdict, copy_verdict};
 use node_parts::{Change, Draft, NodeParts, listed};
 use node_step::{StepFault, Why};
 use repl_stream::Stream;
 use resp_values::{Line, Reply};
-use slot_state::{Keys, Move, MoveNo};
+use slot_state::{CopyId, Keys, Move};
 use slot_store::{SlotKeys, SlotParts};
 use slot_table::NodeNo;
 use std::alloc::AllocError;
-use stream_values::{Pair, Pairs};
 
 /// Copies the keys to the node at that address, and has the connection wait for the acknowledgement.
 #[inline(never)]
@@ -97,21 +96,13 @@ fn migrate_those<S: SlotParts + SlotKeys, T: Stream>(
         }
         CopyVerdict::Exhausted => Err(StepFault::Exhausted),
         CopyVerdict::SendAgain { number, copy, .. } => {
-            let wait = Wait {
-                slot,
-                number,
-                copy,
-                ticks,
-            };
+            let id = CopyId { slot, number, copy };
+            let wait = Wait { id, ticks };
             Ok(send_again(node, conn, wait, draft)?)
         }
         CopyVerdict::Copies { to, number, copy } => {
-            let wait = Wait {
-                slot,
-                number,
-                copy,
-                ticks,
-            };
+            let id = CopyId { slot, number, copy };
+            let wait = Wait { id, ticks };
             Ok(send_copy(node, conn, to, keys, wait, draft)?)
         }
     }
@@ -166,9 +157,10 @@ fn send_again<S: SlotParts + SlotKeys, T: Stream>(
     draft: &mut Draft,
 ) -> Result<(), AllocError>
     requires { HasNothing node.now draft.old }
-    ensures { OnOk result (Drafts node.now (sending (using_up node.now conn) conn wait.slot wait.number wait.copy wait.ticks) draft.new) }
+    ensures { OnOk result (Drafts node.now (sending (using_up node.now conn) conn wait.id wait.ticks) draft.new) }
 {
-    let body = outstanding(node, wait.slot, node.moves.get(wait.slot))?;
+    let id = wait.id;
+    let body = outstanding(node, id.slot, node.moves.get(id.slot))?;
     let bodies = listed(node.alloc, body)?;
     node.write_parked(draft, bodies, Change::Parks { conn, wait });
     Ok(())
@@ -183,11 +175,11 @@ fn send_copy<S: SlotParts + SlotKeys, T: Stream>(
     wait: Wait,
     draft: &mut Draft,
 ) -> Result<(), AllocError>
-    requires leaves { move_of (frozen node.now.moves wait.slot wait.copy keys) wait.slot ≡ Some (Leaves to wait.number wait.copy (Some keys)) }
+    requires leaves { move_of (frozen node.now.moves wait.id.slot wait.id.copy keys) wait.id.slot ≡ Some (Leaves to wait.id.number wait.id.copy (Some keys)) }
     requires nothing { HasNothing node.now draft.old }
-    ensures { OnOk result (Drafts node.now (sending (with_moves (using_up node.now conn) (frozen node.now.moves wait.slot wait.copy keys)) conn wait.slot wait.number wait.copy wait.ticks) draft.new) }
+    ensures { OnOk result (Drafts node.now (sending (with_moves (using_up node.now conn) (frozen node.now.moves wait.id.slot wait.id.copy keys)) conn wait.id wait.ticks) draft.new) }
 {
-    let body = copy_of(node, wait.slot, to, wait.number, wait.copy, keys.as_slice())?;
+    let body = copy_of(node, to, wait.id, keys.as_slice())?;
     let bodies = listed(node.alloc, Some(body))?;
     node.write_parked(draft, bodies, Change::Freezes { conn, keys, wait });
     Ok(())
@@ -209,7 +201,14 @@ fn outstanding<S: SlotParts + SlotKeys, T: Stream>(
                 copies,
                 frozen: Some(keys),
             },
-        ) => Ok(Some(copy_of(node, slot, *to, *number, *copies, keys.as_slice())?)),
+        ) => {
+            let id = CopyId {
+                slot,
+                number: *number,
+                copy: *copies,
+            };
+            Ok(Some(copy_of(node, *to, id, keys.as_slice())?))
+        }
         _ => Ok(None),
     }
 }
@@ -217,24 +216,14 @@ fn outstanding<S: SlotParts + SlotKeys, T: Stream>(
 /// The copy of the keys with their values, for the node that their slot leaves to.
 pub(crate) fn copy_of<S: SlotParts + SlotKeys, T: Stream>(
     node: &NodeParts<S, T>,
-    slot: Slot,
     to: NodeNo,
-    number: MoveNo,
-    copy: u64,
+    id: CopyId,
     keys: &[ByteString],
 ) -> Result<(NodeNo, Body), AllocError>
-    ensures { IfOk result (λ body. body ≡ (to, Copy slot number copy (pairs_at node.now.keyspace keys.now))) }
+    ensures { IfOk result (λ body. body ≡ (to, Copy id (pairs_at node.now.keyspace keys.now))) }
 {
     let pairs = Pairs::new(node.alloc, pairs_at(node, keys)?)?;
-    Ok((
-        to,
-        Body::Copy {
-            slot,
-            number,
-            copy,
-            pairs,
-        },
-    ))
+    Ok((to, Body::Copy { id, pairs }))
 }
 
 // The keys that are there, with their values. Long values share their bytes with the store.

@@ -17,21 +17,14 @@ use bus::Body;
 use command_table::{ErrorLine, SlotOrder};
 use connections::Conn;
 use key_slot::Slot;
-use node_parts::{Change, Draft, NodeParts, listed};
+use node_parts::{Change, Draft, NodeParts, done, listed};
 use node_step::{StepFault, Why};
 use repl_stream::Stream;
-use resp_values::{Line, Reply};
+use resp_values::Reply;
 use slot_state::{ImportVerdict, MigrateVerdict, MoveNo, NodeVerdict, Order, epoch_after_import};
 use slot_store::{SlotKeys, SlotParts};
 use slot_table::{Claim, Epoch, NodeNo, SlotEntry};
 use std::alloc::AllocError;
-
-/// The reply to what was done.
-pub fn done() -> Reply
-    ensures { result ≡ done }
-{
-    Reply::Simple(Line::from_static(b"OK"))
-}
 
 /// Begins or ends a move of a slot, as the order says.
 #[tactic(auto, using(crate::proofs::Obeying::importing_obeys, crate::proofs::Obeying::migrating_obeys, crate::proofs::Obeying::giving_obeys))]
@@ -126,6 +119,7 @@ fn drained_at_start<S: SlotParts + SlotKeys, T: Stream>(
         MigrateVerdict::Begins { to, number } => drained_for(node, slot, to, number),
         MigrateVerdict::UnknownNode
         | MigrateVerdict::Already
+        | MigrateVerdict::HandingOver
         | MigrateVerdict::Busy
         | MigrateVerdict::NotOwner
         | MigrateVerdict::OldMove => None,
@@ -259,6 +253,7 @@ fn import_change(conn: Conn, slot: Slot, verdict: &ImportVerdict) -> Change
         },
         ImportVerdict::UnknownNode
         | ImportVerdict::Already
+        | ImportVerdict::HandingOver
         | ImportVerdict::Busy
         | ImportVerdict::AlreadyOwner
         | ImportVerdict::NotOwner
@@ -279,6 +274,7 @@ fn migrate_change(conn: Conn, slot: Slot, verdict: &MigrateVerdict) -> Change
         },
         MigrateVerdict::UnknownNode
         | MigrateVerdict::Already
+        | MigrateVerdict::HandingOver
         | MigrateVerdict::Busy
         | MigrateVerdict::NotOwner
         | MigrateVerdict::OldMove => Change::Asks { conn },
@@ -291,6 +287,7 @@ fn import_reply(verdict: &ImportVerdict) -> Reply
     match verdict {
         ImportVerdict::UnknownNode => ErrorLine::UnknownNode.reply(),
         ImportVerdict::Already | ImportVerdict::Begins { .. } => done(),
+        ImportVerdict::HandingOver => ErrorLine::NodePaused.reply(),
         ImportVerdict::Busy => ErrorLine::SlotBusy.reply(),
         ImportVerdict::AlreadyOwner => ErrorLine::AlreadyOwner.reply(),
         ImportVerdict::NotOwner => ErrorLine::NotOwner.reply(),
@@ -304,6 +301,7 @@ fn migrate_reply(verdict: &MigrateVerdict) -> Reply
     match verdict {
         MigrateVerdict::UnknownNode => ErrorLine::UnknownNode.reply(),
         MigrateVerdict::Already | MigrateVerdict::Begins { .. } => done(),
+        MigrateVerdict::HandingOver => ErrorLine::NodePaused.reply(),
         MigrateVerdict::Busy => ErrorLine::SlotBusy.reply(),
         MigrateVerdict::NotOwner => ErrorLine::NotOwner.reply(),
         MigrateVerdict::OldMove => ErrorLine::OldMove.reply(),

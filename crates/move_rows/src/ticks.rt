@@ -11,7 +11,7 @@ use key_slot::Slot;
 use migrate::{Resend, resent};
 use node_parts::NodeParts;
 use repl_stream::Stream;
-use slot_state::Move;
+use slot_state::{CopyId, Move};
 use slot_store::{SlotKeys, SlotParts};
 use slot_table::NodeNo;
 use std::alloc::AllocError;
@@ -49,6 +49,9 @@ fn sent_again_in<S: SlotParts + SlotKeys, T: Stream>(
             number,
             copy,
             keys,
-        } => Ok(Some(copy_of(node, slot, to, number, copy, keys.as_slice())?)),
+        } => {
+            let id = CopyId { slot, number, copy };
+            Ok(Some(copy_of(node, to, id, keys.as_slice())?))
+        }
     }
 }

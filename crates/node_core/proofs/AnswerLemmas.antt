@@ -11,7 +11,7 @@ use Rattle.resp2.specs.Stream.{stream_spelling}
 use Rattle.resp_values.specs.Request.{IsRequest}
 use Rattle.command_table.specs.declared.command.Command.{Command}
 use Rattle.command_table.specs.declared.command.ClusterCommand.{ClusterCommand}
-use Rattle.command_table.specs.declared.command.ClusterCommand.TheVariants.{KeySlot, MyId, Slots, CountKeysInSlot, GetKeysInSlot, SlotState, SetSlot, Numbered, Asking, Migrate}
+use Rattle.command_table.specs.declared.command.ClusterCommand.TheVariants.{KeySlot, MyId, Slots, CountKeysInSlot, GetKeysInSlot, SlotState, SetSlot, Numbered, Failover, Asking, Migrate}
 use Rattle.command_table.specs.ErrorLine.{line_of}
 use Rattle.command_table.specs.declared.command.Command.TheVariants.{Cluster, Data}
 use Rattle.command_table.specs.declared.command.DataCommand.{DataCommand}
@@ -27,10 +27,11 @@ use Rattle.redirect.specs.declared.asked.Asking.{Asking as AskingFor}
 use Rattle.node_step.specs.Outcome.{Outcome, no_outputs, outputs_of, replied, silent}
 use Rattle.node_step.specs.Commands.{command_outcome, decision_on}
 use Rattle.node_step.specs.Copies.{copy_outcome, copy_verdict_on, first_slot, is_at, those_there}
+use Rattle.node_step.specs.Handovers.{failover}
 use Rattle.node_step.specs.Orders.{done}
 use Rattle.node_step.specs.Outcome.{error}
 use Rattle.node_step.specs.Requests.{asking_for, asking_of, at_connection, has_copy_number, has_number, has_order_number, is_numbered, node_with_id, request_outcome, using_up, with_numbers}
-use Rattle.node_step.specs.State.{NodeState}
+use Rattle.node_step.specs.State.{NodeState, own_master}
 use Rattle.node_step.specs.Step.{MayCome, NodeStep, written}
 use Rattle.node_step.specs.Streams.{Requests, is_written, written_by_request}
 use Rattle.node_step.specs.declared.event.Event.TheVariants.{Close, Open, Request}
@@ -59,6 +60,7 @@ module _ (old : NodeState) (conn : Conn) (reply : Reply) (draft : Draft) (drafts
   question_answered (SlotState slot) asks is = record { number = refl; drafts = same _ is }
   question_answered (SetSlot slot order target number) asks is = absurd is
   question_answered Numbered asks is = absurd is
+  question_answered Failover asks is = absurd is
   question_answered (Asking number) asks is = absurd is
   question_answered (Migrate host port keys timeout) asks is = absurd is
 
@@ -79,6 +81,10 @@ order_exhausted old conn slot order id target number nodes are is exhausted = nu
     number_of Importing e = e
     number_of Migrating e = e
     number_of Node e = e
+
+-- CLUSTER FAILOVER
+pub failover_answered : (old : NodeState) (conn : Conn) (draft : Draft) → Drafts old (failover (using_up old conn) (own_master old)) draft → AnswersSo old conn (Ok (Cluster Failover)) draft
+failover_answered old conn draft drafts = record { number = refl; drafts = drafts }
 
 -- CLUSTER NUMBERED and ASKING
 pub numbered_answered : (old : NodeState) (conn : Conn) (draft : Draft)

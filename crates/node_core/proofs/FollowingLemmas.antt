@@ -1,7 +1,7 @@
 -- Messages by which a replica follows its master's stream.
 use Rattle.std.proofs.Common.{◌≡◌, ℕ, refl, sym, ap, subst, arith}
 use Rattle.bus.specs.declared.message.Body.{Body}
-use Rattle.bus.specs.declared.message.Body.TheVariants.{Copy, Ack, Drained, Claim, Report, Request, Grant, Sync, Piece, Snapshot}
+use Rattle.bus.specs.declared.message.Body.TheVariants.{Copy, Ack, Drained, Claim, Report, Request, Grant, Sync, Piece, Snapshot, Pause, Paused}
 use Rattle.node_core.specs.Comes.{MayBeTaken}
 use Rattle.node_core.specs.Following.{FollowsBy}
 use Rattle.node_parts.specs.Drafts.{Comes}
@@ -33,14 +33,16 @@ by_body node from (Snapshot snapshot) new is = record {
   may_choose = record { follower = tt; dropped = omega arith };
   comes_to = ap silent is;
 }
-by_body node from (Copy slot number copy pairs) new never = absurd never
-by_body node from (Ack slot number copy) new never = absurd never
+by_body node from (Copy id pairs) new never = absurd never
+by_body node from (Ack id) new never = absurd never
 by_body node from (Drained slot number epoch) new never = absurd never
 by_body node from (Claim slots replaced) new never = absurd never
 by_body node from (Report suspects) new never = absurd never
 by_body node from (Request request) new never = absurd never
 by_body node from (Grant epoch) new never = absurd never
 by_body node from (Sync sync) new never = absurd never
+by_body node from (Pause stream) new never = absurd never
+by_body node from (Paused handing) new never = absurd never
 
 -- and nothing comes out
 pub following_comes : (ticket : ℕ) (node : NodeState) (from : ℕ) (body : Body) (outputs : Outputs) (new : NodeState) → FollowsBy node from body new → outputs ≡ no_outputs ticket

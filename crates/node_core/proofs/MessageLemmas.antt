@@ -4,7 +4,7 @@ use Rattle.std.proofs.lemmas.Bool.{cond-false, cond-true, not-false, not-true}
 use Rattle.std.specs.FinMap as fin_map
 use Rattle.std.specs.List.{list_any}
 use Rattle.bus.specs.declared.message.Body.{Body}
-use Rattle.bus.specs.declared.message.Body.TheVariants.{Copy, Ack, Drained, Claim, Report, Request, Grant, Sync, Piece, Snapshot}
+use Rattle.bus.specs.declared.message.Body.TheVariants.{Copy, Ack, Drained, Claim, Report, Request, Grant, Sync, Piece, Snapshot, Pause, Paused}
 use Rattle.bus.specs.declared.message.Message.{Message}
 use Rattle.bus.specs.declared.message.Replaced.{Replaced}
 use Rattle.key_slot.specs.Slot.{hash_slot}
@@ -32,24 +32,28 @@ abbrev pub choosing : NodeState → ℕ → Choice
 choosing old dropped = record { follower = follower_of old; dropped = dropped }
 
 by_draft : (node : NodeState) (from : ℕ) (choice : Choice) (body : Body) → is_drafted_body body ≡ true → taken_by_draft node from body ≡ taken_so node from choice body
-by_draft node from choice (Copy slot number copy pairs) is = refl
-by_draft node from choice (Ack slot number copy) is = refl
+by_draft node from choice (Copy id pairs) is = refl
+by_draft node from choice (Ack id) is = refl
 by_draft node from choice (Drained slot number epoch) is = refl
 by_draft node from choice (Claim slots replaced) is = refl
 by_draft node from choice (Report suspects) is = refl
 by_draft node from choice (Sync sync) is = refl
+by_draft node from choice (Pause stream) is = refl
+by_draft node from choice (Paused handing) is = refl
 by_draft node from choice (Request request) is = absurd (true≢false (sym is))
 by_draft node from choice (Grant epoch) is = absurd (true≢false (sym is))
 by_draft node from choice (Piece piece) is = absurd (true≢false (sym is))
 by_draft node from choice (Snapshot snapshot) is = absurd (true≢false (sym is))
 
 makes_none : (node : NodeState) (from : ℕ) (body : Body) → is_drafted_body body ≡ true → MayMake node from body (follower_of node)
-makes_none node from (Copy slot number copy pairs) is = tt
-makes_none node from (Ack slot number copy) is = tt
+makes_none node from (Copy id pairs) is = tt
+makes_none node from (Ack id) is = tt
 makes_none node from (Drained slot number epoch) is = tt
 makes_none node from (Claim slots replaced) is = tt
 makes_none node from (Report suspects) is = tt
 makes_none node from (Sync sync) is = tt
+makes_none node from (Pause stream) is = tt
+makes_none node from (Paused handing) is = tt
 makes_none node from (Request request) is = tt
 makes_none node from (Grant epoch) is = tt
 makes_none node from (Piece piece) is = absurd (true≢false (sym is))

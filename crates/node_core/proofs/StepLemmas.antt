@@ -1,6 +1,6 @@
 -- What was drafted is a step once it is made.
 use Rattle.std.proofs.Common.{◌≡◌, ℕ, List, [], ◌∷◌, refl, ap}
-use Rattle.std.specs.Prelude.{IfOk, Result, Ok, Err, length, nat_lt, ◌+◌, ◌^◌}
+use Rattle.std.specs.Prelude.{IfOk, OnErr, Result, Ok, Err, length, nat_lt, ◌+◌, ◌^◌}
 use Rattle.connections.specs.declared.conn.Conn.{Conn}
 use Rattle.node_parts.proofs.ChangeLemmas.{made_comes}
 use Rattle.node_parts.specs.Drafts.{IsDraftOf, stamped_draft}
@@ -26,6 +26,11 @@ answer_is_step ticket old conn words draft outputs new is are applied =
 pub if_made : {A E : Type 0} (result : Result A E) (P Q : A → Type 0) → ((made : A) → P made → Q made) → IfOk result P → IfOk result Q
 if_made (Ok made) P Q leads holds = leads made holds
 if_made (Err fault) P Q leads holds = tt
+
+-- and where it is refused
+pub if_refused : {A E : Type 0} (result : Result A E) (P Q : Type 0) → (P → Q) → OnErr result P → OnErr result Q
+if_refused (Ok made) P Q leads holds = tt
+if_refused (Err fault) P Q leads holds = leads holds
 
 -- whether there is an offset is a matter of the stream alone
 pub offset_alike : (old new : NodeState) (requests : Requests) → new.stream ≡ old.stream → has_offset new requests ≡ has_offset old requests

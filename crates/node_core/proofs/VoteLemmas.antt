@@ -1,6 +1,8 @@
 -- Votes, as a node takes them.
-use Rattle.std.proofs.Common.{◌≡◌, ℕ, Bool, [], Option, Some, None, sym, ap, ◌∙◌, arith}
+use Rattle.std.proofs.Common.{◌≡◌, ℕ, Bool, true, false, cond, [], Option, Some, None, refl, sym, ap, subst, ◌∙◌, arith}
+use Rattle.std.proofs.lemmas.Option.{none-some}
 use Rattle.bus.specs.declared.message.Body.TheVariants.{Grant, Request}
+use Rattle.bus.specs.declared.message.Handing.{Handing}
 use Rattle.bus.specs.declared.message.Request.{Request as Asked}
 use Rattle.election.specs.Electing.{counted, elected}
 use Rattle.election.specs.Voting.{after_request, may_grant}
@@ -13,7 +15,8 @@ use Rattle.node_parts.specs.Making.{IsApplied}
 use Rattle.node_parts.specs.declared.draft.Draft.{Draft}
 use Rattle.node_step.specs.Failing.{members_of}
 use Rattle.node_step.specs.Outcome.{Outcome, no_outputs, silent}
-use Rattle.node_step.specs.Promotion.{promotion}
+use Rattle.node_step.specs.Handovers.{is_at_end}
+use Rattle.node_step.specs.Promotion.{handed_promotion, promotion, promotion_to, table_handed}
 use Rattle.node_step.specs.State.{NodeState, own_master}
 use Rattle.node_step.specs.Voting.{grant_to, if_elected, request_of, voting}
 use Rattle.node_step.specs.declared.outputs.Outputs.{Outputs}
@@ -60,19 +63,72 @@ module _ (ticket : ℕ) (old after : NodeState) (from epoch : ℕ) (wins : Optio
       record { outcome = silent after; may = may_count (silent after) (sym (ap (if_elected after) none)); outputs_are = are; state = same }
 
   -- it elects this node
-  pub promoted_by_vote : (outputs : Outputs) (new : NodeState) (won : Elected) → wins ≡ Some won → Comes ticket (IsJust (promotion after won.epoch (own_master after))) outputs new
+  pub promoted_by_vote : (outputs : Outputs) (new : NodeState) (won : Elected) → wins ≡ Some won → Comes ticket (IsJust (if_elected after (Some (record { epoch = won.epoch })))) outputs new
       → Comes ticket (MayBeTaken old from (Grant epoch)) outputs new
   promoted_by_vote outputs new won some comes =
       record { outcome = comes.outcome; may = may_count comes.outcome (comes.may ∙ sym (ap (if_elected after) some)); outputs_are = comes.outputs_are; state = comes.state }
 
 -- the promotion is made
-pub promotion_made : (ticket : ℕ) (node : NodeState) (epoch master : ℕ) (draft : Draft) (outputs : Outputs) (new : NodeState) → own_master node ≡ Some master
-    → Promotes node (promotion node epoch (Some master)) draft → outputs ≡ stamped_draft node ticket draft → IsApplied node draft new
-    → Comes ticket (IsJust (promotion node epoch (own_master node))) outputs new
-promotion_made ticket node epoch master draft outputs new own promotes are applied =
-    promotion_comes ticket node (IsJust (promotion node epoch (own_master node))) (promotion node epoch (Some master)) draft outputs new (ap (promotion node epoch) (sym own)) promotes are applied
+pub promotion_made : (ticket : ℕ) (node : NodeState) (outcome : Outcome) (draft : Draft) (outputs : Outputs) (new : NodeState)
+    → Promotes node outcome draft → outputs ≡ stamped_draft node ticket draft → IsApplied node draft new → Comes ticket (IsJust outcome) outputs new
+promotion_made ticket node outcome draft outputs new promotes are applied = promotion_comes ticket node (IsJust outcome) outcome draft outputs new refl promotes are applied
 
--- a node without a master takes nobody's place
-pub nobody_replaced : (ticket : ℕ) (node : NodeState) (epoch : ℕ) (outputs : Outputs) (new : NodeState) → own_master node ≡ None → outputs ≡ no_outputs ticket → new ≡ node
-    → Comes ticket (IsJust (promotion node epoch (own_master node))) outputs new
-nobody_replaced ticket node epoch outputs new none are same = record { outcome = silent node; may = ap (promotion node epoch) (sym none); outputs_are = are; state = same }
+-- nothing comes of the election
+pub stays_replica : (ticket : ℕ) (node : NodeState) (outcome : Outcome) (outputs : Outputs) (new : NodeState) → silent node ≡ outcome → outputs ≡ no_outputs ticket → new ≡ node
+    → Comes ticket (IsJust outcome) outputs new
+stays_replica ticket node outcome outputs new nothing are same = record { outcome = silent node; may = nothing; outputs_are = are; state = same }
+
+pub as_outcome : (ticket : ℕ) (one other : Outcome) (outputs : Outputs) (new : NodeState) → one ≡ other → Comes ticket (IsJust one) outputs new → Comes ticket (IsJust other) outputs new
+as_outcome ticket one other outputs new same comes = subst (λ (outcome : Outcome). Comes ticket (IsJust outcome) outputs new) same comes
+
+module _ (node : NodeState) (epoch : ℕ) where
+  abbrev elected_so : Bool → Option ℕ → Outcome
+  elected_so planned master = cond planned (handed_promotion node epoch master node.handover.note) (promotion node epoch master)
+
+  -- a node without a master takes nobody's place
+  pub nobody_replaced : own_master node ≡ None → silent node ≡ if_elected node (Some (record { epoch = epoch }))
+  nobody_replaced none = by_plan node.candidate.planned ∙ ap (elected_so node.candidate.planned) (sym none)
+    where
+      by_plan : (planned : Bool) → silent node ≡ elected_so planned None
+      by_plan true = refl
+      by_plan false = refl
+
+  module _ (master : ℕ) (own : own_master node ≡ Some master) where
+    pub elected_by_plan : node.candidate.planned ≡ true → handed_promotion node epoch (Some master) node.handover.note ≡ if_elected node (Some (record { epoch = epoch }))
+    elected_by_plan planned = ap (λ (b : Bool). elected_so b (Some master)) (sym planned) ∙ ap (elected_so node.candidate.planned) (sym own)
+
+    pub elected_in_place : node.candidate.planned ≡ false → promotion node epoch (Some master) ≡ if_elected node (Some (record { epoch = epoch }))
+    elected_in_place planned = ap (λ (b : Bool). elected_so b (Some master)) (sym planned) ∙ ap (elected_so node.candidate.planned) (sym own)
+
+  module _ (master : ℕ) where
+    abbrev held : Handing → Option Handing → Handing
+    held other None = other
+    held other (Some handing) = handing
+
+    -- what the master handed over, all of it, is taken
+    handed_by : (note : Option Handing) (handing : Handing) → cond (is_at_end node.stream note) note None ≡ Some handing
+        → promotion_to node master epoch true (table_handed node handing.slots epoch) ≡ handed_promotion node epoch (Some master) note
+    handed_by None handing found = absurd (none-some handing found)
+    handed_by (Some noted) handing found = by_end (is_at_end node.stream (Some noted)) found
+      where
+        by_end : (at_end : Bool) → cond at_end (Some noted) None ≡ Some handing
+            → promotion_to node master epoch true (table_handed node handing.slots epoch) ≡ cond at_end (promotion_to node master epoch true (table_handed node noted.slots epoch)) (silent node)
+        by_end true found = ap (λ (h : Handing). promotion_to node master epoch true (table_handed node h.slots epoch)) (sym (ap (held handing) found))
+        by_end false found = absurd (none-some handing found)
+
+    pub handed_over : (found : Option Handing) (handing : Handing) → found ≡ cond (is_at_end node.stream node.handover.note) node.handover.note None → found ≡ Some handing
+        → promotion_to node master epoch true (table_handed node handing.slots epoch) ≡ handed_promotion node epoch (Some master) node.handover.note
+    handed_over found handing is some = handed_by node.handover.note handing (sym is ∙ some)
+
+    -- and else nothing
+    kept_by : (note : Option Handing) → cond (is_at_end node.stream note) note None ≡ None → silent node ≡ handed_promotion node epoch (Some master) note
+    kept_by None found = refl
+    kept_by (Some noted) found = by_end (is_at_end node.stream (Some noted)) found
+      where
+        by_end : (at_end : Bool) → cond at_end (Some noted) None ≡ None → silent node ≡ cond at_end (promotion_to node master epoch true (table_handed node noted.slots epoch)) (silent node)
+        by_end true found = absurd (none-some noted (sym found))
+        by_end false found = refl
+
+    pub not_handed_over : (found : Option Handing) → found ≡ cond (is_at_end node.stream node.handover.note) node.handover.note None → found ≡ None
+        → silent node ≡ handed_promotion node epoch (Some master) node.handover.note
+    not_handed_over found is none = kept_by node.handover.note (sym is ∙ none)

@@ -13,9 +13,10 @@ ghost use Rattle.node_step.specs.declared.response.Why.TheVariants.{Told};
 
 use command_table::ClusterCommand;
 use connections::Conn;
+use handover_rows::ask_master;
 use key_slot::MoveNo;
-use move_rows::{done, migrate_keys, node_at, node_with_id, obey};
-use node_parts::{Change, Draft, NodeParts};
+use move_rows::{migrate_keys, node_at, node_with_id, obey};
+use node_parts::{Change, Draft, NodeParts, done};
 use node_step::{StepFault, Why};
 use redirect::Asking;
 use repl_stream::Stream;
@@ -26,7 +27,7 @@ use std::alloc::AllocError;
 
 /// Answers a command about the cluster.
 #[inline(never)]
-#[tactic(auto, using(crate::proofs::AnswerLemmas::numbered_answered))]
+#[tactic(auto, using(crate::proofs::AnswerLemmas::numbered_answered, crate::proofs::AnswerLemmas::failover_answered))]
 pub(crate) fn answer_about_cluster<S: SlotParts + SlotKeys, T: Stream>(
     node: &NodeParts<S, T>,
     conn: Conn,
@@ -64,6 +65,7 @@ pub(crate) fn answer_about_cluster<S: SlotParts + SlotKeys, T: Stream>(
             number_asks(node, conn, draft);
             Ok(())
         }
+        ClusterCommand::Failover => Ok(ask_master(node, conn, draft)?),
         ClusterCommand::Asking { number } => {
             allow(node, conn, asking_for(*number), draft);
             Ok(())

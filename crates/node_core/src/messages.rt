@@ -13,7 +13,8 @@ ghost use Rattle.step_fault.specs.declared.fault.StepFault.TheVariants.{Exhauste
 use crate::following::follow;
 use crate::votes::{ask_for_vote, count_vote};
 use bus::{Body, Message};
-use move_rows::{CopyName, lost_to, take_ack, take_claim, take_copy, take_drained};
+use handover_rows::{hand_over, note_handing};
+use move_rows::{lost_to, take_ack, take_claim, take_copy, take_drained};
 use node_parts::{Draft, NodeParts};
 use node_step::{Outputs, Recorder, StepFault};
 use repl_stream::{Replaces, Stream};
@@ -38,11 +39,13 @@ pub(crate) fn take<S: SlotParts + SlotKeys + Replaces, T: Stream, K: Recorder>(
         Body::Request(request) => { ask_for_vote::<S, T, K>(node, ticket, message.from, request) }
         Body::Grant(epoch) => count_vote::<S, T, K>(node, ticket, message.from, *epoch),
         Body::Copy { .. }
-        | Body::Ack { .. }
+        | Body::Ack(_)
         | Body::Drained { .. }
         | Body::Claim(_, _)
         | Body::Report(_)
-        | Body::Sync(_) => by_draft::<S, T, K>(node, ticket, message),
+        | Body::Sync(_)
+        | Body::Pause(_)
+        | Body::Paused(_) => by_draft::<S, T, K>(node, ticket, message),
     }
 }
 
@@ -93,27 +96,8 @@ fn take_by_row<S: SlotParts + SlotKeys, T: Stream>(
 {
     let from = message.from;
     match &message.body {
-        Body::Copy {
-            slot,
-            number,
-            copy,
-            pairs,
-        } => {
-            let name = CopyName {
-                slot: *slot,
-                number: *number,
-                copy: *copy,
-            };
-            Ok(take_copy(node, from, name, pairs.as_slice(), draft)?)
-        }
-        Body::Ack { slot, number, copy } => {
-            let name = CopyName {
-                slot: *slot,
-                number: *number,
-                copy: *copy,
-            };
-            Ok(take_ack(node, from, name, draft)?)
-        }
+        Body::Copy { id, pairs } => Ok(take_copy(node, from, *id, pairs.as_slice(), draft)?),
+        Body::Ack(id) => Ok(take_ack(node, from, *id, draft)?),
         Body::Drained {
             slot,
             number,
@@ -124,6 +108,8 @@ fn take_by_row<S: SlotParts + SlotKeys, T: Stream>(
         }
         Body::Claim(claim, _replaced) => Ok(take_claim(node, from, claim, draft)?),
         Body::Sync(sync) => Ok(answer_sync(node, from, sync, draft)?),
+        Body::Pause(stream) => Ok(hand_over(node, from, *stream, draft)?),
+        Body::Paused(handing) => Ok(note_handing(node, handing, draft)?),
         // All that a report tells was noted before.
         Body::Report(_) => Ok(()),
         Body::Request(_) | Body::Grant(_) | Body::Piece(_) | Body::Snapshot(_) => unreachable!(),
@@ -139,13 +125,8 @@ fn written_by<S: SlotParts + SlotKeys, T: Stream>(
 {
     let from = message.from;
     match &message.body {
-        Body::Copy {
-            slot,
-            number,
-            copy,
-            pairs,
-        } => written_by_copy(node, from, *slot, *number, *copy, pairs.as_slice()),
-        Body::Ack { slot, number, copy } => written_by_ack(node, from, *slot, *number, *copy),
+        Body::Copy { id, pairs } => written_by_copy(node, from, *id, pairs.as_slice()),
+        Body::Ack(id) => written_by_ack(node, from, *id),
         Body::Claim(claim, _replaced) => written_by_claim(node, from, claim),
         Body::Drained { .. }
         | Body::Sync(_)
@@ -153,7 +134,9 @@ fn written_by<S: SlotParts + SlotKeys, T: Stream>(
         | Body::Request(_)
         | Body::Grant(_)
         | Body::Piece(_)
-        | Body::Snapshot(_) => Ok(Vec::new(node.alloc)),
+        | Body::Snapshot(_)
+        | Body::Pause(_)
+        | Body::Paused(_) => Ok(Vec::new(node.alloc)),
     }
 }
 

@@ -1,6 +1,7 @@
 //! A node, and its steps.
 ghost use Rattle.std.specs.Prelude.{◌≡◌, IfOk, OnErr, Err};
 ghost use Rattle.std.specs.FinMap as fin_map;
+ghost use Rattle.std.specs.Option.{option_copied};
 ghost use Rattle.connections.specs.Connections.{IsUsedUp};
 ghost use Rattle.keyspace.specs.Keyspace.{Keyspace};
 ghost use Rattle.keyspace.specs.Plan.{committed};
@@ -15,7 +16,7 @@ ghost use Rattle.stream_values.specs.Stream.{received};
 use crate::messages::take;
 use crate::requests::request;
 use crate::ticks::pass_tick;
-use bus::{Message, Replaced};
+use bus::{Handing, Message, Replaced};
 use cluster_config::{Config, NodeConfig, Role};
 use connections::Conn;
 use key_slot::Slot;
@@ -121,6 +122,27 @@ impl<S: SlotParts + SlotKeys + Replaces, T: Stream> NodeCore<S, T> {
         self.parts.election.replaced
     }
 
+    /// The replica that the node hands its slots over to, if it does.
+    pub fn paused(&self) -> Option<NodeNo>
+        ensures { result ≡ self.now.paused }
+    {
+        self.parts.paused
+    }
+
+    /// What the node's master hands over, if the node noted that.
+    pub fn noted(&self) -> Option<&Handing>
+        ensures { option_copied result ≡ self.now.handover.note }
+    {
+        self.parts.note.as_ref()
+    }
+
+    /// Whether the node's master hands its slots over for the election that the node began last.
+    pub fn is_election_planned(&self) -> bool
+        ensures { result ≡ self.now.candidate.planned }
+    {
+        self.parts.is_election_planned()
+    }
+
     /// How many keys of the slot the node holds.
     pub fn count_in_slot(&self, slot: Slot) -> usize
         ensures { result ≡ fin_map.len (in_slot slot self.now.keyspace) }
@@ -206,11 +228,13 @@ impl<S: SlotParts + SlotKeys + Replaces, T: Stream> NodeCore<S, T> {
             return Ok(plain::<K>(ticket, Response::Nothing));
         }
         let before = self.parts.election();
-        self.parts.hear(message);
+        let dropped = self.parts.hear(message);
         let taken = take::<S, T, K>(&mut self.parts, ticket, message);
-        if taken.is_err() {
-            self.parts.put_back(before);
+        if taken.is_ok() {
+            return taken;
         }
+        self.parts.put_back(before);
+        self.parts.put_note_back(dropped);
         taken
     }
 

@@ -1,14 +1,11 @@
 //! Ticks of a node's time.
 ghost use Rattle.std.specs.Prelude.{◌≡◌, ◌++◌, Err, IfOk, OnErr, OnOk};
-ghost use Rattle.node_core.specs.Ticking.{ticked_in};
+ghost use Rattle.node_core.specs.Ticking.{ticked_in, told_in};
 ghost use Rattle.node_parts.specs.Drafts.{Drafts, HasNothing};
 ghost use Rattle.node_parts.specs.Electing.{KeepsRest};
 ghost use Rattle.node_step.specs.Numbers.{NoNumberLeft};
-ghost use Rattle.node_step.specs.Replicas.{sync_to};
-ghost use Rattle.node_step.specs.State.{own_master};
 ghost use Rattle.node_step.specs.Step.{NodeStep};
-ghost use Rattle.node_step.specs.Ticks.{signs, slots_tick};
-ghost use Rattle.node_step.specs.Voting.{requests_in};
+ghost use Rattle.node_step.specs.Ticks.{slots_tick};
 ghost use Rattle.node_step.specs.declared.event.Event.TheVariants.{Tick};
 ghost use Rattle.step_fault.specs.declared.fault.StepFault.TheVariants.{Exhausted};
 
@@ -16,6 +13,7 @@ use bus::Body;
 use command_table::ErrorLine;
 use connections::Waiting;
 use election_rows::{append_requests, append_signs};
+use handover_rows::{append_pause, append_paused};
 use move_rows::sent_again;
 use node_parts::{Change, Draft, NodeParts};
 use node_step::{Outputs, Recorder, Releases, StepFault};
@@ -82,16 +80,18 @@ fn sent<S: SlotParts + SlotKeys, T: Stream>(
     Ok(bodies)
 }
 
-// Which slots the node has, whom it suspects, how far it is as a replica, and that it asks for votes.
+// Which slots the node has, whom it suspects, how far it is as a replica, what is said of a handover, and that it asks for votes.
 fn append_told<S: SlotParts + SlotKeys, T: Stream>(
     node: &NodeParts<S, T>,
     epoch: Option<Epoch>,
     bodies: &mut Vec<(NodeNo, Body)>,
 ) -> Result<(), AllocError>
-    ensures { OnOk result (bodies.new.items ≡ bodies.old.items ++ signs node.now ++ sync_to node.now.stream (own_master node.now) ++ requests_in node.now epoch (own_master node.now)) }
+    ensures { OnOk result (bodies.new.items ≡ bodies.old.items ++ told_in node.now epoch) }
 {
     append_signs(node, bodies)?;
     append_sync(node, bodies)?;
+    append_pause(node, bodies)?;
+    append_paused(node, bodies)?;
     append_requests(node, epoch, bodies)?;
     Ok(())
 }

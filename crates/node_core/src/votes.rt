@@ -1,16 +1,16 @@
 //! Messages of elections.
-ghost use Rattle.std.specs.Prelude.{◌≡◌, ◌≢◌, Err, IfOk, OnErr};
+ghost use Rattle.std.specs.Prelude.{◌≡◌, ◌≢◌, Err, IfOk, OnErr, Some};
 ghost use Rattle.bus.specs.declared.message.Body.TheVariants.{Grant, Request as Asks};
 ghost use Rattle.node_core.specs.Comes.{MayBeTaken, IsJust};
 ghost use Rattle.node_parts.specs.Drafts.{Comes};
 ghost use Rattle.node_parts.specs.Electing.{KeepsRest};
-ghost use Rattle.node_step.specs.Promotion.{promotion};
-ghost use Rattle.node_step.specs.State.{own_master};
+ghost use Rattle.node_step.specs.Promotion.{handed_promotion, promotion};
+ghost use Rattle.node_step.specs.Voting.{if_elected};
 ghost use Rattle.step_fault.specs.declared.fault.StepFault.TheVariants.{Exhausted};
 
 use bus::Request;
 use election::VoteRequest;
-use election_rows::{promote, write_vote};
+use election_rows::{promote, promote_by_plan, write_vote};
 use node_parts::{NodeParts, plain};
 use node_step::{Outputs, Recorder, Response, StepFault};
 use repl_stream::Stream;
@@ -34,6 +34,7 @@ pub(crate) fn ask_for_vote<S: SlotParts + SlotKeys, T: Stream, K: Recorder>(
         candidate: from,
         epoch: request.epoch,
         master: request.master,
+        planned: request.planned,
     };
     let granted = node.vote(request);
     let mut draft = node.blank();
@@ -60,13 +61,12 @@ pub(crate) fn count_vote<S: SlotParts + SlotKeys, T: Stream, K: Recorder>(
 }
 
 // The node is elected, and takes the place of its master, if it has one.
-#[tactic(auto, using(crate::proofs::VoteLemmas::promotion_made, node_parts::proofs::ChangeLemmas::promotion_can_be_made))]
 fn promoted<S: SlotParts + SlotKeys, T: Stream, K: Recorder>(
     node: &mut NodeParts<S, T>,
     ticket: u64,
     epoch: Epoch,
 ) -> Result<(Outputs, K::Record), StepFault>
-    ensures promoted { IfOk result (λ made. Comes ticket (IsJust (promotion node.old epoch (own_master node.old))) made.0 node.new) }
+    ensures promoted { IfOk result (λ made. Comes ticket (IsJust (if_elected node.old (Some (record { epoch = epoch })))) made.0 node.new) }
     ensures recorded { IfOk result (λ made. K.recorded made.1 ≡ made.0) }
     ensures err { OnErr result (node.new ≡ node.old) }
     ensures exhausted { result ≢ Err Exhausted }
@@ -74,7 +74,48 @@ fn promoted<S: SlotParts + SlotKeys, T: Stream, K: Recorder>(
     let Some(master) = node.own_master() else {
         return Ok(plain::<K>(ticket, Response::Nothing));
     };
+    if node.is_election_planned() {
+        promoted_by_plan::<S, T, K>(node, ticket, master, epoch)
+    } else {
+        promoted_in_place::<S, T, K>(node, ticket, master, epoch)
+    }
+}
+
+// The master is held failed.
+#[tactic(auto, using(crate::proofs::VoteLemmas::promotion_made, node_parts::proofs::ChangeLemmas::promotion_can_be_made))]
+fn promoted_in_place<S: SlotParts + SlotKeys, T: Stream, K: Recorder>(
+    node: &mut NodeParts<S, T>,
+    ticket: u64,
+    master: NodeNo,
+    epoch: Epoch,
+) -> Result<(Outputs, K::Record), StepFault>
+    ensures promoted { IfOk result (λ made. Comes ticket (IsJust (promotion node.old epoch (Some master))) made.0 node.new) }
+    ensures recorded { IfOk result (λ made. K.recorded made.1 ≡ made.0) }
+    ensures err { OnErr result (node.new ≡ node.old) }
+    ensures exhausted { result ≢ Err Exhausted }
+{
     let mut draft = node.blank();
     promote(node, master, epoch, &mut draft)?;
+    Ok(node.make::<K>(ticket, &mut draft)?)
+}
+
+// The master hands over. A node that hasn't all of its stream, or has noted nothing, stays a replica.
+#[tactic(auto, using(crate::proofs::VoteLemmas::promotion_made, node_parts::proofs::ChangeLemmas::promotion_can_be_made))]
+fn promoted_by_plan<S: SlotParts + SlotKeys, T: Stream, K: Recorder>(
+    node: &mut NodeParts<S, T>,
+    ticket: u64,
+    master: NodeNo,
+    epoch: Epoch,
+) -> Result<(Outputs, K::Record), StepFault>
+    ensures promoted { IfOk result (λ made. Comes ticket (IsJust (handed_promotion node.old epoch (Some master) node.old.handover.note)) made.0 node.new) }
+    ensures recorded { IfOk result (λ made. K.recorded made.1 ≡ made.0) }
+    ensures err { OnErr result (node.new ≡ node.old) }
+    ensures exhausted { result ≢ Err Exhausted }
+{
+    let Some(handing) = node.handed_over() else {
+        return Ok(plain::<K>(ticket, Response::Nothing));
+    };
+    let mut draft = node.blank();
+    promote_by_plan(node, master, epoch, &handing.slots, &mut draft)?;
     Ok(node.make::<K>(ticket, &mut draft)?)
 }

@@ -3,6 +3,7 @@ use Rattle.std.proofs.Common.{◌≡◌, ◌≤◌, ◌+◌, ℕ, List, [], ◌�
 use Rattle.bus.specs.declared.message.Body.{Body}
 use Rattle.migrate.specs.Acknowledging.{frozen_keys}
 use Rattle.slot_state.specs.Moves.{move_of}
+use Rattle.slot_state.specs.declared.copy_id.CopyId.{CopyId}
 use Rattle.keyspace.specs.Keyspace.{Keyspace}
 use Rattle.keyspace.specs.declared.plans.Plan.{Plan}
 use Rattle.node_parts.specs.Becomes.{Becomes, CanBeMade, freed}
@@ -11,7 +12,7 @@ use Rattle.node_parts.specs.Making.{GoesOn, IsApplied, IsMade}
 use Rattle.node_parts.specs.Succession.{promoted_by, succeeded_by}
 use Rattle.node_parts.specs.declared.succession.Succession.{Succession}
 use Rattle.node_parts.specs.declared.change.Change.{Change}
-use Rattle.node_parts.specs.declared.change.Change.TheVariants.{Nothing, Asks, Allows, Numbers, Keys, Imports, Migrates, Ends, Parks, Freezes, Installs, Frees, Notes, Loses, Ages}
+use Rattle.node_parts.specs.declared.change.Change.TheVariants.{Nothing, Asks, Allows, Numbers, Keys, Imports, Migrates, Ends, Parks, Freezes, Installs, Frees, Notes, Loses, Wishes, Pauses, Learns, Ages}
 use Rattle.node_parts.specs.declared.draft.Draft.{Draft}
 use Rattle.node_parts.proofs.Commits.{committed_lies, committed_one}
 use Rattle.node_step.specs.Outcome.{Outcome, outputs_of, replied, replied_sending, silent}
@@ -38,9 +39,12 @@ can_be_made old plan (Ends conn slot epoch) new is = tt
 can_be_made old plan (Parks conn wait) new is = tt
 can_be_made old plan (Freezes conn keys wait) new is = tt
 can_be_made old plan (Installs slot copy) new is = tt
-can_be_made old plan (Frees slot number copy) new is = tt
+can_be_made old plan (Frees id) new is = tt
 can_be_made old plan (Notes from slot number epoch) new is = tt
 can_be_made old plan (Loses from claim lost) new is = tt
+can_be_made old plan (Wishes conn) new is = tt
+can_be_made old plan (Pauses replica) new is = tt
+can_be_made old plan (Learns handing) new is = tt
 can_be_made old plan Ages new is = tt
 
 -- it leads to one state alone
@@ -57,16 +61,19 @@ leads_to_one old plan (Ends conn slot epoch) m n one other = one ∙ sym other
 leads_to_one old plan (Parks conn wait) m n one other = one ∙ sym other
 leads_to_one old plan (Freezes conn keys wait) m n one other = one ∙ sym other
 leads_to_one old plan (Installs slot copy) m n one other = one ∙ sym other
-leads_to_one old plan (Frees slot number copy) m n one other = one ∙ sym other
+leads_to_one old plan (Frees id) m n one other = one ∙ sym other
 leads_to_one old plan (Notes from slot number epoch) m n one other = one ∙ sym other
 leads_to_one old plan (Loses from claim lost) m n one other = one ∙ sym other
+leads_to_one old plan (Wishes conn) m n one other = one ∙ sym other
+leads_to_one old plan (Pauses replica) m n one other = one ∙ sym other
+leads_to_one old plan (Learns handing) m n one other = one ∙ sym other
 leads_to_one old plan Ages m n one other = one ∙ sym other
 
 -- the epoch stays where frozen keys go
-at_any_epoch : (old : NodeState) (epoch slot number copy : ℕ) (keys : Option (List (List ℕ)))
-    → at_epoch (freed old slot number copy keys) epoch ≡ freed (at_epoch old epoch) slot number copy keys
-at_any_epoch old epoch slot number copy None = refl
-at_any_epoch old epoch slot number copy (Some keys) = refl
+at_any_epoch : (old : NodeState) (epoch : ℕ) (id : CopyId) (keys : Option (List (List ℕ)))
+    → at_epoch (freed old id keys) epoch ≡ freed (at_epoch old epoch) id keys
+at_any_epoch old epoch id None = refl
+at_any_epoch old epoch id (Some keys) = refl
 
 -- no change touches the node's number, the epoch, who copies whom, or the stream
 pub record KeepsOwn (old new : NodeState) : Type 0 where
@@ -75,9 +82,9 @@ pub record KeepsOwn (old new : NodeState) : Type 0 where
   pub masters : new.masters ≡ old.masters
   pub stream : new.stream ≡ old.stream
 
-freed_keeps : (old : NodeState) (slot number copy : ℕ) (keys : Option (List (List ℕ))) → KeepsOwn old (freed old slot number copy keys)
-freed_keeps old slot number copy None = record { number = refl; epoch = refl; masters = refl; stream = refl }
-freed_keeps old slot number copy (Some keys) = record { number = refl; epoch = refl; masters = refl; stream = refl }
+freed_keeps : (old : NodeState) (id : CopyId) (keys : Option (List (List ℕ))) → KeepsOwn old (freed old id keys)
+freed_keeps old id None = record { number = refl; epoch = refl; masters = refl; stream = refl }
+freed_keeps old id (Some keys) = record { number = refl; epoch = refl; masters = refl; stream = refl }
 
 as_other : (old new other : NodeState) → new ≡ other → KeepsOwn old other → KeepsOwn old new
 as_other old new other is keeps = subst (λ (node : NodeState). KeepsOwn old node) (sym is) keeps
@@ -94,9 +101,13 @@ keeps_own old plan (Ends conn slot epoch) new is = as_other old new _ is (record
 keeps_own old plan (Parks conn wait) new is = as_other old new _ is (record { number = refl; epoch = refl; masters = refl; stream = refl })
 keeps_own old plan (Freezes conn keys wait) new is = as_other old new _ is (record { number = refl; epoch = refl; masters = refl; stream = refl })
 keeps_own old plan (Installs slot copy) new is = as_other old new _ is (record { number = refl; epoch = refl; masters = refl; stream = refl })
-keeps_own old plan (Frees slot number copy) new is = as_other old new _ is (freed_keeps old slot number copy (frozen_keys (move_of old.moves slot)))
+keeps_own old plan (Frees id) new is = as_other old new _ is (freed_keeps old id (frozen_keys (move_of old.moves id.slot)))
 keeps_own old plan (Notes from slot number epoch) new is = as_other old new _ is (record { number = refl; epoch = refl; masters = refl; stream = refl })
 keeps_own old plan (Loses from claim lost) new is = as_other old new _ is (record { number = refl; epoch = refl; masters = refl; stream = refl })
+keeps_own old plan (Wishes conn) new is = as_other old new _ is (record { number = refl; epoch = refl; masters = refl; stream = refl })
+keeps_own old plan (Pauses replica) new is = as_other old new _ is (record { number = refl; epoch = refl; masters = refl; stream = refl })
+keeps_own old plan (Learns None) new is = as_other old new _ is (record { number = refl; epoch = refl; masters = refl; stream = refl })
+keeps_own old plan (Learns (Some handing)) new is = as_other old new _ is (record { number = refl; epoch = refl; masters = refl; stream = refl })
 keeps_own old plan Ages new is = as_other old new _ is (record { number = refl; epoch = refl; masters = refl; stream = refl })
 
 -- the epoch is none of its parts
@@ -112,9 +123,13 @@ beside_epoch old new epoch plan (Ends conn slot own) is = ap (λ node. at_epoch 
 beside_epoch old new epoch plan (Parks conn wait) is = ap (λ node. at_epoch node epoch) is
 beside_epoch old new epoch plan (Freezes conn keys wait) is = ap (λ node. at_epoch node epoch) is
 beside_epoch old new epoch plan (Installs slot copy) is = ap (λ node. at_epoch node epoch) is
-beside_epoch old new epoch plan (Frees slot number copy) is = ap (λ node. at_epoch node epoch) is ∙ at_any_epoch old epoch slot number copy (frozen_keys (move_of old.moves slot))
+beside_epoch old new epoch plan (Frees id) is = ap (λ node. at_epoch node epoch) is ∙ at_any_epoch old epoch id (frozen_keys (move_of old.moves id.slot))
 beside_epoch old new epoch plan (Notes from slot number drained) is = ap (λ node. at_epoch node epoch) is
 beside_epoch old new epoch plan (Loses from claim lost) is = ap (λ node. at_epoch node epoch) is
+beside_epoch old new epoch plan (Wishes conn) is = ap (λ node. at_epoch node epoch) is
+beside_epoch old new epoch plan (Pauses replica) is = ap (λ node. at_epoch node epoch) is
+beside_epoch old new epoch plan (Learns None) is = ap (λ node. at_epoch node epoch) is
+beside_epoch old new epoch plan (Learns (Some handing)) is = ap (λ node. at_epoch node epoch) is
 beside_epoch old new epoch plan Ages is = ap (λ node. at_epoch node epoch) is
 
 -- a change beside a stream that grows

@@ -8,29 +8,31 @@ use Rattle.keyspace.specs.declared.plans.Plan.{Plan}
 use Rattle.migrate.specs.Acknowledging.{frozen_keys}
 use Rattle.migrate.specs.Arriving.{counted}
 use Rattle.migrate.specs.Sending.{frozen}
-use Rattle.node_parts.specs.Becomes.{Becomes, Finishes, ending, freed, losing, waiting_so}
+use Rattle.node_parts.specs.Becomes.{Becomes, Finishes, ending, freed, learning, losing, waiting_so}
 use Rattle.node_parts.specs.Begins.{Begins, CanBegin}
 use Rattle.node_parts.specs.Making.{GoesOn, IsMade}
 use Rattle.node_parts.specs.declared.change.Change.{Change}
-use Rattle.node_parts.specs.declared.change.Change.TheVariants.{Nothing, Asks, Allows, Numbers, Keys, Imports, Migrates, Ends, Parks, Freezes, Installs, Frees, Notes, Loses, Ages}
+use Rattle.node_parts.specs.declared.change.Change.TheVariants.{Nothing, Asks, Allows, Numbers, Keys, Imports, Migrates, Ends, Parks, Freezes, Installs, Frees, Notes, Loses, Wishes, Pauses, Learns, Ages}
 use Rattle.node_step.specs.Copies.{noted}
+use Rattle.node_step.specs.Handovers.{wishing}
 use Rattle.node_step.specs.Orders.{with_moves}
 use Rattle.node_step.specs.Requests.{at_connection, using_up, with_numbers}
 use Rattle.node_step.specs.State.{NodeState}
 use Rattle.node_step.specs.Ticks.{older}
 use Rattle.slot_state.specs.Moves.{Moves, move_of}
+use Rattle.slot_state.specs.declared.copy_id.CopyId.{CopyId}
 use Rattle.slot_store.specs.InSlot.{IsCommittedInSlot}
 use Rattle.stream_values.specs.Stream.{StreamView, Writes}
 
 -- the stream is none of what a change looks at
-freed_behind : (old : NodeState) (stream : StreamView) (slot number copy : ℕ) (keys : Option (List (List ℕ)))
-    → record (freed old slot number copy keys) { stream = stream } ≡ freed (record old { stream = stream }) slot number copy keys
-freed_behind old stream slot number copy None = refl
-freed_behind old stream slot number copy (Some keys) = refl
+freed_behind : (old : NodeState) (stream : StreamView) (id : CopyId) (keys : Option (List (List ℕ)))
+    → record (freed old id keys) { stream = stream } ≡ freed (record old { stream = stream }) id keys
+freed_behind old stream id None = refl
+freed_behind old stream id (Some keys) = refl
 
-freed_stream : (old : NodeState) (slot number copy : ℕ) (keys : Option (List (List ℕ))) → (freed old slot number copy keys).stream ≡ old.stream
-freed_stream old slot number copy None = refl
-freed_stream old slot number copy (Some keys) = refl
+freed_stream : (old : NodeState) (id : CopyId) (keys : Option (List (List ℕ))) → (freed old id keys).stream ≡ old.stream
+freed_stream old id None = refl
+freed_stream old id (Some keys) = refl
 
 module _ (old new : NodeState) (plan : Plan) (keys : Keyspace) (running : Moves) (stream : StreamView) where
   -- the node between both halves
@@ -55,10 +57,14 @@ module _ (old new : NodeState) (plan : Plan) (keys : Keyspace) (running : Moves)
   leads (Numbers conn) can begins ends = from_before (λ n. with_numbers (using_up n conn) conn) (λ n. refl) begins ends
   leads (Ends conn slot epoch) can begins ends = from_before (λ n. ending n conn slot epoch) (λ n. refl) begins ends
   leads (Parks conn wait) can begins ends = from_before (λ n. waiting_so (using_up n conn) conn wait) (λ n. refl) begins ends
-  leads (Freezes conn keys wait) can begins ends = from_before (λ n. waiting_so (with_moves (using_up n conn) (frozen n.moves wait.slot wait.copy keys)) conn wait) (λ n. refl) begins ends
-  leads (Frees slot number copy) can begins ends = from_before (λ n. freed n slot number copy (frozen_keys (move_of n.moves slot))) (λ n. freed_behind n old.stream slot number copy (frozen_keys (move_of n.moves slot))) begins ends
+  leads (Freezes conn keys wait) can begins ends = from_before (λ n. waiting_so (with_moves (using_up n conn) (frozen n.moves wait.id.slot wait.id.copy keys)) conn wait) (λ n. refl) begins ends
+  leads (Frees id) can begins ends = from_before (λ n. freed n id (frozen_keys (move_of n.moves id.slot))) (λ n. freed_behind n old.stream id (frozen_keys (move_of n.moves id.slot))) begins ends
   leads (Notes from slot number epoch) can begins ends = from_before (λ n. (noted n from slot number epoch).state) (λ n. refl) begins ends
   leads (Loses from claim lost) can begins ends = from_before (λ n. losing n claim from lost.items) (λ n. refl) begins ends
+  leads (Wishes conn) can begins ends = from_before (λ n. wishing (using_up n conn)) (λ n. refl) begins ends
+  leads (Pauses replica) can begins ends = from_before (λ n. record n { paused = Some replica }) (λ n. refl) begins ends
+  leads (Learns None) can begins ends = from_before (λ n. n) (λ n. refl) begins ends
+  leads (Learns (Some handing)) can begins ends = from_before (λ n. learning n (Some handing)) (λ n. refl) begins ends
   leads Ages can begins ends = from_before older (λ n. refl) begins ends
   leads (Keys conn slot) can begins ends = record {
     keys = subst (λ (n : NodeState). IsCommittedInSlot slot plan old.keyspace n.keyspace) (sym ends) begins.0;
@@ -89,9 +95,13 @@ module _ (old new : NodeState) (plan : Plan) (keys : Keyspace) (running : Moves)
   stays (Parks conn wait) ends = ap (λ (n : NodeState). n.stream) ends
   stays (Freezes conn keys wait) ends = ap (λ (n : NodeState). n.stream) ends
   stays (Installs slot copy) ends = ap (λ (n : NodeState). n.stream) ends
-  stays (Frees slot number copy) ends = ap (λ (n : NodeState). n.stream) ends ∙ freed_stream begun slot number copy (frozen_keys (move_of begun.moves slot))
+  stays (Frees id) ends = ap (λ (n : NodeState). n.stream) ends ∙ freed_stream begun id (frozen_keys (move_of begun.moves id.slot))
   stays (Notes from slot number epoch) ends = ap (λ (n : NodeState). n.stream) ends
   stays (Loses from claim lost) ends = ap (λ (n : NodeState). n.stream) ends
+  stays (Wishes conn) ends = ap (λ (n : NodeState). n.stream) ends
+  stays (Pauses replica) ends = ap (λ (n : NodeState). n.stream) ends
+  stays (Learns None) ends = ap (λ (n : NodeState). n.stream) ends
+  stays (Learns (Some handing)) ends = ap (λ (n : NodeState). n.stream) ends
   stays Ages ends = ap (λ (n : NodeState). n.stream) ends
 
   pub both_halves : (change : Change) (bytes : List ℕ) → CanBegin old.keyspace old.moves plan change → Begins old.keyspace old.moves plan change keys running

@@ -2,6 +2,7 @@
 use Rattle.std.specs.Prelude.{◌≡◌, ◌==◌, ℕ, not, List, Option, Some, None, slice_set}
 use Rattle.std.specs.FinMap as fin_map
 use Rattle.std.specs.List.{list_any}
+use Rattle.bus.specs.declared.message.Handing.{Handing}
 use Rattle.connections.specs.Connections.{all_freed}
 use Rattle.connections.specs.declared.conn.Conn.{Conn}
 use Rattle.connections.specs.declared.conn.Connection.{Connection}
@@ -15,8 +16,9 @@ use Rattle.migrate.specs.Losing.{after_loss}
 use Rattle.migrate.specs.Sending.{frozen}
 use Rattle.node_parts.specs.Begins.{CanBegin}
 use Rattle.node_parts.specs.declared.change.Change.{Change}
-use Rattle.node_parts.specs.declared.change.Change.TheVariants.{Nothing, Asks, Allows, Numbers, Keys, Imports, Migrates, Ends, Parks, Freezes, Installs, Frees, Notes, Loses, Ages}
+use Rattle.node_parts.specs.declared.change.Change.TheVariants.{Nothing, Asks, Allows, Numbers, Keys, Imports, Migrates, Ends, Parks, Freezes, Installs, Frees, Notes, Loses, Wishes, Pauses, Learns, Ages}
 use Rattle.node_step.specs.Copies.{noted, parked, without_keys}
+use Rattle.node_step.specs.Handovers.{noting, wishing}
 use Rattle.node_step.specs.Orders.{with_moves}
 use Rattle.node_step.specs.Requests.{at_connection, using_up, with_numbers}
 use Rattle.node_step.specs.State.{NodeState}
@@ -24,6 +26,7 @@ use Rattle.node_step.specs.Ticks.{older}
 use Rattle.slot_state.specs.Moves.{begun, ended, move_of}
 use Rattle.slot_state.specs.declared.running.Move.{Move}
 use Rattle.slot_state.specs.declared.running.Move.TheVariants.{Comes, Leaves}
+use Rattle.slot_state.specs.declared.copy_id.CopyId.{CopyId}
 use Rattle.slot_store.specs.InSlot.{IsCommittedInSlot}
 use Rattle.slot_table.specs.Claims.{merged}
 use Rattle.slot_table.specs.declared.runs.Run.{Run}
@@ -39,7 +42,7 @@ losing node claim from lost = record node {
   table = merged node.table claim from;
   keyspace = fin_map.retain_keys node.keyspace (λ key. not (list_any (λ slot. slot == hash_slot key) lost));
   moves = after_loss node.moves (λ slot. list_any (λ other. other == slot) lost);
-  connections = all_freed node.connections (λ wait. list_any (λ other. other == wait.slot) lost);
+  connections = all_freed node.connections (λ wait. list_any (λ other. other == wait.id.slot) lost);
 }
 
 -- the node once an import is over, and the slot its own in that epoch
@@ -54,12 +57,17 @@ pub record Starts (old : NodeState) (conn : Conn) (slot number : ℕ) (move : Mo
 
 -- the node once a connection waits for the acknowledgement of a copy
 abbrev pub waiting_so : NodeState → Conn → Wait → NodeState
-waiting_so node conn wait = parked node conn wait.slot wait.number wait.copy wait.ticks
+waiting_so node conn wait = parked node conn wait.id wait.ticks
 
 -- the node once no copy of the slot is outstanding: without the frozen keys, if there were some
-abbrev pub freed : NodeState → ℕ → ℕ → ℕ → Option (List (List ℕ)) → NodeState
-freed node slot number copy None = with_moves node (after_ack node.moves slot)
-freed node slot number copy (Some keys) = without_keys node slot number copy keys
+abbrev pub freed : NodeState → CopyId → Option (List (List ℕ)) → NodeState
+freed node id None = with_moves node (after_ack node.moves id.slot)
+freed node id (Some keys) = without_keys node id keys
+
+-- the node once it noted what its master hands over
+abbrev pub learning : NodeState → Option Handing → NodeState
+learning node None = node
+learning node (Some handing) = record node { handover = noting node.handover handing }
 
 -- the half of a change that takes no memory, and comes behind the other
 abbrev pub Finishes : NodeState → Change → NodeState → Type 0
@@ -72,11 +80,14 @@ Finishes old (Imports conn slot from number) new = new ≡ using_up old conn
 Finishes old (Migrates conn slot to number) new = new ≡ using_up old conn
 Finishes old (Ends conn slot epoch) new = new ≡ ending old conn slot epoch
 Finishes old (Parks conn wait) new = new ≡ waiting_so (using_up old conn) conn wait
-Finishes old (Freezes conn keys wait) new = new ≡ waiting_so (with_moves (using_up old conn) (frozen old.moves wait.slot wait.copy keys)) conn wait
+Finishes old (Freezes conn keys wait) new = new ≡ waiting_so (with_moves (using_up old conn) (frozen old.moves wait.id.slot wait.id.copy keys)) conn wait
 Finishes old (Installs slot copy) new = new ≡ with_moves old (counted old.moves slot copy)
-Finishes old (Frees slot number copy) new = new ≡ freed old slot number copy (frozen_keys (move_of old.moves slot))
+Finishes old (Frees id) new = new ≡ freed old id (frozen_keys (move_of old.moves id.slot))
 Finishes old (Notes from slot number epoch) new = new ≡ (noted old from slot number epoch).state
 Finishes old (Loses from claim lost) new = new ≡ losing old claim from lost.items
+Finishes old (Wishes conn) new = new ≡ wishing (using_up old conn)
+Finishes old (Pauses replica) new = new ≡ record old { paused = Some replica }
+Finishes old (Learns handing) new = new ≡ learning old handing
 Finishes old Ages new = new ≡ older old
 
 -- what a change makes, with both halves; the plan is that of a change of keys

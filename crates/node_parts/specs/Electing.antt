@@ -11,6 +11,7 @@ pub record ElectionView : Type 0 where
   pub health : Health
   pub voter : Voter
   pub candidate : Candidate
+  pub begun : Option ℕ
   pub replaced : Option Replaced
 
 -- that part of the node
@@ -21,6 +22,7 @@ election_of node = record {
   health = node.health;
   voter = node.voter;
   candidate = node.candidate;
+  begun = node.handover.begun;
   replaced = node.replaced;
 }
 
@@ -32,6 +34,7 @@ with_election node election = record node {
   health = election.health;
   voter = election.voter;
   candidate = election.candidate;
+  handover = record node.handover { begun = election.begun };
   replaced = election.replaced;
 }
 
@@ -47,6 +50,7 @@ seen_by node election = record {
   health = election.health;
   voter = election.voter;
   candidate = election.candidate;
+  begun = election.begun;
   replaced = election.replaced;
 }
 
@@ -58,5 +62,6 @@ first_election masters = record {
   health = first_health;
   voter = first_voter;
   candidate = no_candidate;
+  begun = None;
   replaced = None;
 }

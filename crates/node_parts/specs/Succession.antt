@@ -1,5 +1,5 @@
 -- A replica takes the place of its master, as it is drafted.
-use Rattle.std.specs.Prelude.{ℕ, List, Option, Some, None}
+use Rattle.std.specs.Prelude.{ℕ, Bool, List, Option, Some, None}
 use Rattle.bus.specs.declared.message.Body.{Body}
 use Rattle.bus.specs.declared.message.Replaced.{Replaced}
 use Rattle.node_parts.specs.declared.succession.Succession.{Succession}
@@ -10,7 +10,7 @@ use Rattle.node_step.specs.declared.promotion.Promotion.{Promotion}
 
 -- the node in the place of its master, with the table that was made for that
 abbrev pub succeeding : NodeState → Succession → NodeState
-succeeding node succession = record (in_place_of node succession.master succession.epoch) { table = succession.table }
+succeeding node succession = in_place_of node succession.master succession.epoch succession.table
 
 abbrev pub succeeded_by : Option Succession → NodeState → NodeState
 succeeded_by None node = node
@@ -21,14 +21,14 @@ abbrev pub replacement : NodeState → ℕ → ℕ → Replaced
 replacement node master epoch = record { master = master; stream = own_stream node epoch; offset = node.stream.offset }
 
 -- what comes out: the stream that the node followed, and how much of it in whole writes
-abbrev pub promotion_in : NodeState → ℕ → Promotion
-promotion_in node epoch = record { stream = node.stream.held.id; offset = node.stream.offset; epoch = epoch }
+abbrev pub promotion_in : NodeState → ℕ → Bool → Promotion
+promotion_in node epoch planned = record { stream = node.stream.held.id; offset = node.stream.offset; epoch = epoch; planned = planned }
 
 abbrev pub promoted_by : NodeState → Option Succession → Option Promotion
 promoted_by node None = None
-promoted_by node (Some succession) = Some (promotion_in node succession.epoch)
+promoted_by node (Some succession) = Some (promotion_in node succession.epoch succession.planned)
 
 -- the outcome, with these messages
 abbrev pub promoting : NodeState → List (ℕ × Body) → Succession → Outcome
 promoting node bodies succession =
-    record (silent (succeeding node succession)) { sent = bodies; promoted = Some (promotion_in node succession.epoch) }
+    record (silent (succeeding node succession)) { sent = bodies; promoted = Some (promotion_in node succession.epoch succession.planned) }

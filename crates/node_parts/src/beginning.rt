@@ -53,6 +53,9 @@ pub(crate) fn begin<S: SlotParts + SlotKeys>(
         | Change::Frees { .. }
         | Change::Notes { .. }
         | Change::Loses { .. }
+        | Change::Wishes { .. }
+        | Change::Pauses { .. }
+        | Change::Learns { .. }
         | Change::Ages => Ok(()),
     }
 }

@@ -1,9 +1,10 @@
 //! What a step changes in its node, decided and not made yet.
 
+use bus::Handing;
 use connections::{Conn, Wait};
 use key_slot::Slot;
 use redirect::Asking;
-use slot_state::{Keys, MoveNo};
+use slot_state::{CopyId, Keys, MoveNo};
 use slot_table::{Claim, Epoch, NodeNo};
 
 /// What a step changes in its node, but for the epoch. It was decided before, and is made as it stands.
@@ -91,12 +92,8 @@ pub enum Change {
     },
     /// The frozen keys of the slot, whose copy was installed, are deleted. Who waited for that waits no more.
     Frees {
-        /// The slot.
-        slot: Slot,
-        /// The number of the move.
-        number: MoveNo,
-        /// The number of the copy.
-        copy: u64,
+        /// The copy.
+        id: CopyId,
     },
     /// A slot that comes is drained.
     Notes {
@@ -117,6 +114,21 @@ pub enum Change {
         claim: Claim,
         /// Of its slots those that were this node's.
         lost: Vec<Slot>,
+    },
+    /// The node asks its master to hand over, until it has noted what the master hands over.
+    Wishes {
+        /// The connection.
+        conn: Conn,
+    },
+    /// The node hands its slots over to that replica, for good.
+    Pauses {
+        /// The replica.
+        replica: NodeNo,
+    },
+    /// What the own master hands over is noted. It is taken out of the change.
+    Learns {
+        /// What it hands over.
+        handing: Option<Handing>,
     },
     /// Time passes.
     Ages,

@@ -1,20 +1,19 @@
 //! What a node knows of epochs, of who copies whom, and of who lives, and its part in elections.
-ghost use Rattle.std.specs.Prelude.{◌≡◌, false, true, IfErr, IfOk, OnErr, OnOk, if◌then◌else◌};
-ghost use Rattle.election.specs.Electing.{counted, elected, judged};
-ghost use Rattle.election.specs.Health.{no_candidate};
+ghost use Rattle.std.specs.Prelude.{◌≡◌, false, true, IfErr, IfOk, OnErr, OnOk};
+ghost use Rattle.election.specs.Electing.{counted, elected, judged, next_epoch};
 ghost use Rattle.election.specs.Voting.{after_request, may_grant};
 ghost use Rattle.node_parts.specs.Electing.{election_of, first_election, seen_by, with_election};
+ghost use Rattle.node_parts.specs.Noting.{note_dropped, note_of_former, with_note, without_master};
 ghost use Rattle.node_step.specs.Failing.{a_tick_older, hearing, judging, members_of};
 ghost use Rattle.node_step.specs.Messages.{knowing, ready};
-ghost use Rattle.node_step.specs.Roles.{following, is_just, replaced_in, with_master};
-ghost use Rattle.node_step.specs.State.{own_master};
-ghost use Rattle.node_step.specs.Voting.{due_epoch, has_due_epoch, in_election};
+ghost use Rattle.node_step.specs.Roles.{following, replaced_in, with_master};
+ghost use Rattle.node_step.specs.Voting.{due_epoch, has_due_epoch, in_election, is_now_due};
 ghost use Rattle.step_fault.specs.declared.fault.StepFault.TheVariants.{Exhausted};
 
 use crate::masters::succeed;
 use crate::parts::NodeParts;
-use bus::{Body, Message, Replaced};
-use election::{Candidate, Elected, Health, Members, VoteRequest, Voter};
+use bus::{Body, Handing, Message, Replaced};
+use election::{Candidate, Elected, Health, Members, VoteRequest, Voter, is_over, older_if_any};
 use repl_stream::Stream;
 use slot_store::{SlotKeys, SlotParts};
 use slot_table::{Epoch, NodeNo};
@@ -35,6 +34,8 @@ pub struct ElectionState {
     pub voter: Voter,
     /// Its own election.
     pub candidate: Candidate,
+    /// How many ticks ago the last election began for which the own master hands over, if one did.
+    pub begun: Option<u32>,
     /// Whose place it took, if it was promoted.
     pub replaced: Option<Replaced>,
 }
@@ -50,6 +51,7 @@ impl ElectionState {
             health: Health::new(),
             voter: Voter::new(),
             candidate: Candidate::new(),
+            begun: None,
             replaced: None,
         }
     }
@@ -83,13 +85,26 @@ impl<S: SlotParts + SlotKeys, T: Stream> NodeParts<S, T> {
     }
 
     /// Takes note of what any message tells, before it is taken: its epoch, that its sender lives, and whose place that took.
-    pub fn hear(&mut self, message: &Message)
-        ensures { self.new ≡ ready self.old message.now }
+    ///
+    /// It gives back what the own master hands over, where that is another one now, and so has told nothing.
+    pub fn hear(&mut self, message: &Message) -> Option<Handing>
+        ensures state { self.new ≡ ready self.old message.now }
+        ensures note { result ≡ note_dropped self.old message.now.from (replaced_in message.now.body) }
     {
         self.know(message.epoch);
-        self.note(message.from, &message.body);
-        self.follow(message.from, replaced_in(&message.body));
+        self.hear_from(message.from, &message.body);
+        let dropped = self.follow(message.from, replaced_in(&message.body));
         self.judge();
+        dropped
+    }
+
+    /// Puts back what was dropped.
+    pub fn put_note_back(&mut self, dropped: Option<Handing>)
+        ensures { self.new ≡ with_note self.old dropped }
+    {
+        if let Some(handing) = dropped {
+            self.note = Some(handing);
+        }
     }
 
     // Takes over a greater epoch.
@@ -100,52 +115,60 @@ impl<S: SlotParts + SlotKeys, T: Stream> NodeParts<S, T> {
     }
 
     // The sender of that lives, and a report says whom it suspects.
-    fn note(&mut self, from: NodeNo, body: &Body)
+    fn hear_from(&mut self, from: NodeNo, body: &Body)
         ensures { self.new ≡ hearing self.old from body.now }
     {
         match body {
             Body::Report(suspects) => self.election.health.on_report(from, suspects.row()),
             Body::Copy { .. }
-            | Body::Ack { .. }
+            | Body::Ack(_)
             | Body::Drained { .. }
             | Body::Claim(_, _)
             | Body::Request(_)
             | Body::Grant(_)
             | Body::Sync(_)
             | Body::Piece(_)
-            | Body::Snapshot(_) => self.election.health.on_message(from),
+            | Body::Snapshot(_)
+            | Body::Pause(_)
+            | Body::Paused(_) => self.election.health.on_message(from),
         }
     }
 
-    // Whoever followed a master that was replaced follows the node that took its place.
-    fn follow(&mut self, from: NodeNo, replaced: Option<Replaced>)
-        ensures { self.new ≡ following self.old from replaced }
+    // Whoever followed a master that was replaced follows the node that took its place. It gives back what was noted of the own
+    // master, where that was it.
+    fn follow(&mut self, from: NodeNo, replaced: Option<Replaced>) -> Option<Handing>
+        ensures state { self.new ≡ following self.old from replaced }
+        ensures note { result ≡ note_dropped self.old from replaced }
     {
-        let Some(replaced) = replaced else {
-            return;
-        };
-        if from != self.number {
-            self.replace(replaced.master, from);
+        let replaced = replaced?;
+        if from == self.number {
+            return None;
         }
+        self.replace(replaced.master, from)
     }
 
-    // The master has a successor. An own election is over where that was the own master.
-    fn replace(&mut self, former: NodeNo, next: NodeNo)
-        ensures { self.new ≡ with_master self.old former next }
+    // The master has a successor. An own election is over where that was the own master, and so is what it hands over.
+    fn replace(&mut self, former: NodeNo, next: NodeNo) -> Option<Handing>
+        ensures state { self.new ≡ with_master self.old former next }
+        ensures note { result ≡ note_of_former self.old former }
     {
-        self.election.candidate = self.candidate_without(former);
+        let dropped = self.forget_master(former);
         let masters = &mut self.election.masters;
         succeed(&mut masters[..], former, next);
+        dropped
     }
 
-    // The own election, which is over where that was the own master.
-    fn candidate_without(&self, former: NodeNo) -> Candidate
-        ensures { result ≡ if is_just (own_master self.now) former then no_candidate else self.now.candidate }
+    // An own election, and what was noted of the own master, are over where that was the own master.
+    fn forget_master(&mut self, former: NodeNo) -> Option<Handing>
+        ensures state { self.new ≡ without_master self.old former }
+        ensures note { result ≡ note_of_former self.old former }
     {
         if self.own_master() == Some(former) {
-            return Candidate::new();
+            self.election.candidate = Candidate::new();
+            self.election.begun = None;
+            return self.note.take();
         }
-        self.election.candidate
+        None
     }
 
     // Takes note of whether the own master is held failed.
@@ -172,6 +195,7 @@ impl<S: SlotParts + SlotKeys, T: Stream> NodeParts<S, T> {
     {
         self.election.health.tick();
         self.election.candidate.tick();
+        self.election.begun = older_if_any(self.election.begun);
         self.judge();
     }
 
@@ -186,15 +210,41 @@ impl<S: SlotParts + SlotKeys, T: Stream> NodeParts<S, T> {
         ensures none { OnErr result (has_due_epoch self.old ≡ false) }
         ensures err { OnErr result (self.new ≡ self.old) }
     {
-        let members = self.members();
-        if !self.election.candidate.is_due(&members) {
+        if !self.is_now_due() {
             return Ok(None);
         }
-        let Some(epoch) = self.election.candidate.start(self.election.current_epoch) else {
+        let Some(epoch) = self.start_election() else {
             return Err(StepFault::Exhausted);
         };
-        self.election.current_epoch = epoch;
         Ok(Some(epoch))
+    }
+
+    // Whether an election begins at this tick: where the master hands over, at once, and again after a while; no other begins then.
+    fn is_now_due(&self) -> bool
+        ensures { result ≡ is_now_due self.now }
+    {
+        if self.may_take_over() {
+            is_over(self.election.begun, 2 * self.config.node_timeout() as u64)
+        } else {
+            self.election.candidate.is_due(&self.members())
+        }
+    }
+
+    // Begins an election in the epoch behind the current one, and tells it, or gives none where there is none: then nothing changes.
+    fn start_election(&mut self) -> Option<Epoch>
+        ensures epoch { result ≡ next_epoch self.old.current_epoch }
+        ensures state { self.new ≡ in_election self.old result }
+    {
+        let current = self.election.current_epoch;
+        let epoch = if self.may_take_over() {
+            let epoch = self.election.candidate.start_planned(current)?;
+            self.election.begun = Some(0);
+            epoch
+        } else {
+            self.election.candidate.start(current)?
+        };
+        self.election.current_epoch = epoch;
+        Some(epoch)
     }
 
     /// Whether the node votes for the candidate, and then that is remembered.
@@ -212,6 +262,13 @@ impl<S: SlotParts + SlotKeys, T: Stream> NodeParts<S, T> {
         );
         self.election.voter = voter;
         granted
+    }
+
+    /// Whether the master hands over for the election that began last.
+    pub fn is_election_planned(&self) -> bool
+        ensures { result ≡ self.now.candidate.planned }
+    {
+        self.election.candidate.is_planned()
     }
 
     /// Counts the vote of a node for this one, and tells whether that elects it.
@@ -234,13 +291,15 @@ fn replaced_in(body: &Body) -> Option<Replaced>
     match body {
         Body::Claim(_, replaced) => *replaced,
         Body::Copy { .. }
-        | Body::Ack { .. }
+        | Body::Ack(_)
         | Body::Drained { .. }
         | Body::Report(_)
         | Body::Request(_)
         | Body::Grant(_)
         | Body::Sync(_)
         | Body::Piece(_)
-        | Body::Snapshot(_) => None,
+        | Body::Snapshot(_)
+        | Body::Pause(_)
+        | Body::Paused(_) => None,
     }
 }

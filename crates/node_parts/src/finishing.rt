@@ -1,9 +1,10 @@
 //! What of a change takes no memory, which is done behind the rest.
-ghost use Rattle.std.specs.Prelude.{◌≡◌};
+ghost use Rattle.std.specs.Prelude.{◌≡◌, Some};
 ghost use Rattle.connections.specs.declared.conn.Connection.{Connection};
 ghost use Rattle.migrate.specs.Acknowledging.{frozen_keys};
-ghost use Rattle.node_parts.specs.Becomes.{Finishes, ending, freed, losing, waiting_so};
+ghost use Rattle.node_parts.specs.Becomes.{Finishes, ending, freed, learning, losing, waiting_so};
 ghost use Rattle.node_step.specs.Copies.{without};
+ghost use Rattle.node_step.specs.Handovers.{begun_for, wishing};
 ghost use Rattle.node_step.specs.Orders.{with_moves};
 ghost use Rattle.node_step.specs.Requests.{at_connection, using_up, with_numbers};
 ghost use Rattle.node_step.specs.Ticks.{older};
@@ -13,6 +14,7 @@ ghost use Rattle.slot_state.specs.Moves.{move_of};
 use crate::change::Change;
 use crate::clearing::clear_slots;
 use crate::parts::NodeParts;
+use bus::Handing;
 use byte_string::ByteString;
 use connections::{Conn, Wait, Waiting};
 use key_slot::Slot;
@@ -20,7 +22,7 @@ use keyspace::Store;
 use migrate::{count_copy, freeze, on_drained, on_lost, unfreeze};
 use redirect::Asking;
 use repl_stream::Stream;
-use slot_state::{Keys, MoveNo};
+use slot_state::{CopyId, Keys};
 use slot_store::{SlotKeys, SlotParts};
 use slot_table::{Claim, Epoch, NodeNo, SlotEntry};
 use std::mem;
@@ -42,7 +44,7 @@ impl<S: SlotParts + SlotKeys, T: Stream> NodeParts<S, T> {
             Change::Parks { conn, wait } => self.park(*conn, *wait),
             Change::Freezes { conn, keys, wait } => self.freeze(*conn, keys, *wait),
             Change::Installs { slot, copy, .. } => count_copy(&mut self.moves, *slot, *copy),
-            Change::Frees { slot, number, copy } => self.free(*slot, *number, *copy),
+            Change::Frees { id } => self.free(*id),
             Change::Notes {
                 from,
                 slot,
@@ -50,6 +52,9 @@ impl<S: SlotParts + SlotKeys, T: Stream> NodeParts<S, T> {
                 drained,
             } => on_drained(&mut self.moves, *slot, *from, *number, *drained),
             Change::Loses { from, claim, lost } => self.lose(*from, claim, lost.as_slice()),
+            Change::Wishes { conn } => self.wish(*conn),
+            Change::Pauses { replica } => self.pause(*replica),
+            Change::Learns { handing } => self.learn(handing.take()),
             Change::Ages => self.age(),
         }
     }
@@ -97,20 +102,21 @@ impl<S: SlotParts + SlotKeys, T: Stream> NodeParts<S, T> {
 
     // Freezes the keys, which are taken, and has the connection wait for the acknowledgement of their copy.
     fn freeze(&mut self, conn: Conn, keys: &mut Keys, wait: Wait)
-        ensures { self.new ≡ waiting_so (with_moves (using_up self.old conn) (frozen self.old.moves wait.slot wait.copy keys.old)) conn wait }
+        ensures { self.new ≡ waiting_so (with_moves (using_up self.old conn) (frozen self.old.moves wait.id.slot wait.id.copy keys.old)) conn wait }
     {
         let keys = mem::replace(keys, Keys::new(Vec::new(self.alloc)));
-        freeze(&mut self.moves, wait.slot, wait.copy, keys);
+        let id = wait.id;
+        freeze(&mut self.moves, id.slot, id.copy, keys);
         self.park(conn, wait);
     }
 
     // Deletes the frozen keys of the slot. Who waited for that waits no more.
-    fn free(&mut self, slot: Slot, number: MoveNo, copy: u64)
-        ensures { self.new ≡ freed self.old slot number copy (frozen_keys (move_of self.old.moves slot)) }
+    fn free(&mut self, id: CopyId)
+        ensures { self.new ≡ freed self.old id (frozen_keys (move_of self.old.moves id.slot)) }
     {
-        if let Some(keys) = unfreeze(&mut self.moves, slot) {
+        if let Some(keys) = unfreeze(&mut self.moves, id.slot) {
             remove_all(&mut self.store, keys.as_slice());
-            self.connections.free(&Waiting::For { slot, number, copy });
+            self.connections.free(&Waiting::For(id));
         }
     }
 
@@ -122,6 +128,44 @@ impl<S: SlotParts + SlotKeys, T: Stream> NodeParts<S, T> {
         clear_slots(&mut self.store, lost);
         on_lost(&mut self.moves, lost);
         self.connections.free(&Waiting::In(lost));
+    }
+
+    // Asks the master to hand over, unless it is noted what that hands over.
+    fn wish(&mut self, conn: Conn)
+        ensures { self.new ≡ wishing (using_up self.old conn) }
+    {
+        self.asks_master = self.note.is_none();
+        self.connections.use_up(conn);
+    }
+
+    // Hands the slots over to a replica.
+    fn pause(&mut self, replica: NodeNo)
+        ensures { self.new ≡ record self.old { paused = Some replica } }
+    {
+        self.paused = Some(replica);
+    }
+
+    // Notes what the master hands over.
+    fn learn(&mut self, handing: Option<Handing>)
+        ensures { self.new ≡ learning self.old handing }
+    {
+        if let Some(handing) = handing {
+            self.election.begun = self.begun_for(&handing);
+            self.asks_master = false;
+            self.note = Some(handing);
+        }
+    }
+
+    // How many ticks ago the last election for that began. Said again, it is the same handover.
+    fn begun_for(&self, handing: &Handing) -> Option<u32>
+        ensures { result ≡ begun_for self.now.handover.note handing.now self.now.handover.begun }
+    {
+        let noted = self.note.as_ref()?;
+        if noted.stream == handing.stream && noted.offset == handing.offset {
+            self.election.begun
+        } else {
+            None
+        }
     }
 
     // Time passes: who has waited long enough waits no more.

@@ -22,3 +22,4 @@ pub use electing::ElectionState;
 pub use making::plain;
 pub use parts::NodeParts;
 pub use succession::Succession;
+pub use telling::done;

@@ -5,6 +5,7 @@ ghost use Rattle.node_step.specs.State.{first_id, first_masters, first_state};
 
 use crate::electing::ElectionState;
 use crate::masters::{first_at, first_masters};
+use bus::Handing;
 use cluster_config::Config;
 use connections::Connections;
 use repl_stream::{Replica, Stream};
@@ -31,6 +32,12 @@ pub struct NodeParts<S: SlotParts + SlotKeys, T: Stream> {
     pub moves: SlotMoves,
     /// What it knows of epochs and of the other nodes, and its part in elections.
     pub election: ElectionState,
+    /// The replica that it hands its slots over to, if it does.
+    pub paused: Option<NodeNo>,
+    /// Whether it asks its master to hand over.
+    pub asks_master: bool,
+    /// What its master hands over, as far as the master told.
+    pub note: Option<Handing>,
     /// The stream of its writes, or what it has of its master's.
     pub stream: Replica<T>,
     /// The connections of its clients.
@@ -57,6 +64,8 @@ impl<S: SlotParts + SlotKeys, T: Stream> Model for NodeParts<S, T> {
       health = parts.election.health;
       voter = parts.election.voter;
       candidate = parts.election.candidate;
+      paused = parts.paused;
+      handover = record { asked = parts.asks_master; note = parts.note; begun = parts.election.begun };
       stream = parts.stream.stream;
       replaced = parts.election.replaced;
       connections = parts.connections;
@@ -75,6 +84,9 @@ impl<S: SlotParts + SlotKeys + Drop, T: Stream + Drop> Drop for NodeParts<S, T> 
             table: _,
             moves: _,
             election: _,
+            paused: _,
+            asks_master: _,
+            note: _,
             stream: _,
             connections: _,
         } = self;
@@ -108,6 +120,9 @@ impl<S: SlotParts + SlotKeys, T: Stream> NodeParts<S, T> {
             table,
             moves: SlotMoves::new(alloc),
             election: ElectionState::first(masters),
+            paused: None,
+            asks_master: false,
+            note: None,
             stream: Replica::new(alloc, stream, id),
             connections: Connections::new(alloc),
         })

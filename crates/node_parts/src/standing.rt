@@ -1,9 +1,12 @@
 //! What a node knows of itself, of a slot, and of who copies whom.
-ghost use Rattle.std.specs.Prelude.{◌≡◌, None, is_some, slice_index_or};
+ghost use Rattle.std.specs.Option.{option_copied};
+ghost use Rattle.std.specs.Prelude.{◌≡◌, None, if◌then◌else◌, is_some, slice_index_or};
+ghost use Rattle.node_step.specs.Handovers.{is_at_end, may_take_over};
 ghost use Rattle.node_step.specs.Roles.{is_just};
 ghost use Rattle.node_step.specs.State.{own_master, standing};
 
 use crate::parts::NodeParts;
+use bus::Handing;
 use key_slot::Slot;
 use repl_stream::Stream;
 use slot_state::Standing;
@@ -18,6 +21,7 @@ impl<S: SlotParts + SlotKeys, T: Stream> NodeParts<S, T> {
         Standing {
             node: self.number,
             is_replica: self.is_replica(),
+            is_paused: self.is_paused(),
             owner: self.table.owner(slot),
         }
     }
@@ -34,6 +38,32 @@ impl<S: SlotParts + SlotKeys, T: Stream> NodeParts<S, T> {
         ensures { result ≡ is_some (own_master self.now) }
     {
         self.own_master().is_some()
+    }
+
+    /// Whether it hands its slots over to a replica.
+    #[inline(always)]
+    pub fn is_paused(&self) -> bool
+        ensures { result ≡ is_some self.now.paused }
+    {
+        self.paused.is_some()
+    }
+
+    /// Whether the node may take the place of its master, which hands over: it is a replica, and has all of the master's stream.
+    pub fn may_take_over(&self) -> bool
+        ensures { result ≡ may_take_over self.now }
+    {
+        self.is_replica() && self.handed_over().is_some()
+    }
+
+    /// What the master hands over, if the node has all of its stream, and no begun write.
+    pub fn handed_over(&self) -> Option<&Handing>
+        ensures { option_copied result ≡ if is_at_end self.now.stream self.now.handover.note then self.now.handover.note else None }
+    {
+        let handing = self.note.as_ref()?;
+        let is_at_end = handing.stream == self.stream.id()
+            && handing.offset == self.stream.offset()
+            && self.stream.is_whole();
+        if is_at_end { Some(handing) } else { None }
     }
 
     /// Whether the node of that number copies this one.

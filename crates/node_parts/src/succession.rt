@@ -21,6 +21,8 @@ pub struct Succession {
     pub master: NodeNo,
     /// The epoch of the election.
     pub epoch: Epoch,
+    /// The master hands its slots over.
+    pub planned: bool,
 }
 
 impl<S: SlotParts + SlotKeys, T: Stream> NodeParts<S, T> {
@@ -35,6 +37,7 @@ impl<S: SlotParts + SlotKeys, T: Stream> NodeParts<S, T> {
             stream: self.stream.id(),
             offset: self.stream.offset(),
             epoch: succession.epoch,
+            planned: succession.planned,
         };
         Promoted::new(self.alloc, promotion)
     }
@@ -47,11 +50,15 @@ impl<S: SlotParts + SlotKeys, T: Stream> NodeParts<S, T> {
             table,
             master,
             epoch,
+            planned: _,
         } = succession;
         self.table = table;
         let masters = &mut self.election.masters;
         succeed(&mut masters[..], master, self.number);
         self.election.candidate.forget();
+        self.election.begun = None;
+        self.asks_master = false;
+        self.note = None;
         self.election.replaced = Some(self.in_place_of(master, epoch));
         self.stream.promote(own_stream(self.number, epoch));
     }

@@ -1,10 +1,11 @@
-//! What all other nodes are told.
+//! What all other nodes are told, and who gave an order.
 ghost use Rattle.std.specs.Prelude.{◌≡◌, ◌++◌, OnOk};
-ghost use Rattle.node_step.specs.Orders.{others, to_all};
+ghost use Rattle.node_step.specs.Orders.{done, others, to_all};
 
 use crate::parts::NodeParts;
 use bus::Body;
 use repl_stream::Stream;
+use resp_values::{Line, Reply};
 use slot_store::{SlotKeys, SlotParts};
 use slot_table::NodeNo;
 use std::alloc::AllocError;
@@ -26,4 +27,11 @@ impl<S: SlotParts + SlotKeys, T: Stream> NodeParts<S, T> {
         }
         Ok(())
     }
+}
+
+/// The reply to an order that was obeyed.
+pub fn done() -> Reply
+    ensures { result ≡ done }
+{
+    Reply::Simple(Line::from_static(b"OK"))
 }

@@ -23,7 +23,7 @@ greater_cases known (Some entry) =
       | inr below ↦ inl (cond-false (is_above entry known) (Some entry) known below)
     ]
 
-merged_at : (table : List (Option SlotEntry)) (runs : List (Run ℕ)) (from slot : ℕ) → slot < 16384 → entry_at (merged table runs from) slot ≡ greater (entry_at table slot) (claimed runs from slot)
+pub merged_at : (table : List (Option SlotEntry)) (runs : List (Run ℕ)) (from slot : ℕ) → slot < 16384 → entry_at (merged table runs from) slot ≡ greater (entry_at table slot) (claimed runs from slot)
 unfolding merged
 merged_at table runs from slot below = get_or-map-range_with_len (λ (s : ℕ). greater (entry_at table s) (claimed runs from s)) 0 16384 slot slot None below (omega arith)
 

@@ -7,7 +7,7 @@ use Rattle.keyspace.specs.Keyspace.{Keyspace}
 use Rattle.migrate.proofs.Verdicts.{copies_freeze}
 use Rattle.migrate.specs.Sending.{after_copy_order, copy_verdict, frozen}
 use Rattle.migrate.specs.declared.sending.CopyVerdict.TheVariants.{Copies, SendAgain}
-use Rattle.slot_state.specs.Moves.{Moves, move_of}
+use Rattle.slot_state.specs.Moves.{Moves, copy_id, move_of}
 use Rattle.slot_state.specs.declared.running.Move.{Move}
 use Rattle.slot_state.specs.declared.running.Move.TheVariants.{Leaves}
 use Rattle.node_step.specs.Copies.{outstanding, pairs_at}
@@ -15,7 +15,7 @@ use Rattle.node_step.proofs.Verdicts.{copy_is_again}
 
 -- the copy of the frozen keys is outstanding
 pub outstanding_is : (keyspace : Keyspace) (move : Option Move) (slot to number copy : ℕ) (keys : List (List ℕ)) → move ≡ Some (Leaves to number copy (Some keys))
-    → outstanding keyspace slot move ≡ (to, Copy slot number copy (pairs_at keyspace keys)) ∷ []
+    → outstanding keyspace slot move ≡ (to, Copy (copy_id slot number copy) (pairs_at keyspace keys)) ∷ []
 outstanding_is keyspace move slot to number copy keys leaves = ap (outstanding keyspace slot) leaves
 
 -- keys whose copy is sent again are frozen

@@ -10,7 +10,7 @@ use Rattle.election.specs.Members.{Members, own_master as master_of}
 use Rattle.node_step.specs.Failing.{hearing, judging, members_of}
 use Rattle.node_step.specs.Messages.{knowing, ready}
 use Rattle.node_step.specs.Roles.{following, instead, is_just, replaced_in, succeeded, with_master}
-use Rattle.node_step.specs.State.{NodeState, is_replica, own_master}
+use Rattle.node_step.specs.State.{Handover, NodeState, is_replica, own_master}
 use Rattle.node_step.specs.Voting.{in_election}
 
 -- ---- who follows whom
@@ -71,10 +71,10 @@ judged_so old candidate members health (inl same) = inl (judged_keeps candidate 
 judged_so old candidate members health (inr over) = inr (judged_keeps candidate members health ∙ over)
 
 -- what holds of the node whatever it knows of epochs and others, and whoever follows whom, as long as itself has a master as before, and
--- begins no election
+-- begins no election, and whatever it knows of a handover
 abbrev pub HoldsHowever : (NodeState → Type 0) → NodeState → Type 0
-HoldsHowever P node = (epoch : ℕ) (masters : List (Option ℕ)) (health : Health) (candidate : Candidate) → is_some (slice_index_or masters node.number None) ≡ is_replica node
-    → IsOldOrOver node.candidate candidate → P (record node { current_epoch = epoch; masters = masters; health = health; candidate = candidate })
+HoldsHowever P node = (epoch : ℕ) (masters : List (Option ℕ)) (health : Health) (candidate : Candidate) (handover : Handover) → is_some (slice_index_or masters node.number None) ≡ is_replica node
+    → IsOldOrOver node.candidate candidate → P (record node { current_epoch = epoch; masters = masters; health = health; candidate = candidate; handover = handover })
 
 -- holds of it as a message is taken
 pub ready_keeps : (P : NodeState → Type 0) (node : NodeState) (message : Message) → HoldsHowever P node → P (ready node message)
@@ -84,17 +84,17 @@ ready_keeps P node message holds = by_claim (replaced_in message.body)
     heard_so = hearing (knowing node message.epoch) message.from message.body
 
     by_claim : (replaced : Option Replaced) → P (judging (following heard_so message.from replaced))
-    by_claim None = holds _ _ _ _ refl (judged_so node.candidate node.candidate (members_of heard_so) heard_so.health (inl refl))
+    by_claim None = holds _ _ _ _ _ refl (judged_so node.candidate node.candidate (members_of heard_so) heard_so.health (inl refl))
     by_claim (Some replaced) = by_sender (message.from == node.number) refl
       where
         by_sender : (own : Bool) → (message.from == node.number) ≡ own → P (judging (cond own heard_so (with_master heard_so replaced.master message.from)))
-        by_sender true own = holds _ _ _ _ refl (judged_so node.candidate node.candidate (members_of heard_so) heard_so.health (inl refl))
+        by_sender true own = holds _ _ _ _ _ refl (judged_so node.candidate node.candidate (members_of heard_so) heard_so.health (inl refl))
         by_sender false other =
-            holds _ _ _ _ (succeeded_keeps node.masters replaced.master message.from node.number (λ same. eqb-false message.from node.number other (sym same)))
+            holds _ _ _ _ _ (succeeded_keeps node.masters replaced.master message.from node.number (λ same. eqb-false message.from node.number other (sym same)))
             (judged_so node.candidate _ (members_of (with_master heard_so replaced.master message.from)) heard_so.health (followed_so (is_just (own_master node) replaced.master) node.candidate))
 
 -- and behind a tick, whether an election begins or not
-pub in_election_keeps : (P : NodeState → Type 0) (node : NodeState) (epoch : Option ℕ) → ((current : ℕ) (candidate : Candidate) → P (record node { current_epoch = current; candidate = candidate }))
+pub in_election_keeps : (P : NodeState → Type 0) (node : NodeState) (epoch : Option ℕ) → ((current : ℕ) (candidate : Candidate) (handover : Handover) → P (record node { current_epoch = current; candidate = candidate; handover = handover }))
     → P (in_election node epoch)
-in_election_keeps P node None holds = holds node.current_epoch node.candidate
-in_election_keeps P node (Some epoch) holds = holds _ _
+in_election_keeps P node None holds = holds node.current_epoch node.candidate node.handover
+in_election_keeps P node (Some epoch) holds = holds _ _ _

@@ -48,6 +48,20 @@ pub migration_begins : (at : Standing) (move : Option Move) (last : ℕ) (other 
     → (move ≡ None) × (at.owner ≡ Some at.node) × (to ≢ at.node) × (last < number)
 migration_begins at move last other asked to number is = grind (arith, nat_tests)
 
+-- none begins where the node hands its slots over
+pub import_runs : (at : Standing) (move : Option Move) (last : ℕ) (other asked : Option ℕ) (from number : ℕ) → import_verdict at move last other asked ≡ import.Begins from number → at.is_paused ≡ false
+import_runs at move last other asked from number is = grind (arith, nat_tests)
+
+pub migration_runs : (at : Standing) (move : Option Move) (last : ℕ) (other asked : Option ℕ) (to number : ℕ) → migrate_verdict at move last other asked ≡ migrate.Begins to number → at.is_paused ≡ false
+migration_runs at move last other asked to number is = grind (arith, nat_tests)
+
+-- nor at a replica
+pub replicas_import_nothing : (at : Standing) (move : Option Move) (last : ℕ) (other asked : Option ℕ) (from number : ℕ) → at.is_replica ≡ true → import_verdict at move last other asked ≡ import.Begins from number → ⊥
+replicas_import_nothing at move last other asked from number replica is = grind (arith, nat_tests)
+
+pub replicas_migrate_nothing : (at : Standing) (move : Option Move) (last : ℕ) (other asked : Option ℕ) (to number : ℕ) → at.is_replica ≡ true → migrate_verdict at move last other asked ≡ migrate.Begins to number → ⊥
+replicas_migrate_nothing at move last other asked to number replica is = grind (arith, nat_tests)
+
 pub import_ends : (at : Standing) (move : Option Move) (other asked : Option ℕ) (epoch : ℕ) → node_verdict at move other asked ≡ ending.Ends epoch
     → (from : ℕ) × (number : ℕ) × (copied : ℕ) × (move ≡ Some (Comes from number copied (Some epoch)))
 import_ends at None None asked epoch is = cc
@@ -122,10 +136,10 @@ ack_counts (Some (Leaves to other copies (Some frozen))) from number copy keys i
 -- ---- commands
 
 pub serves : (slot : ℕ) (owner : Option ℕ) (move : Option Move) (node : ℕ) (asked : Asked) → in_slot slot owner (state_of owner move node) asked ≡ Serve
-    → ((move ≡ None) × (owner ≡ Some node))
+    → ((move ≡ None) × (owner ≡ Some node) × (asked.paused ≡ false))
     ⊎ ((to : ℕ) × (number : ℕ) × (copies : ℕ) × (frozen : Option (List (List ℕ))) × (move ≡ Some (Leaves to number copies frozen)) × (is_frozen frozen asked.keys ≡ false) × (all_there asked ≡ true))
 serves slot None None node asked is = cc
-serves slot (Some owner) None node asked is = inl (refl, grind (arith, nat_tests))
+serves slot (Some owner) None node asked is = inl (refl, grind (arith, nat_tests), grind (arith, nat_tests))
 serves slot None (Some (Leaves to number copies frozen)) node asked is = cc
 serves slot (Some owner) (Some (Leaves to number copies frozen)) node asked is = inr (to, number, copies, frozen, refl, grind arith, grind arith)
 serves slot None (Some (Comes from number copied drained)) node asked is = absurd (grind arith)

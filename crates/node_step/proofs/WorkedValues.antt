@@ -4,17 +4,19 @@ use Rattle.std.specs.Prelude.{codes, replicate}
 use Rattle.std.specs.FinMap as fin_map
 use Rattle.std.specs.List.{range_with_len}
 use Rattle.bus.specs.declared.message.Body.{Body}
-use Rattle.bus.specs.declared.message.Body.TheVariants.{Claim, Grant, Report, Request, Sync}
+use Rattle.bus.specs.declared.message.Body.TheVariants.{Claim, Grant, Pause, Paused, Report, Request, Sync}
+use Rattle.bus.specs.declared.message.Handing.{Handing}
 use Rattle.cluster_config.specs.Config.{ClusterConfig}
 use Rattle.cluster_config.specs.declared.config.Role.TheVariants.{Master, Replica}
 use Rattle.election.specs.Health.{first_health, first_voter, no_candidate}
 use Rattle.slot_state.specs.Moves.{no_moves}
 use Rattle.stream_values.specs.declared.stream_id.StreamId.{StreamId}
+use Rattle.node_step.specs.Handovers.{failover, handing_of, handing_over}
 use Rattle.node_step.specs.Messages.{delivered}
 use Rattle.node_step.specs.Orders.{claim_of}
 use Rattle.node_step.specs.Outcome.{Outcome, silent}
 use Rattle.node_step.specs.Replicas.{follower_of}
-use Rattle.node_step.specs.State.{NodeState, first_masters}
+use Rattle.node_step.specs.State.{NodeState, first_masters, no_handover, own_master}
 use Rattle.node_step.specs.Failing.{a_tick_older}
 use Rattle.node_step.specs.Ticks.{older, with_signs}
 
@@ -43,6 +45,8 @@ replica = record {
   health = first_health;
   voter = first_voter;
   candidate = no_candidate;
+  paused = None;
+  handover = no_handover;
   stream = record { held = record { id = masters_stream; first = 0; bytes = range_with_len 0 27 }; offset = 27; partial = []; former = None };
   replaced = None;
   connections = record { slots = []; opens = [] };
@@ -62,7 +66,7 @@ abbrev second_tick : Outcome
 second_tick = ticked first_tick.state
 
 abbrev asked : Outcome
-asked = to_itself second_tick.state (Request (record { epoch = 2; master = 0 }))
+asked = to_itself second_tick.state (Request (record { epoch = 2; master = 0; planned = false }))
 
 abbrev elected : Outcome
 elected = to_itself asked.state (Grant 2)
@@ -75,7 +79,7 @@ first_signs : first_tick.sent ≡ (0, Claim (claim_of replica) None) ∷ (0, sus
 first_signs = refl
 
 election_begins : second_tick.sent
-    ≡ (0, Claim (claim_of replica) None) ∷ (0, suspects_master) ∷ (0, Sync (record { stream = masters_stream; received = 27 })) ∷ (1, Request (record { epoch = 2; master = 0 })) ∷ []
+    ≡ (0, Claim (claim_of replica) None) ∷ (0, suspects_master) ∷ (0, Sync (record { stream = masters_stream; received = 27 })) ∷ (1, Request (record { epoch = 2; master = 0; planned = false })) ∷ []
 election_begins = refl
 
 in_next_epoch : second_tick.state.current_epoch ≡ 2
@@ -85,13 +89,13 @@ votes : asked.sent ≡ (1, Grant 2) ∷ []
 votes = refl
 
 -- a second request of the epoch gets no vote
-votes_once : (to_itself asked.state (Request (record { epoch = 2; master = 0 }))).sent ≡ []
+votes_once : (to_itself asked.state (Request (record { epoch = 2; master = 0; planned = false }))).sent ≡ []
 votes_once = refl
 
 takes_over : elected.sent ≡ (0, Claim (claim_of elected.state) (Some (record { master = 0; stream = record { node = 1; epoch = 2 }; offset = 27 }))) ∷ []
 takes_over = refl
 
-promoted_so : elected.promoted ≡ Some (record { stream = masters_stream; offset = 27; epoch = 2 })
+promoted_so : elected.promoted ≡ Some (record { stream = masters_stream; offset = 27; epoch = 2; planned = false })
 promoted_so = refl
 
 no_master_now : elected.state.masters ≡ None ∷ None ∷ []
@@ -110,3 +114,79 @@ held_failed = refl
 
 held_failed_no_more : heard_again.state.candidate ≡ no_candidate
 held_failed_no_more = refl
+
+-- ---- a handover: the master, which has slot 0 and no vote, is asked for it
+
+abbrev master : NodeState
+master = record replica { number = 0 }
+
+abbrev to_master : NodeState → Body → Outcome
+to_master node body = delivered node (record { from = 1; to = 0; ticket = 5; epoch = 1; body = body }) (record { follower = follower_of node; dropped = 0 })
+
+abbrev from_master : NodeState → Body → Outcome
+from_master node body = delivered node (record { from = 0; to = 1; ticket = 6; epoch = 1; body = body }) (record { follower = follower_of node; dropped = 0 })
+
+abbrev wishes : Outcome
+wishes = failover replica (own_master replica)
+
+asks_its_master : wishes.sent ≡ (0, Pause masters_stream) ∷ []
+asks_its_master = refl
+
+no_replica : (failover master (own_master master)).sent ≡ []
+no_replica = refl
+
+-- that no slot moves there isn't computed
+abbrev hands : Outcome
+hands = handing_over master 1
+
+says_what : hands.sent ≡ (1, Paused (handing_of master)) ∷ []
+says_what = refl
+
+hands_over : hands.state.paused ≡ Some 1
+hands_over = refl
+
+-- another stream is none of its own
+not_that_stream : (to_master master (Pause (record { node = 0; epoch = 3 }))).state.paused ≡ None
+not_that_stream = refl
+
+-- slot 0 alone
+abbrev handed : Handing
+handed = record { stream = masters_stream; offset = 27; slots = record { slots = record { first = 0; last = 0 }; value = 1 } ∷ [] }
+
+abbrev noted : Outcome
+noted = from_master wishes.state (Paused handed)
+
+has_noted : noted.state.handover ≡ record { asked = false; note = Some handed; begun = None }
+has_noted = refl
+
+-- at once, at the first tick
+abbrev planned_tick : Outcome
+planned_tick = ticked noted.state
+
+planned_election : planned_tick.sent ≡ (0, Claim (claim_of replica) None) ∷ (0, suspects_master) ∷ (0, Sync (record { stream = masters_stream; received = 27 })) ∷ (1, Request (record { epoch = 2; master = 0; planned = true })) ∷ []
+planned_election = refl
+
+abbrev planned_vote : Outcome
+planned_vote = to_itself planned_tick.state (Request (record { epoch = 2; master = 0; planned = true }))
+
+votes_for_it : planned_vote.sent ≡ (1, Grant 2) ∷ []
+votes_for_it = refl
+
+abbrev succeeds : Outcome
+succeeds = to_itself planned_vote.state (Grant 2)
+
+succeeds_so : succeeds.promoted ≡ Some (record { stream = masters_stream; offset = 27; epoch = 2; planned = true })
+succeeds_so = refl
+
+master_now : succeeds.state.masters ≡ None ∷ None ∷ []
+master_now = refl
+
+has_what_was_handed : succeeds.state.replaced ≡ Some (record { master = 0; stream = record { node = 1; epoch = 2 }; offset = 27 })
+has_what_was_handed = refl
+
+-- where a byte is lacking, it stays a replica
+abbrev lacking : Outcome
+lacking = to_itself (record planned_vote.state { stream = record replica.stream { offset = 26 } }) (Grant 2)
+
+lacks : lacking.promoted ≡ None
+lacks = refl

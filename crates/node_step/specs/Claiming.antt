@@ -25,7 +25,7 @@ is_lost node table slot = is_owner (owner_at node.table slot) node.number && not
 
 -- a connection waits for a copy of a slot that was lost
 abbrev pub is_for_lost : NodeState → List (Option SlotEntry) → Wait → Bool
-is_for_lost node table wait = is_lost node table wait.slot
+is_for_lost node table wait = is_lost node table wait.id.slot
 
 -- the slots that are lost leave with their keys
 abbrev pub with_table : NodeState → List (Option SlotEntry) → NodeState

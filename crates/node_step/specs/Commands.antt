@@ -17,19 +17,20 @@ use Rattle.redirect.specs.declared.asked.Asking.{Asking}
 use Rattle.redirect.specs.declared.decision.Decision.{Decision}
 use Rattle.redirect.specs.declared.decision.Decision.TheVariants.{Serve, ServeImport, CrossSlot, Down, TryAgain, Ask, Moved}
 use Rattle.redirect.specs.declared.decision.Reason.{Reason}
-use Rattle.redirect.specs.declared.decision.Reason.TheVariants.{Frozen, SomeAreMissing}
+use Rattle.redirect.specs.declared.decision.Reason.TheVariants.{Frozen, HandingOver, SomeAreMissing}
 use Rattle.bus.specs.declared.message.Body.{Body}
 use Rattle.node_step.specs.Outcome.{Outcome, error, replied, replied_sending}
 use Rattle.node_step.specs.Slots.{drained_since}
 use Rattle.node_step.specs.State.{NodeState}
 use Rattle.node_step.specs.declared.response.Why.TheVariants.{Decided}
 
--- what bears on the decision: the keys, whether the node has each, and what the connection may ask
+-- what bears on the decision: the keys, whether the node has each, what the connection may ask, and whether the node hands its slots over
 abbrev pub asked_of : NodeState → DataCommand → Asking → Asked
 asked_of node command asking = record {
   keys = data_keys command;
   there = map (λ key. is_some (fin_map.get node.keyspace key)) (data_keys command);
   asking = asking;
+  paused = is_some node.paused;
 }
 
 abbrev pub decision_on : NodeState → DataCommand → Asking → Decision
@@ -53,6 +54,7 @@ named numbered number = if numbered then Some number else None
 abbrev pub reason_line : Reason → Reply
 reason_line Frozen = error line.KeyFrozen
 reason_line SomeAreMissing = error line.SomeKeysMissing
+reason_line HandingOver = error line.HandingOver
 
 -- ---- execution
 

@@ -14,7 +14,8 @@ use Rattle.keyspace.specs.Rebuilding.{rebuilding, fits_request}
 use Rattle.keyspace.specs.declared.value.Value.{Value}
 use Rattle.cluster_config.specs.declared.config.NodeConfig.{NodeConfig}
 use Rattle.redirect.specs.Decision.{has_other_slot}
-use Rattle.slot_state.specs.Moves.{move_of}
+use Rattle.slot_state.specs.Moves.{copy_id, move_of}
+use Rattle.slot_state.specs.declared.copy_id.CopyId.{CopyId}
 use Rattle.slot_state.specs.declared.running.Move.{Move}
 use Rattle.slot_state.specs.declared.running.Move.TheVariants.{Leaves, Comes}
 use Rattle.migrate.specs.Sending.{copy_verdict, after_copy_order}
@@ -66,25 +67,23 @@ pairs_at keyspace keys = filter_map (λ key. pair_with key (fin_map.get keyspace
 
 -- the copy that is not acknowledged, of a slot with that move, for the node that the slot leaves to
 abbrev pub outstanding : Keyspace → ℕ → Option Move → List (ℕ × Body)
-outstanding keyspace slot (Some (Leaves to number copies (Some keys))) = (to, Copy slot number copies (pairs_at keyspace keys)) ∷ []
+outstanding keyspace slot (Some (Leaves to number copies (Some keys))) = (to, Copy (copy_id slot number copies) (pairs_at keyspace keys)) ∷ []
 outstanding keyspace slot (Some (Leaves to number copies None)) = []
 outstanding keyspace slot (Some (Comes from number last drained)) = []
 outstanding keyspace slot None = []
 
 -- the connection waits for the acknowledgement, for so many ticks
-abbrev pub waiting_for : ℕ → ℕ → ℕ → ℕ → Connection → Connection
-waiting_for slot number copy ticks connection =
-    record connection { waits = Some (record { slot = slot; number = number; copy = copy; ticks = ticks }) }
+abbrev pub waiting_for : CopyId → ℕ → Connection → Connection
+waiting_for id ticks connection = record connection { waits = Some (record { id = id; ticks = ticks }) }
 
-abbrev pub parked : NodeState → Conn → ℕ → ℕ → ℕ → ℕ → NodeState
-parked node conn slot number copy ticks =
-    record node { connections = with_change node.connections conn (waiting_for slot number copy ticks) }
+abbrev pub parked : NodeState → Conn → CopyId → ℕ → NodeState
+parked node conn id ticks = record node { connections = with_change node.connections conn (waiting_for id ticks) }
 
 -- the outstanding copy is sent, or sent again
-abbrev pub sending : NodeState → Conn → ℕ → ℕ → ℕ → ℕ → Outcome
-sending node conn slot number copy ticks = record (silent (parked node conn slot number copy ticks)) {
+abbrev pub sending : NodeState → Conn → CopyId → ℕ → Outcome
+sending node conn id ticks = record (silent (parked node conn id ticks)) {
   response = Parked;
-  sent = outstanding node.keyspace slot (move_of node.moves slot);
+  sent = outstanding node.keyspace id.slot (move_of node.moves id.slot);
 }
 
 abbrev pub copy_outcome : NodeState → Conn → ℕ → List (List ℕ) → ℕ → CopyVerdict → Outcome
@@ -93,9 +92,9 @@ copy_outcome node conn slot keys ticks WrongTarget = replied node (CopyOrdered W
 copy_outcome node conn slot keys ticks NoKey = replied node (CopyOrdered NoKey) (Simple (codes "NOKEY"))
 copy_outcome node conn slot keys ticks CopyOutstanding = replied node (CopyOrdered CopyOutstanding) (error line.CopyOutstanding)
 copy_outcome node conn slot keys ticks Exhausted = silent node
-copy_outcome node conn slot keys ticks (SendAgain to number copy) = sending node conn slot number copy ticks
+copy_outcome node conn slot keys ticks (SendAgain to number copy) = sending node conn (copy_id slot number copy) ticks
 copy_outcome node conn slot keys ticks (Copies to number copy) =
-    sending (with_moves node (after_copy_order node.moves slot keys (Copies to number copy))) conn slot number copy ticks
+    sending (with_moves node (after_copy_order node.moves slot keys (Copies to number copy))) conn (copy_id slot number copy) ticks
 
 -- the slot of the first key, in which all are to be
 abbrev pub first_slot : List (List ℕ) → ℕ
@@ -127,20 +126,20 @@ installed keyspace pairs Installs = with_copied keyspace pairs
 installed keyspace pairs Repeats = keyspace
 installed keyspace pairs Ignored = keyspace
 
-abbrev pub ack_by : ℕ → ℕ → ℕ → ℕ → ArrivalVerdict → List (ℕ × Body)
-ack_by from slot number copy Installs = (from, Ack slot number copy) ∷ []
-ack_by from slot number copy Repeats = (from, Ack slot number copy) ∷ []
-ack_by from slot number copy Ignored = []
+abbrev pub ack_by : ℕ → CopyId → ArrivalVerdict → List (ℕ × Body)
+ack_by from id Installs = (from, Ack id) ∷ []
+ack_by from id Repeats = (from, Ack id) ∷ []
+ack_by from id Ignored = []
 
-abbrev pub arrived : NodeState → ℕ → ℕ → ℕ → ℕ → List (List ℕ × Value) → ArrivalVerdict → Outcome
-arrived node from slot number copy pairs verdict =
-    record (silent (record node { keyspace = installed node.keyspace pairs verdict; moves = after_arrival node.moves slot verdict })) {
-      sent = ack_by from slot number copy verdict;
+abbrev pub arrived : NodeState → ℕ → CopyId → List (List ℕ × Value) → ArrivalVerdict → Outcome
+arrived node from id pairs verdict =
+    record (silent (record node { keyspace = installed node.keyspace pairs verdict; moves = after_arrival node.moves id.slot verdict })) {
+      sent = ack_by from id verdict;
     }
 
-abbrev pub arrival : NodeState → ℕ → ℕ → ℕ → ℕ → List (List ℕ × Value) → Outcome
-arrival node from slot number copy pairs =
-    arrived node from slot number copy pairs (arrival_verdict (move_of node.moves slot) from number copy (keep_limits pairs))
+abbrev pub arrival : NodeState → ℕ → CopyId → List (List ℕ × Value) → Outcome
+arrival node from id pairs =
+    arrived node from id pairs (arrival_verdict (move_of node.moves id.slot) from id.number id.copy (keep_limits pairs))
 
 -- ---- an acknowledgement arrives
 
@@ -149,23 +148,23 @@ abbrev pub without : Keyspace → List (List ℕ) → Keyspace
 without keyspace [] = keyspace
 without keyspace (key ∷ keys) = without (fin_map.remove keyspace key) keys
 
-abbrev pub without_keys : NodeState → ℕ → ℕ → ℕ → List (List ℕ) → NodeState
-without_keys node slot number copy keys = record node {
+abbrev pub without_keys : NodeState → CopyId → List (List ℕ) → NodeState
+without_keys node id keys = record node {
   keyspace = without node.keyspace keys;
-  moves = after_ack node.moves slot;
-  connections = all_freed node.connections (is_for slot number copy);
+  moves = after_ack node.moves id.slot;
+  connections = all_freed node.connections (is_for id);
 }
 
-abbrev pub acknowledged : NodeState → ℕ → ℕ → ℕ → Option (List (List ℕ)) → Outcome
-acknowledged node slot number copy None = silent node
-acknowledged node slot number copy (Some keys) = record (silent (without_keys node slot number copy keys)) {
-  released = map (release done) (waiting node.connections (is_for slot number copy));
-  sent = drained_since node.keyspace (without_keys node slot number copy keys) slot;
+abbrev pub acknowledged : NodeState → CopyId → Option (List (List ℕ)) → Outcome
+acknowledged node id None = silent node
+acknowledged node id (Some keys) = record (silent (without_keys node id keys)) {
+  released = map (release done) (waiting node.connections (is_for id));
+  sent = drained_since node.keyspace (without_keys node id keys) id.slot;
 }
 
-abbrev pub acknowledgement : NodeState → ℕ → ℕ → ℕ → ℕ → Outcome
-acknowledgement node from slot number copy =
-    acknowledged node slot number copy (acknowledged_keys (move_of node.moves slot) from number copy)
+abbrev pub acknowledgement : NodeState → ℕ → CopyId → Outcome
+acknowledgement node from id =
+    acknowledged node id (acknowledged_keys (move_of node.moves id.slot) from id.number id.copy)
 
 -- ---- the word arrives that a slot is drained
 

@@ -10,6 +10,7 @@ pub mod Roles
 pub mod Streams
 pub mod Replicas
 pub mod Failing
+pub mod Handovers
 pub mod Promotion
 pub mod Voting
 pub mod Messages

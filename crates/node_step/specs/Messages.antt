@@ -1,7 +1,7 @@
 -- A message of another node arrives (Redis Cluster specification, "Cluster current epoch": a node takes a greater epoch over).
 use Rattle.std.specs.Prelude.{◌≡◌, ℕ, ◌==◌, ⊤, true, [], max, if◌then◌else◌}
 use Rattle.bus.specs.declared.message.Body.{Body}
-use Rattle.bus.specs.declared.message.Body.TheVariants.{Copy, Ack, Drained, Claim, Report, Request, Grant, Sync, Piece, Snapshot}
+use Rattle.bus.specs.declared.message.Body.TheVariants.{Copy, Ack, Drained, Claim, Report, Request, Grant, Sync, Piece, Snapshot, Pause, Paused}
 use Rattle.bus.specs.declared.message.Message.{Message}
 use Rattle.migrate.specs.Acknowledging.{acknowledged_keys}
 use Rattle.migrate.specs.Arriving.{arrival_verdict}
@@ -10,6 +10,7 @@ use Rattle.stream_values.specs.Follower.{Follower}
 use Rattle.node_step.specs.Claiming.{claim}
 use Rattle.node_step.specs.Copies.{arrival, acknowledgement, keep_limits, noted}
 use Rattle.node_step.specs.Failing.{hearing, judging}
+use Rattle.node_step.specs.Handovers.{asked_to_pause, told_of_handing}
 use Rattle.node_step.specs.Outcome.{Outcome, silent}
 use Rattle.node_step.specs.Replicas.{MayFollow, pieced, restored_by, synced}
 use Rattle.node_step.specs.Roles.{following, is_just, replaced_in}
@@ -35,8 +36,8 @@ pub record Choice : Type 0 where
 
 -- a row a body
 abbrev pub taken_so : NodeState → ℕ → Choice → Body → Outcome
-taken_so node from choice (Copy slot number copy pairs) = arrival node from slot number copy pairs
-taken_so node from choice (Ack slot number copy) = acknowledgement node from slot number copy
+taken_so node from choice (Copy id pairs) = arrival node from id pairs
+taken_so node from choice (Ack id) = acknowledgement node from id
 taken_so node from choice (Drained slot number epoch) = noted node from slot number epoch
 taken_so node from choice (Claim slots replaced) = claim node from slots
 taken_so node from choice (Report suspects) = silent node
@@ -45,12 +46,14 @@ taken_so node from choice (Grant epoch) = voted_for node from epoch
 taken_so node from choice (Sync sync) = synced node from sync
 taken_so node from choice (Piece piece) = pieced node from piece choice.follower
 taken_so node from choice (Snapshot snapshot) = restored_by node from snapshot
+taken_so node from choice (Pause stream) = asked_to_pause node from stream
+taken_so node from choice (Paused handing) = told_of_handing node handing
 
 -- what is written by it
 abbrev pub written_by_message : NodeState → ℕ → Body → Requests
-written_by_message node from (Copy slot number copy pairs) =
-    written_by_copy node.keyspace pairs (arrival_verdict (move_of node.moves slot) from number copy (keep_limits pairs))
-written_by_message node from (Ack slot number copy) = written_by_ack (acknowledged_keys (move_of node.moves slot) from number copy)
+written_by_message node from (Copy id pairs) =
+    written_by_copy node.keyspace pairs (arrival_verdict (move_of node.moves id.slot) from id.number id.copy (keep_limits pairs))
+written_by_message node from (Ack id) = written_by_ack (acknowledged_keys (move_of node.moves id.slot) from id.number id.copy)
 written_by_message node from (Drained slot number epoch) = []
 written_by_message node from (Claim slots replaced) = written_by_claim node from slots
 written_by_message node from (Report suspects) = []
@@ -59,6 +62,8 @@ written_by_message node from (Grant epoch) = []
 written_by_message node from (Sync sync) = []
 written_by_message node from (Piece piece) = []
 written_by_message node from (Snapshot snapshot) = []
+written_by_message node from (Pause stream) = []
+written_by_message node from (Paused handing) = []
 
 abbrev pub taken : NodeState → ℕ → Choice → Body → Outcome
 taken node from choice body = recorded (taken_so node from choice body) (written_by_message node from body) choice.dropped

@@ -33,6 +33,7 @@ done = Simple (codes "OK")
 abbrev pub import_reply : ImportVerdict → Reply
 import_reply import.UnknownNode = error line.UnknownNode
 import_reply import.Already = done
+import_reply import.HandingOver = error line.NodePaused
 import_reply import.Busy = error line.SlotBusy
 import_reply import.AlreadyOwner = error line.AlreadyOwner
 import_reply import.NotOwner = error line.NotOwner
@@ -54,6 +55,7 @@ importing node slot from number =
 abbrev pub migrate_reply : MigrateVerdict → Reply
 migrate_reply migrate.UnknownNode = error line.UnknownNode
 migrate_reply migrate.Already = done
+migrate_reply migrate.HandingOver = error line.NodePaused
 migrate_reply migrate.Busy = error line.SlotBusy
 migrate_reply migrate.NotOwner = error line.NotOwner
 migrate_reply migrate.OldMove = error line.OldMove

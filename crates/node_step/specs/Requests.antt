@@ -24,10 +24,11 @@ use Rattle.connections.specs.Connections.{connection_at, with_change}
 use Rattle.migrate.specs.declared.sending.CopyVerdict.{CopyVerdict}
 use Rattle.migrate.specs.declared.sending.CopyVerdict.TheVariants as copies
 use Rattle.node_step.specs.Copies.{copy_verdict_on, migration, node_at}
+use Rattle.node_step.specs.Handovers.{failover}
 use Rattle.node_step.specs.Orders.{done, ending_outcome, ending_verdict, importing, migrating, new_epoch}
 use Rattle.node_step.specs.Outcome.{Outcome, error, replied}
 use Rattle.node_step.specs.Reports.{count_reply, id_of, keys_reply, slots_reply, state_reply}
-use Rattle.node_step.specs.State.{NodeState}
+use Rattle.node_step.specs.State.{NodeState, own_master}
 use Rattle.connections.specs.declared.conn.Conn.{Conn}
 use Rattle.connections.specs.declared.conn.Connection.{Connection}
 use Rattle.node_step.specs.declared.response.Why.TheVariants.{NotACommand, Reported, Told}
@@ -87,6 +88,7 @@ cluster_outcome node conn (cluster.GetKeysInSlot slot count) = replied node Repo
 cluster_outcome node conn (cluster.SlotState slot) = replied node Reported (state_reply node slot)
 cluster_outcome node conn (cluster.SetSlot slot order id number) = order_outcome node slot order (node_with_id node id) number
 cluster_outcome node conn cluster.Numbered = replied (with_numbers node conn) Told done
+cluster_outcome node conn cluster.Failover = failover node (own_master node)
 cluster_outcome node conn (cluster.Asking number) = replied (with_asking node conn number) Told done
 cluster_outcome node conn (cluster.Migrate host port keys timeout) = migration node conn host port keys timeout
 

@@ -6,7 +6,7 @@ use Rattle.bus.specs.declared.message.Body.{Body}
 use Rattle.bus.specs.declared.message.Body.TheVariants.{Claim}
 use Rattle.bus.specs.declared.message.Replaced.{Replaced}
 use Rattle.election.specs.Health.{no_candidate}
-use Rattle.node_step.specs.State.{NodeState, own_master}
+use Rattle.node_step.specs.State.{Handover, NodeState, own_master}
 
 -- the number is that one
 abbrev pub is_just : Option ℕ → ℕ → Bool
@@ -28,11 +28,16 @@ instead former next (Some master) = if master == former then Some next else Some
 abbrev pub succeeded : List (Option ℕ) → ℕ → ℕ → List (Option ℕ)
 succeeded masters former next = slice_set (map (instead former next) masters) next None
 
--- a node whose own master is another one now has no election any more
+-- what the former master said that it hands over is said by the next one no more
+abbrev pub without_note : Handover → Handover
+without_note handover = record handover { note = None; begun = None }
+
+-- a node whose own master is another one now has no election any more, and no note
 abbrev pub with_master : NodeState → ℕ → ℕ → NodeState
 with_master node former next = record node {
   masters = succeeded node.masters former next;
   candidate = if is_just (own_master node) former then no_candidate else node.candidate;
+  handover = if is_just (own_master node) former then without_note node.handover else node.handover;
 }
 
 -- whose place the sender of a claim took, if it was promoted

@@ -1,6 +1,6 @@
 -- The state of a node (Redis Cluster specification, "Redis Cluster nodes attributes", "Cluster live reconfiguration",
 -- "Cluster current epoch", "Failure detection", "Replica election and promotion").
-use Rattle.std.specs.Prelude.{ℕ, Bool, List, [], Option, Some, None, is_some, map, slice_index_or}
+use Rattle.std.specs.Prelude.{ℕ, Bool, false, List, [], Option, Some, None, is_some, map, slice_index_or}
 use Rattle.std.specs.FinMap as fin_map
 use Rattle.keyspace.specs.Keyspace.{Keyspace}
 use Rattle.slot_table.specs.declared.entry.SlotEntry.{SlotEntry}
@@ -14,14 +14,26 @@ use Rattle.cluster_config.specs.declared.config.Role.TheVariants.{Master, Replic
 use Rattle.election.specs.Health.{Candidate, Health, Voter, first_health, first_voter, no_candidate}
 use Rattle.stream_values.specs.Stream.{StreamView, first_stream}
 use Rattle.stream_values.specs.declared.stream_id.StreamId.{StreamId}
+use Rattle.bus.specs.declared.message.Handing.{Handing}
 use Rattle.bus.specs.declared.message.Replaced.{Replaced}
 use Rattle.connections.specs.Connections.{ConnectionTable}
 
 -- ---- the node
 
+-- a replica's part in a planned handover: whether it asks its master for one, what the master said that it hands over, and how many
+-- ticks ago the last election for that began
+pub record Handover : Type 0 where
+  pub asked : Bool
+  pub note : Option Handing
+  pub begun : Option ℕ
+
+abbrev pub no_handover : Handover
+no_handover = record { asked = false; note = None; begun = None }
+
 -- what a node knows and holds: the cluster's configuration and its own number there; its keys; who owns each slot, the moves
 -- of slots that it takes part in, and the newest epoch; for each node the master that it is a replica of, if it is one; what
--- it heard of the others, its votes and its own election; its stream; whose place it took, if it was promoted; its clients
+-- it heard of the others, its votes and its own election; the replica that it hands its slots over to, if it does, and what it knows of
+-- its own master's handover; its stream; whose place it took, if it was promoted; its clients
 pub record NodeState : Type 0 where
   pub config : ClusterConfig
   pub number : ℕ
@@ -33,6 +45,8 @@ pub record NodeState : Type 0 where
   pub health : Health
   pub voter : Voter
   pub candidate : Candidate
+  pub paused : Option ℕ
+  pub handover : Handover
   pub stream : StreamView
   pub replaced : Option Replaced
   pub connections : ConnectionTable
@@ -46,7 +60,7 @@ is_replica node = is_some (own_master node)
 
 -- what the node knows of itself and of a slot, where an order is to move it
 abbrev pub standing : NodeState → ℕ → Standing
-standing node slot = record { node = node.number; is_replica = is_replica node; owner = owner_at node.table slot }
+standing node slot = record { node = node.number; is_replica = is_replica node; is_paused = is_some node.paused; owner = owner_at node.table slot }
 
 -- ---- the start
 
@@ -76,6 +90,8 @@ first_state config number = record {
   health = first_health;
   voter = first_voter;
   candidate = no_candidate;
+  paused = None;
+  handover = no_handover;
   stream = first_stream (first_id (slice_index_or (first_masters config.nodes) number None) number);
   replaced = None;
   connections = record { slots = []; opens = [] };

@@ -12,7 +12,7 @@ use Rattle.key_slot.specs.Slot.{hash_slot}
 use Rattle.keyspace.specs.Keyspace.{Keyspace}
 use Rattle.keyspace.specs.Rebuilding.{rebuilding}
 use Rattle.keyspace.specs.declared.value.Value.{Value}
-use Rattle.redirect.specs.declared.decision.Decision.TheVariants.{Serve, ServeImport}
+use Rattle.redirect.specs.Decision.{is_served}
 use Rattle.slot_table.specs.Claims.{merged}
 use Rattle.slot_table.specs.declared.entry.SlotEntry.{SlotEntry}
 use Rattle.slot_table.specs.declared.runs.Run.{Run}
@@ -42,8 +42,7 @@ is_error other = false
 
 -- the command was executed
 abbrev pub is_executed : Why → Bool
-is_executed (Decided Serve) = true
-is_executed (Decided (ServeImport number)) = true
+is_executed (Decided decision) = is_served decision
 is_executed other = false
 
 abbrev pub is_written : Result Command CommandFault → Bool

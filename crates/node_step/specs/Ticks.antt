@@ -12,6 +12,7 @@ use Rattle.connections.specs.Connections.{all_aged, all_freed, is_over, waiting}
 use Rattle.election.specs.Failing.{suspected}
 use Rattle.node_step.specs.Copies.{outstanding}
 use Rattle.node_step.specs.Failing.{a_tick_older, members_of}
+use Rattle.node_step.specs.Handovers.{asked_again, handed_again}
 use Rattle.node_step.specs.Orders.{claim_of, others, to_all}
 use Rattle.node_step.specs.Outcome.{Outcome, error, release, silent}
 use Rattle.node_step.specs.Slots.{drained_if_empty}
@@ -42,10 +43,12 @@ slots_tick node = record (silent (older node)) {
 abbrev pub signs : NodeState → List (ℕ × Body)
 signs node = to_all (others node) (Claim (claim_of node) node.replaced) ++ to_all (others node) (Report (suspected node.health (members_of node)))
 
--- behind that a replica tells its master how much of its stream it received, and an election begins, if it is due
+-- behind that a replica tells its master how much of its stream it received, and may ask it to hand over; a master that does tells so; and
+-- an election begins, if it is due
 abbrev pub with_signs : Outcome → NodeState → Outcome
 with_signs outcome node = record outcome {
-  sent = outcome.sent ++ signs node ++ sync_to node.stream (own_master node) ++ requests_in node (due_epoch node) (own_master node);
+  sent = outcome.sent ++ signs node ++ sync_to node.stream (own_master node) ++ asked_again node.handover.asked node.stream.held.id (own_master node)
+      ++ handed_again node node.paused (claim_of node) ++ requests_in node (due_epoch node) (own_master node);
   state = in_election node (due_epoch node);
 }
 

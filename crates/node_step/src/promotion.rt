@@ -15,6 +15,8 @@ pub struct Promotion {
     pub offset: u64,
     /// The epoch of the election.
     pub epoch: Epoch,
+    /// The master handed its slots over.
+    pub planned: bool,
 }
 
 /// The promotion of a node by a step, if there is one: then it stands apart, since that is rare, and outputs are to be small.

@@ -31,6 +31,8 @@ pub enum Why {
     Ends(NodeVerdict),
     /// The command orders to copy a key, and is refused.
     Copies(CopyVerdict),
+    /// The command orders a replica to take the place of its master.
+    TakesOver,
 }
 
 /// A reply, and why the node gives it. The reply is determined by the reason, the request and the state of the node.

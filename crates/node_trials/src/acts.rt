@@ -58,7 +58,7 @@ fn bytes_of(word: &str) -> &[u8] {
 }
 
 /// Puts all that came out of a step behind the text: replies as their bytes, a word for each message, and `promoted` with the epoch and the
-/// offset where the node took the place of its master.
+/// offset, and `planned` where the master handed over, where the node took the place of its master.
 ///
 /// Behind the word of a message stands what part of a stream it brings or asks for, whose place its sender took, whom it suspects, or the
 /// epoch of an election.
@@ -71,7 +71,10 @@ pub fn push_outputs(text: &mut Vec<u8>, outputs: &Outputs) -> Result<(), AllocEr
         push_body(text, &message.body)?;
     }
     match outputs.promoted.get() {
-        Some(promotion) => push_promotion(text, promotion.epoch, promotion.offset),
+        Some(promotion) => {
+            push_promotion(text, promotion.epoch, promotion.offset)?;
+            push_mark(text, promotion.planned)
+        }
         None => Ok(()),
     }
 }
@@ -80,6 +83,11 @@ fn push_promotion(text: &mut Vec<u8>, epoch: Epoch, offset: u64) -> Result<(), A
     text.extend_from_slice(b"promoted ")?;
     push_number(text, epoch.get(), b" ")?;
     push_number(text, offset, b" ")
+}
+
+// The master handed over.
+fn push_mark(text: &mut Vec<u8>, planned: bool) -> Result<(), AllocError> {
+    text.extend_from_slice(if planned { b"planned " } else { b"" })
 }
 
 fn push_body(text: &mut Vec<u8>, body: &Body) -> Result<(), AllocError> {
@@ -98,8 +106,9 @@ fn push_body(text: &mut Vec<u8>, body: &Body) -> Result<(), AllocError> {
         Body::Report(suspects) => push_suspects(text, suspects),
         Body::Request(request) => push_number(text, request.epoch.get(), b" "),
         Body::Grant(epoch) => push_number(text, epoch.get(), b" "),
+        Body::Paused(handing) => push_number(text, handing.offset, b" "),
         Body::Claim(_, None) => Ok(()),
-        Body::Copy { .. } | Body::Ack { .. } | Body::Drained { .. } => Ok(()),
+        Body::Copy { .. } | Body::Ack(_) | Body::Drained { .. } | Body::Pause(_) => Ok(()),
     }
 }
 
@@ -135,7 +144,7 @@ pub fn push_response(text: &mut Vec<u8>, response: &Response) -> Result<(), Allo
 fn name_of(body: &Body) -> &'static [u8] {
     match body {
         Body::Copy { .. } => b"copy ",
-        Body::Ack { .. } => b"ack ",
+        Body::Ack(_) => b"ack ",
         Body::Drained { .. } => b"drained ",
         Body::Claim(_, _) => b"claim ",
         Body::Report(_) => b"report ",
@@ -144,5 +153,7 @@ fn name_of(body: &Body) -> &'static [u8] {
         Body::Sync(_) => b"sync ",
         Body::Piece(_) => b"piece ",
         Body::Snapshot(_) => b"snapshot ",
+        Body::Pause(_) => b"pause ",
+        Body::Paused(_) => b"paused ",
     }
 }

@@ -17,6 +17,7 @@ mod following;
 mod full_link;
 mod gates;
 mod growth;
+mod handing_over;
 mod in_memory;
 mod key_move;
 mod mail;
@@ -54,6 +55,7 @@ enum Trial {
     Moves,
     Following,
     Failover,
+    Handovers,
     Writes,
     Cells,
     Seats,
@@ -68,11 +70,12 @@ enum Trial {
 }
 
 // The words of the trials, in the order in which they are played.
-const TRIALS: [(&str, Trial); 14] = [
+const TRIALS: [(&str, Trial); 15] = [
     ("refused", Trial::Refused),
     ("moves", Trial::Moves),
     ("following", Trial::Following),
     ("failover", Trial::Failover),
+    ("handovers", Trial::Handovers),
     ("writes", Trial::Writes),
     ("cells", Trial::Cells),
     ("seats", Trial::Seats),
@@ -149,6 +152,7 @@ fn try_out<R: Runtime>(rt: R, trial: Trial) -> Result<()> {
         Trial::Moves => moves::try_out(&rt),
         Trial::Following => following::try_out(&rt),
         Trial::Failover => failover::try_out(&rt),
+        Trial::Handovers => handing_over::try_out(&rt),
         Trial::Writes => writes::try_out(rt),
         Trial::Cells => cells::try_out(&rt),
         Trial::Seats => seats::try_out(&rt),

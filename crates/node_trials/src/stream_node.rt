@@ -4,11 +4,11 @@ use crate::acts::words_of;
 use anyhow::{Context, Result};
 use byte_string::ByteString;
 use command::{Command, parse};
-use keyspace::{Plan, Store, TreeStore, Value, commit, plan_command};
+use keyspace::{Pair, Pairs, Plan, Store, TreeStore, Value, commit, plan_command};
 use repl_stream::{OfferFault, Replica, Stream, block_of};
 use slot_table::{Epoch, NodeNo};
 use std::alloc::{AllocError, Global};
-use stream_values::{Base, Pair, Pairs, Piece, Snapshot, StreamId};
+use stream_values::{Base, Piece, Snapshot, StreamId};
 
 /// A node, as far as its stream goes.
 pub struct Node<T: Stream + Drop> {

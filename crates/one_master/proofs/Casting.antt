@@ -16,8 +16,8 @@ use Rattle.one_master.specs.Stands.{AreSent}
 
 granted_is : (said : Body) (epoch : ℕ) → grants said epoch ≡ true → said ≡ body.Grant epoch
 granted_is (body.Grant granted) epoch is = ap body.Grant (eqb-true granted epoch is)
-granted_is (body.Copy slot number copy pairs) epoch is = absurd (both_ways false refl is)
-granted_is (body.Ack slot number copy) epoch is = absurd (both_ways false refl is)
+granted_is (body.Copy id pairs) epoch is = absurd (both_ways false refl is)
+granted_is (body.Ack id) epoch is = absurd (both_ways false refl is)
 granted_is (body.Drained slot number said) epoch is = absurd (both_ways false refl is)
 granted_is (body.Claim slots replaced) epoch is = absurd (both_ways false refl is)
 granted_is (body.Report suspects) epoch is = absurd (both_ways false refl is)
@@ -25,6 +25,8 @@ granted_is (body.Request request) epoch is = absurd (both_ways false refl is)
 granted_is (body.Sync sync) epoch is = absurd (both_ways false refl is)
 granted_is (body.Piece piece) epoch is = absurd (both_ways false refl is)
 granted_is (body.Snapshot snapshot) epoch is = absurd (both_ways false refl is)
+granted_is (body.Pause stream) epoch is = absurd (both_ways false refl is)
+granted_is (body.Paused handing) epoch is = absurd (both_ways false refl is)
 
 -- what a vote is
 record IsVote (voter epoch candidate : ℕ) (message : Message) : Type 0 where

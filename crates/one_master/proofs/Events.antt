@@ -1,9 +1,10 @@
 -- What each step of a node leaves.
-use Rattle.std.proofs.Common.{◌≡◌, ◌<◌, ◌≤◌, ◌==◌, ℕ, List, [], Bool, true, false, cond, Option, Some, None, Contains, refl, sym, ap, subst, ◌∙◌, inl, inr, arith}
+use Rattle.std.proofs.Common.{◌≡◌, ◌<◌, ◌≤◌, ◌==◌, ℕ, List, [], ◌∷◌, Bool, true, false, cond, Option, Some, None, Contains, refl, sym, ap, subst, ◌∙◌, inl, inr, arith}
 use Rattle.std.proofs.lemmas.Bool.{and_parts, eqb-true, ltb-true}
-use Rattle.std.specs.Prelude.{◌&&◌, MatchBool, is_some, nat_le, nat_lt}
+use Rattle.std.specs.Prelude.{◌&&◌, ◌||◌, MatchBool, is_some, nat_le, nat_lt}
 use Rattle.bus.specs.declared.message.Body.{Body}
 use Rattle.bus.specs.declared.message.Body.TheVariants as body
+use Rattle.bus.specs.declared.message.Handing.{Handing}
 use Rattle.bus.specs.declared.message.Message.{Message}
 use Rattle.command_table.specs.Table.{command_of}
 use Rattle.connections.specs.Connections.{connection_at, may_ask}
@@ -22,19 +23,24 @@ use Rattle.node_step.specs.Failing.{a_tick_older, members_of}
 use Rattle.node_step.specs.Messages.{Choice, delivered, ready, taken, taken_so, written_by_message}
 use Rattle.node_step.specs.Orders.{claim_of, others}
 use Rattle.node_step.specs.Outcome.{Outcome, silent}
-use Rattle.node_step.specs.Promotion.{in_place_of, promotion}
+use Rattle.node_step.specs.Handovers.{asked_again, asked_to_pause, handed_again, handed_to, handing_of, handing_over, is_at_end, may_pause, may_take_over, noting, told_of_handing}
+use Rattle.node_step.specs.Promotion.{handed_promotion, in_place_of, promotion, promotion_to, table_handed, table_of_master}
 use Rattle.node_step.specs.Replicas.{sync_answer, sync_to}
 use Rattle.node_step.specs.Requests.{request_outcome, using_up}
 use Rattle.node_step.specs.State.{NodeState, is_replica, own_master}
 use Rattle.node_step.specs.Step.{IsAnswering, IsClosing, MayCome, written}
 use Rattle.node_step.specs.Ticks.{older, slots_tick, tick}
-use Rattle.node_step.specs.Voting.{due_epoch, grant_to, if_elected, in_election, request_of, requests_in, voters_of, voting}
+use Rattle.node_step.specs.Voting.{begun_so, due_epoch, grant_to, if_elected, in_election, request_of, requests_in, voters_of, voting}
 use Rattle.node_step.specs.declared.event.Event.{Event}
 use Rattle.node_step.specs.declared.event.Event.TheVariants.{Open, Close, Request, Deliver, Tick}
 use Rattle.node_step.specs.declared.promotion.Promotion.{Promotion}
+use Rattle.slot_table.specs.declared.entry.SlotEntry.{SlotEntry}
+use Rattle.slot_table.specs.declared.runs.Run.{Run}
+use Rattle.stream_values.specs.Stream.{is_same}
 use Rattle.stream_values.specs.Syncing.{answer_to}
 use Rattle.stream_values.specs.declared.answer.SyncAnswer.{SyncAnswer}
 use Rattle.stream_values.specs.declared.answer.SyncAnswer.TheVariants as answers
+use Rattle.stream_values.specs.declared.stream_id.StreamId.{StreamId}
 use Rattle.world_run.proofs.Lists.{contains_one}
 use Rattle.world_run.specs.Ballots.{is_elected, was_cast}
 use Rattle.world_run.specs.Run.{Entry, MayHappen, sent_by}
@@ -108,7 +114,7 @@ module _ (voters : List ℕ) (sent : List Message) (n : ℕ) (node : NodeState) 
       let is_later : Bool = nat_lt node.voter.last_vote request.epoch in
       let is_current : Bool = nat_le node.current_epoch request.epoch in
       let is_replica_of : Bool = follows (members_of node) request.candidate request.master in
-      let four = and_parts (votes && is_later && is_current && is_replica_of) (has_failed node.health (members_of node) request.master) may in
+      let four = and_parts (votes && is_later && is_current && is_replica_of) (request.planned || has_failed node.health (members_of node) request.master) may in
       let three = and_parts (votes && is_later && is_current) is_replica_of four.0 in
       let two = and_parts (votes && is_later) is_current three.0 in
       let later : node.voter.last_vote < request.epoch = ltb-true _ _ (and_parts votes is_later two.0).1 in
@@ -153,10 +159,10 @@ module _ (voters : List ℕ) (sent : List Message) (n : ℕ) (node : NodeState) 
       promoted = λ promotion is. cc;
     }
 
-    promotion_leaves : (won : Elected) → elected node.candidate (members_of node) from epoch ≡ Some won → (master : Option ℕ) → own_master node ≡ master → Leaves (promotion counting won.epoch master)
-    promotion_leaves won is None own = counted_leaves
-    promotion_leaves won is (Some master) own =
-        let master_now : is_replica (in_place_of counting master won.epoch) ≡ false = ap is_some (succeeded_ends node.masters master node.number) in
+    promoted_leaves : (won : Elected) → elected node.candidate (members_of node) from epoch ≡ Some won → (planned : Bool) (table : List (Option SlotEntry)) (master : ℕ) → own_master node ≡ Some master
+        → Leaves (promotion_to counting master won.epoch planned table)
+    promoted_leaves won is planned table master own =
+        let master_now : is_replica (in_place_of counting master won.epoch table) ≡ false = ap is_some (succeeded_ends node.masters master node.number) in
         record {
           number = stands.number;
           voters_are = stands.voters_are;
@@ -168,19 +174,36 @@ module _ (voters : List ℕ) (sent : List Message) (n : ℕ) (node : NodeState) 
             was = ap is_some own;
             is = master_now;
             elected =
-                let its_epoch : won.epoch ≡ promotion.epoch = promoted_epoch won promotion told in
+                let its_epoch : won.epoch ≡ promotion.epoch = promoted_epoch won planned promotion told in
                 subst (λ (e : ℕ). is_elected voters sent e n ≡ true) its_epoch
                 (subst (λ (all : List ℕ). is_elected all sent won.epoch n ≡ true) stands.voters_are
                 (elected_so sent n from epoch cast (members_of node) node.candidate.election stands.counted won is));
           };
         }
       where
-        promoted_epoch : (won : Elected) (promotion : Promotion) → Some (record { stream = node.stream.held.id; offset = node.stream.offset; epoch = won.epoch }) ≡ Some promotion → won.epoch ≡ promotion.epoch
-        promoted_epoch won promotion is = cc
+        promoted_epoch : (won : Elected) (planned : Bool) (promotion : Promotion) → Some (record { stream = node.stream.held.id; offset = node.stream.offset; epoch = won.epoch; planned = planned }) ≡ Some promotion → won.epoch ≡ promotion.epoch
+        promoted_epoch won planned promotion is = cc
+
+    promotion_leaves : (won : Elected) → elected node.candidate (members_of node) from epoch ≡ Some won → (master : Option ℕ) → own_master node ≡ master → Leaves (promotion counting won.epoch master)
+    promotion_leaves won is None own = counted_leaves
+    promotion_leaves won is (Some master) own = promoted_leaves won is false (table_of_master counting master won.epoch) master own
+
+    handed_leaves : (won : Elected) → elected node.candidate (members_of node) from epoch ≡ Some won → (master : Option ℕ) (told : Option Handing) → own_master node ≡ master → Leaves (handed_promotion counting won.epoch master told)
+    handed_leaves won is None told own = counted_leaves
+    handed_leaves won is (Some master) None own = counted_leaves
+    handed_leaves won is (Some master) (Some handing) own = by_place (is_at_end node.stream (Some handing))
+      where
+        by_place : (b : Bool) → Leaves (cond b (promotion_to counting master won.epoch true (table_handed counting handing.slots won.epoch)) (silent counting))
+        by_place true = promoted_leaves won is true (table_handed counting handing.slots won.epoch) master own
+        by_place false = counted_leaves
 
     voted_leaves : (won : Option Elected) → elected node.candidate (members_of node) from epoch ≡ won → Leaves (if_elected counting won)
     voted_leaves None is = counted_leaves
-    voted_leaves (Some won) is = promotion_leaves won is (own_master node) refl
+    voted_leaves (Some won) is = by_plan node.candidate.planned
+      where
+        by_plan : (planned : Bool) → Leaves (cond planned (handed_promotion counting won.epoch (own_master node) node.handover.note) (promotion counting won.epoch (own_master node)))
+        by_plan true = handed_leaves won is (own_master node) node.handover.note refl
+        by_plan false = promotion_leaves won is (own_master node) refl
 
   -- an answer to a replica
   sync_sent : (from : ℕ) (answer : SyncAnswer) → AreAll IsNoVote (sync_answer node from answer)
@@ -188,16 +211,40 @@ module _ (voters : List ℕ) (sent : List Message) (n : ℕ) (node : NodeState) 
   sync_sent from (answers.Piece piece) = all_of_one IsNoVote from (body.Piece piece) (λ epoch is. cc)
   sync_sent from answers.Snapshot = all_of_one IsNoVote from _ (λ epoch is. cc)
 
+  -- a master is asked to hand over, and a replica is told of it
+  handed_again_sent : (replica : Option ℕ) (slots : List (Run ℕ)) → AreAll IsNoVote (handed_again node replica slots)
+  handed_again_sent None slots = all_of_none IsNoVote
+  handed_again_sent (Some replica) [] = all_of_none IsNoVote
+  handed_again_sent (Some replica) (run ∷ slots) = all_of_one IsNoVote replica (body.Paused (handing_of node)) (λ epoch is. cc)
+
+  handed_sent : (replica : ℕ) (paused : Option ℕ) → AreAll IsNoVote (handed_to node replica paused)
+  handed_sent replica None = all_of_one IsNoVote replica (body.Paused (handing_of node)) (λ epoch is. cc)
+  handed_sent replica (Some other) = handed_again_sent (Some replica) (claim_of node)
+
+  pause_leaves : (from : ℕ) (stream : StreamId) → Leaves (asked_to_pause node from stream)
+  pause_leaves from stream = by_test (may_pause node from stream)
+    where
+      by_test : (b : Bool) → Leaves (cond b (handing_over node from) (silent node))
+      by_test true = quiet voters sent n node stands (handing_over node from) (record { number = refl; config = refl; voter = refl; election = inl refl; role = refl }) (handed_sent from node.paused) refl
+      by_test false = nothing
+
+  noting_leaves : (handing : Handing) → Leaves (told_of_handing node handing)
+  noting_leaves handing = by_test (is_replica node && is_same handing.stream node.stream.held.id)
+    where
+      by_test : (b : Bool) → Leaves (silent (cond b (record node { handover = noting node.handover handing }) node))
+      by_test true = quiet voters sent n node stands _ (record { number = refl; config = refl; voter = refl; election = inl refl; role = refl }) (all_of_none IsNoVote) refl
+      by_test false = nothing
+
   -- a row of messages
   so_taken_leaves : (from : ℕ) (choice : Choice) (said : Body) → ((epoch : ℕ) → said ≡ body.Grant epoch → was_cast sent from epoch n ≡ true) → Leaves (taken_so node from choice said)
-  so_taken_leaves from choice (body.Copy slot number copy pairs) cast =
-      of_slots voters sent n node stands _ _ (arrival_is_of_slots (IsStill node) node (λ keyspace table moves current connections. record { number = refl; config = refl; voter = refl; election = inl refl; role = refl }) from slot number copy pairs)
-  so_taken_leaves from choice (body.Ack slot number copy) cast =
-      of_slots voters sent n node stands _ _ (acknowledgement_is_of_slots (IsStill node) node (λ keyspace table moves current connections. record { number = refl; config = refl; voter = refl; election = inl refl; role = refl }) from slot number copy)
+  so_taken_leaves from choice (body.Copy id pairs) cast =
+      of_slots voters sent n node stands _ _ (arrival_is_of_slots (IsStill node) node (λ keyspace table moves current handover connections known noted. record { number = refl; config = refl; voter = refl; election = inl refl; role = refl }) from id pairs)
+  so_taken_leaves from choice (body.Ack id) cast =
+      of_slots voters sent n node stands _ _ (acknowledgement_is_of_slots (IsStill node) node (λ keyspace table moves current handover connections known noted. record { number = refl; config = refl; voter = refl; election = inl refl; role = refl }) from id)
   so_taken_leaves from choice (body.Drained slot number epoch) cast =
-      of_slots voters sent n node stands _ _ (noted_is_of_slots (IsStill node) node (λ keyspace table moves current connections. record { number = refl; config = refl; voter = refl; election = inl refl; role = refl }) from slot number epoch)
+      of_slots voters sent n node stands _ _ (noted_is_of_slots (IsStill node) node (λ keyspace table moves current handover connections known noted. record { number = refl; config = refl; voter = refl; election = inl refl; role = refl }) from slot number epoch)
   so_taken_leaves from choice (body.Claim slots replaced) cast =
-      of_slots voters sent n node stands _ _ (claim_is_of_slots (IsStill node) node (λ keyspace table moves current connections. record { number = refl; config = refl; voter = refl; election = inl refl; role = refl }) from slots)
+      of_slots voters sent n node stands _ _ (claim_is_of_slots (IsStill node) node (λ keyspace table moves current handover connections known noted. record { number = refl; config = refl; voter = refl; election = inl refl; role = refl }) from slots)
   so_taken_leaves from choice (body.Report suspects) cast = nothing
   so_taken_leaves from choice (body.Request request) cast = vote_leaves (request_of from request) _ refl
   so_taken_leaves from choice (body.Grant epoch) cast = voted_leaves from epoch (cast epoch refl) _ refl
@@ -207,6 +254,8 @@ module _ (voters : List ℕ) (sent : List Message) (n : ℕ) (node : NodeState) 
       quiet voters sent n node stands _ (pieced_keeps (IsStill node) node (λ stream keyspace. record { number = refl; config = refl; voter = refl; election = inl refl; role = refl }) from piece choice.follower) (all_of_none IsNoVote) refl
   so_taken_leaves from choice (body.Snapshot snapshot) cast =
       quiet voters sent n node stands _ (restored_keeps (IsStill node) node (λ stream keyspace. record { number = refl; config = refl; voter = refl; election = inl refl; role = refl }) from snapshot) (all_of_none IsNoVote) refl
+  so_taken_leaves from choice (body.Pause stream) cast = pause_leaves from stream
+  so_taken_leaves from choice (body.Paused handing) cast = noting_leaves handing
 
   taken_leaves : (from : ℕ) (choice : Choice) (said : Body) → ((epoch : ℕ) → said ≡ body.Grant epoch → was_cast sent from epoch n ≡ true) → Leaves (taken node from choice said)
   taken_leaves from choice said cast =
@@ -228,8 +277,8 @@ module _ (voters : List ℕ) (past : List Entry) (n : ℕ) (node : NodeState) (s
       by_target false other = nothing voters (sent_by past) n node stands
       by_target true mine =
           let to_here : message.to ≡ n = eqb-true message.to node.number mine ∙ stands.number in
-          ready_keeps (λ (ready : NodeState). LeavesAll (taken ready message.from choice message.body)) node message (λ epoch masters health candidate role election.
-          let heard : NodeState = record node { current_epoch = epoch; masters = masters; health = health; candidate = candidate } in
+          ready_keeps (λ (ready : NodeState). LeavesAll (taken ready message.from choice message.body)) node message (λ epoch masters health candidate handover role election.
+          let heard : NodeState = record node { current_epoch = epoch; masters = masters; health = health; candidate = candidate; handover = handover } in
           let still : IsStill node heard = record { number = refl; config = refl; voter = refl; election = election; role = role } in
           subst (λ (replica : Bool). StepStands voters (sent_by past) n node.voter.last_vote replica (taken heard message.from choice message.body)) role
           (taken_leaves voters (sent_by past) n heard (node_still voters (sent_by past) n node heard still stands) message.from choice message.body
@@ -251,15 +300,28 @@ module _ (voters : List ℕ) (past : List Entry) (n : ℕ) (node : NodeState) (s
       requests (Some epoch) None = all_of_none IsNoVote
       requests (Some epoch) (Some master) = all_to_all IsNoVote (voters_of aged) _ (λ epoch is. cc)
 
+      asks : (asked : Bool) (master : Option ℕ) → AreAll IsNoVote (asked_again asked node.stream.held.id master)
+      asks true (Some master) = all_of_one IsNoVote master _ (λ epoch is. cc)
+      asks true None = all_of_none IsNoVote
+      asks false master = all_of_none IsNoVote
+
       no_vote : AreAll IsNoVote (tick node).sent
       no_vote =
           all_of_both IsNoVote _ _
+          (all_of_both IsNoVote _ _
+          (all_of_both IsNoVote _ _
           (all_of_both IsNoVote _ _
           (all_of_both IsNoVote _ _ (λ to said among. slots_no_vote node said (sent_again_are node to said among))
           (all_of_both IsNoVote _ _ (all_to_all IsNoVote (others node) (body.Claim (claim_of node) node.replaced) (λ epoch is. cc))
           (all_to_all IsNoVote (others node) (body.Report (suspected aged.health (members_of node))) (λ epoch is. cc))))
           (sync (own_master node)))
+          (asks node.handover.asked (own_master node)))
+          (handed_again_sent voters (sent_by past) n node stands node.paused (claim_of node)))
           (requests (due_epoch aged) (own_master node))
+
+      begun_counts : (planned : Bool) (epoch : ℕ) → AreSent (sent_by past) n (begun_so planned aged.candidate epoch).election
+      begun_counts true epoch = λ voter stands. absurd (nobody_entered 16 voter stands)
+      begun_counts false epoch = λ voter stands. absurd (nobody_entered 16 voter stands)
 
       by_epoch : (due : Option ℕ) → LeavesAll (record (slots_tick node) { sent = (tick node).sent; state = in_election aged due })
       by_epoch None =
@@ -270,7 +332,7 @@ module _ (voters : List ℕ) (past : List Entry) (n : ℕ) (node : NodeState) (s
         voters_are = stands.voters_are;
         rises = omega arith;
         votes = λ candidate epoch among. absurd (no_vote candidate (body.Grant epoch) among epoch refl);
-        counted = λ voter stands. absurd (nobody_entered 16 voter stands);
+        counted = begun_counts (may_take_over aged) epoch;
         stays = λ master. master;
         promoted = λ promotion is. cc;
       }
@@ -281,7 +343,7 @@ module _ (voters : List ℕ) (past : List Entry) (n : ℕ) (node : NodeState) (s
       subst LeavesAll (sym answering.comes_to)
       (recorded_leaves voters (sent_by past) n node.voter.last_vote (is_replica node) (request_outcome node conn (command_of words)) (written node conn words) answering.dropped
       (of_slots voters (sent_by past) n node stands _ (request_outcome node conn (command_of words))
-      (request_is_of_slots (IsStill node) (using_up node conn) (λ keyspace table moves current connections. record { number = refl; config = refl; voter = refl; election = inl refl; role = refl })
+      (request_is_of_slots (IsStill node) (using_up node conn) (λ keyspace table moves current handover connections known noted. record { number = refl; config = refl; voter = refl; election = inl refl; role = refl })
       conn (connection_at node.connections conn) (command_of words))))
 
   with_connections : (outcome : Outcome) → IsStill node outcome.state → outcome.sent ≡ [] → outcome.promoted ≡ None → LeavesAll outcome

@@ -6,5 +6,6 @@ pub mod Sendings
 pub mod Copies
 pub mod Endings
 pub mod Commands
+pub mod Handovers
 pub mod Unchanged
 mod WorkedRun

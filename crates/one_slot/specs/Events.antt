@@ -1,13 +1,13 @@
 -- What may happen to a slot at one node (Redis Cluster specification, "Cluster live reconfiguration", "ASK redirection",
 -- "Hash slots configuration propagation"; that moves and copies have numbers is ours).
-use Rattle.std.specs.Prelude.{◌≡◌, ◌≢◌, ◌<◌, ◌+◌, ℕ, true, List, Option, Some, None, Contains}
+use Rattle.std.specs.Prelude.{◌≡◌, ◌≢◌, ◌<◌, ◌≤◌, ◌+◌, ℕ, true, List, Option, Some, None, Contains}
 use Rattle.std.specs.Map.{keys_of}
 use Rattle.slot_table.specs.declared.entry.SlotEntry.{SlotEntry}
 use Rattle.slot_table.specs.Table.{owner_in}
 use Rattle.slot_table.specs.Claims.{is_above}
 use Rattle.slot_state.specs.declared.running.Move.TheVariants.{Leaves, Comes}
 use Rattle.one_slot.specs.View.{View, Views}
-use Rattle.one_slot.specs.Slot.{Freezes, Holds, IsLeaving}
+use Rattle.one_slot.specs.Slot.{Freezes, Holds, IsAtMost, IsLeaving}
 use Rattle.one_slot.specs.Sent.{HasAll, Sent, IsSent}
 
 -- the slot is another at one node, and at no other
@@ -169,3 +169,34 @@ pub record LeavingServes {X : Type 0} (view : View X) (keys : List (List ℕ)) :
 pub record IsAsked {X : Type 0} (view : View X) (to number : ℕ) (keys : List (List ℕ)) : Type 0 where
   pub leaves : IsLeaving view to number
   pub none : (key : List ℕ) → Contains keys key → view.value key ≡ None
+
+-- ---- a planned handover
+
+-- the slot is another at two nodes, and at no other
+pub record ChangesBoth {X : Type 0} (old new : Views X) (node : ℕ) (view : View X) (second : ℕ) (other_view : View X) : Type 0 where
+  pub one : new node ≡ view
+  pub other : new second ≡ other_view
+  pub rest : (other : ℕ) → other ≢ node → other ≢ second → new other ≡ old other
+
+-- a node without a move hands its slot with its keys to another one, and is seen no more from then on; the other has the slot in a new epoch
+pub record HandsOver {X : Type 0} (from to left : View X) (node : ℕ) (owner : View X) (newer : ℕ) : Type 0 where
+  pub idle : from.move ≡ None
+  pub nothing : (key : List ℕ) → to.value key ≡ None
+  pub hidden : left.entry ≡ None
+  pub gone : left.move ≡ None
+  pub last_from : left.last ≡ from.last
+  pub empty : (key : List ℕ) → left.value key ≡ None
+  pub entry : owner.entry ≡ Some (record { epoch = newer; owner = node })
+  pub rests : owner.move ≡ None
+  pub last_to : to.last ≤ owner.last
+  pub same : (key : List ℕ) → owner.value key ≡ from.value key
+
+-- a node that has no part in the slot is seen no more, or comes to sight: it has no move, no key of the slot, and isn't the owner in its table
+pub record Settles {X : Type 0} (top : SlotEntry) (node : ℕ) (before after : View X) : Type 0 where
+  pub idle : before.move ≡ None
+  pub nothing : (key : List ℕ) → before.value key ≡ None
+  pub rests : after.move ≡ None
+  pub last : before.last ≤ after.last
+  pub newest : (entry : SlotEntry) → after.entry ≡ Some entry → IsAtMost top entry
+  pub foreign : owner_in after.entry ≢ Some node
+  pub empty : (key : List ℕ) → after.value key ≡ None

@@ -1,9 +1,10 @@
 -- What each step of a node leaves of all streams.
-use Rattle.std.proofs.Common.{◌≡◌, ◌≢◌, ◌⊎◌, ◌==◌, ℕ, Bool, true, false, cond, List, [], ◌∷◌, Option, Some, None, refl, sym, ap, subst, ◌∙◌, inl, inr, append-nil}
+use Rattle.std.proofs.Common.{◌≡◌, ◌≢◌, ◌⊎◌, ◌==◌, ◌&&◌, ℕ, Bool, true, false, cond, List, [], ◌∷◌, Option, Some, None, refl, sym, ap, subst, ◌∙◌, inl, inr, append-nil}
 use Rattle.std.proofs.lemmas.Bool.{both_ways}
 use Rattle.std.specs.Prelude.{All, is_some, ⊤}
 use Rattle.bus.specs.declared.message.Body.{Body}
 use Rattle.bus.specs.declared.message.Body.TheVariants as body
+use Rattle.bus.specs.declared.message.Handing.{Handing}
 use Rattle.bus.specs.declared.message.Message.{Message}
 use Rattle.command_table.specs.Table.{command_of}
 use Rattle.connections.specs.Connections.{connection_at}
@@ -20,7 +21,9 @@ use Rattle.stream_values.specs.Follower.{Follower}
 use Rattle.stream_values.specs.Piece.{PieceVerdict, PieceView, TakesBy, verdict_on}
 use Rattle.stream_values.specs.Piece.PieceVerdict.{Gap, OtherStream, Takes}
 use Rattle.stream_values.specs.Snapshot.{restored}
-use Rattle.stream_values.specs.Stream.{StreamView, end_of, promoted as going_on, written}
+use Rattle.slot_table.specs.declared.entry.SlotEntry.{SlotEntry}
+use Rattle.slot_table.specs.declared.runs.Run.{Run}
+use Rattle.stream_values.specs.Stream.{StreamView, end_of, is_same, promoted as going_on, written}
 use Rattle.stream_values.specs.Syncing.{answer_to}
 use Rattle.stream_values.specs.declared.snapshot.Snapshot.{Snapshot as Whole}
 use Rattle.stream_values.specs.declared.stream_id.StreamId.{StreamId}
@@ -35,7 +38,8 @@ use Rattle.node_step.specs.Failing.{a_tick_older, members_of}
 use Rattle.node_step.specs.Messages.{Choice, MayChoose, delivered, ready, taken, written_by_message}
 use Rattle.node_step.specs.Orders.{claim_of, others}
 use Rattle.node_step.specs.Outcome.{Outcome, silent}
-use Rattle.node_step.specs.Promotion.{promotion}
+use Rattle.node_step.specs.Handovers.{asked_again, asked_to_pause, handed_again, handed_to, handing_of, handing_over, is_at_end, may_pause, noting, told_of_handing}
+use Rattle.node_step.specs.Promotion.{handed_promotion, promotion, promotion_to, table_handed, table_of_master}
 use Rattle.node_step.specs.Replicas.{MayFollow, follower_of, sync_answer, sync_to, with_follower, with_piece}
 use Rattle.node_step.specs.Requests.{request_outcome, using_up}
 use Rattle.node_step.specs.Roles.{is_just, replicas_of}
@@ -88,8 +92,8 @@ pub record StepStands (full more : FullStreams) (n : ℕ) (outcome : Outcome) : 
   pub begins : BeginsSo full outcome.state outcome.promoted
 
 slots_sound : (full : FullStreams) (own : NodeState) → CanBeMade own.keyspace → (said : Body) → IsOfSlots own said → IsSound full said
-slots_sound full own can (body.Copy slot number copy pairs) of = λ key value among. subst (IsLeft key) (of key value among) (can key)
-slots_sound full own can (body.Ack slot number copy) of = tt
+slots_sound full own can (body.Copy id pairs) of = λ key value among. subst (IsLeft key) (of key value among) (can key)
+slots_sound full own can (body.Ack id) of = tt
 slots_sound full own can (body.Drained slot number epoch) of = tt
 slots_sound full own can (body.Claim slots replaced) of = tt
 slots_sound full own can (body.Report suspects) of = absurd of
@@ -98,6 +102,8 @@ slots_sound full own can (body.Grant epoch) of = absurd of
 slots_sound full own can (body.Sync sync) of = absurd of
 slots_sound full own can (body.Piece piece) of = absurd of
 slots_sound full own can (body.Snapshot snapshot) of = absurd of
+slots_sound full own can (body.Pause stream) of = tt
+slots_sound full own can (body.Paused handing) of = absurd of
 
 all_sound : (full : FullStreams) (own : NodeState) → CanBeMade own.keyspace → (sent : List (ℕ × Body)) → AreAll (IsOfSlots own) sent → AreAll (IsSound full) sent
 all_sound full own can sent are to said among = slots_sound full own can said (are to said among)
@@ -209,31 +215,48 @@ module _ (full : FullStreams) (n : ℕ) (node : NodeState) where
       node_stays stands (silent (record node { candidate = candidate })) refl (record { number = refl; role = refl; stream = refl; keyspace = refl }) (λ slotless. same_node n node slotless _ refl refl refl refl) (all_of_none (IsSound full))
 
   -- a replica is promoted, and a master never
-  promoted_stands : NodeStands full n node → (candidate : Candidate) (won : Elected) (master : Option ℕ) → own_master node ≡ master → StandsBy [] (promotion (record node { candidate = candidate }) won.epoch master)
-  promoted_stands stands candidate won None own = counting_stands stands candidate
-  promoted_stands (inl is_master) candidate won (Some master) own = absurd (both_ways (is_replica node) is_master.role (ap is_some own))
-  promoted_stands (inr replica) candidate won (Some master) own =
+  promoted_stands : NodeStands full n node → (candidate : Candidate) (epoch : ℕ) (planned : Bool) (table : List (Option SlotEntry)) (master : ℕ) → own_master node ≡ Some master
+      → StandsBy [] (promotion_to (record node { candidate = candidate }) master epoch planned table)
+  promoted_stands (inl is_master) candidate epoch planned table master own = absurd (both_ways (is_replica node) is_master.role (ap is_some own))
+  promoted_stands (inr replica) candidate epoch planned table master own =
       let counting : NodeState = record node { candidate = candidate } in
-      let outcome : Outcome = promotion counting won.epoch (Some master) in
-      let more : FullStreams = begun_from full (record { stream = id; offset = node.stream.offset; epoch = won.epoch }) (record { node = n; epoch = won.epoch }) in
-      subst (λ (number : ℕ). StepStands full (begun_from full (record { stream = id; offset = node.stream.offset; epoch = won.epoch }) (record { node = number; epoch = won.epoch })) n outcome) (sym replica.slotless.number)
+      let outcome : Outcome = promotion_to counting master epoch planned table in
+      let more : FullStreams = begun_from full (record { stream = id; offset = node.stream.offset; epoch = epoch; planned = planned }) (record { node = n; epoch = epoch }) in
+      subst (λ (number : ℕ). StepStands full (begun_from full (record { stream = id; offset = node.stream.offset; epoch = epoch; planned = planned }) (record { node = number; epoch = epoch })) n outcome) (sym replica.slotless.number)
       (record {
-        grows = promotion_grows full (follower_of node) replica.on n won.epoch (replica.fresh won.epoch);
-        apart = promotion_apart full (follower_of node) replica.on n won.epoch (replica.fresh won.epoch);
+        grows = promotion_grows full (follower_of node) replica.on n epoch (replica.fresh epoch);
+        apart = promotion_apart full (follower_of node) replica.on n epoch (replica.fresh epoch);
         node = inl (record {
           number = replica.slotless.number;
           role = ap is_some (succeeded_ends node.masters master node.number);
-          has = subst (λ (number : ℕ). HasWhole more n (record { stream = going_on (record { node = number; epoch = won.epoch }) node.stream; keyspace = node.keyspace })) (sym replica.slotless.number)
-              (promotion_whole full (follower_of node) replica.on n won.epoch (replica.fresh won.epoch));
+          has = subst (λ (number : ℕ). HasWhole more n (record { stream = going_on (record { node = number; epoch = epoch }) node.stream; keyspace = node.keyspace })) (sym replica.slotless.number)
+              (promotion_whole full (follower_of node) replica.on n epoch (replica.fresh epoch));
         });
         sent = all_to_all (IsSound more) (others counting) _ tt;
-        begins = subst (λ (number : ℕ). BeginsSo full (record outcome.state { stream = going_on (record { node = number; epoch = won.epoch }) node.stream }) outcome.promoted) (sym replica.slotless.number)
-            (promotion_goes_on full (follower_of node) replica.on n won.epoch (replica.fresh won.epoch) _ refl refl);
+        begins = subst (λ (number : ℕ). BeginsSo full (record outcome.state { stream = going_on (record { node = number; epoch = epoch }) node.stream }) outcome.promoted) (sym replica.slotless.number)
+            (promotion_goes_on full (follower_of node) replica.on n epoch (replica.fresh epoch) _ refl refl);
       })
 
   voted_stands : NodeStands full n node → (candidate : Candidate) (won : Option Elected) → StandsBy [] (if_elected (record node { candidate = candidate }) won)
   voted_stands stands candidate None = counting_stands stands candidate
-  voted_stands stands candidate (Some won) = promoted_stands stands candidate won (own_master node) refl
+  voted_stands stands candidate (Some won) = by_plan candidate.planned
+    where
+      failed : (master : Option ℕ) → own_master node ≡ master → StandsBy [] (promotion (record node { candidate = candidate }) won.epoch master)
+      failed None own = counting_stands stands candidate
+      failed (Some master) own = promoted_stands stands candidate won.epoch false (table_of_master node master won.epoch) master own
+
+      handed : (master : Option ℕ) (said : Option Handing) → own_master node ≡ master → StandsBy [] (handed_promotion (record node { candidate = candidate }) won.epoch master said)
+      handed None said own = counting_stands stands candidate
+      handed (Some master) None own = counting_stands stands candidate
+      handed (Some master) (Some handing) own = by_place (is_at_end node.stream (Some handing))
+        where
+          by_place : (b : Bool) → StandsBy [] (cond b (promotion_to (record node { candidate = candidate }) master won.epoch true (table_handed node handing.slots won.epoch)) (silent (record node { candidate = candidate })))
+          by_place true = promoted_stands stands candidate won.epoch true (table_handed node handing.slots won.epoch) master own
+          by_place false = counting_stands stands candidate
+
+      by_plan : (planned : Bool) → StandsBy [] (cond planned (handed_promotion (record node { candidate = candidate }) won.epoch (own_master node) node.handover.note) (promotion (record node { candidate = candidate }) won.epoch (own_master node)))
+      by_plan true = handed (own_master node) node.handover.note refl
+      by_plan false = failed (own_master node) refl
 
   -- ---- streams
 
@@ -278,20 +301,47 @@ module _ (full : FullStreams) (n : ℕ) (node : NodeState) where
   synced_stands (inr replica) from sync =
       subst (λ (b : Bool). StandsBy [] (cond b (silent node) (record (silent node) { sent = sync_answer node from (answer_to node.stream sync) }))) (sym replica.slotless.role) (silent_stands node (inr replica))
 
+  -- ---- handovers
+
+  paused_again_said : (replica : Option ℕ) (slots : List (Run ℕ)) → AreAll (IsSound full) (handed_again node replica slots)
+  paused_again_said None slots = all_of_none (IsSound full)
+  paused_again_said (Some replica) [] = all_of_none (IsSound full)
+  paused_again_said (Some replica) (run ∷ slots) = all_of_one (IsSound full) replica (body.Paused (handing_of node)) tt
+
+  handed_said : (replica : ℕ) (paused : Option ℕ) → AreAll (IsSound full) (handed_to node replica paused)
+  handed_said replica None = all_of_one (IsSound full) replica (body.Paused (handing_of node)) tt
+  handed_said replica (Some other) = paused_again_said (Some replica) (claim_of node)
+
+  pause_stands : NodeStands full n node → (from : ℕ) (stream : StreamId) → StandsBy [] (asked_to_pause node from stream)
+  pause_stands stands from stream = by_test (may_pause node from stream)
+    where
+      by_test : (b : Bool) → StandsBy [] (cond b (handing_over node from) (silent node))
+      by_test true =
+          node_stays stands (handing_over node from) refl (record { number = refl; role = refl; stream = refl; keyspace = refl }) (λ slotless. same_node n node slotless _ refl refl refl refl) (handed_said from node.paused)
+      by_test false = silent_stands node stands
+
+  noting_stands : NodeStands full n node → (handing : Handing) → StandsBy [] (told_of_handing node handing)
+  noting_stands stands handing = by_test (is_replica node && is_same handing.stream node.stream.held.id)
+    where
+      by_test : (b : Bool) → StandsBy [] (silent (cond b (record node { handover = noting node.handover handing }) node))
+      by_test true =
+          node_stays stands _ refl (record { number = refl; role = refl; stream = refl; keyspace = refl }) (λ slotless. same_node n node slotless _ refl refl refl refl) (all_of_none (IsSound full))
+      by_test false = silent_stands node stands
+
   -- ---- messages
 
   taken_stands : NodeStands full n node → (from : ℕ) (choice : Choice) (said : Body) → IsSound full said → MayChoose node from said choice → All IsRequest (written_by_message node from said)
       → StandsBy (written_by_message node from said) (taken node from choice said)
-  taken_stands stands from choice (body.Copy slot number copy pairs) sound may are =
-      let does = arrival_is_of_slots (λ s. ⊤) node (λ keyspace table moves current connections. tt) from slot number copy pairs in
-      node_writes stands _ _ does.promoted (arrival_leaves node from slot number copy pairs sound) (λ slotless. arrival_stays n node slotless from slot number copy pairs) (all_sound full node (node_can full n node stands) _ does.sent) are choice.dropped may.dropped
-  taken_stands stands from choice (body.Ack slot number copy) sound may are =
-      let does = acknowledgement_is_of_slots (λ s. ⊤) node (λ keyspace table moves current connections. tt) from slot number copy in
-      node_writes stands _ _ does.promoted (acknowledgement_leaves node from slot number copy) (λ slotless. acknowledgement_stays n node slotless from slot number copy) (all_sound full node (node_can full n node stands) _ does.sent) are choice.dropped may.dropped
+  taken_stands stands from choice (body.Copy id pairs) sound may are =
+      let does = arrival_is_of_slots (λ s. ⊤) node (λ keyspace table moves current handover connections known noted. tt) from id pairs in
+      node_writes stands _ _ does.promoted (arrival_leaves node from id pairs sound) (λ slotless. arrival_stays n node slotless from id pairs) (all_sound full node (node_can full n node stands) _ does.sent) are choice.dropped may.dropped
+  taken_stands stands from choice (body.Ack id) sound may are =
+      let does = acknowledgement_is_of_slots (λ s. ⊤) node (λ keyspace table moves current handover connections known noted. tt) from id in
+      node_writes stands _ _ does.promoted (acknowledgement_leaves node from id) (λ slotless. acknowledgement_stays n node slotless from id) (all_sound full node (node_can full n node stands) _ does.sent) are choice.dropped may.dropped
   taken_stands stands from choice (body.Drained slot number epoch) sound may are =
       node_stays stands _ refl (record { number = refl; role = refl; stream = refl; keyspace = refl }) (λ slotless. noted_stays n node slotless from slot number epoch) (all_of_none (IsSound full))
   taken_stands stands from choice (body.Claim slots replaced) sound may are =
-      let does = claim_is_of_slots (λ s. ⊤) node (λ keyspace table moves current connections. tt) from slots in
+      let does = claim_is_of_slots (λ s. ⊤) node (λ keyspace table moves current handover connections known noted. tt) from slots in
       node_writes stands _ _ does.promoted (claim_leaves node from slots) (λ slotless. claim_stays n node slotless from slots) (all_sound full node (node_can full n node stands) _ does.sent) are choice.dropped may.dropped
   taken_stands stands from choice (body.Report suspects) sound may are = silent_stands node stands
   taken_stands stands from choice (body.Request request) sound may are =
@@ -303,6 +353,8 @@ module _ (full : FullStreams) (n : ℕ) (node : NodeState) where
       silent_stands _ (if_followed stands _ from (is_just (own_master node) from) refl (λ replica own. piece_taken replica piece sound choice.follower (may.follower own) (verdict_on node.stream piece) refl))
   taken_stands stands from choice (body.Snapshot snapshot) sound may are =
       silent_stands _ (if_followed stands _ from (is_just (own_master node) from) refl (λ replica own. snapshot_taken replica snapshot sound))
+  taken_stands stands from choice (body.Pause stream) sound may are = pause_stands stands from stream
+  taken_stands stands from choice (body.Paused handing) sound may are = noting_stands stands handing
 
 -- ---- events
 
@@ -342,8 +394,8 @@ module _ (full : FullStreams) (n : ℕ) (node : NodeState) (stands : NodeStands 
       by_target false other = nothing_stands
       by_target true mine =
           ready_keeps (λ (heard : NodeState). MayChoose heard message.from message.body choice → By (written_by_message heard message.from message.body) (taken heard message.from choice message.body)) node message
-          (λ epoch masters health candidate role election may_choose.
-          let heard : NodeState = record node { current_epoch = epoch; masters = masters; health = health; candidate = candidate } in
+          (λ epoch masters health candidate handover role election may_choose.
+          let heard : NodeState = record node { current_epoch = epoch; masters = masters; health = health; candidate = candidate; handover = handover } in
           taken_stands full n heard (heard_stands heard refl refl refl role refl refl) message.from choice message.body sound may_choose
           (message_writes full heard (node_can full n node stands) short message.from message.body sound))
           (may mine)
@@ -351,8 +403,8 @@ module _ (full : FullStreams) (n : ℕ) (node : NodeState) (stands : NodeStands 
   -- a tick
   pub tick_stands : By [] (tick node)
   tick_stands =
-      in_election_keeps (λ (s : NodeState). By [] (record (slots_tick node) { sent = (tick node).sent; state = s })) aged (due_epoch aged) (λ current candidate.
-      let after : NodeState = record aged { current_epoch = current; candidate = candidate } in
+      in_election_keeps (λ (s : NodeState). By [] (record (slots_tick node) { sent = (tick node).sent; state = s })) aged (due_epoch aged) (λ current candidate handover.
+      let after : NodeState = record aged { current_epoch = current; candidate = candidate; handover = handover } in
       unwritten full n node (record (slots_tick node) { sent = (tick node).sent; state = after }) refl (heard_stands after refl refl refl refl refl refl) said)
     where
       aged : NodeState
@@ -367,14 +419,23 @@ module _ (full : FullStreams) (n : ℕ) (node : NodeState) (stands : NodeStands 
       requests (Some epoch) None = all_of_none (IsSound full)
       requests (Some epoch) (Some master) = all_to_all (IsSound full) (voters_of aged) _ tt
 
+      asks : (asked : Bool) (master : Option ℕ) → AreAll (IsSound full) (asked_again asked node.stream.held.id master)
+      asks true (Some master) = all_of_one (IsSound full) master _ tt
+      asks true None = all_of_none (IsSound full)
+      asks false master = all_of_none (IsSound full)
+
       said : AreAll (IsSound full) (tick node).sent
       said =
           all_of_both (IsSound full) _ _
+          (all_of_both (IsSound full) _ _
+          (all_of_both (IsSound full) _ _
           (all_of_both (IsSound full) _ _
           (all_of_both (IsSound full) _ _ (all_sound full node (node_can full n node stands) _ (sent_again_are node))
           (all_of_both (IsSound full) _ _ (all_to_all (IsSound full) (others node) (body.Claim (claim_of node) node.replaced) tt)
           (all_to_all (IsSound full) (others node) (body.Report (suspected aged.health (members_of node))) tt)))
           (sync (own_master node)))
+          (asks node.handover.asked (own_master node)))
+          (paused_again_said full n node node.paused (claim_of node)))
           (requests (due_epoch aged) (own_master node))
 
   -- a request
@@ -382,7 +443,7 @@ module _ (full : FullStreams) (n : ℕ) (node : NodeState) (stands : NodeStands 
   answering_stands conn words outcome answering =
       let asked : Outcome = request_outcome node conn (command_of words) in
       let leaves = request_leaves words (using_up node conn) conn (connection_at node.connections conn) (command_of words) refl in
-      let does = request_is_of_slots (λ s. ⊤) (using_up node conn) (λ keyspace table moves current connections. tt) conn (connection_at node.connections conn) (command_of words) in
+      let does = request_is_of_slots (λ s. ⊤) (using_up node conn) (λ keyspace table moves current handover connections known noted. tt) conn (connection_at node.connections conn) (command_of words) in
       subst (By (written_at node conn words)) (sym answering.comes_to)
       (node_writes full n node stands (written_at node conn words) asked does.promoted
       (record { number = leaves.number; role = leaves.role; stream = leaves.stream; keyspace = leaves.keyspace })

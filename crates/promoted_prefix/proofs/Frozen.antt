@@ -1,5 +1,5 @@
 -- Keys that are frozen are short words, whatever a step makes of moves.
-use Rattle.std.proofs.Common.{◌≡◌, ◌==◌, ◌&&◌, ℕ, Bool, true, false, cond, not, List, Option, Some, None, Contains, is_some, refl, sym, ap, subst}
+use Rattle.std.proofs.Common.{◌≡◌, ◌==◌, ◌&&◌, ℕ, Bool, true, false, cond, not, List, Option, Some, None, Contains, is_some, sym, ap, subst}
 use Rattle.std.proofs.lemmas.Cmp.{nat_cmp_total}
 use Rattle.std.specs.FinMap as fin_map
 use Rattle.std.specs.FinMap.{FinMap, nat_cmp-IsAntisymmetric}
@@ -7,6 +7,7 @@ use Rattle.std.specs.Ordering.{eq_by_cmp, nat_cmp}
 use Rattle.std.specs.Prelude.{MatchBool, Result, Ok, Err, ⊤}
 use Rattle.bus.specs.declared.message.Body.{Body}
 use Rattle.bus.specs.declared.message.Body.TheVariants as body
+use Rattle.bus.specs.declared.message.Handing.{Handing}
 use Rattle.bus.specs.declared.message.Message.{Message}
 use Rattle.command_table.specs.Table.{command_of}
 use Rattle.command_table.specs.declared.command.ClusterCommand.{ClusterCommand}
@@ -42,6 +43,7 @@ use Rattle.slot_state.specs.declared.migrating.MigrateVerdict.{MigrateVerdict}
 use Rattle.slot_state.specs.declared.migrating.MigrateVerdict.TheVariants as migrate
 use Rattle.slot_state.specs.declared.running.Move.{Move}
 use Rattle.slot_state.specs.declared.running.Move.TheVariants.{Leaves, Comes}
+use Rattle.slot_state.specs.declared.copy_id.CopyId.{CopyId}
 use Rattle.slot_table.specs.Claims.{merged}
 use Rattle.slot_table.specs.declared.runs.Run.{Run}
 use Rattle.node_step.proofs.Copied.{are_there}
@@ -54,9 +56,12 @@ use Rattle.node_step.specs.Failing.{a_tick_older, members_of}
 use Rattle.node_step.specs.Messages.{Choice, delivered, ready, taken, taken_so, written_by_message}
 use Rattle.node_step.specs.Orders.{ending_outcome, ending_verdict, import_outcome, migrate_outcome}
 use Rattle.node_step.specs.Outcome.{Outcome, silent}
-use Rattle.node_step.specs.Promotion.{promotion}
+use Rattle.stream_values.specs.Stream.{is_same}
+use Rattle.stream_values.specs.declared.stream_id.StreamId.{StreamId}
+use Rattle.node_step.specs.Handovers.{asked_to_pause, failover, handing_over, is_at_end, may_pause, noting, told_of_handing}
+use Rattle.node_step.specs.Promotion.{handed_promotion, promotion, promotion_to, table_handed}
 use Rattle.node_step.specs.Requests.{asking_of, by_command, cluster_outcome, is_numbered, node_with_id, order_outcome, request_outcome, using_up}
-use Rattle.node_step.specs.State.{NodeState, own_master}
+use Rattle.node_step.specs.State.{NodeState, is_replica, own_master}
 use Rattle.node_step.specs.Step.{IsAnswering, IsClosing, MayCome, written}
 use Rattle.node_step.specs.Ticks.{older, tick}
 use Rattle.node_step.specs.Voting.{due_epoch, if_elected}
@@ -155,6 +160,7 @@ module _ (node : NodeState) (can : CanBeMade node.keyspace) (short : HasShortFro
   import_keeps slot import.Busy = short
   import_keeps slot import.AlreadyOwner = short
   import_keeps slot import.NotOwner = short
+  import_keeps slot import.HandingOver = short
   import_keeps slot import.OldMove = short
   import_keeps slot (import.Begins from number) = put node.moves.running short slot (Comes from number 0 None) tt
 
@@ -163,6 +169,7 @@ module _ (node : NodeState) (can : CanBeMade node.keyspace) (short : HasShortFro
   migrate_keeps slot migrate.Already = short
   migrate_keeps slot migrate.Busy = short
   migrate_keeps slot migrate.NotOwner = short
+  migrate_keeps slot migrate.HandingOver = short
   migrate_keeps slot migrate.OldMove = short
   migrate_keeps slot (migrate.Begins to number) = put node.moves.running short slot (Leaves to number 0 None) tt
 
@@ -191,6 +198,10 @@ module _ (node : NodeState) (can : CanBeMade node.keyspace) (short : HasShortFro
       put node.moves.running short (first_slot named) (Leaves to number copy (Some (those_there node.keyspace named)))
       (λ key among. key_there_short node.keyspace can key (ap (λ (o : Option Value). is_some o) (are_there node.keyspace named key among).1.1))
 
+  failover_keeps : (master : Option ℕ) → KeepsShort (failover node master)
+  failover_keeps None = short
+  failover_keeps (Some master) = short
+
   cluster_keeps : (conn : Conn) (which : ClusterCommand) → KeepsShort (cluster_outcome node conn which)
   cluster_keeps conn (cluster.KeySlot key) = short
   cluster_keeps conn cluster.MyId = short
@@ -200,6 +211,7 @@ module _ (node : NodeState) (can : CanBeMade node.keyspace) (short : HasShortFro
   cluster_keeps conn (cluster.SlotState slot) = short
   cluster_keeps conn (cluster.SetSlot slot order id number) = order_keeps slot order (node_with_id node id) number
   cluster_keeps conn cluster.Numbered = short
+  cluster_keeps conn cluster.Failover = failover_keeps (own_master node)
   cluster_keeps conn (cluster.Asking number) = short
   cluster_keeps conn (cluster.Migrate host port keys timeout) = copy_keeps conn keys timeout (node_at node host port) (copy_verdict_on node keys (node_at node host port))
 
@@ -210,14 +222,14 @@ module _ (node : NodeState) (can : CanBeMade node.keyspace) (short : HasShortFro
 
   -- ---- messages
 
-  arrived_keeps : (from slot number copy : ℕ) (pairs : List (List ℕ × Value)) (verdict : ArrivalVerdict) → KeepsShort (arrived node from slot number copy pairs verdict)
-  arrived_keeps from slot number copy pairs Installs = changed_short node.moves slot one_more one_more_short short
-  arrived_keeps from slot number copy pairs Repeats = short
-  arrived_keeps from slot number copy pairs Ignored = short
+  arrived_keeps : (from : ℕ) (id : CopyId) (pairs : List (List ℕ × Value)) (verdict : ArrivalVerdict) → KeepsShort (arrived node from id pairs verdict)
+  arrived_keeps from id pairs Installs = changed_short node.moves id.slot one_more one_more_short short
+  arrived_keeps from id pairs Repeats = short
+  arrived_keeps from id pairs Ignored = short
 
-  acknowledged_keeps : (slot number copy : ℕ) (keys : Option (List (List ℕ))) → KeepsShort (acknowledged node slot number copy keys)
-  acknowledged_keeps slot number copy None = short
-  acknowledged_keeps slot number copy (Some keys) = changed_short node.moves slot unfrozen unfrozen_short short
+  acknowledged_keeps : (id : CopyId) (keys : Option (List (List ℕ))) → KeepsShort (acknowledged node id keys)
+  acknowledged_keeps id None = short
+  acknowledged_keeps id (Some keys) = changed_short node.moves id.slot unfrozen unfrozen_short short
 
   claim_keeps : (from : ℕ) (runs : List (Run ℕ)) → KeepsShort (claim node from runs)
   claim_keeps from runs = by_sender (from == node.number)
@@ -230,14 +242,41 @@ module _ (node : NodeState) (can : CanBeMade node.keyspace) (short : HasShortFro
   promotion_keeps epoch None = short
   promotion_keeps epoch (Some master) = short
 
+  handed_keeps : (epoch : ℕ) (master : Option ℕ) (handing : Option Handing) → KeepsShort (handed_promotion node epoch master handing)
+  handed_keeps epoch None handing = short
+  handed_keeps epoch (Some master) None = short
+  handed_keeps epoch (Some master) (Some handing) = by_place (is_at_end node.stream (Some handing))
+    where
+      by_place : (b : Bool) → KeepsShort (cond b (promotion_to node master epoch true (table_handed node handing.slots epoch)) (silent node))
+      by_place true = short
+      by_place false = short
+
+  pause_keeps : (from : ℕ) (stream : StreamId) → KeepsShort (asked_to_pause node from stream)
+  pause_keeps from stream = by_test (may_pause node from stream)
+    where
+      by_test : (b : Bool) → KeepsShort (cond b (handing_over node from) (silent node))
+      by_test true = short
+      by_test false = short
+
+  noting_keeps : (handing : Handing) → KeepsShort (told_of_handing node handing)
+  noting_keeps handing = by_test (is_replica node && is_same handing.stream node.stream.held.id)
+    where
+      by_test : (b : Bool) → KeepsShort (silent (cond b (record node { handover = noting node.handover handing }) node))
+      by_test true = short
+      by_test false = short
+
 elected_keeps : (node : NodeState) → IsKept node → (won : Option Elected) → CanBeMade node.keyspace → KeepsShort (if_elected node won)
 elected_keeps node short None can = short
-elected_keeps node short (Some won) can = promotion_keeps node can short won.epoch (own_master node)
+elected_keeps node short (Some won) can = by_plan node.candidate.planned
+  where
+    by_plan : (planned : Bool) → KeepsShort (cond planned (handed_promotion node won.epoch (own_master node) node.handover.note) (promotion node won.epoch (own_master node)))
+    by_plan true = handed_keeps node can short won.epoch (own_master node) node.handover.note
+    by_plan false = promotion_keeps node can short won.epoch (own_master node)
 
 body_keeps : (node : NodeState) → CanBeMade node.keyspace → IsKept node → (from : ℕ) (choice : Choice) (said : Body) → KeepsShort (taken_so node from choice said)
-body_keeps node can short from choice (body.Copy slot number copy pairs) =
-    arrived_keeps node can short from slot number copy pairs (arrival_verdict (move_of node.moves slot) from number copy (keep_limits pairs))
-body_keeps node can short from choice (body.Ack slot number copy) = acknowledged_keeps node can short slot number copy (acknowledged_keys (move_of node.moves slot) from number copy)
+body_keeps node can short from choice (body.Copy id pairs) =
+    arrived_keeps node can short from id pairs (arrival_verdict (move_of node.moves id.slot) from id.number id.copy (keep_limits pairs))
+body_keeps node can short from choice (body.Ack id) = acknowledged_keeps node can short id (acknowledged_keys (move_of node.moves id.slot) from id.number id.copy)
 body_keeps node can short from choice (body.Drained slot number epoch) = changed_short node.moves slot (note_drained from number epoch) (noted_short from number epoch) short
 body_keeps node can short from choice (body.Claim slots replaced) = claim_keeps node can short from slots
 body_keeps node can short from choice (body.Report suspects) = short
@@ -246,6 +285,8 @@ body_keeps node can short from choice (body.Grant epoch) = elected_keeps (record
 body_keeps node can short from choice (body.Sync sync) = synced_is KeepsShort node from sync short short
 body_keeps node can short from choice (body.Piece piece) = pieced_keeps IsKept node (λ stream keyspace. short) from piece choice.follower
 body_keeps node can short from choice (body.Snapshot snapshot) = restored_keeps IsKept node (λ stream keyspace. short) from snapshot
+body_keeps node can short from choice (body.Pause stream) = pause_keeps node can short from stream
+body_keeps node can short from choice (body.Paused handing) = noting_keeps node can short handing
 
 -- ---- events
 
@@ -256,13 +297,13 @@ module _ (node : NodeState) (can : CanBeMade node.keyspace) (short : HasShortFro
       by_target : (b : Bool) → KeepsShort (cond b (taken (ready node message) message.from choice message.body) (silent node))
       by_target false = short
       by_target true =
-          ready_keeps (λ (heard : NodeState). KeepsShort (taken heard message.from choice message.body)) node message (λ epoch masters health candidate role election.
-          let heard : NodeState = record node { current_epoch = epoch; masters = masters; health = health; candidate = candidate } in
+          ready_keeps (λ (heard : NodeState). KeepsShort (taken heard message.from choice message.body)) node message (λ epoch masters health candidate handover role election.
+          let heard : NodeState = record node { current_epoch = epoch; masters = masters; health = health; candidate = candidate; handover = handover } in
           let kept : KeepsShort (taken_so heard message.from choice message.body) = body_keeps heard can short message.from choice message.body in
           recorded_keeps IsKept (taken_so heard message.from choice message.body) (written_by_message heard message.from message.body) choice.dropped (λ stream. kept))
 
   tick_keeps : KeepsShort (tick node)
-  tick_keeps = in_election_keeps IsKept (a_tick_older (older node)) (due_epoch (a_tick_older (older node))) (λ current candidate. short)
+  tick_keeps = in_election_keeps IsKept (a_tick_older (older node)) (due_epoch (a_tick_older (older node))) (λ current candidate handover. short)
 
   closing_keeps : (conn : Conn) (is_open : Bool) (outcome : Outcome) → MatchBool is_open (IsClosing node conn outcome) (outcome ≡ silent node) → KeepsShort outcome
   closing_keeps conn false outcome may = subst KeepsShort (sym may) short

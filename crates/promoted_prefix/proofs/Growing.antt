@@ -119,7 +119,7 @@ HaveRequests pairs = (key : List ℕ) (value : Value) → Contains {X = List ℕ
 
 -- what a message says of streams is true, and the keys of a copy can be made with their values
 abbrev pub IsSound : FullStreams → Body → Type 0
-IsSound full (bodies.Copy slot number copy pairs) = HaveRequests pairs
+IsSound full (bodies.Copy id pairs) = HaveRequests pairs
 IsSound full (Piece piece) = IsTruePiece full piece
 IsSound full (Snapshot snapshot) = IsTrueSnapshot full snapshot
 IsSound full other = ⊤
@@ -127,14 +127,16 @@ IsSound full other = ⊤
 pub sound_true : (full : FullStreams) (said : Body) → IsSound full said → IsTrueSaid full said
 sound_true full (bodies.Piece piece) sound = sound
 sound_true full (bodies.Snapshot snapshot) sound = sound
-sound_true full (bodies.Copy slot number copy pairs) sound = tt
-sound_true full (bodies.Ack slot number copy) sound = tt
+sound_true full (bodies.Copy id pairs) sound = tt
+sound_true full (bodies.Ack id) sound = tt
 sound_true full (bodies.Drained slot number epoch) sound = tt
 sound_true full (bodies.Claim slots replaced) sound = tt
 sound_true full (bodies.Report suspects) sound = tt
 sound_true full (bodies.Request request) sound = tt
 sound_true full (bodies.Grant epoch) sound = tt
 sound_true full (bodies.Sync sync) sound = tt
+sound_true full (bodies.Pause stream) sound = tt
+sound_true full (bodies.Paused handing) sound = tt
 
 module _ (full more : FullStreams) (grows : Grows full more) where
   pub said_more : (said : Body) → IsSound full said → IsSound more said
@@ -142,14 +144,16 @@ module _ (full more : FullStreams) (grows : Grows full more) where
   said_more (bodies.Snapshot snapshot) is_true =
       subst (λ (l : List ℕ). IsStateAt l snapshot.offset (keyspace_of snapshot.pairs)) (sym (grows.is snapshot.stream))
       (state_grown (full snapshot.stream) (grows.rest snapshot.stream) snapshot.offset (keyspace_of snapshot.pairs) is_true)
-  said_more (bodies.Copy slot number copy pairs) has = has
-  said_more (bodies.Ack slot number copy) is_true = tt
+  said_more (bodies.Copy id pairs) has = has
+  said_more (bodies.Ack id) is_true = tt
   said_more (bodies.Drained slot number epoch) is_true = tt
   said_more (bodies.Claim slots replaced) is_true = tt
   said_more (bodies.Report suspects) is_true = tt
   said_more (bodies.Request request) is_true = tt
   said_more (bodies.Grant epoch) is_true = tt
   said_more (bodies.Sync sync) is_true = tt
+  said_more (bodies.Pause stream) is_true = tt
+  said_more (bodies.Paused handing) is_true = tt
 
 -- ---- bytes behind one stream
 

@@ -130,9 +130,9 @@ claim_writes node can from runs = by_sender (from == node.number)
         (keys_short (fin_map.keys node.keyspace) (λ key among. key_there_short node.keyspace can key (fin_map.contains_key-keys node.keyspace key ∙ among)))
 
 pub message_writes : (full : FullStreams) (node : NodeState) → CanBeMade node.keyspace → HasShortFrozen node.moves → (from : ℕ) (said : Body) → IsSound full said → AreRequests (written_by_message node from said)
-message_writes full node can short from (body.Copy slot number copy pairs) sound =
-    copy_writes node.keyspace pairs sound (arrival_verdict (move_of node.moves slot) from number copy (keep_limits pairs))
-message_writes full node can short from (body.Ack slot number copy) sound = ack_writes (move_of node.moves slot) (short slot) from number copy
+message_writes full node can short from (body.Copy id pairs) sound =
+    copy_writes node.keyspace pairs sound (arrival_verdict (move_of node.moves id.slot) from id.number id.copy (keep_limits pairs))
+message_writes full node can short from (body.Ack id) sound = ack_writes (move_of node.moves id.slot) (short id.slot) from id.number id.copy
 message_writes full node can short from (body.Drained slot number epoch) sound = none_are
 message_writes full node can short from (body.Claim slots replaced) sound = claim_writes node can from slots
 message_writes full node can short from (body.Report suspects) sound = none_are
@@ -141,3 +141,5 @@ message_writes full node can short from (body.Grant epoch) sound = none_are
 message_writes full node can short from (body.Sync sync) sound = none_are
 message_writes full node can short from (body.Piece piece) sound = none_are
 message_writes full node can short from (body.Snapshot snapshot) sound = none_are
+message_writes full node can short from (body.Pause stream) sound = none_are
+message_writes full node can short from (body.Paused handing) sound = none_are

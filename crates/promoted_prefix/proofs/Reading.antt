@@ -149,6 +149,8 @@ module _ (Word : List ℕ → Type 0) (Says : DataCommand → Type 0) where
   subcommand_read (Some subcommand.SetSlot) (slot ∷ order ∷ node ∷ number ∷ more ∷ arguments) = tt
   subcommand_read (Some subcommand.Numbered) [] = tt
   subcommand_read (Some subcommand.Numbered) (more ∷ arguments) = tt
+  subcommand_read (Some subcommand.Failover) [] = tt
+  subcommand_read (Some subcommand.Failover) (more ∷ arguments) = tt
 
   pub subcommands : (arguments : List (List ℕ)) → Holds (with_subcommands arguments)
   subcommands [] = tt

@@ -26,6 +26,7 @@ use Rattle.redirect.specs.declared.decision.Decision.TheVariants.{Serve, ServeIm
 use Rattle.slot_state.specs.Moves.{move_of}
 use Rattle.slot_state.specs.declared.ending.NodeVerdict.{NodeVerdict}
 use Rattle.slot_state.specs.declared.ending.NodeVerdict.TheVariants as ending
+use Rattle.slot_state.specs.declared.copy_id.CopyId.{CopyId}
 use Rattle.slot_table.specs.Claims.{merged}
 use Rattle.slot_table.specs.declared.runs.Run.{Run}
 use Rattle.node_step.specs.Claiming.{claim, claimed_by, is_lost}
@@ -34,7 +35,8 @@ use Rattle.node_step.specs.Copies.{acknowledged, acknowledgement, arrival, arriv
 use Rattle.node_step.specs.Orders.{ending_outcome, ending_verdict}
 use Rattle.node_step.specs.Outcome.{Outcome, silent}
 use Rattle.node_step.specs.Requests.{asking_of, by_command, cluster_outcome, is_numbered, node_with_id, order_outcome}
-use Rattle.node_step.specs.State.{NodeState, is_replica}
+use Rattle.node_step.specs.Handovers.{failover}
+use Rattle.node_step.specs.State.{NodeState, is_replica, own_master}
 use Rattle.node_step.specs.Streams.{Requests, written_by_ack, written_by_claim, written_by_copy, written_by_loss, written_by_request}
 use Rattle.promoted_prefix.proofs.Deletions.{all_deleted, copied_are, taken_out}
 use Rattle.promoted_prefix.proofs.Growing.{HaveRequests}
@@ -92,6 +94,10 @@ module _ (words : List (List ℕ)) (node : NodeState) where
   copy_does command conn slot keys ticks (copies.SendAgain to number copy) = record { number = refl; role = refl; stream = refl; keyspace = refl }
   copy_does command conn slot keys ticks (copies.Copies to number copy) = record { number = refl; role = refl; stream = refl; keyspace = refl }
 
+  failover_does : (command : Result Command CommandFault) (master : Option ℕ) → Answers command (failover node master)
+  failover_does command None = record { number = refl; role = refl; stream = refl; keyspace = refl }
+  failover_does command (Some master) = record { number = refl; role = refl; stream = refl; keyspace = refl }
+
   cluster_does : (command : Result Command CommandFault) (conn : Conn) (which : ClusterCommand) → Answers command (cluster_outcome node conn which)
   cluster_does command conn (cluster.KeySlot key) = record { number = refl; role = refl; stream = refl; keyspace = refl }
   cluster_does command conn cluster.MyId = record { number = refl; role = refl; stream = refl; keyspace = refl }
@@ -101,6 +107,7 @@ module _ (words : List (List ℕ)) (node : NodeState) where
   cluster_does command conn (cluster.SlotState slot) = record { number = refl; role = refl; stream = refl; keyspace = refl }
   cluster_does command conn (cluster.SetSlot slot order id number) = order_does command slot order (node_with_id node id) number
   cluster_does command conn cluster.Numbered = record { number = refl; role = refl; stream = refl; keyspace = refl }
+  cluster_does command conn cluster.Failover = failover_does command (own_master node)
   cluster_does command conn (cluster.Asking number) = record { number = refl; role = refl; stream = refl; keyspace = refl }
   cluster_does command conn (cluster.Migrate host port keys timeout) = copy_does command conn (first_slot keys) (those_there node.keyspace keys) timeout (copy_verdict_on node keys (node_at node host port))
 
@@ -112,22 +119,22 @@ module _ (words : List (List ℕ)) (node : NodeState) where
 -- ---- messages
 
 module _ (node : NodeState) where
-  arrived_does : (from slot number copy : ℕ) (pairs : List (List ℕ × Value)) → HaveRequests pairs → (verdict : ArrivalVerdict)
-      → Leaves node (written_by_copy node.keyspace pairs verdict) (arrived node from slot number copy pairs verdict)
-  arrived_does from slot number copy pairs have Installs = record { number = refl; role = refl; stream = refl; keyspace = copied_are node.keyspace pairs have }
-  arrived_does from slot number copy pairs have Repeats = record { number = refl; role = refl; stream = refl; keyspace = refl }
-  arrived_does from slot number copy pairs have Ignored = record { number = refl; role = refl; stream = refl; keyspace = refl }
+  arrived_does : (from : ℕ) (id : CopyId) (pairs : List (List ℕ × Value)) → HaveRequests pairs → (verdict : ArrivalVerdict)
+      → Leaves node (written_by_copy node.keyspace pairs verdict) (arrived node from id pairs verdict)
+  arrived_does from id pairs have Installs = record { number = refl; role = refl; stream = refl; keyspace = copied_are node.keyspace pairs have }
+  arrived_does from id pairs have Repeats = record { number = refl; role = refl; stream = refl; keyspace = refl }
+  arrived_does from id pairs have Ignored = record { number = refl; role = refl; stream = refl; keyspace = refl }
 
-  pub arrival_leaves : (from slot number copy : ℕ) (pairs : List (List ℕ × Value)) → HaveRequests pairs
-      → Leaves node (written_by_copy node.keyspace pairs (arrival_verdict (move_of node.moves slot) from number copy (keep_limits pairs))) (arrival node from slot number copy pairs)
-  arrival_leaves from slot number copy pairs have = arrived_does from slot number copy pairs have (arrival_verdict (move_of node.moves slot) from number copy (keep_limits pairs))
+  pub arrival_leaves : (from : ℕ) (id : CopyId) (pairs : List (List ℕ × Value)) → HaveRequests pairs
+      → Leaves node (written_by_copy node.keyspace pairs (arrival_verdict (move_of node.moves id.slot) from id.number id.copy (keep_limits pairs))) (arrival node from id pairs)
+  arrival_leaves from id pairs have = arrived_does from id pairs have (arrival_verdict (move_of node.moves id.slot) from id.number id.copy (keep_limits pairs))
 
-  acknowledged_does : (slot number copy : ℕ) (keys : Option (List (List ℕ))) → Leaves node (written_by_ack keys) (acknowledged node slot number copy keys)
-  acknowledged_does slot number copy None = record { number = refl; role = refl; stream = refl; keyspace = refl }
-  acknowledged_does slot number copy (Some keys) = record { number = refl; role = refl; stream = refl; keyspace = taken_out node.keyspace keys }
+  acknowledged_does : (id : CopyId) (keys : Option (List (List ℕ))) → Leaves node (written_by_ack keys) (acknowledged node id keys)
+  acknowledged_does id None = record { number = refl; role = refl; stream = refl; keyspace = refl }
+  acknowledged_does id (Some keys) = record { number = refl; role = refl; stream = refl; keyspace = taken_out node.keyspace keys }
 
-  pub acknowledgement_leaves : (from slot number copy : ℕ) → Leaves node (written_by_ack (acknowledged_keys (move_of node.moves slot) from number copy)) (acknowledgement node from slot number copy)
-  acknowledgement_leaves from slot number copy = acknowledged_does slot number copy (acknowledged_keys (move_of node.moves slot) from number copy)
+  pub acknowledgement_leaves : (from : ℕ) (id : CopyId) → Leaves node (written_by_ack (acknowledged_keys (move_of node.moves id.slot) from id.number id.copy)) (acknowledgement node from id)
+  acknowledgement_leaves from id = acknowledged_does id (acknowledged_keys (move_of node.moves id.slot) from id.number id.copy)
 
   pub claim_leaves : (from : ℕ) (runs : List (Run ℕ)) → Leaves node (written_by_claim node from runs) (claim node from runs)
   claim_leaves from runs = by_sender (from == node.number)

@@ -4,7 +4,7 @@ use Rattle.std.proofs.lemmas.Bool.{cases_Bool, cond-true, cond-false, eqb-false,
 use Rattle.std.proofs.lemmas.Bool.Decides.{nat_tests}
 use Rattle.std.specs.FinMap as fin_map
 use Rattle.std.specs.FinMap.{nat_cmp-IsAntisymmetric}
-use Rattle.std.specs.Prelude.{Result, Ok, Err, filter, is_some}
+use Rattle.std.specs.Prelude.{Result, Ok, Err, filter}
 use Rattle.command_table.specs.Keys.{data_keys, is_data_write}
 use Rattle.command_table.specs.Table.{command_of}
 use Rattle.command_table.specs.declared.command.ClusterCommand.{ClusterCommand}
@@ -41,6 +41,7 @@ use Rattle.slot_state.specs.declared.migrating.MigrateVerdict.{MigrateVerdict}
 use Rattle.slot_state.specs.declared.migrating.MigrateVerdict.TheVariants as migrate
 use Rattle.slot_state.specs.declared.order.Standing.{Standing}
 use Rattle.slot_state.specs.declared.running.Move.{Move}
+use Rattle.slot_state.specs.declared.copy_id.CopyId.{CopyId}
 use Rattle.slot_table.specs.Claims.{merged}
 use Rattle.slot_table.specs.Table.{owner_at, owner_in}
 use Rattle.slot_table.specs.declared.entry.SlotEntry.{SlotEntry}
@@ -54,7 +55,8 @@ use Rattle.node_step.specs.Copies.{acknowledged, acknowledgement, arrival, arriv
 use Rattle.node_step.specs.Orders.{ending_outcome, ending_verdict, import_outcome, migrate_outcome}
 use Rattle.node_step.specs.Outcome.{Outcome, silent}
 use Rattle.node_step.specs.Requests.{asking_of, by_command, cluster_outcome, is_numbered, node_with_id, order_outcome}
-use Rattle.node_step.specs.State.{NodeState, is_replica, standing}
+use Rattle.node_step.specs.Handovers.{failover}
+use Rattle.node_step.specs.State.{NodeState, is_replica, own_master, standing}
 use Rattle.node_step.specs.Streams.{Requests, deletion, written_by_ack, written_by_claim, written_by_copy, written_by_loss, written_by_request}
 use Rattle.world_run.proofs.Nodes.{no_some, same_some}
 use Rattle.keyspace.specs.declared.value.Value.{Value}
@@ -102,6 +104,7 @@ module _ (n : ℕ) (node : NodeState) (stands : IsSlotless n node) where
     import_stays slot other asked import.Already is = plain _ _ refl refl refl refl refl
     import_stays slot other asked import.Busy is = plain _ _ refl refl refl refl refl
     import_stays slot other asked import.AlreadyOwner is = plain _ _ refl refl refl refl refl
+    import_stays slot other asked import.HandingOver is = plain _ _ refl refl refl refl refl
     import_stays slot other asked import.NotOwner is = plain _ _ refl refl refl refl refl
     import_stays slot other asked import.OldMove is = plain _ _ refl refl refl refl refl
     import_stays slot other asked (import.Begins from number) is = absurd (no_import (standing node slot) (move_of node.moves slot) (last_move_of node.moves slot) other asked from number stands.role is)
@@ -110,6 +113,7 @@ module _ (n : ℕ) (node : NodeState) (stands : IsSlotless n node) where
     migration_stays slot other asked migrate.UnknownNode is = plain _ _ refl refl refl refl refl
     migration_stays slot other asked migrate.Already is = plain _ _ refl refl refl refl refl
     migration_stays slot other asked migrate.Busy is = plain _ _ refl refl refl refl refl
+    migration_stays slot other asked migrate.HandingOver is = plain _ _ refl refl refl refl refl
     migration_stays slot other asked migrate.NotOwner is = plain _ _ refl refl refl refl refl
     migration_stays slot other asked migrate.OldMove is = plain _ _ refl refl refl refl refl
     migration_stays slot other asked (migrate.Begins to number) is = absurd (no_migration (standing node slot) (move_of node.moves slot) (last_move_of node.moves slot) other asked to number stands.role is)
@@ -138,6 +142,10 @@ module _ (n : ℕ) (node : NodeState) (stands : IsSlotless n node) where
     order_stays slot Migrating other number = migration_stays slot other number _ refl
     order_stays slot Node other number = ending_stays slot other number _ refl
 
+    failover_stays : (master : Option ℕ) → Answers (failover node master)
+    failover_stays None = plain _ _ refl refl refl refl refl
+    failover_stays (Some master) = plain _ _ refl refl refl refl refl
+
     cluster_stays : (conn : Conn) (which : ClusterCommand) → Answers (cluster_outcome node conn which)
     cluster_stays conn (cluster.KeySlot key) = plain _ _ refl refl refl refl refl
     cluster_stays conn cluster.MyId = plain _ _ refl refl refl refl refl
@@ -147,6 +155,7 @@ module _ (n : ℕ) (node : NodeState) (stands : IsSlotless n node) where
     cluster_stays conn (cluster.SlotState slot) = plain _ _ refl refl refl refl refl
     cluster_stays conn (cluster.SetSlot slot order id number) = order_stays slot order (node_with_id node id) number
     cluster_stays conn cluster.Numbered = plain _ _ refl refl refl refl refl
+    cluster_stays conn cluster.Failover = failover_stays (own_master node)
     cluster_stays conn (cluster.Asking number) = plain _ _ refl refl refl refl refl
     cluster_stays conn (cluster.Migrate host port keys timeout) = copy_stays conn keys timeout (node_at node host port) _ refl
 
@@ -197,24 +206,24 @@ module _ (n : ℕ) (node : NodeState) (stands : IsSlotless n node) where
 
   -- ---- messages
 
-  arrived_stays : (from slot number copy : ℕ) (pairs : List (List ℕ × Value)) (verdict : ArrivalVerdict) → arrival_verdict (move_of node.moves slot) from number copy (keep_limits pairs) ≡ verdict
-      → Stays n (written_by_copy node.keyspace pairs verdict) (arrived node from slot number copy pairs verdict)
-  arrived_stays from slot number copy pairs Ignored is = plain _ _ refl refl refl refl refl
-  arrived_stays from slot number copy pairs Repeats is =
-      let facts = copy_repeats (move_of node.moves slot) from number copy (keep_limits pairs) is in absurd (no_some (stands.idle slot) facts.2)
-  arrived_stays from slot number copy pairs Installs is =
-      let facts = copy_arrives (move_of node.moves slot) from number copy (keep_limits pairs) is in absurd (no_some (stands.idle slot) facts.2)
+  arrived_stays : (from : ℕ) (id : CopyId) (pairs : List (List ℕ × Value)) (verdict : ArrivalVerdict) → arrival_verdict (move_of node.moves id.slot) from id.number id.copy (keep_limits pairs) ≡ verdict
+      → Stays n (written_by_copy node.keyspace pairs verdict) (arrived node from id pairs verdict)
+  arrived_stays from id pairs Ignored is = plain _ _ refl refl refl refl refl
+  arrived_stays from id pairs Repeats is =
+      let facts = copy_repeats (move_of node.moves id.slot) from id.number id.copy (keep_limits pairs) is in absurd (no_some (stands.idle id.slot) facts.2)
+  arrived_stays from id pairs Installs is =
+      let facts = copy_arrives (move_of node.moves id.slot) from id.number id.copy (keep_limits pairs) is in absurd (no_some (stands.idle id.slot) facts.2)
 
-  pub arrival_stays : (from slot number copy : ℕ) (pairs : List (List ℕ × Value))
-      → Stays n (written_by_copy node.keyspace pairs (arrival_verdict (move_of node.moves slot) from number copy (keep_limits pairs))) (arrival node from slot number copy pairs)
-  arrival_stays from slot number copy pairs = arrived_stays from slot number copy pairs (arrival_verdict (move_of node.moves slot) from number copy (keep_limits pairs)) refl
+  pub arrival_stays : (from : ℕ) (id : CopyId) (pairs : List (List ℕ × Value))
+      → Stays n (written_by_copy node.keyspace pairs (arrival_verdict (move_of node.moves id.slot) from id.number id.copy (keep_limits pairs))) (arrival node from id pairs)
+  arrival_stays from id pairs = arrived_stays from id pairs (arrival_verdict (move_of node.moves id.slot) from id.number id.copy (keep_limits pairs)) refl
 
-  acknowledged_stays : (from slot number copy : ℕ) (keys : Option (List (List ℕ))) → acknowledged_keys (move_of node.moves slot) from number copy ≡ keys → Stays n (written_by_ack keys) (acknowledged node slot number copy keys)
-  acknowledged_stays from slot number copy None is = plain _ _ refl refl refl refl refl
-  acknowledged_stays from slot number copy (Some keys) is = absurd (no_some (stands.idle slot) (ack_counts (move_of node.moves slot) from number copy keys is))
+  acknowledged_stays : (from : ℕ) (id : CopyId) (keys : Option (List (List ℕ))) → acknowledged_keys (move_of node.moves id.slot) from id.number id.copy ≡ keys → Stays n (written_by_ack keys) (acknowledged node id keys)
+  acknowledged_stays from id None is = plain _ _ refl refl refl refl refl
+  acknowledged_stays from id (Some keys) is = absurd (no_some (stands.idle id.slot) (ack_counts (move_of node.moves id.slot) from id.number id.copy keys is))
 
-  pub acknowledgement_stays : (from slot number copy : ℕ) → Stays n (written_by_ack (acknowledged_keys (move_of node.moves slot) from number copy)) (acknowledgement node from slot number copy)
-  acknowledgement_stays from slot number copy = acknowledged_stays from slot number copy (acknowledged_keys (move_of node.moves slot) from number copy) refl
+  pub acknowledgement_stays : (from : ℕ) (id : CopyId) → Stays n (written_by_ack (acknowledged_keys (move_of node.moves id.slot) from id.number id.copy)) (acknowledgement node from id)
+  acknowledgement_stays from id = acknowledged_stays from id (acknowledged_keys (move_of node.moves id.slot) from id.number id.copy) refl
 
   pub noted_stays : (from slot number epoch : ℕ) → IsSlotless n (noted node from slot number epoch).state
   noted_stays from slot number epoch =

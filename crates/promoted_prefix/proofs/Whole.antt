@@ -8,7 +8,7 @@ use Rattle.std.specs.FinMap as fin_map
 use Rattle.std.specs.Prelude.{All, nat_le}
 use Rattle.bus.specs.declared.message.Body.TheVariants as body
 use Rattle.keyspace.proofs.Applied.{same}
-use Rattle.keyspace.specs.Commands.{exec_words, replay_from}
+use Rattle.keyspace.specs.Commands.{replay_from}
 use Rattle.keyspace.specs.Keyspace.{Keyspace, keyspace_of}
 use Rattle.resp2.proofs.Callers.{stream_spelling-append}
 use Rattle.resp2.specs.Stream.{stream_spelling}
@@ -188,7 +188,7 @@ module _ (full : FullStreams) (follower : Follower) (on : IsOn (full follower.st
   next = record { node = n; epoch = epoch }
 
   abbrev told : Promotion
-  told = record { stream = follower.stream.held.id; offset = follower.stream.offset; epoch = epoch }
+  told = record { stream = follower.stream.held.id; offset = follower.stream.offset; epoch = epoch; planned = false }
 
   abbrev followed : List ℕ
   followed = full follower.stream.held.id

@@ -36,7 +36,7 @@ use Rattle.world_run.specs.Run.Deed.{Made, Skipped}
 use Rattle.promoted_prefix.proofs.Events.{NodeStands, StandsBy, StepStands, answering_stands, delivered_stands, node_can, nothing_stands, streams_by, tick_stands, with_connections}
 use Rattle.promoted_prefix.proofs.Frozen.{HasShortFrozen, frozen_stay_short, none_short}
 use Rattle.promoted_prefix.proofs.Growing.{IsSound, base_more, on_more, said_more, sound_true}
-use Rattle.promoted_prefix.specs.Law.{BeginsSo, EachGoesOn, IsOnStream, NodesFollowStreams, PromotedPrefix, full_after}
+use Rattle.promoted_prefix.specs.Law.{AreOnStreams, BeginsSo, EachGoesOn, IsOnStream, NodesFollowStreams, PromotedPrefix, full_after}
 use Rattle.promoted_prefix.specs.Written.{after_promotion as after_so, no_streams, streams_after, written_in}
 
 -- all nodes, and all messages
@@ -151,7 +151,7 @@ pub record EntryStands (full : FullStreams) (past : List Entry) (before : NodeSt
   pub world : Stands (streams_after full before entry.deed) (entry ∷ past) after
   pub begins : BeginsSo full node (promoted_in entry.deed)
 
-entry_stands : (full : FullStreams) (past : List Entry) (nodes : List NodeState) → Stands full past nodes → (entry : Entry) (after : List NodeState) (step : WorldStep past nodes entry after)
+pub entry_stands : (full : FullStreams) (past : List Entry) (nodes : List NodeState) → Stands full past nodes → (entry : Entry) (after : List NodeState) (step : WorldStep past nodes entry after)
     → EntryStands full past step.before entry step.after after
 entry_stands full past nodes stands entry after step = subst (EntryStands full past step.before entry step.after) (sym step.is) (by_deed entry.deed refl step.leads)
   where
@@ -217,7 +217,7 @@ first_own : (master : Option ℕ) (number : ℕ) → is_some master ≡ false �
 first_own None number is = refl
 first_own (Some master) number is = absurd (both_ways true is refl)
 
-first_stands : (config : ClusterConfig) → Stands no_streams [] (first_nodes config)
+pub first_stands : (config : ClusterConfig) → Stands no_streams [] (first_nodes config)
 first_stands config = record {
   each = λ n node is.
       elim (first_node config n) [
@@ -250,6 +250,13 @@ first_stands config = record {
 
 pub law : PromotedPrefix
 law config entries run = runs_go_on no_streams [] (first_nodes config) (first_stands config) entries run.last run.goes
+
+-- so all are on their streams
+pub are_on_streams : (full : FullStreams) (past : List Entry) (nodes : List NodeState) → Stands full past nodes → AreOnStreams full (sent_by past) nodes
+are_on_streams full past nodes stands = record {
+  each = λ n node is. on_stream full n node (stands.each n node is);
+  said = λ message among. sound_true full message.body (stands.sent message among);
+}
 
 pub nodes_follow : NodesFollowStreams
 nodes_follow config entries run =

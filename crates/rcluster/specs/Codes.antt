@@ -2,12 +2,14 @@
 use Rattle.std.specs.Prelude.{ℕ, List, Option, Some, None, codes}
 use Rattle.audit.specs.declared.gathering.AuditFault.{AuditFault}
 use Rattle.audit.specs.declared.gathering.AuditFault.TheVariants as audit
+use Rattle.client_tools.specs.declared.failure.HandoverFault.{HandoverFault}
+use Rattle.client_tools.specs.declared.failure.HandoverFault.TheVariants as handover
 use Rattle.cluster_config.specs.declared.fault.ConfigFault.{ConfigFault}
 use Rattle.cluster_config.specs.declared.fault.ConfigFault.TheVariants as config
 use Rattle.resharder.specs.Faults.{code_of as reshard_code}
 use Rattle.smart_client.specs.Faults.{code_of as client_code}
 use Rattle.rcluster.specs.declared.fault.ProgramFault.{ProgramFault}
-use Rattle.rcluster.specs.declared.fault.ProgramFault.TheVariants.{UnreadableFile, AddressInUse, Memory, Thread, Output, Config, Script, Client, Reshard, Audit}
+use Rattle.rcluster.specs.declared.fault.ProgramFault.TheVariants.{UnreadableFile, AddressInUse, Memory, Thread, Output, Config, Script, Client, Reshard, Handover, Audit}
 
 -- of a configuration
 abbrev pub config_code : ConfigFault → List ℕ
@@ -20,6 +22,15 @@ config_code config.TooManyNodes = codes "K6"
 config_code config.Address = codes "K7"
 config_code config.Range = codes "K8"
 config_code config.Memory = codes "F3"
+
+-- of a replica that is to take the place of its master
+abbrev pub handover_code : HandoverFault → List ℕ
+handover_code handover.NotFound = codes "H1"
+handover_code handover.IsMaster = codes "H2"
+handover_code handover.SlotMoves = codes "H3"
+handover_code handover.NotInTime = codes "H4"
+handover_code handover.NotReached = codes "H5"
+handover_code handover.BadReply = codes "H6"
 
 -- of journals that are gathered
 abbrev pub audit_code : AuditFault → List ℕ
@@ -36,6 +47,7 @@ code_of (Config fault) = config_code fault
 code_of (Script line) = codes "S"
 code_of (Client fault) = client_code fault
 code_of (Reshard fault) = reshard_code fault
+code_of (Handover fault) = handover_code fault
 code_of (Audit fault) = audit_code fault
 
 -- what stands behind the code: the number of the line
@@ -49,4 +61,5 @@ number_of (Config fault) = None
 number_of (Script line) = Some line
 number_of (Client fault) = None
 number_of (Reshard fault) = None
+number_of (Handover fault) = None
 number_of (Audit fault) = None

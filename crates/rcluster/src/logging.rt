@@ -1,6 +1,6 @@
-//! `rcluster serve --log`: a line on standard error for each thing that happens to a cluster and that no client is told, and for each
-//! slot that arrives at a node or leaves it, and each node that is promoted. Without a log there is only the advice for whoever runs the
-//! cluster.
+//! `rcluster serve --log`: a line on standard error for each thing that happens to a cluster and that no client is told, for each slot that
+//! arrives at a node or leaves it, for each master that hands its slots over and the replica that notes it, and for each node that is
+//! promoted. Without a log there is only the advice for whoever runs the cluster.
 
 use crate::failure::Failure;
 use crate::fault::ProgramFault;
@@ -108,14 +108,33 @@ impl fmt::Display for Line {
                 f,
                 "node {node}: slot {slot} left for node {to}, keys deleted: {deleted}"
             ),
+            Incident::HandoverBegun {
+                node,
+                replica,
+                offset,
+            } => write!(
+                f,
+                "node {node}: hands over to node {replica}, bytes of its stream: {offset}"
+            ),
+            Incident::HandoverNoted {
+                node,
+                master,
+                offset,
+                received,
+            } => write!(
+                f,
+                "node {node}: noted that node {master} hands over, bytes of its stream: {offset}, received: {received}"
+            ),
             Incident::Promoted {
                 node,
                 master,
                 epoch,
                 offset,
+                is_planned,
             } => write!(
                 f,
-                "node {node}: promoted in place of node {master}, epoch: {epoch}, bytes of its stream: {offset}"
+                "node {node}: promoted in place of node {master}{}, epoch: {epoch}, bytes of its stream: {offset}",
+                how(is_planned)
             ),
             Incident::ClientsCrowd { node } => write!(
                 f,
@@ -124,6 +143,11 @@ impl fmt::Display for Line {
             Incident::Missed(count) => write!(f, "lines that are missing before this one: {count}"),
         }
     }
+}
+
+// How a node was promoted, where that was wanted.
+fn how(is_planned: bool) -> &'static str {
+    if is_planned { " as planned" } else { "" }
 }
 
 fn text_of(shortage: Shortage) -> &'static str {

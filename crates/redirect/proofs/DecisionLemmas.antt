@@ -16,11 +16,11 @@ use Rattle.slot_state.specs.declared.running.Move.TheVariants.{Leaves, Comes}
 use Rattle.slot_state.specs.declared.state.SlotState.{SlotState}
 use Rattle.slot_state.specs.declared.state.SlotState.TheVariants.{Owned, Foreign, Moving}
 use Rattle.redirect.specs.Asked.{Asked, all_there, are_several, bytes_of, is_frozen, is_right, none_there}
-use Rattle.redirect.specs.Decision.{at_owner, by_keys, coming, decision_at, has_other_slot, if_owned, in_slot, leaving, state_at}
+use Rattle.redirect.specs.Decision.{at_owner, by_keys, coming, decision_at, has_other_slot, if_owned, in_slot, leaving, owned, state_at}
 use Rattle.redirect.specs.Meaning.{AreInTwoSlots, IsOwned, IsSlotOf, is_kept}
 use Rattle.redirect.specs.declared.decision.Decision.{Decision}
 use Rattle.redirect.specs.declared.decision.Decision.TheVariants.{Serve, ServeImport, CrossSlot, TryAgain, Ask, Moved}
-use Rattle.redirect.specs.declared.decision.Reason.TheVariants.{Frozen, SomeAreMissing}
+use Rattle.redirect.specs.declared.decision.Reason.TheVariants.{Frozen, HandingOver, SomeAreMissing}
 use Rattle.redirect.proofs.AskedLemmas.{any_of_mapped}
 
 other-differs : (slot : ℕ) (key : List ℕ) → not (hash_slot key == slot) ≡ true → slot ≢ hash_slot key
@@ -84,6 +84,10 @@ leaving-one : (P : Decision → Type 0) (elsewhere : Decision) (frozen : Option 
 leaving-one P elsewhere frozen asked held all none some =
     either P (is_frozen frozen asked.keys) _ _ held (either P (all_there asked) _ _ all (either P (none_there asked) _ _ none some))
 
+-- a slot of the node's own
+owned-one : (P : Decision → Type 0) (asked : Asked) → P (TryAgain HandingOver) → P Serve → P (owned asked)
+owned-one P asked paused serves = either P asked.paused _ _ paused serves
+
 coming-one : (P : Decision → Type 0) (number : ℕ) (asked : Asked) → P (TryAgain SomeAreMissing) → P (ServeImport number) → P (coming number asked)
 coming-one P number asked some serves = either P (are_several asked.keys && not (all_there asked)) _ _ some serves
 
@@ -96,7 +100,7 @@ one_slot-decision slot None (Moving (Leaves to number copies frozen)) asked = λ
 one_slot-decision slot (Some owner) (Moving (Leaves to number copies frozen)) asked =
     leaving-one (λ d. d ≢ CrossSlot) (Ask slot to number) frozen asked (λ same. cc) (λ same. cc) (λ same. cc) (λ same. cc)
 one_slot-decision slot None Owned asked = λ same. cc
-one_slot-decision slot (Some owner) Owned asked = λ same. cc
+one_slot-decision slot (Some owner) Owned asked = owned-one (λ d. d ≢ CrossSlot) asked (λ same. cc) (λ same. cc)
 one_slot-decision slot None Foreign asked = λ same. cc
 one_slot-decision slot (Some owner) Foreign asked = λ same. cc
 
@@ -134,7 +138,7 @@ moves-to_owner slot (Some owner) (Moving (Leaves to number copies frozen)) asked
     leaving-one (MovesToOwner slot (Some owner)) (Ask slot to number) frozen asked
     (λ named other same. absurd (cc)) (λ named other same. absurd (cc)) (λ named other same. absurd (cc)) (λ named other same. absurd (cc))
 moves-to_owner slot None Owned asked = λ named to same. absurd (cc)
-moves-to_owner slot (Some owner) Owned asked = λ named to same. absurd (cc)
+moves-to_owner slot (Some owner) Owned asked = owned-one (MovesToOwner slot (Some owner)) asked (λ named to same. absurd (cc)) (λ named to same. absurd (cc))
 moves-to_owner slot None Foreign asked = λ named to same. absurd (cc)
 moves-to_owner slot (Some owner) Foreign asked = λ named to same. ((cc), (cc))
 
@@ -276,3 +280,10 @@ pub all-say : (table : List (Option SlotEntry)) (moves : Moves) (node slot : ℕ
 all-say table moves node slot keys others first asked made are says =
     subst (λ all. SaysOfAll table moves node slot all asked made) (sym are)
     (record { value = λ same. says.value first.now same; one_slot = λ same other. says.whole first.now same other })
+
+-- where no other key is in another slot, all are in that of the first one
+pub all-in_slot : (slot : ℕ) (keys others : List (Bor (List ℕ))) (first : Bor (List ℕ)) → keys ≡ first ∷ others → list_any (λ key. not (hash_slot key.now == slot)) others ≡ false
+    → IsSlotOf slot (bytes_of keys) → All (λ key. hash_slot key ≡ slot) (bytes_of keys)
+all-in_slot slot keys others first are none =
+    subst (λ all. IsSlotOf slot (bytes_of all) → All (λ key. hash_slot key ≡ slot) (bytes_of all)) (sym are)
+    (λ same. with_first slot first.now (bytes_of others) same (others-in_slot slot others none))

@@ -20,7 +20,7 @@ abbrev at_target : Move
 at_target = Comes 2 7 0 None
 
 abbrev command : List (List ℕ) → List Bool → Asking → Asked
-command keys there asking = record { keys = keys; there = there; asking = asking }
+command keys there asking = record { keys = keys; there = there; asking = asking; paused = false }
 
 -- at a node, with the slot's move there
 abbrev decided : ℕ → Move → Asked → Decision

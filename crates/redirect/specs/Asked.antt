@@ -6,18 +6,19 @@ use Rattle.std.specs.List.{list_all, list_any}
 use Rattle.redirect.specs.declared.asked.Asking.{Asking}
 use Rattle.redirect.specs.declared.asked.Asking.TheVariants.{No, Any, Of}
 
--- a command's keys, whether each is there, and the asking of its connection
+-- a command's keys, whether each is there, the asking of its connection, and whether the node hands its slots over
 pub record Asked : Type 0 where
   pub keys : List (List ℕ)
   pub there : List Bool
   pub asking : Asking
+  pub paused : Bool
 
 -- the bytes of the keys
 abbrev pub bytes_of : List (Bor (List ℕ)) → List (List ℕ)
 bytes_of keys = map (λ key. key.now) keys
 
-abbrev pub asked : List (Bor (List ℕ)) → List Bool → Asking → Asked
-asked keys there asking = record { keys = bytes_of keys; there = there; asking = asking }
+abbrev pub asked : List (Bor (List ℕ)) → List Bool → Asking → Bool → Asked
+asked keys there asking paused = record { keys = bytes_of keys; there = there; asking = asking; paused = paused }
 
 -- the asking is right for an import of this number
 -- (a number is its move's alone, or this goes wrong: an ASKING of move 1 is late, and in move 3 the slot comes to node 1 again;

@@ -1,6 +1,6 @@
 -- What a node does with a command (Redis Cluster specification, "MOVED Redirection", "ASK redirection",
 -- "Multiple keys operations"; the order of the rows is ours).
-use Rattle.std.specs.Prelude.{ℕ, ◌==◌, ◌&&◌, not, Bool, if◌then◌else◌, List, [], ◌∷◌, Option, Some, None}
+use Rattle.std.specs.Prelude.{ℕ, ◌==◌, ◌&&◌, not, Bool, true, false, if◌then◌else◌, List, [], ◌∷◌, Option, Some, None}
 use Rattle.std.specs.List.{list_any}
 use Rattle.key_slot.specs.Slot.{hash_slot}
 use Rattle.slot_table.specs.declared.entry.SlotEntry.{SlotEntry}
@@ -14,7 +14,7 @@ use Rattle.slot_state.specs.declared.state.SlotState.TheVariants.{Owned, Foreign
 use Rattle.redirect.specs.Asked.{Asked, is_right, are_several, is_frozen, all_there, none_there}
 use Rattle.redirect.specs.declared.decision.Decision.{Decision}
 use Rattle.redirect.specs.declared.decision.Decision.TheVariants.{Serve, ServeImport, CrossSlot, Down, TryAgain, Ask, Moved}
-use Rattle.redirect.specs.declared.decision.Reason.TheVariants.{Frozen, SomeAreMissing}
+use Rattle.redirect.specs.declared.decision.Reason.TheVariants.{Frozen, HandingOver, SomeAreMissing}
 
 -- a slot without an owner is down
 abbrev pub if_owned : Option ℕ → Decision → Decision
@@ -40,11 +40,16 @@ leaving elsewhere frozen asked =
 abbrev pub coming : ℕ → Asked → Decision
 coming number asked = if are_several asked.keys && not (all_there asked) then TryAgain SomeAreMissing else ServeImport number
 
+-- in a slot of its own: while the node hands its slots over to a replica, nothing is served
+-- (else: node 0 tells its replica where its stream ends, and then serves SET b 2; the replica takes its place with b as it was)
+abbrev pub owned : Asked → Decision
+owned asked = if asked.paused then TryAgain HandingOver else Serve
+
 -- in one slot, by its owner and what this node does with it
 abbrev pub in_slot : ℕ → Option ℕ → SlotState Move → Asked → Decision
 in_slot slot owner (Moving (Comes from number last drained)) asked = if is_right asked.asking number then coming number asked else at_owner slot owner
 in_slot slot owner (Moving (Leaves to number copies frozen)) asked = if_owned owner (leaving (Ask slot to number) frozen asked)
-in_slot slot owner Owned asked = if_owned owner Serve
+in_slot slot owner Owned asked = if_owned owner (owned asked)
 in_slot slot owner Foreign asked = at_owner slot owner
 
 -- what this node does with a slot
@@ -67,3 +72,13 @@ by_keys table moves node (key ∷ others) asked = if has_other_slot (hash_slot k
 -- what the node decides
 abbrev pub decision : List (Option SlotEntry) → Moves → ℕ → Asked → Decision
 decision table moves node asked = by_keys table moves node asked.keys asked
+
+-- the command is executed, here or in a slot that comes
+abbrev pub is_served : Decision → Bool
+is_served Serve = true
+is_served (ServeImport number) = true
+is_served CrossSlot = false
+is_served Down = false
+is_served (TryAgain reason) = false
+is_served (Ask slot to number) = false
+is_served (Moved slot to) = false

@@ -1,18 +1,19 @@
 //! The decision on a command, by its keys.
-ghost use Rattle.std.specs.Prelude.{◌≡◌, ◌≢◌, ◌↔◌, ◌==◌, ℕ, List, ◌∷◌, Bool, All, IfSome, IsSome, Some, None, not};
+ghost use Rattle.std.specs.Prelude.{◌≡◌, ◌≢◌, ◌↔◌, ◌==◌, ℕ, List, ◌∷◌, Bool, All, Option, Some, None, not};
 ghost use Rattle.std.specs.List.{list_any};
 ghost use Rattle.std.specs.Option.{option_copied};
 ghost use Rattle.key_slot.specs.Slot.{hash_slot};
-ghost use Rattle.slot_state.specs.Moves.{move_of};
+ghost use Rattle.slot_state.specs.Moves.{Moves, move_of};
 ghost use Rattle.slot_state.specs.State.{state_of};
 ghost use Rattle.slot_table.specs.Table.{owner_at};
+ghost use Rattle.slot_table.specs.declared.entry.SlotEntry.{SlotEntry};
 ghost use Rattle.redirect.specs.Asked.{Asked, asked, bytes_of};
-ghost use Rattle.redirect.specs.Decision.{decision, decision_at, in_slot, at_owner, coming, leaving};
+ghost use Rattle.redirect.specs.Decision.{decision, in_slot, is_served, at_owner, coming, leaving, owned};
 ghost use Rattle.redirect.specs.Meaning.{AreInTwoSlots, IsOwned, IsSlotOf};
 
 use crate::asked::{Asking, are_all, are_several, is_any, is_frozen, is_right};
 use key_slot::{Slot, slot};
-use slot_state::{Keys, Move, MoveNo, SlotMoves, SlotState};
+use slot_state::{Keys, Move, MoveNo, SlotMoves, SlotState, Standing};
 use slot_table::{NodeNo, SlotTable};
 
 /// What a node does with a command.
@@ -49,6 +50,22 @@ pub enum Decision {
     },
 }
 
+impl Decision {
+    /// Whether the command is executed.
+    pub fn is_served(&self) -> bool
+        ensures { result ≡ is_served self.now }
+    {
+        match self {
+            Decision::Serve | Decision::ServeImport { .. } => true,
+            Decision::CrossSlot
+            | Decision::Down
+            | Decision::TryAgain(_)
+            | Decision::Ask { .. }
+            | Decision::Moved { .. } => false,
+        }
+    }
+}
+
 /// Why a command is to be tried again.
 #[derive(Clone, Copy, PartialEq, Eq, Debug)]
 pub enum Reason {
@@ -56,6 +73,8 @@ pub enum Reason {
     Frozen,
     /// Some of its keys are here, and others aren't.
     SomeAreMissing,
+    /// The node hands its slots over.
+    HandingOver,
 }
 
 /// The decision on a command with these keys, by whether the store has each of them. It takes no memory and always answers.
@@ -63,11 +82,12 @@ pub fn decide(
     table: &SlotTable,
     moves: &SlotMoves,
     node: NodeNo,
+    is_paused: bool,
     keys: &[&[u8]],
     there: &[bool],
     asking: Asking,
 ) -> Decision
-    ensures value { result ≡ decision table.now moves.now node (asked keys.now there.now asking) }
+    ensures value { result ≡ decision table.now moves.now node (asked keys.now there.now asking is_paused) }
     ensures crossed { result ≡ Decision.CrossSlot ↔ AreInTwoSlots (bytes_of keys.now) }
     ensures served { result ≡ Decision.Serve → All (IsOwned table.now moves.now node) (bytes_of keys.now) }
     ensures moved { (slot to : ℕ) → result ≡ Decision.Moved slot to → (owner_at table.now slot ≡ Some to) × All (λ key. hash_slot key ≡ slot) (bytes_of keys.now) }
@@ -75,20 +95,29 @@ pub fn decide(
     let Some((first, _)) = keys.split_first() else {
         return Decision::Serve;
     };
-    decide_in_slot(table, moves, node, slot(first), keys, there, asking)
+    let slot = slot(first);
+    // Whether it is a replica doesn't matter.
+    let at = Standing {
+        node,
+        is_replica: false,
+        is_paused,
+        owner: table.owner(slot),
+    };
+    decide_in_slot(at, moves.get(slot), slot, keys, there, asking)
 }
 
-/// The decision on a command with these keys, the first of which is in the slot. It does not hash the first key.
+/// The decision on a command with these keys, the first of which is in the slot, by what the node knows of itself and of the slot, and
+/// by the move of the slot, if one is under way. It does not hash the first key.
 pub fn decide_in_slot(
-    table: &SlotTable,
-    moves: &SlotMoves,
-    node: NodeNo,
+    at: Standing,
+    running: Option<&Move>,
     slot: Slot,
     keys: &[&[u8]],
     there: &[bool],
     asking: Asking,
 ) -> Decision
-    ensures value { IsSlotOf slot (bytes_of keys.now) → result ≡ decision table.now moves.now node (asked keys.now there.now asking) }
+    ensures value { (table : List (Option SlotEntry)) (moves : Moves) → at.owner ≡ owner_at table slot → option_copied running.entry ≡ move_of moves slot
+        → IsSlotOf slot (bytes_of keys.now) → result ≡ decision table moves at.node (asked keys.now there.now asking at.is_paused) }
     ensures one_slot { IsSlotOf slot (bytes_of keys.now) → result ≢ Decision.CrossSlot → All (λ key. hash_slot key ≡ slot) (bytes_of keys.now) }
 {
     let Some((_, others)) = keys.split_first() else {
@@ -97,31 +126,21 @@ pub fn decide_in_slot(
     if has_other_slot(slot, others) {
         return Decision::CrossSlot;
     }
-    in_one_slot(table, moves, node, slot, keys, there, asking)
+    in_one_slot(at, running, slot, keys, there, asking)
 }
 
-/// The decision on a command whose first key is in the slot, and which has these other keys, or `None` where a move of the
-/// slot is under way.
+/// The decision on a command whose first key is in the slot, of which no move is under way, and which has these other keys.
 ///
-/// Else neither which keys are there nor the asking matters. It does not hash the first key.
-pub fn decide_at_rest(
-    table: &SlotTable,
-    moves: &SlotMoves,
-    node: NodeNo,
-    slot: Slot,
-    others: &[&[u8]],
-) -> Option<Decision>
-    ensures value { IfSome result (λ made. (first : List ℕ) (there : List Bool) (asking : Asking) → hash_slot first ≡ slot → made ≡ decision table.now moves.now node (record { keys = first ∷ bytes_of others.now; there = there; asking = asking })) }
-    ensures one_slot { IfSome result (λ made. made ≢ Decision.CrossSlot → All (λ key. hash_slot key ≡ slot) (bytes_of others.now)) }
-    ensures none { result ≡ None ↔ IsSome (move_of moves.now slot) }
+/// Neither which keys are there nor the asking matters then. It does not hash the first key.
+pub fn decide_at_rest(at: Standing, slot: Slot, others: &[&[u8]]) -> Decision
+    ensures value { (table : List (Option SlotEntry)) (moves : Moves) (first : List ℕ) (there : List Bool) (asking : Asking) → at.owner ≡ owner_at table slot → None ≡ move_of moves slot
+        → hash_slot first ≡ slot → result ≡ decision table moves at.node (record { keys = first ∷ bytes_of others.now; there = there; asking = asking; paused = at.is_paused }) }
+    ensures one_slot { result ≢ Decision.CrossSlot → All (λ key. hash_slot key ≡ slot) (bytes_of others.now) }
 {
-    if moves.get(slot).is_some() {
-        return None;
-    }
     if has_other_slot(slot, others) {
-        return Some(Decision::CrossSlot);
+        return Decision::CrossSlot;
     }
-    Some(in_resting_slot(slot, table.owner(slot), node))
+    in_resting_slot(at, slot)
 }
 
 // Whether one of the keys isn't in the slot.
@@ -133,30 +152,39 @@ fn has_other_slot(slot: Slot, keys: &[&[u8]]) -> bool
 
 // The decision on a command whose keys are all in the slot.
 fn in_one_slot(
-    table: &SlotTable,
-    moves: &SlotMoves,
-    node: NodeNo,
+    at: Standing,
+    running: Option<&Move>,
     slot: Slot,
     keys: &[&[u8]],
     there: &[bool],
     asking: Asking,
 ) -> Decision
-    ensures { result ≡ decision_at table.now moves.now node slot (asked keys.now there.now asking) }
+    ensures { result ≡ in_slot slot at.owner (state_of at.owner (option_copied running.entry) at.node) (asked keys.now there.now asking at.is_paused) }
 {
-    let owner = table.owner(slot);
-    match moves.get(slot) {
-        Some(running) => in_moving_slot(slot, owner, running, keys, there, asking),
-        None => in_resting_slot(slot, owner, node),
+    match running {
+        Some(running) => in_moving_slot(slot, at.owner, running, keys, there, asking),
+        None => in_resting_slot(at, slot),
     }
 }
 
 // The decision in a slot without a move.
-fn in_resting_slot(slot: Slot, owner: Option<NodeNo>, node: NodeNo) -> Decision
-    ensures { (asked : Asked) → result ≡ in_slot slot owner (state_of owner None node) asked }
+fn in_resting_slot(at: Standing, slot: Slot) -> Decision
+    ensures { (asked : Asked) → asked.paused ≡ at.is_paused → result ≡ in_slot slot at.owner (state_of at.owner None at.node) asked }
 {
-    match owner {
-        Some(owner) if owner == node => Decision::Serve,
-        _ => at_owner(slot, owner),
+    match at.owner {
+        Some(owner) if owner == at.node => own(at.is_paused),
+        owner => at_owner(slot, owner),
+    }
+}
+
+// The decision in a slot of the node's own.
+fn own(is_paused: bool) -> Decision
+    ensures { (asked : Asked) → asked.paused ≡ is_paused → result ≡ owned asked }
+{
+    if is_paused {
+        Decision::TryAgain(Reason::HandingOver)
+    } else {
+        Decision::Serve
     }
 }
 
@@ -169,7 +197,7 @@ fn in_moving_slot(
     there: &[bool],
     asking: Asking,
 ) -> Decision
-    ensures { result ≡ in_slot slot owner (SlotState.Moving running.now) (asked keys.now there.now asking) }
+    ensures { (paused : Bool) → result ≡ in_slot slot owner (SlotState.Moving running.now) (asked keys.now there.now asking paused) }
 {
     match running {
         Move::Comes { number, .. } if is_right(asking, *number) => coming(*number, keys, there),
@@ -205,7 +233,7 @@ fn at_owner(slot: Slot, owner: Option<NodeNo>) -> Decision
 
 // The decision in a slot that comes to the node, after the right ASKING.
 fn coming(number: MoveNo, keys: &[&[u8]], there: &[bool]) -> Decision
-    ensures { (asking : Asking) → result ≡ coming number (asked keys.now there.now asking) }
+    ensures { (asking : Asking) (paused : Bool) → result ≡ coming number (asked keys.now there.now asking paused) }
 {
     if are_several(keys) && !are_all(there) {
         return Decision::TryAgain(Reason::SomeAreMissing);
@@ -215,7 +243,7 @@ fn coming(number: MoveNo, keys: &[&[u8]], there: &[bool]) -> Decision
 
 // The decision in a slot that leaves the node; `elsewhere` is the one where no key is there.
 fn leaving(elsewhere: Decision, frozen: Option<&Keys>, keys: &[&[u8]], there: &[bool]) -> Decision
-    ensures { (asking : Asking) → result ≡ leaving elsewhere (option_copied frozen.entry) (asked keys.now there.now asking) }
+    ensures { (asking : Asking) (paused : Bool) → result ≡ leaving elsewhere (option_copied frozen.entry) (asked keys.now there.now asking paused) }
 {
     if is_frozen(frozen, keys) {
         return Decision::TryAgain(Reason::Frozen);

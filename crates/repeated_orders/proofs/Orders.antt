@@ -107,6 +107,7 @@ module _ (node : NodeState) (connections : ConnectionTable) (slot : ℕ) where
   import_repeats : (other number : Option ℕ) (verdict : ImportVerdict) → Repeats imports other number verdict
   import_repeats other number import.UnknownNode is = is_answered imports import.UnknownNode import.UnknownNode still other number is refl refl
   import_repeats other number import.Already is = is_answered imports import.Already import.Already still other number is refl refl
+  import_repeats other number import.HandingOver is = is_answered imports import.HandingOver import.HandingOver still other number is refl refl
   import_repeats other number import.Busy is = is_answered imports import.Busy import.Busy still other number is refl refl
   import_repeats other number import.AlreadyOwner is = is_answered imports import.AlreadyOwner import.AlreadyOwner still other number is refl refl
   import_repeats other number import.NotOwner is = is_answered imports import.NotOwner import.NotOwner still other number is refl refl
@@ -122,6 +123,7 @@ module _ (node : NodeState) (connections : ConnectionTable) (slot : ℕ) where
   migration_repeats : (other number : Option ℕ) (verdict : MigrateVerdict) → Repeats migrations other number verdict
   migration_repeats other number migrate.UnknownNode is = is_answered migrations migrate.UnknownNode migrate.UnknownNode still other number is refl refl
   migration_repeats other number migrate.Already is = is_answered migrations migrate.Already migrate.Already still other number is refl refl
+  migration_repeats other number migrate.HandingOver is = is_answered migrations migrate.HandingOver migrate.HandingOver still other number is refl refl
   migration_repeats other number migrate.Busy is = is_answered migrations migrate.Busy migrate.Busy still other number is refl refl
   migration_repeats other number migrate.NotOwner is = is_answered migrations migrate.NotOwner migrate.NotOwner still other number is refl refl
   migration_repeats other number migrate.OldMove is = is_answered migrations migrate.OldMove migrate.OldMove still other number is refl refl

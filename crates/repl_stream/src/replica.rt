@@ -1,6 +1,6 @@
 //! What a node has of a stream.
 ghost use Rattle.std.specs.Prelude.{◌≡◌, ◌≤◌};
-ghost use Rattle.stream_values.specs.Stream.{first_stream, promoted, received};
+ghost use Rattle.stream_values.specs.Stream.{first_stream, is_whole, promoted, received};
 
 use crate::stream::Stream;
 use std::alloc::Global;
@@ -84,6 +84,13 @@ impl<T: Stream> Replica<T> {
         ensures { result ≡ self.now.stream.offset }
     {
         self.offset
+    }
+
+    /// Whether it has no beginning of a write past that.
+    pub fn is_whole(&self) -> bool
+        ensures { result ≡ is_whole self.now.stream }
+    {
+        self.partial.is_empty()
     }
 
     /// The stream that it followed before it was promoted, and where that one ended.

@@ -7,8 +7,9 @@ ghost use Rattle.stream_values.specs.Stream.{begun};
 use crate::replaces::Replaces;
 use crate::replica::Replica;
 use crate::stream::Stream;
+use keyspace::Pair;
 use std::alloc::{AllocError, Global};
-use stream_values::{Pair, Snapshot, StreamId};
+use stream_values::{Snapshot, StreamId};
 
 impl<T: Stream> Replica<T> {
     /// Takes all pairs of the snapshot in place of what is in the store, and its place in the stream, or changes nothing.

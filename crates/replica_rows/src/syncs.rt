@@ -7,6 +7,7 @@ ghost use Rattle.node_step.specs.State.{own_master};
 ghost use Rattle.stream_values.specs.Syncing.{answer_to};
 
 use bus::Body;
+use keyspace::Pairs;
 use node_parts::{Change, Draft, NodeParts, listed};
 use node_step::Releases;
 use repl_stream::Stream;
@@ -14,7 +15,7 @@ use slot_pairs::pairs;
 use slot_store::{SlotKeys, SlotParts};
 use slot_table::NodeNo;
 use std::alloc::AllocError;
-use stream_values::{Pairs, Snapshot, Sync, SyncAnswer};
+use stream_values::{Snapshot, Sync, SyncAnswer};
 
 /// A replica tells its master how much of its stream it received, behind these messages.
 pub fn append_sync<S: SlotParts + SlotKeys, T: Stream>(

@@ -10,7 +10,6 @@ ghost use Rattle.migrate.specs.Arriving.{arrival_verdict};
 ghost use Rattle.node_step.specs.Copies.{keep_limits};
 ghost use Rattle.node_step.specs.Streams.{deletion, is_error, is_executed, is_written, written_by_ack, written_by_copy, written_by_pairs, written_by_request};
 ghost use Rattle.resp2.specs.Stream.{stream_spelling};
-ghost use Rattle.node_step.specs.declared.response.Why.TheVariants.{Decided};
 ghost use Rattle.slot_pairs.specs.Several.{is_in_one};
 ghost use Rattle.slot_state.specs.Moves.{move_of};
 ghost use Rattle.replica_rows.specs.Recording.{is_done, written_if};
@@ -18,19 +17,17 @@ ghost use Rattle.replica_rows.specs.Recording.{is_done, written_if};
 use crate::spelling::{append_rebuilding, deletions_bytes, request_bytes};
 use byte_string::ByteString;
 use key_slot::Slot;
-use keyspace::{Store, value_fits};
+use keyspace::{Pair, Store, pairs_fit};
 use migrate::{ArrivalVerdict, acknowledged_keys, arrival_verdict};
 use node_parts::NodeParts;
 use node_step::{Response, Why};
-use redirect::Decision;
 use repl_stream::Stream;
 use resp_values::{Reply, Words};
 use slot_pairs::keys_in_slots;
-use slot_state::MoveNo;
+use slot_state::CopyId;
 use slot_store::{SlotKeys, SlotParts};
 use slot_table::NodeNo;
 use std::alloc::{AllocError, Global};
-use stream_values::Pair;
 
 /// A write that was executed without an error is written in the words of its request.
 #[tactic(auto, using(crate::proofs::WriteLemmas::request_written))]
@@ -77,28 +74,15 @@ fn is_executed(why: &Why) -> bool
     ensures { result ≡ is_executed why.now }
 {
     match why {
-        Why::Decided(decision) => is_served(decision),
+        Why::Decided(decision) => decision.is_served(),
         Why::NotACommand(_)
         | Why::Reported
         | Why::Told
         | Why::Imports(_)
         | Why::Migrates(_)
         | Why::Ends(_)
-        | Why::Copies(_) => false,
-    }
-}
-
-// The command was executed, here or in a slot that comes.
-fn is_served(decision: &Decision) -> bool
-    ensures { result ≡ is_executed (Decided decision.now) }
-{
-    match decision {
-        Decision::Serve | Decision::ServeImport { .. } => true,
-        Decision::CrossSlot
-        | Decision::Down
-        | Decision::TryAgain(_)
-        | Decision::Ask { .. }
-        | Decision::Moved { .. } => false,
+        | Why::Copies(_)
+        | Why::TakesOver => false,
     }
 }
 
@@ -113,26 +97,15 @@ fn is_error(reply: &Reply) -> bool
 pub fn written_by_copy<S: SlotParts + SlotKeys, T: Stream>(
     node: &NodeParts<S, T>,
     from: NodeNo,
-    slot: Slot,
-    number: MoveNo,
-    copy: u64,
+    id: CopyId,
     pairs: &[Pair],
 ) -> Result<Vec<u8>, AllocError>
     ensures { IfOk result (λ bytes. bytes.items ≡ stream_spelling (written_by_copy node.now.keyspace pairs.now
-        (arrival_verdict (move_of node.now.moves slot) from number copy (keep_limits pairs.now)))) }
+        (arrival_verdict (move_of node.now.moves id.slot) from id.number id.copy (keep_limits pairs.now)))) }
 {
-    let fits = keep_limits(pairs);
-    let verdict = arrival_verdict(node.moves.get(slot), from, number, copy, fits);
+    let fits = pairs_fit(pairs);
+    let verdict = arrival_verdict(node.moves.get(id.slot), from, id.number, id.copy, fits);
     copied_bytes(node, verdict, pairs)
-}
-
-// Whether the requests that make the keys with their values keep the limits.
-fn keep_limits(pairs: &[Pair]) -> bool
-    ensures { result ≡ keep_limits pairs.now }
-{
-    pairs
-        .iter()
-        .all(|pair| value_fits(pair.key(), pair.value()))
 }
 
 // The requests of a copy with that verdict.
@@ -189,13 +162,11 @@ fn has_key(pairs: &[Pair], key: &ByteString) -> bool
 pub fn written_by_ack<S: SlotParts + SlotKeys, T: Stream>(
     node: &NodeParts<S, T>,
     from: NodeNo,
-    slot: Slot,
-    number: MoveNo,
-    copy: u64,
+    id: CopyId,
 ) -> Result<Vec<u8>, AllocError>
-    ensures { IfOk result (λ bytes. bytes.items ≡ stream_spelling (written_by_ack (acknowledged_keys (move_of node.now.moves slot) from number copy))) }
+    ensures { IfOk result (λ bytes. bytes.items ≡ stream_spelling (written_by_ack (acknowledged_keys (move_of node.now.moves id.slot) from id.number id.copy))) }
 {
-    match acknowledged_keys(node.moves.get(slot), from, number, copy) {
+    match acknowledged_keys(node.moves.get(id.slot), from, id.number, id.copy) {
         Some(keys) => deletions_bytes(node.alloc, keys.as_slice()),
         None => Ok(Vec::new(node.alloc)),
     }

@@ -33,7 +33,7 @@ use Rattle.resp_values.specs.declared.reply.Reply.{Reply}
 use Rattle.resp_values.specs.declared.reply.Reply.TheVariants.{Simple, Error, Bulk, Null}
 use Rattle.redirect.specs.declared.decision.Decision.{Decision}
 use Rattle.redirect.specs.declared.decision.Decision.TheVariants.{Serve, ServeImport, CrossSlot, Down, TryAgain, Ask, Moved}
-use Rattle.redirect.specs.declared.decision.Reason.TheVariants.{Frozen, SomeAreMissing}
+use Rattle.redirect.specs.declared.decision.Reason.TheVariants.{Frozen, SomeAreMissing, HandingOver}
 use Rattle.slot_state.specs.declared.ending.NodeVerdict.{NodeVerdict}
 use Rattle.slot_state.specs.declared.ending.NodeVerdict.TheVariants as ending
 use Rattle.slot_state.specs.declared.importing.ImportVerdict.{ImportVerdict}
@@ -49,7 +49,7 @@ use Rattle.node_step.specs.Orders.{done, ending_outcome, ending_verdict, import_
 use Rattle.node_step.specs.Outcome.{error}
 use Rattle.node_step.specs.Reports.{id_reply}
 use Rattle.node_step.specs.Requests.{asking_of, by_command, cluster_outcome, is_numbered, node_with_id, order_outcome, using_up}
-use Rattle.node_step.specs.State.{NodeState, standing}
+use Rattle.node_step.specs.State.{NodeState, own_master, standing}
 use Rattle.node_step.specs.declared.response.Answer.{Answer}
 use Rattle.world_run.specs.Executed.{decision_in}
 use Rattle.reply_meaning.specs.Law.{AsksAreOfMoves, IsOfMove}
@@ -57,6 +57,7 @@ use Rattle.reply_meaning.specs.Refusal.{is_refusal}
 use Rattle.reply_meaning.proofs.Decimals.{has_no_blank, has_no_colon, same_short}
 use Rattle.reply_meaning.proofs.Executions.{told}
 use Rattle.reply_meaning.proofs.Steps.{Says, says_so}
+use Rattle.node_step.specs.Handovers.{failover}
 
 -- ---- texts are split at the last blank or colon
 
@@ -170,6 +171,9 @@ line_begins line.HashNotAnInteger is = omega (arith, is)
 line_begins line.Overflow is = omega (arith, is)
 line_begins line.WrongType is = omega (arith, is)
 line_begins line.InvalidSlot is = omega (arith, is)
+line_begins line.HandingOver is = omega (arith, is)
+line_begins line.NotReplica is = omega (arith, is)
+line_begins line.NodePaused is = omega (arith, is)
 line_begins line.SomeKeysMissing is = omega (arith, is)
 line_begins line.KeyFrozen is = omega (arith, is)
 line_begins line.TableNotUpdated is = omega (arith, is)
@@ -225,6 +229,7 @@ command_right node numbered which CrossSlot = right_if_none node _ _ (line_is_no
 command_right node numbered which Down = right_if_none node _ _ (line_is_none line.SlotDown)
 command_right node numbered which (TryAgain Frozen) = right_if_none node _ _ (line_is_none line.KeyFrozen)
 command_right node numbered which (TryAgain SomeAreMissing) = right_if_none node _ _ (line_is_none line.SomeKeysMissing)
+command_right node numbered which (TryAgain HandingOver) = right_if_none node _ _ (line_is_none line.HandingOver)
 command_right node numbered which (Ask slot to number) = ask_right node slot to number numbered (slice_get node.config.nodes to) refl
 command_right node numbered which (Moved slot to) = right_if_none node _ _ (moved_is_none slot (slice_get node.config.nodes to))
 
@@ -240,6 +245,7 @@ id_is_none (Some there) = told_is_none (Bulk there.id) refl
 import_is_none : (verdict : ImportVerdict) → IsNoAsk (import_reply verdict)
 import_is_none import.UnknownNode = line_is_none line.UnknownNode
 import_is_none import.Already = done_is_none
+import_is_none import.HandingOver = line_is_none line.NodePaused
 import_is_none import.Busy = line_is_none line.SlotBusy
 import_is_none import.AlreadyOwner = line_is_none line.AlreadyOwner
 import_is_none import.NotOwner = line_is_none line.NotOwner
@@ -249,6 +255,7 @@ import_is_none (import.Begins from number) = done_is_none
 migrate_is_none : (verdict : MigrateVerdict) → IsNoAsk (migrate_reply verdict)
 migrate_is_none migrate.UnknownNode = line_is_none line.UnknownNode
 migrate_is_none migrate.Already = done_is_none
+migrate_is_none migrate.HandingOver = line_is_none line.NodePaused
 migrate_is_none migrate.Busy = line_is_none line.SlotBusy
 migrate_is_none migrate.NotOwner = line_is_none line.NotOwner
 migrate_is_none migrate.OldMove = line_is_none line.OldMove
@@ -278,6 +285,10 @@ copy_right node conn slot keys ticks copies.Exhausted = tt
 copy_right node conn slot keys ticks (copies.SendAgain to number copy) = tt
 copy_right node conn slot keys ticks (copies.Copies to number copy) = tt
 
+failover_right : (node : NodeState) (master : Option ℕ) → Says (IsRight node) (failover node master).response
+failover_right node None = right_if_none node _ _ (line_is_none line.NotReplica)
+failover_right node (Some master) = right_if_none node _ _ done_is_none
+
 cluster_right : (node : NodeState) (conn : Conn) (which : ClusterCommand) → Says (IsRight node) (cluster_outcome node conn which).response
 cluster_right node conn (cluster.KeySlot key) = right_if_none node _ _ (told_is_none _ refl)
 cluster_right node conn cluster.MyId = right_if_none node _ _ (id_is_none (slice_get node.config.nodes node.number))
@@ -287,6 +298,7 @@ cluster_right node conn (cluster.GetKeysInSlot slot count) = right_if_none node 
 cluster_right node conn (cluster.SlotState slot) = right_if_none node _ _ (told_is_none _ refl)
 cluster_right node conn (cluster.SetSlot slot which id number) = order_right node slot which (node_with_id node id) number
 cluster_right node conn cluster.Numbered = right_if_none node _ _ done_is_none
+cluster_right node conn cluster.Failover = failover_right node (own_master node)
 cluster_right node conn (cluster.Asking number) = right_if_none node _ _ done_is_none
 cluster_right node conn (cluster.Migrate host port keys timeout) = copy_right node conn (first_slot keys) (those_there node.keyspace keys) timeout (copy_verdict_on node keys (node_at node host port))
 

@@ -24,7 +24,7 @@ use Rattle.redirection.proofs.Parts.{positive_is_read}
 use Rattle.redirection.specs.Redirection.{IsMove}
 use Rattle.redirect.specs.declared.decision.Decision.{Decision}
 use Rattle.redirect.specs.declared.decision.Decision.TheVariants.{Serve, ServeImport, CrossSlot, Down, TryAgain, Ask, Moved}
-use Rattle.redirect.specs.declared.decision.Reason.TheVariants.{Frozen, SomeAreMissing}
+use Rattle.redirect.specs.declared.decision.Reason.TheVariants.{Frozen, SomeAreMissing, HandingOver}
 use Rattle.slot_state.specs.declared.ending.NodeVerdict.{NodeVerdict}
 use Rattle.slot_state.specs.declared.ending.NodeVerdict.TheVariants as ending
 use Rattle.smart_client.specs.Words.{asking_words}
@@ -33,7 +33,7 @@ use Rattle.node_step.specs.Copies.{copy_outcome, copy_verdict_on, first_slot, no
 use Rattle.node_step.specs.Orders.{done, ending_outcome, ending_verdict}
 use Rattle.node_step.specs.Outcome.{Outcome, silent}
 use Rattle.node_step.specs.Requests.{asking_of, by_command, cluster_outcome, is_numbered, node_with_id, order_outcome, request_outcome, using_up}
-use Rattle.node_step.specs.State.{NodeState}
+use Rattle.node_step.specs.State.{NodeState, own_master}
 use Rattle.node_step.specs.Step.{IsAnswering, written}
 use Rattle.node_step.specs.declared.outputs.Outputs.{Outputs}
 use Rattle.node_step.specs.declared.response.Answer.{Answer}
@@ -50,6 +50,7 @@ use Rattle.reply_meaning.proofs.Steps.{Says, says_so}
 use Rattle.reply_meaning.proofs.Words.{IsOfCluster, IsOfData, cluster_words, data_words}
 use Rattle.reply_meaning.proofs.Words.IsOfCluster.{order, none}
 use Rattle.reply_meaning.proofs.Words.IsOfData.{command, fault}
+use Rattle.node_step.specs.Handovers.{failover}
 
 -- ---- words about the cluster execute nothing
 
@@ -78,6 +79,10 @@ copy_idle node conn slot keys ticks copies.Exhausted = tt
 copy_idle node conn slot keys ticks (copies.SendAgain to number copy) = tt
 copy_idle node conn slot keys ticks (copies.Copies to number copy) = tt
 
+failover_idle : (node : NodeState) (master : Option ℕ) → Says IsIdle (failover node master).response
+failover_idle node None = refl
+failover_idle node (Some master) = refl
+
 cluster_idle : (node : NodeState) (conn : Conn) (which : ClusterCommand) → Says IsIdle (cluster_outcome node conn which).response
 cluster_idle node conn (cluster.KeySlot key) = refl
 cluster_idle node conn cluster.MyId = refl
@@ -87,6 +92,7 @@ cluster_idle node conn (cluster.GetKeysInSlot slot count) = refl
 cluster_idle node conn (cluster.SlotState slot) = refl
 cluster_idle node conn (cluster.SetSlot slot which id number) = order_idle node slot which (node_with_id node id) number
 cluster_idle node conn cluster.Numbered = refl
+cluster_idle node conn cluster.Failover = failover_idle node (own_master node)
 cluster_idle node conn (cluster.Asking number) = refl
 cluster_idle node conn (cluster.Migrate host port keys timeout) = copy_idle node conn (first_slot keys) (those_there node.keyspace keys) timeout (copy_verdict_on node keys (node_at node host port))
 
@@ -144,6 +150,7 @@ command_told node numbered which CrossSlot = refl
 command_told node numbered which Down = refl
 command_told node numbered which (TryAgain Frozen) = refl
 command_told node numbered which (TryAgain SomeAreMissing) = refl
+command_told node numbered which (TryAgain HandingOver) = refl
 command_told node numbered which (Ask slot to number) = ap not (sym (ask_refuses slot (slice_get node.config.nodes to) numbered number))
 command_told node numbered which (Moved slot to) = ap not (sym (moved_refuses slot (slice_get node.config.nodes to)))
 

@@ -20,7 +20,7 @@ use Rattle.connections.specs.declared.conn.Connection.{Connection}
 use Rattle.keyspace.specs.Commands.{values_at}
 use Rattle.redirect.specs.declared.decision.Decision.{Decision}
 use Rattle.redirect.specs.declared.decision.Decision.TheVariants.{Serve, ServeImport, CrossSlot, Down, TryAgain, Ask, Moved}
-use Rattle.redirect.specs.declared.decision.Reason.TheVariants.{Frozen, SomeAreMissing}
+use Rattle.redirect.specs.declared.decision.Reason.TheVariants.{Frozen, SomeAreMissing, HandingOver}
 use Rattle.resp_values.specs.declared.reply.Reply.{Reply}
 use Rattle.resp_values.specs.declared.reply.Reply.TheVariants.{Error}
 use Rattle.node_step.specs.Commands.{ask_reply, command_outcome, decision_on, moved_reply, named}
@@ -132,6 +132,7 @@ command_well node numbered which CrossSlot =
 command_well node numbered which Down = well node.config.nodes (error_text line.SlotDown) _ (down node.config.nodes _ tt)
 command_well node numbered which (TryAgain Frozen) = well node.config.nodes (error_text line.KeyFrozen) _ (other node.config.nodes _ _ refl refl refl refl refl)
 command_well node numbered which (TryAgain SomeAreMissing) = well node.config.nodes (error_text line.SomeKeysMissing) _ (other node.config.nodes _ _ refl refl refl refl refl)
+command_well node numbered which (TryAgain HandingOver) = well node.config.nodes (error_text line.HandingOver) _ (other node.config.nodes _ _ refl refl refl refl refl)
 command_well node numbered which (Ask slot to number) = ask_well node.config.nodes slot to number numbered (slice_get node.config.nodes to) refl
 command_well node numbered which (Moved slot to) = moved_well node.config.nodes slot to (slice_get node.config.nodes to) refl
 

@@ -218,6 +218,8 @@ sub (Some subcommand.SetSlot) (a ∷ b ∷ c ∷ d ∷ []) = slot_order (slot_of
 sub (Some subcommand.SetSlot) (a ∷ b ∷ c ∷ d ∷ e ∷ rest) = no_subcommand
 sub (Some subcommand.Numbered) [] = order cluster.Numbered
 sub (Some subcommand.Numbered) (a ∷ rest) = no_subcommand
+sub (Some subcommand.Failover) [] = order cluster.Failover
+sub (Some subcommand.Failover) (a ∷ rest) = no_subcommand
 
 subs : (arguments : List (List ℕ)) → IsOfCluster (with_subcommands arguments)
 subs [] = no_subcommand

@@ -8,19 +8,55 @@ use std::alloc::Global;
 use std::rt::Clock;
 use std::sync::Wait;
 
-/// Has the witness see each slot that leaves the node of that number, and that the node is promoted. Where nobody listens it looks at
-/// nothing but that.
+/// Has the witness see each slot that leaves the node of that number, that the node hands its slots over, that it noted what its master
+/// hands over, and that it is promoted. Where nobody listens it looks at nothing but that.
 ///
-/// Both happen by a message, so it looks before each one and behind it, under one hold of the node's lock. A slot for which it has no
-/// memory isn't seen.
+/// All of this happens by a message, so it looks before each one and behind it, under one hold of the node's lock. A slot for which it has
+/// no memory isn't seen.
 #[derive(Drop)]
 pub(crate) struct Changes<'w> {
     witness: &'w Witness,
     node: usize,
     // The slots that were on their way before the message.
     leaving: Vec<Leaving>,
-    // Whether the node had been promoted before it.
-    was_promoted: bool,
+    // What the node had done before it.
+    before: Part,
+}
+
+// A node's part in handovers and elections.
+#[derive(Clone, Copy)]
+struct Part {
+    // It hands its slots over to a replica.
+    hands_over: bool,
+    // It noted what its master hands over.
+    has_noted: bool,
+    // Its master hands over for the election that it began last.
+    is_planned: bool,
+    // It took the place of its master.
+    is_promoted: bool,
+}
+
+impl Part {
+    // None.
+    fn none() -> Part {
+        Part {
+            hands_over: false,
+            has_noted: false,
+            is_planned: false,
+            is_promoted: false,
+        }
+    }
+
+    // That of the node with this cell.
+    fn of<C: HoldsCell>(cell: &C) -> Part {
+        let core = cell.core();
+        Part {
+            hands_over: core.paused().is_some(),
+            has_noted: core.noted().is_some(),
+            is_planned: core.is_election_planned(),
+            is_promoted: core.replaced().is_some(),
+        }
+    }
 }
 
 // A slot that is on its way to another node, and how many of its keys the node holds.
@@ -37,7 +73,7 @@ impl<'w> Changes<'w> {
             witness,
             node,
             leaving: Vec::new(alloc),
-            was_promoted: false,
+            before: Part::none(),
         }
     }
 
@@ -46,11 +82,11 @@ impl<'w> Changes<'w> {
         if self.witness.is_heard() {
             self.leaving.clear();
             note_all(cell, &mut self.leaving);
-            self.was_promoted = cell.core().replaced().is_some();
+            self.before = Part::of(cell);
         }
     }
 
-    /// Has the witness see those of the slots that are another node's now, and whether the node is a master now.
+    /// Has the witness see those of the slots that are another node's now, and what else the node came to do by the message.
     pub(crate) fn tell<C: HoldsCell, R: Clock + Wait>(&self, rt: &R, cell: &C) {
         if !self.witness.is_heard() {
             return;
@@ -58,11 +94,45 @@ impl<'w> Changes<'w> {
         for leaving in self.leaving.iter() {
             self.tell_of(rt, cell, *leaving);
         }
-        if !self.was_promoted {
+        if !self.before.hands_over {
+            self.tell_of_pause(rt, cell);
+        }
+        if !self.before.has_noted {
+            self.tell_of_note(rt, cell);
+        }
+        if !self.before.is_promoted {
             self.tell_of_promotion(rt, cell);
         }
     }
 
+    fn tell_of_pause<C: HoldsCell, R: Clock + Wait>(&self, rt: &R, cell: &C) {
+        let core = cell.core();
+        if let Some(replica) = core.paused() {
+            let begun = Incident::HandoverBegun {
+                node: self.node,
+                replica: replica.index(),
+                offset: core.received(),
+            };
+            self.witness.see(rt, begun);
+        }
+    }
+
+    fn tell_of_note<C: HoldsCell, R: Clock + Wait>(&self, rt: &R, cell: &C) {
+        let core = cell.core();
+        if let Some(handing) = core.noted()
+            && let Some(master) = core.own_master()
+        {
+            let noted = Incident::HandoverNoted {
+                node: self.node,
+                master: master.index(),
+                offset: handing.offset,
+                received: core.received(),
+            };
+            self.witness.see(rt, noted);
+        }
+    }
+
+    // The vote by which a node is promoted changes nothing of what its election is for.
     fn tell_of_promotion<C: HoldsCell, R: Clock + Wait>(&self, rt: &R, cell: &C) {
         if let Some(replaced) = cell.core().replaced() {
             let promoted = Incident::Promoted {
@@ -70,6 +140,7 @@ impl<'w> Changes<'w> {
                 master: replaced.master.index(),
                 epoch: replaced.stream.epoch.get(),
                 offset: replaced.offset,
+                is_planned: self.before.is_planned,
             };
             self.witness.see(rt, promoted);
         }

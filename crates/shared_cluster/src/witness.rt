@@ -1,4 +1,4 @@
-//! What happens to a cluster, for somebody who listens: what no client is told, which slots come and go, and who is promoted.
+//! What happens to a cluster, for somebody who listens: what no client is told, which slots come and go, who hands over, and who is promoted.
 
 use std::alloc::{AllocError, Global};
 use std::collections::VecDeque;
@@ -53,12 +53,27 @@ pub enum Incident {
         to: usize,
         deleted: usize,
     },
-    /// The node took the place of its master in that epoch: it has so many bytes of that one's stream of writes.
+    /// The node, a master, hands its slots over to a replica: it serves none of them from now on. Its stream of writes has so many bytes.
+    HandoverBegun {
+        node: usize,
+        replica: usize,
+        offset: u64,
+    },
+    /// The node, a replica, noted that its master hands over, whose stream has so many bytes. It has received so many of them.
+    HandoverNoted {
+        node: usize,
+        master: usize,
+        offset: u64,
+        received: u64,
+    },
+    /// The node took the place of its master in that epoch, which handed over, if it was planned: it has so many bytes of that one's stream of
+    /// writes.
     Promoted {
         node: usize,
         master: usize,
         epoch: u64,
         offset: u64,
+        is_planned: bool,
     },
     /// The node's clients have waited for each other for some time.
     ClientsCrowd {

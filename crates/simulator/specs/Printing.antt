@@ -1,8 +1,8 @@
 -- What comes out of a world as a text, in the simulator's own format: a line an output.
-use Rattle.std.specs.Prelude.{◌++◌, ℕ, List, Ok, Err, codes, decimal}
+use Rattle.std.specs.Prelude.{◌++◌, ℕ, Bool, true, false, List, Ok, Err, codes, decimal}
 use Rattle.std.specs.List.{flat_map}
 use Rattle.bus.specs.declared.message.Body.{Body}
-use Rattle.bus.specs.declared.message.Body.TheVariants.{Copy, Ack, Drained, Claim, Report, Request, Grant, Sync, Piece, Snapshot}
+use Rattle.bus.specs.declared.message.Body.TheVariants.{Copy, Ack, Drained, Claim, Report, Request, Grant, Sync, Piece, Snapshot, Pause, Paused}
 use Rattle.resp_values.specs.Reply.{reply_spelling}
 use Rattle.smart_client.specs.Faults.{code_of}
 use Rattle.world.specs.declared.output.Output.{Output}
@@ -13,8 +13,8 @@ use Rattle.simulator.specs.Escaping.{escaped}
 
 -- what a message says, by its kind
 abbrev pub kind : Body → List ℕ
-kind (Copy slot number copy pairs) = codes "Copy"
-kind (Ack slot number copy) = codes "Ack"
+kind (Copy id pairs) = codes "Copy"
+kind (Ack id) = codes "Ack"
 kind (Drained slot number epoch) = codes "Drained"
 kind (Claim claim replaced) = codes "Claim"
 kind (Report suspects) = codes "Report"
@@ -23,16 +23,23 @@ kind (Grant epoch) = codes "Grant"
 kind (Sync sync) = codes "Sync"
 kind (Piece piece) = codes "Piece"
 kind (Snapshot snapshot) = codes "Snapshot"
+kind (Pause stream) = codes "Pause"
+kind (Paused handing) = codes "Paused"
+
+-- a promotion by a handover is marked
+abbrev pub mark : Bool → List ℕ
+mark true = codes " planned"
+mark false = codes ""
 
 -- `answer <client> <reply>`, `fault <client> <code>`, `admin <node> <reply>`, `sent <message> <from> <to> <kind>`,
--- `promoted <node> <epoch> <offset>` or `none`
+-- `promoted <node> <epoch> <offset>`, behind it `planned` where the master handed over, or `none`
 abbrev pub shown : Output → List ℕ
 shown (Answer client (Ok reply)) = codes "answer " ++ decimal client ++ codes " " ++ flat_map escaped (reply_spelling reply)
 shown (Answer client (Err fault)) = codes "fault " ++ decimal client ++ codes " " ++ code_of fault
 shown (Admin node reply) = codes "admin " ++ decimal node ++ codes " " ++ flat_map escaped (reply_spelling reply)
 shown (Sent number message) =
     codes "sent " ++ decimal number ++ codes " " ++ decimal message.from ++ codes " " ++ decimal message.to ++ codes " " ++ kind message.body
-shown (Promoted node promotion) = codes "promoted " ++ decimal node ++ codes " " ++ decimal promotion.epoch ++ codes " " ++ decimal promotion.offset
+shown (Promoted node promotion) = codes "promoted " ++ decimal node ++ codes " " ++ decimal promotion.epoch ++ codes " " ++ decimal promotion.offset ++ mark promotion.planned
 shown Nothing = codes "none"
 
 -- its line

@@ -3,7 +3,7 @@ ghost use Rattle.std.specs.Prelude.{◌≡◌, ◌++◌, decimal, OnOk, codes};
 ghost use Rattle.std.specs.List.{flat_map};
 ghost use Rattle.resp_values.specs.Reply.{reply_spelling};
 ghost use Rattle.simulator.specs.Escaping.{escaped};
-ghost use Rattle.simulator.specs.Printing.{kind, printed, shown};
+ghost use Rattle.simulator.specs.Printing.{kind, mark, printed, shown};
 ghost use Rattle.world.specs.declared.output.Output.TheVariants as output;
 
 use crate::escaping::print_bytes;
@@ -107,7 +107,15 @@ fn print_promoted(node: u64, promotion: &Promotion, out: &mut Vec<u8>) -> Result
     out.extend_from_slice(b" ")?;
     print_number(promotion.epoch.get(), out)?;
     out.extend_from_slice(b" ")?;
-    print_number(promotion.offset, out)
+    print_number(promotion.offset, out)?;
+    out.extend_from_slice(mark(promotion.planned))
+}
+
+// What stands behind a promotion by a handover.
+fn mark(planned: bool) -> &'static [u8]
+    ensures { result.now ≡ mark planned }
+{
+    if planned { b" planned" } else { b"" }
 }
 
 fn print_number(number: u64, out: &mut Vec<u8>) -> Result<(), AllocError>
@@ -122,7 +130,7 @@ fn kind(body: &Body) -> &'static [u8]
 {
     match body {
         Body::Copy { .. } => b"Copy",
-        Body::Ack { .. } => b"Ack",
+        Body::Ack(_) => b"Ack",
         Body::Drained { .. } => b"Drained",
         Body::Claim(_, _) => b"Claim",
         Body::Report(_) => b"Report",
@@ -131,6 +139,8 @@ fn kind(body: &Body) -> &'static [u8]
         Body::Sync(_) => b"Sync",
         Body::Piece(_) => b"Piece",
         Body::Snapshot(_) => b"Snapshot",
+        Body::Pause(_) => b"Pause",
+        Body::Paused(_) => b"Paused",
     }
 }
 

@@ -33,14 +33,14 @@ module _ {past : List Entry} {n : ℕ} {before : NodeState} {one : Keyspace} (wa
   closing_stands conn true outcome may =
       let after : NodeState = record before { connections = outcome.state.connections } in
       subst (StepStands was None) (sym may.comes_to)
-      (quiet_still was None refl refl (silent after) (record { number_is = stands.number_is; slots = stands.slots; is_master = stands.is_master }) (λ slot. refl) (nothing_sent past n after))
+      (quiet_still was None refl refl (silent after) (record { number_is = stands.number_is; slots = stands.slots; is_master = stands.is_master; rests = stands.rests }) (λ slot. refl) (nothing_sent past n after))
 
   answering_stands : (conn : Conn) (words : List (List ℕ)) (outcome : Outcome) → IsAnswering before conn words outcome → MayAsk past n (answered_with words outcome.response)
       → StepStands was (answered_with words outcome.response) outcome
   answering_stands conn words outcome answering may =
       let asked : Outcome = request_outcome before conn (command_of words) in
       let requests : Requests = written before conn words in
-      let inner = command_stands (λ slot. again (was slot) (using_up before conn) refl) (record { number_is = stands.number_is; slots = stands.slots; is_master = stands.is_master }) local words conn (connection_at before.connections conn)
+      let inner = command_stands (λ slot. again (was slot) (using_up before conn) refl) (record { number_is = stands.number_is; slots = stands.slots; is_master = stands.is_master; rests = stands.rests }) local words conn (connection_at before.connections conn)
       (command_of words) refl (subst (λ (r : Response). MayAsk past n (answered_with words r)) (recorded_response asked requests answering.dropped)
       (subst (λ (o : Outcome). MayAsk past n (answered_with words o.response)) answering.comes_to may)) in
       let answered_so : StepStands was (answered_with words asked.response) asked =
@@ -59,7 +59,7 @@ module _ {past : List Entry} {n : ℕ} {before : NodeState} {one : Keyspace} (wa
   event_stands ticket Open outcome happens may asking =
       let after : NodeState = record before { connections = outcome.state.connections } in
       subst (StepStands was None) (sym may.comes_to)
-      (quiet_still was None refl refl _ (record { number_is = stands.number_is; slots = stands.slots; is_master = stands.is_master }) (λ slot. refl) (nothing_sent past n after))
+      (quiet_still was None refl refl _ (record { number_is = stands.number_is; slots = stands.slots; is_master = stands.is_master; rests = stands.rests }) (λ slot. refl) (nothing_sent past n after))
   event_stands ticket (Close conn) outcome happens may asking = closing_stands conn (is_some (connection_at before.connections conn)) outcome may
   event_stands ticket (Request conn words) outcome happens may asking = request_stands conn words (may_ask (connection_at before.connections conn)) outcome may asking
   event_stands ticket (Deliver message) outcome happens may asking = subst (StepStands was None) (sym may.comes_to) (delivered_stands was stands message may.choice happens)

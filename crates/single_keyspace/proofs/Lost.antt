@@ -1,16 +1,13 @@
 -- What holds of a slot as claims are taken.
-use Rattle.std.proofs.Common.{◌≡◌, ◌≢◌, ◌<◌, ◌≤◌, ◌&&◌, ◌⊎◌, ℕ, List, [], ◌∷◌, Bool, true, false, cond, not, Option, Some, None, length, refl, sym, ap, subst, ◌∙◌, inl, inr, arith}
-use Rattle.std.proofs.lemmas.Bool.{cases_lt, cases_Bool, cond-true, cond-false, eq-eqb, ne_eqb, eqb-true}
-use Rattle.std.proofs.lemmas.List.{get_or_past}
-use Rattle.std.proofs.lemmas.List.FromFn.{get_or-map-range_with_len, length-map-range_with_len}
+use Rattle.std.proofs.Common.{◌≡◌, ◌≢◌, ◌&&◌, ℕ, List, Bool, true, false, cond, not, Option, Some, None, length, refl, sym, ap, subst, ◌∙◌, inl, inr}
+use Rattle.std.proofs.lemmas.Bool.{cases_Bool, eq-eqb, ne_eqb, eqb-true}
 use Rattle.std.proofs.lemmas.Map.Lookups.{exact_bytes}
 use Rattle.std.specs.FinMap as map
 use Rattle.key_slot.specs.Slot.{hash_slot}
-use Rattle.key_slot.specs.SlotRange.{is_in}
 use Rattle.keyspace.specs.Keyspace.{Keyspace}
 use Rattle.slot_store.specs.InSlot.{is_in_slot}
-use Rattle.slot_table.specs.Claims.{claimed, greater, is_above, merged}
-use Rattle.slot_table.specs.Table.{entry_at, owner_at, owner_in}
+use Rattle.slot_table.specs.Claims.{claimed, merged}
+use Rattle.slot_table.specs.Table.{owner_at, owner_in}
 use Rattle.slot_table.specs.declared.entry.SlotEntry.{SlotEntry}
 use Rattle.slot_table.specs.declared.runs.Run.{Run}
 use Rattle.slot_state.specs.Moves.{move_of}
@@ -23,7 +20,7 @@ use Rattle.world_run.specs.Run.{Entry}
 use Rattle.single_keyspace.specs.Slots.{values_in, view_of}
 use Rattle.single_keyspace.proofs.Laws.{events_at}
 use Rattle.single_keyspace.proofs.Maps.{retained_here}
-use Rattle.single_keyspace.proofs.Seen.{no_some, same_some, same_view, same_values, SlotWas, HoldsAfter, holds_untouched}
+use Rattle.single_keyspace.proofs.Seen.{same_some, same_view, same_values, SlotWas, HoldsAfter, holds_untouched}
 use Rattle.single_keyspace.proofs.Values.{values_alike}
 pub use Rattle.node_step.proofs.Merging.{length_merged, merged_cases, claimed_owner}
 

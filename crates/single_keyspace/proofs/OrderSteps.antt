@@ -1,14 +1,14 @@
 -- Steps that answer orders to move slots.
 use Rattle.std.proofs.Common.{◌≡◌, ◌<◌, ◌+◌, ℕ, List, [], Option, Some, None, refl, sym, ap, subst, ◌∙◌, arith}
+use Rattle.std.proofs.lemmas.Bool.{both_ways}
 use Rattle.std.proofs.lemmas.List.{length-set}
-use Rattle.std.specs.Prelude.{max}
+use Rattle.std.specs.Prelude.{is_some, max}
 use Rattle.keyspace.specs.Keyspace.{Keyspace}
 use Rattle.slot_table.specs.Runs.{runs_of}
 use Rattle.slot_table.specs.Table.{claim_at}
-use Rattle.slot_state.specs.Moves.{move_of, last_move_of, begun}
+use Rattle.slot_state.specs.Moves.{begun, copy_id, last_move_of, move_of}
 use Rattle.slot_state.specs.Importing.{import_verdict}
 use Rattle.slot_state.specs.Migrating.{migrate_verdict}
-use Rattle.slot_state.specs.declared.running.Move.{Move}
 use Rattle.slot_state.specs.declared.running.Move.TheVariants.{Leaves, Comes}
 use Rattle.slot_state.specs.declared.importing.ImportVerdict.{ImportVerdict}
 use Rattle.slot_state.specs.declared.importing.ImportVerdict.TheVariants as import
@@ -35,11 +35,11 @@ use Rattle.single_keyspace.specs.Stands.{NodeStands}
 use Rattle.single_keyspace.proofs.Lists.{from_map}
 use Rattle.single_keyspace.proofs.Moved.{with_move, begun_apart, moved_apart}
 use Rattle.single_keyspace.proofs.MovesHold.{import_begun_holds, migration_begun_holds, copy_ordered_holds, import_ended_holds, with_entry, ended_apart}
-use Rattle.single_keyspace.proofs.Seen.{SlotWas, HoldsAfter, holds_but}
+use Rattle.single_keyspace.proofs.Seen.{SlotWas, HoldsAfter, holds_but, no_some}
 use Rattle.single_keyspace.proofs.Sendings.{AreJustified, IsJustified, claim_justified, drained_if_empty_justified, outstanding_justified}
 use Rattle.single_keyspace.proofs.Steps.{StepStands, nothing_sent, quiet, quiet_still}
 use Rattle.single_keyspace.proofs.Values.{value_here}
-use Rattle.single_keyspace.proofs.Verdicts.{import_begins, migration_begins, import_ends}
+use Rattle.single_keyspace.proofs.Verdicts.{import_begins, migration_begins, import_runs, migration_runs, import_ends}
 
 module _ {past : List Entry} {n : ℕ} {before : NodeState} {one : Keyspace} (was : (slot : ℕ) → SlotWas past n before one slot) (stands : NodeStands n before) (words : List (List ℕ)) where
   abbrev Answers : Outcome → Type 0
@@ -60,6 +60,7 @@ module _ {past : List Entry} {n : ℕ} {before : NodeState} {one : Keyspace} (wa
       → import_verdict (standing before slot) (move_of before.moves slot) (last_move_of before.moves slot) other asked ≡ verdict → Answers (import_outcome before slot verdict)
   import_stands slot other asked import.UnknownNode is = refused (import_outcome before slot import.UnknownNode) refl refl refl refl
   import_stands slot other asked import.Already is = refused (import_outcome before slot import.Already) refl refl refl refl
+  import_stands slot other asked import.HandingOver is = refused (import_outcome before slot import.HandingOver) refl refl refl refl
   import_stands slot other asked import.Busy is = refused (import_outcome before slot import.Busy) refl refl refl refl
   import_stands slot other asked import.AlreadyOwner is = refused (import_outcome before slot import.AlreadyOwner) refl refl refl refl
   import_stands slot other asked import.NotOwner is = refused (import_outcome before slot import.NotOwner) refl refl refl refl
@@ -67,7 +68,8 @@ module _ {past : List Entry} {n : ℕ} {before : NodeState} {one : Keyspace} (wa
   import_stands slot other asked (import.Begins from number) is =
       let facts = import_begins (standing before slot) (move_of before.moves slot) (last_move_of before.moves slot) other asked from number is in
       let after : NodeState = record before { moves = begun before.moves slot number (Comes from number 0 None) } in
-      quiet was _ refl refl (import_outcome before slot (import.Begins from number)) (record { number_is = stands.number_is; slots = stands.slots; is_master = stands.is_master })
+      quiet was _ refl refl (import_outcome before slot (import.Begins from number))
+      (record { number_is = stands.number_is; slots = stands.slots; is_master = stands.is_master; rests = λ replica paused s. absurd (both_ways (is_some before.paused) (import_runs (standing before slot) (move_of before.moves slot) (last_move_of before.moves slot) other asked from number is) (ap is_some paused)) })
       (holds_but was after one slot (import_begun_holds (was slot) from number facts.0 facts.1 (λ same. facts.2 (same ∙ sym stands.number_is)) facts.3)
       (begun_apart before slot number (Comes from number 0 None)) (λ other apart key. refl))
       (nothing_sent past n after)
@@ -78,13 +80,15 @@ module _ {past : List Entry} {n : ℕ} {before : NodeState} {one : Keyspace} (wa
       → migrate_verdict (standing before slot) (move_of before.moves slot) (last_move_of before.moves slot) other asked ≡ verdict → Answers (migrate_outcome before slot verdict)
   migration_stands slot other asked migrate.UnknownNode is = refused (migrate_outcome before slot migrate.UnknownNode) refl refl refl refl
   migration_stands slot other asked migrate.Already is = refused (migrate_outcome before slot migrate.Already) refl refl refl refl
+  migration_stands slot other asked migrate.HandingOver is = refused (migrate_outcome before slot migrate.HandingOver) refl refl refl refl
   migration_stands slot other asked migrate.Busy is = refused (migrate_outcome before slot migrate.Busy) refl refl refl refl
   migration_stands slot other asked migrate.NotOwner is = refused (migrate_outcome before slot migrate.NotOwner) refl refl refl refl
   migration_stands slot other asked migrate.OldMove is = refused (migrate_outcome before slot migrate.OldMove) refl refl refl refl
   migration_stands slot other asked (migrate.Begins to number) is =
       let facts = migration_begins (standing before slot) (move_of before.moves slot) (last_move_of before.moves slot) other asked to number is in
       let after : NodeState = record before { moves = begun before.moves slot number (Leaves to number 0 None) } in
-      quiet was _ refl refl (migrate_outcome before slot (migrate.Begins to number)) (record { number_is = stands.number_is; slots = stands.slots; is_master = stands.is_master })
+      quiet was _ refl refl (migrate_outcome before slot (migrate.Begins to number))
+      (record { number_is = stands.number_is; slots = stands.slots; is_master = stands.is_master; rests = λ replica paused s. absurd (both_ways (is_some before.paused) (migration_runs (standing before slot) (move_of before.moves slot) (last_move_of before.moves slot) other asked to number is) (ap is_some paused)) })
       (holds_but was after one slot
       (migration_begun_holds (was slot) to number facts.0 (facts.1 ∙ ap Some stands.number_is) (λ same. facts.2 (same ∙ sym stands.number_is)) facts.3)
       (begun_apart before slot number (Leaves to number 0 None)) (λ other apart key. refl))
@@ -110,7 +114,7 @@ module _ {past : List Entry} {n : ℕ} {before : NodeState} {one : Keyspace} (wa
       let newer : ℕ = new_epoch before slot drained in
       let after : NodeState = with_slot before slot newer in
       quiet was _ refl refl (ending_outcome before slot (ending.Ends drained))
-      (record { number_is = stands.number_is; slots = length-set before.table slot (Some (record { epoch = newer; owner = before.number })) ∙ stands.slots; is_master = stands.is_master })
+      (record { number_is = stands.number_is; slots = length-set before.table slot (Some (record { epoch = newer; owner = before.number })) ∙ stands.slots; is_master = stands.is_master; rests = λ replica paused s. absurd (no_some (stands.rests replica paused slot) facts.3) })
       (holds_but was after one slot
       (subst (λ (o : ℕ). HoldsAfter (was slot) (with_entry before slot (record { epoch = newer; owner = o }) newer) one) (sym stands.number_is)
       (import_ended_holds (was slot) facts.0 facts.1 facts.2 drained newer facts.3 (epoch_above slot drained) stands.slots))
@@ -131,22 +135,22 @@ module _ {past : List Entry} {n : ℕ} {before : NodeState} {one : Keyspace} (wa
   copy_stands conn named ticks target copies.Exhausted is = refused (copy_outcome before conn (first_slot named) (those_there before.keyspace named) ticks copies.Exhausted) refl refl refl refl
   copy_stands conn named ticks target (copies.SendAgain to number copy) is =
       let slot : ℕ = first_slot named in
-      let after : NodeState = parked before conn slot number copy ticks in
-      quiet_still was _ refl refl (copy_outcome before conn slot (those_there before.keyspace named) ticks (copies.SendAgain to number copy)) (record { number_is = stands.number_is; slots = stands.slots; is_master = stands.is_master }) (λ other. refl)
+      let after : NodeState = parked before conn (copy_id slot number copy) ticks in
+      quiet_still was _ refl refl (copy_outcome before conn slot (those_there before.keyspace named) ticks (copies.SendAgain to number copy)) (record { number_is = stands.number_is; slots = stands.slots; is_master = stands.is_master; rests = stands.rests }) (λ other. refl)
       (outstanding_justified past n after slot (move_of before.moves slot) refl)
   copy_stands conn named ticks target (copies.Copies to number copy) is =
       let slot : ℕ = first_slot named in
       let keys : List (List ℕ) = those_there before.keyspace named in
       let next = copied_next before named target to number copy is in
       let moved : NodeState = record before { moves = with_move before.moves slot (Leaves to number copy (Some keys)) } in
-      let after : NodeState = parked moved conn slot number copy ticks in
+      let after : NodeState = parked moved conn (copy_id slot number copy) ticks in
       let ordered : CopyIsOrdered (view_of before slot) to number next.made keys = record {
         move = next.move;
         one = next.one;
         among = next.among;
         here = λ key among. let there = are_there before.keyspace named key among in (there.1.0, value_here before.keyspace slot key (next.inside key there.0) ∙ there.1.1);
       } in
-      quiet was _ refl refl (copy_outcome before conn slot keys ticks (copies.Copies to number copy)) (record { number_is = stands.number_is; slots = stands.slots; is_master = stands.is_master })
+      quiet was _ refl refl (copy_outcome before conn slot keys ticks (copies.Copies to number copy)) (record { number_is = stands.number_is; slots = stands.slots; is_master = stands.is_master; rests = λ replica paused other. absurd (no_some (stands.rests replica paused slot) next.move) })
       (holds_but was after one slot
       (subst (λ (c : ℕ). HoldsAfter (was slot) (record before { moves = with_move before.moves slot (Leaves to number c (Some keys)) }) one) (sym next.copy_is)
       (copy_ordered_holds (was slot) to number next.made keys ordered))

@@ -1,6 +1,7 @@
 -- Steps that answer requests.
-use Rattle.std.proofs.Common.{◌≡◌, ℕ, List, [], ◌∷◌, Bool, Option, Some, None, Contains, refl, sym, ap, subst, ◌∙◌}
-use Rattle.std.specs.Prelude.{Result, Ok, Err}
+use Rattle.std.proofs.Common.{◌≡◌, ℕ, List, [], ◌∷◌, Bool, true, false, Option, Some, None, Contains, refl, sym, ap, subst, ◌∙◌}
+use Rattle.std.proofs.lemmas.Bool.{both_ways}
+use Rattle.std.specs.Prelude.{Result, Ok, Err, is_some}
 use Rattle.command_table.specs.Keys.{data_keys}
 use Rattle.command_table.specs.Table.{command_of}
 use Rattle.command_table.specs.declared.command.ClusterCommand.{ClusterCommand}
@@ -29,7 +30,8 @@ use Rattle.node_step.specs.Copies.{copy_verdict_on, node_at}
 use Rattle.node_step.specs.Orders.{ending_verdict}
 use Rattle.node_step.specs.Outcome.{Outcome, silent}
 use Rattle.node_step.specs.Requests.{asking_of, by_command, cluster_outcome, is_numbered, node_with_id, order_outcome}
-use Rattle.node_step.specs.State.{NodeState, standing}
+use Rattle.node_step.specs.Handovers.{failover}
+use Rattle.node_step.specs.State.{NodeState, own_master, standing}
 use Rattle.connections.specs.declared.conn.Conn.{Conn}
 use Rattle.connections.specs.declared.conn.Connection.{Connection}
 use Rattle.node_step.specs.declared.response.Why.TheVariants.{Decided}
@@ -59,7 +61,7 @@ module _ {past : List Entry} {n : ℕ} {before : NodeState} {one : Keyspace} (wa
         → if_served (answered_with words (served before command why).response) ≡ Some (record { words = words; answer = record { why = Decided why; reply = (exec before.keyspace command).reply } })
         → redirection_in (answered_with words (served before command why).response) ≡ None → Answers (served before command why)
     executed_stands why holding is_served not_sent_on = record {
-      node = record { number_is = stands.number_is; slots = stands.slots; is_master = stands.is_master };
+      node = record { number_is = stands.number_is; slots = stands.slots; is_master = stands.is_master; rests = stands.rests };
       holds = λ slot.
           subst (λ (o : Option Answered). HoldsAfter (was slot) (executed before command) (next_of one o)) (sym is_served)
           (subst (λ (r : Result Command CommandFault). HoldsAfter (was slot) (executed before command) (execution_of one r).after) (sym reads) (holding.holds slot));
@@ -108,6 +110,11 @@ module _ {past : List Entry} {n : ℕ} {before : NodeState} {one : Keyspace} (wa
       migration_stands was stands words slot other number (migrate_verdict (standing before slot) (move_of before.moves slot) (last_move_of before.moves slot) other number) refl
   order_stands slot Node other number = ending_stands was stands words slot other number (ending_verdict before slot other number) refl
 
+  -- a master takes nobody's place
+  failover_stands : (master : Option ℕ) → is_some master ≡ false → Answers (failover before master)
+  failover_stands None is = quiet_still was _ refl refl (failover before None) stands (λ slot. refl) (nothing_sent past n before)
+  failover_stands (Some master) is = absurd (both_ways true is refl)
+
   cluster_stands : (conn : Conn) (command : ClusterCommand) → Answers (cluster_outcome before conn command)
   cluster_stands conn (cluster.KeySlot key) = quiet_still was _ refl refl (cluster_outcome before conn (cluster.KeySlot key)) stands (λ slot. refl) (nothing_sent past n before)
   cluster_stands conn cluster.MyId = quiet_still was _ refl refl (cluster_outcome before conn cluster.MyId) stands (λ slot. refl) (nothing_sent past n before)
@@ -117,10 +124,11 @@ module _ {past : List Entry} {n : ℕ} {before : NodeState} {one : Keyspace} (wa
   cluster_stands conn (cluster.SlotState slot) = quiet_still was _ refl refl (cluster_outcome before conn (cluster.SlotState slot)) stands (λ s. refl) (nothing_sent past n before)
   cluster_stands conn (cluster.SetSlot slot order id number) = order_stands slot order (node_with_id before id) number
   cluster_stands conn cluster.Numbered =
-      quiet_still was _ refl refl (cluster_outcome before conn cluster.Numbered) (record { number_is = stands.number_is; slots = stands.slots; is_master = stands.is_master }) (λ slot. refl)
+      quiet_still was _ refl refl (cluster_outcome before conn cluster.Numbered) (record { number_is = stands.number_is; slots = stands.slots; is_master = stands.is_master; rests = stands.rests }) (λ slot. refl)
       (nothing_sent past n (cluster_outcome before conn cluster.Numbered).state)
+  cluster_stands conn cluster.Failover = failover_stands (own_master before) stands.is_master
   cluster_stands conn (cluster.Asking number) =
-      quiet_still was _ refl refl (cluster_outcome before conn (cluster.Asking number)) (record { number_is = stands.number_is; slots = stands.slots; is_master = stands.is_master }) (λ slot. refl)
+      quiet_still was _ refl refl (cluster_outcome before conn (cluster.Asking number)) (record { number_is = stands.number_is; slots = stands.slots; is_master = stands.is_master; rests = stands.rests }) (λ slot. refl)
       (nothing_sent past n (cluster_outcome before conn (cluster.Asking number)).state)
   cluster_stands conn (cluster.Migrate host port keys timeout) =
       copy_stands was stands words conn keys timeout (node_at before host port) (copy_verdict_on before keys (node_at before host port)) refl

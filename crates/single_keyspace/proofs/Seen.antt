@@ -1,5 +1,5 @@
 -- How a slot is seen when one node changes.
-use Rattle.std.proofs.Common.{◌≡◌, ◌≢◌, ◌<◌, ℕ, List, true, false, Option, Some, None, sym, ap, subst, ◌∙◌, inl, inr}
+use Rattle.std.proofs.Common.{◌≡◌, ◌≢◌, ◌<◌, ℕ, Bool, List, true, false, Option, Some, None, sym, ap, subst, ◌∙◌, inl, inr}
 use Rattle.std.proofs.lemmas.Bool.{cases_eq, cond-true, cond-false}
 use Rattle.std.specs.Prelude.{slice_get, slice_set}
 use Rattle.keyspace.specs.Keyspace.{Keyspace}
@@ -8,38 +8,52 @@ use Rattle.slot_table.specs.declared.entry.SlotEntry.{SlotEntry}
 use Rattle.one_slot.specs.View.{View, Views}
 use Rattle.one_slot.specs.Slot.{Holds}
 use Rattle.one_slot.specs.Events.{Changes, Keeps}
+use Rattle.slot_state.specs.Moves.{last_move_of}
 use Rattle.node_step.specs.State.{NodeState}
 use Rattle.world_run.specs.Run.{Entry}
-use Rattle.single_keyspace.specs.Slots.{is_hidden, nowhere, values_in, view_of, view_at, views}
+use Rattle.single_keyspace.specs.Slots.{if_out, is_hidden, nowhere, seen_out, values_in, view_of, view_at, views}
 use Rattle.single_keyspace.specs.Stands.{IsTrueOf}
 pub use Rattle.world_run.proofs.Nodes.{no_some, same_some, set_here, set_apart}
 
 module _ (first : SlotEntry) (slot : ℕ) where
-  -- a node is seen, or it is hidden
-  seen_so : (node : NodeState) → is_hidden node ≡ false → view_at first slot (Some node) ≡ view_of node slot
-  seen_so node is = cond-false (is_hidden node) (nowhere first) (view_of node slot) is
+  -- a node is seen, hidden, or out
+  pub seen_so : (out : Bool) (node : NodeState) → out ≡ false → is_hidden node ≡ false → view_at first slot out (Some node) ≡ view_of node slot
+  seen_so out node is_in is = cond-false (is_hidden node) (nowhere first) (if_out out (view_of node slot)) is ∙ ap (λ (b : Bool). if_out b (view_of node slot)) is_in
 
-  hidden_so : (node : NodeState) → is_hidden node ≡ true → view_at first slot (Some node) ≡ nowhere first
-  hidden_so node is = cond-true (is_hidden node) (nowhere first) (view_of node slot) is
+  pub hidden_so : (out : Bool) (node : NodeState) → is_hidden node ≡ true → view_at first slot out (Some node) ≡ nowhere first
+  hidden_so out node is = cond-true (is_hidden node) (nowhere first) (if_out out (view_of node slot)) is
 
-  module _ (nodes : List NodeState) (n : ℕ) (before : NodeState) (was : slice_get nodes n ≡ Some before) where
-    changes_to : (after : NodeState) (view : View Value) → view_at first slot (Some after) ≡ view → Changes (views first nodes slot) (views first (slice_set nodes n after) slot) n view
+  pub out_so : (out : Bool) (node : NodeState) → out ≡ true → is_hidden node ≡ false → view_at first slot out (Some node) ≡ seen_out (view_of node slot)
+  out_so out node is_out is = cond-false (is_hidden node) (nowhere first) (if_out out (view_of node slot)) is ∙ ap (λ (b : Bool). if_out b (view_of node slot)) is_out
+
+  module _ (out : ℕ → Bool) (nodes : List NodeState) (n : ℕ) (before : NodeState) (was : slice_get nodes n ≡ Some before) where
+    changes_to : (after : NodeState) (view : View Value) → view_at first slot (out n) (Some after) ≡ view → Changes (views first out nodes slot) (views first out (slice_set nodes n after) slot) n view
     changes_to after view is = record {
-      here = ap (view_at first slot) (set_here nodes n before after was) ∙ is;
-      there = λ other apart. ap (view_at first slot) (set_apart nodes n after other apart);
+      here = ap (view_at first slot (out n)) (set_here nodes n before after was) ∙ is;
+      there = λ other apart. ap (view_at first slot (out other)) (set_apart nodes n after other apart);
     }
 
-    pub seen_here : is_hidden before ≡ false → views first nodes slot n ≡ view_of before slot
-    seen_here is = ap (view_at first slot) was ∙ seen_so before is
+    pub seen_here : out n ≡ false → is_hidden before ≡ false → views first out nodes slot n ≡ view_of before slot
+    seen_here is_in is = ap (view_at first slot (out n)) was ∙ seen_so (out n) before is_in is
 
-    pub seen_changes : (after : NodeState) → is_hidden after ≡ false → Changes (views first nodes slot) (views first (slice_set nodes n after) slot) n (view_of after slot)
-    seen_changes after is = changes_to after (view_of after slot) (seen_so after is)
+    pub seen_changes : (after : NodeState) → out n ≡ false → is_hidden after ≡ false → Changes (views first out nodes slot) (views first out (slice_set nodes n after) slot) n (view_of after slot)
+    seen_changes after is_in is = changes_to after (view_of after slot) (seen_so (out n) after is_in is)
 
-    pub hidden_here : is_hidden before ≡ true → views first nodes slot n ≡ nowhere first
-    hidden_here is = ap (view_at first slot) was ∙ hidden_so before is
+    pub hidden_here : is_hidden before ≡ true → views first out nodes slot n ≡ nowhere first
+    hidden_here is = ap (view_at first slot (out n)) was ∙ hidden_so (out n) before is
 
-    pub hidden_changes : (after : NodeState) → is_hidden after ≡ true → Changes (views first nodes slot) (views first (slice_set nodes n after) slot) n (nowhere first)
-    hidden_changes after is = changes_to after (nowhere first) (hidden_so after is)
+    pub hidden_changes : (after : NodeState) → is_hidden after ≡ true → Changes (views first out nodes slot) (views first out (slice_set nodes n after) slot) n (nowhere first)
+    hidden_changes after is = changes_to after (nowhere first) (hidden_so (out n) after is)
+
+    -- of a node that is out nothing changes
+    pub out_here : out n ≡ true → is_hidden before ≡ false → views first out nodes slot n ≡ seen_out (view_of before slot)
+    out_here is_out is = ap (view_at first slot (out n)) was ∙ out_so (out n) before is_out is
+
+    pub out_changes : (after : NodeState) → out n ≡ true → is_hidden after ≡ false → last_move_of after.moves slot ≡ last_move_of before.moves slot
+        → Changes (views first out nodes slot) (views first out (slice_set nodes n after) slot) n (seen_out (view_of before slot))
+    out_changes after is_out is last =
+        changes_to after (seen_out (view_of before slot))
+        (out_so (out n) after is_out is ∙ ap (λ (k : ℕ). record { entry = None; move = None; last = k; value = λ key. None }) last)
 
 -- ---- views
 

@@ -17,9 +17,10 @@ use Rattle.slot_table.specs.Runs.{IsRun, AreRunsOf, runs_of}
 use Rattle.slot_table.specs.Table.{entry_at, epoch_in, claim_at}
 use Rattle.slot_table.specs.declared.entry.SlotEntry.{SlotEntry}
 use Rattle.slot_table.specs.declared.runs.Run.{Run}
-use Rattle.slot_state.specs.Moves.{Moves, move_of}
+use Rattle.slot_state.specs.Moves.{Moves, copy_id, move_of}
 use Rattle.slot_state.specs.declared.running.Move.{Move}
 use Rattle.slot_state.specs.declared.running.Move.TheVariants.{Leaves, Comes}
+use Rattle.slot_state.specs.declared.copy_id.CopyId.{CopyId}
 use Rattle.bus.specs.declared.message.Body.{Body}
 use Rattle.bus.specs.declared.message.Body.TheVariants as body
 use Rattle.bus.specs.declared.message.Message.{Message}
@@ -47,17 +48,17 @@ use Rattle.single_keyspace.proofs.Seen.{no_some, same_some}
 use Rattle.single_keyspace.proofs.Values.{value_here}
 
 -- a copy of that number was sent to the node before, and it is installed
-pub record IsInstalled (past : List Entry) (n : ℕ) (moves : Moves) (to slot number count : ℕ) : Type 0 where
+pub record IsInstalled (past : List Entry) (n : ℕ) (moves : Moves) (to : ℕ) (id : CopyId) : Type 0 where
   pub copied : ℕ
   pub drained : Option ℕ
-  pub move : move_of moves slot ≡ Some (Comes to number copied drained)
-  pub reached : count ≤ copied
+  pub move : move_of moves id.slot ≡ Some (Comes to id.number copied drained)
+  pub reached : id.copy ≤ copied
   pub pairs : List (List ℕ × Value)
   pub message : Message
   pub sent : Contains (sent_by past) message
   pub from_there : message.from ≡ to
   pub to_here : message.to ≡ n
-  pub says : message.body ≡ body.Copy slot number count pairs
+  pub says : message.body ≡ body.Copy id pairs
 
 -- the slot leaves, and no key of it is left
 pub record IsLeft (moves : Moves) (keyspace : Keyspace) (table : List (Option SlotEntry)) (to slot number epoch : ℕ) : Type 0 where
@@ -68,15 +69,15 @@ pub record IsLeft (moves : Moves) (keyspace : Keyspace) (table : List (Option Sl
   pub empty : has_keys keyspace slot ≡ false
 
 -- it is the outstanding copy
-pub record IsOutstanding (moves : Moves) (keyspace : Keyspace) (to slot number copy : ℕ) (pairs : List (List ℕ × Value)) : Type 0 where
+pub record IsOutstanding (moves : Moves) (keyspace : Keyspace) (to : ℕ) (id : CopyId) (pairs : List (List ℕ × Value)) : Type 0 where
   pub keys : List (List ℕ)
-  pub move : move_of moves slot ≡ Some (Leaves to number copy (Some keys))
+  pub move : move_of moves id.slot ≡ Some (Leaves to id.number id.copy (Some keys))
   pub are : pairs ≡ pairs_at keyspace keys
 
 -- by what the node has of slots alone, so that nothing else of it matters
 abbrev pub IsJustifiedBy : List Entry → ℕ → Moves → Keyspace → List (Option SlotEntry) → ℕ → Body → Type 0
-IsJustifiedBy past n moves keyspace table to (body.Copy slot number copy pairs) = IsOutstanding moves keyspace to slot number copy pairs
-IsJustifiedBy past n moves keyspace table to (body.Ack slot number copy) = IsInstalled past n moves to slot number copy
+IsJustifiedBy past n moves keyspace table to (body.Copy id pairs) = IsOutstanding moves keyspace to id pairs
+IsJustifiedBy past n moves keyspace table to (body.Ack id) = IsInstalled past n moves to id
 IsJustifiedBy past n moves keyspace table to (body.Drained slot number epoch) = IsLeft moves keyspace table to slot number epoch
 IsJustifiedBy past n moves keyspace table to (body.Claim runs replaced) = (slot epoch : ℕ) → claimed runs n slot ≡ Some (record { epoch = epoch; owner = n }) → entry_at table slot ≡ Some (record { epoch = epoch; owner = n })
 IsJustifiedBy past n moves keyspace table to other = ⊤
@@ -152,22 +153,22 @@ outstanding_sent node slot to number copy keys move frozen =
 module _ (past : List Entry) (node : NodeState) {top : SlotEntry} {seen : Views Value} {one : List ℕ → Option Value} {n : ℕ} {slot : ℕ} (holds : Holds top seen one) (here : seen n ≡ view_of node slot)
     (history : (message : Message) (sent : Sent Value) → Contains (sent_by past) message → Says slot message.from message.to message.body sent → IsSent top seen sent) where
   pub justified_is_true : (to : ℕ) (body : Body) (sent : Sent Value) → IsJustified past n node to body → Says slot n to body sent → IsSent top seen sent
-  justified_is_true to (body.Copy other number copy pairs) sent just says =
-      let move : move_of node.moves slot ≡ Some (Leaves to number copy (Some just.keys)) = subst (λ (s : ℕ). move_of node.moves s ≡ Some (Leaves to number copy (Some just.keys))) says.0 just.move in
-      let frozen : IsFrozen (view_of node slot) copy just.keys =
-      subst (λ (v : View Value). IsFrozen v copy just.keys) here (frozen_here holds n to number copy just.keys (ap (λ (v : View Value). v.move) here ∙ move)) in
-      subst (IsSent top seen) (sym (says.1 ∙ ap (λ (ps : List (List ℕ × Value)). Copy n to number copy ps) just.are))
-      ((laws_at top seen one n (view_of node slot) holds here).copy_sent to number copy (pairs_at node.keyspace just.keys)
-      (outstanding_sent node slot to number copy just.keys move frozen))
-  justified_is_true to (body.Ack other number copy) sent just says =
-      let copied : IsSent top seen (Copy just.message.from just.message.to number copy just.pairs) =
+  justified_is_true to (body.Copy id pairs) sent just says =
+      let move : move_of node.moves slot ≡ Some (Leaves to id.number id.copy (Some just.keys)) = subst (λ (s : ℕ). move_of node.moves s ≡ Some (Leaves to id.number id.copy (Some just.keys))) says.0 just.move in
+      let frozen : IsFrozen (view_of node slot) id.copy just.keys =
+      subst (λ (v : View Value). IsFrozen v id.copy just.keys) here (frozen_here holds n to id.number id.copy just.keys (ap (λ (v : View Value). v.move) here ∙ move)) in
+      subst (IsSent top seen) (sym (says.1 ∙ ap (λ (ps : List (List ℕ × Value)). Copy n to id.number id.copy ps) just.are))
+      ((laws_at top seen one n (view_of node slot) holds here).copy_sent to id.number id.copy (pairs_at node.keyspace just.keys)
+      (outstanding_sent node slot to id.number id.copy just.keys move frozen))
+  justified_is_true to (body.Ack id) sent just says =
+      let copied : IsSent top seen (Copy just.message.from just.message.to id.number id.copy just.pairs) =
       history just.message _ just.sent
-      (subst (λ (b : Body). Says slot just.message.from just.message.to b (Copy just.message.from just.message.to number copy just.pairs)) (sym just.says) (says.0, refl)) in
+      (subst (λ (b : Body). Says slot just.message.from just.message.to b (Copy just.message.from just.message.to id.number id.copy just.pairs)) (sym just.says) (says.0, refl)) in
       subst (IsSent top seen) (sym says.1)
-      ((laws_at top seen one n (view_of node slot) holds here).ack_sent to number copy just.copied just.drained just.pairs
-      (subst (λ (s : ℕ). move_of node.moves s ≡ Some (Comes to number just.copied just.drained)) says.0 just.move)
+      ((laws_at top seen one n (view_of node slot) holds here).ack_sent to id.number id.copy just.copied just.drained just.pairs
+      (subst (λ (s : ℕ). move_of node.moves s ≡ Some (Comes to id.number just.copied just.drained)) says.0 just.move)
       just.reached
-      (subst (IsSent top seen) (ap₂ (λ (f t : ℕ). Copy f t number copy just.pairs) just.from_there just.to_here) copied))
+      (subst (IsSent top seen) (ap₂ (λ (f t : ℕ). Copy f t id.number id.copy just.pairs) just.from_there just.to_here) copied))
   justified_is_true to (body.Drained other number epoch) sent just says =
       subst (IsSent top seen) (sym says.1) (left_is_true node holds here to number epoch (subst (λ (s : ℕ). IsLeft node.moves node.keyspace node.table to s number epoch) says.0 just))
   justified_is_true to (body.Claim runs replaced) sent just says =
@@ -179,6 +180,8 @@ module _ (past : List Entry) (node : NodeState) {top : SlotEntry} {seen : Views 
   justified_is_true to (body.Sync sync) sent just says = absurd says
   justified_is_true to (body.Piece piece) sent just says = absurd says
   justified_is_true to (body.Snapshot snapshot) sent just says = absurd says
+  justified_is_true to (body.Pause stream) sent just says = absurd says
+  justified_is_true to (body.Paused handing) sent just says = absurd says
 
 -- ---- drained
 
@@ -214,7 +217,7 @@ outstanding_justified past n node slot None is to said among = absurd (contains_
 outstanding_justified past n node slot (Some (Comes from number last drained)) is to said among = absurd (contains_nothing (to, said) among)
 outstanding_justified past n node slot (Some (Leaves other number copies None)) is to said among = absurd (contains_nothing (to, said) among)
 outstanding_justified past n node slot (Some (Leaves other number copies (Some keys))) is to said among =
-    subst (λ (p : ℕ × Body). IsJustified past n node p.0 p.1) (contains_one (other, body.Copy slot number copies (pairs_at node.keyspace keys)) (to, said) among)
+    subst (λ (p : ℕ × Body). IsJustified past n node p.0 p.1) (contains_one (other, body.Copy (copy_id slot number copies) (pairs_at node.keyspace keys)) (to, said) among)
     (record { keys = keys; move = is; are = refl })
 
 -- ---- claims
@@ -232,7 +235,7 @@ claimed_value value_at (run ∷ runs) owner slot epoch each is =
           (sym (cond-false (is_in run.slots slot) mine (claimed runs owner slot) apart) ∙ is)
     ]
 
-named_in : (number : ℕ) (entry : Option SlotEntry) (epoch : ℕ) → epoch_in number entry ≡ Some epoch → entry ≡ Some (record { epoch = epoch; owner = number })
+pub named_in : (number : ℕ) (entry : Option SlotEntry) (epoch : ℕ) → epoch_in number entry ≡ Some epoch → entry ≡ Some (record { epoch = epoch; owner = number })
 named_in number None epoch is = absurd (no_some refl is)
 named_in number (Some entry) epoch is =
     elim (cases_Bool (entry.owner == number)) [

@@ -62,7 +62,7 @@ module _ {past : List Entry} {n : ℕ} {before : NodeState} {one : Keyspace} (wa
   pub recorded_stands : (answer : Option Answered) (outcome : Outcome) (requests : Requests) (dropped : ℕ) → StepStands was answer outcome → StepStands was answer (recorded outcome requests dropped)
   recorded_stands answer outcome [] dropped step = step
   recorded_stands answer outcome (request ∷ requests) dropped step = record {
-    node = record { number_is = step.node.number_is; slots = step.node.slots; is_master = step.node.is_master };
+    node = record { number_is = step.node.number_is; slots = step.node.slots; is_master = step.node.is_master; rests = step.node.rests };
     holds = step.holds;
     sent = both_justified past n outcome.state outcome.sent (to_all (replicas_of outcome.state.masters outcome.state.number) _) step.sent
         (to_all_justified past n outcome.state (replicas_of outcome.state.masters outcome.state.number) _ (λ to. tt));

@@ -1,5 +1,5 @@
 -- The slots of a cluster, each seen over all nodes.
-use Rattle.std.specs.Prelude.{ℕ, Bool, List, Option, Some, None, unwrap_or, length, slice_get, if◌then◌else◌}
+use Rattle.std.specs.Prelude.{ℕ, ◌==◌, Bool, true, List, Option, Some, None, unwrap_or, length, slice_get, if◌then◌else◌}
 use Rattle.std.specs.FinMap as fin_map
 use Rattle.keyspace.specs.Keyspace.{Keyspace}
 use Rattle.keyspace.specs.declared.value.Value.{Value}
@@ -32,12 +32,25 @@ nowhere first = record { entry = Some first; move = None; last = 0; value = λ k
 abbrev pub is_hidden : NodeState → Bool
 is_hidden node = is_replica node
 
-abbrev pub view_at : SlotEntry → ℕ → Option NodeState → View Value
-view_at first slot None = nowhere first
-view_at first slot (Some node) = if is_hidden node then nowhere first else view_of node slot
+-- a master that handed its slots over, and whose place was taken: until it hears of that it keeps them in its table, and keeps their keys.
+-- Neither is seen; old moves are over there as before
+abbrev pub seen_out : View Value → View Value
+seen_out view = record view { entry = None; move = None; value = λ key. None }
 
-abbrev pub views : SlotEntry → List NodeState → ℕ → Views Value
-views first nodes slot number = view_at first slot (slice_get nodes number)
+abbrev pub if_out : Bool → View Value → View Value
+if_out out view = if out then seen_out view else view
+
+abbrev pub view_at : SlotEntry → ℕ → Bool → Option NodeState → View Value
+view_at first slot out None = nowhere first
+view_at first slot out (Some node) = if is_hidden node then nowhere first else if_out out (view_of node slot)
+
+-- over all nodes, some of which are out
+abbrev pub views : SlotEntry → (ℕ → Bool) → List NodeState → ℕ → Views Value
+views first out nodes slot number = view_at first slot (out number) (slice_get nodes number)
+
+-- one more
+abbrev pub out_too : (ℕ → Bool) → ℕ → ℕ → Bool
+out_too out node number = if number == node then true else out number
 
 -- the owner of a slot at the start
 abbrev pub first_of : ClusterConfig → ℕ → SlotEntry

@@ -7,10 +7,9 @@ ghost use Rattle.slot_pairs.specs.Several.{HaveSameKeys, is_in_one};
 
 use byte_string::ByteString;
 use key_slot::Slot;
-use keyspace::TreeStore;
+use keyspace::{Pair, TreeStore};
 use slot_store::SlotParts;
 use std::alloc::{AllocError, Global};
-use stream_values::Pair;
 
 /// All keys with their values, slot by slot.
 pub(crate) fn pairs_by_slot<S: SlotParts>(alloc: Global, store: &S) -> Result<Vec<Pair>, AllocError>

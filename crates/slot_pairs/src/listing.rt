@@ -9,9 +9,9 @@ ghost use Rattle.slot_pairs.specs.Several.{is_in_one};
 use crate::gathering::{keys_by_slot, pairs_by_slot};
 use byte_string::ByteString;
 use key_slot::Slot;
+use keyspace::Pair;
 use slot_store::SlotParts;
 use std::alloc::{AllocError, Global};
-use stream_values::Pair;
 
 /// All keys with their values. Long values share their bytes with the store.
 pub fn pairs<S: SlotParts>(alloc: Global, store: &S) -> Result<Vec<Pair>, AllocError>

@@ -16,7 +16,7 @@ use Rattle.slot_state.specs.declared.state.SlotState.TheVariants.{Owned, Foreign
 
 -- this node, a master, and the owner in its table
 abbrev master : ℕ → ℕ → Standing
-master node owner = record { node = node; is_replica = false; owner = Some owner }
+master node owner = record { node = node; is_replica = false; is_paused = false; owner = Some owner }
 
 -- move 7 at its two ends, as it begins
 abbrev at_source : Move
@@ -47,7 +47,7 @@ import_from_itself = refl
 import_of_old : import_verdict (master 1 2) None 7 (Some 2) (Some 7) ≡ importing.OldMove
 import_of_old = refl
 
-import_at_replica : import_verdict (record { node = 4; is_replica = true; owner = Some 2 }) None 6 (Some 2) (Some 7) ≡ importing.NotOwner
+import_at_replica : import_verdict (record { node = 4; is_replica = true; is_paused = false; owner = Some 2 }) None 6 (Some 2) (Some 7) ≡ importing.NotOwner
 import_at_replica = refl
 
 -- behind the greatest number there is none

@@ -3,7 +3,7 @@ use Rattle.std.specs.Prelude.{ℕ, ◌==◌, ◌&&◌, if◌then◌else◌, Opti
 use Rattle.slot_state.specs.Moves.{Moves, begun}
 use Rattle.slot_state.specs.Numbers.{new_number, is_named}
 use Rattle.slot_state.specs.declared.importing.ImportVerdict.{ImportVerdict}
-use Rattle.slot_state.specs.declared.importing.ImportVerdict.TheVariants.{UnknownNode, Already, Busy, AlreadyOwner, NotOwner, OldMove, Begins}
+use Rattle.slot_state.specs.declared.importing.ImportVerdict.TheVariants.{UnknownNode, HandingOver, Already, Busy, AlreadyOwner, NotOwner, OldMove, Begins}
 use Rattle.slot_state.specs.declared.order.Standing.{Standing}
 use Rattle.slot_state.specs.declared.running.Move.{Move}
 use Rattle.slot_state.specs.declared.running.Move.TheVariants.{Leaves, Comes}
@@ -31,7 +31,7 @@ abbrev pub import_verdict : Standing → Option Move → ℕ → Option ℕ → 
 import_verdict at move last None asked = UnknownNode
 import_verdict at move last (Some from) asked =
     if from == at.node then UnknownNode
-    else (if at.is_replica then NotOwner else import_beside at move last from asked)
+    else (if at.is_replica then NotOwner else (if at.is_paused then HandingOver else import_beside at move last from asked))
 
 -- an import begins with no copy, and not drained
 abbrev pub after_import : Moves → ℕ → ImportVerdict → Moves

@@ -3,7 +3,7 @@ use Rattle.std.specs.Prelude.{ℕ, ◌==◌, ◌&&◌, if◌then◌else◌, Opti
 use Rattle.slot_state.specs.Moves.{Moves, begun}
 use Rattle.slot_state.specs.Numbers.{new_number, is_named}
 use Rattle.slot_state.specs.declared.migrating.MigrateVerdict.{MigrateVerdict}
-use Rattle.slot_state.specs.declared.migrating.MigrateVerdict.TheVariants.{UnknownNode, Already, Busy, NotOwner, OldMove, Begins}
+use Rattle.slot_state.specs.declared.migrating.MigrateVerdict.TheVariants.{UnknownNode, HandingOver, Already, Busy, NotOwner, OldMove, Begins}
 use Rattle.slot_state.specs.declared.order.Standing.{Standing}
 use Rattle.slot_state.specs.declared.running.Move.{Move}
 use Rattle.slot_state.specs.declared.running.Move.TheVariants.{Leaves, Comes}
@@ -29,7 +29,7 @@ abbrev pub migrate_verdict : Standing → Option Move → ℕ → Option ℕ →
 migrate_verdict at move last None asked = UnknownNode
 migrate_verdict at move last (Some to) asked =
     if to == at.node then UnknownNode
-    else (if at.is_replica then NotOwner else migrate_beside at move last to asked)
+    else (if at.is_replica then NotOwner else (if at.is_paused then HandingOver else migrate_beside at move last to asked))
 
 -- a migration begins with no copy and no frozen key
 abbrev pub after_migrate : Moves → ℕ → MigrateVerdict → Moves

@@ -2,6 +2,7 @@
 use Rattle.std.specs.Prelude.{ℕ, List, Option, unwrap_or}
 use Rattle.std.specs.FinMap as map
 use Rattle.std.specs.Ordering.{nat_cmp}
+use Rattle.slot_state.specs.declared.copy_id.CopyId.{CopyId}
 use Rattle.slot_state.specs.declared.running.Move.{Move}
 
 -- by their slots the moves that the node takes part in, and the greatest number of a move that it took part in
@@ -39,6 +40,10 @@ ended moves slot = record moves { running = map.remove moves.running slot }
 -- the move of the slot is another one now, and its number stays
 abbrev pub changed : Moves → ℕ → Move → Moves
 changed moves slot move = record moves { running = map.insert moves.running slot move }
+
+-- which copy of keys that is
+abbrev pub copy_id : ℕ → ℕ → ℕ → CopyId
+copy_id slot number copy = record { slot = slot; number = number; copy = copy }
 
 -- the moves that are under way, by rising slot
 abbrev pub running_moves : Moves → List (ℕ × Move)

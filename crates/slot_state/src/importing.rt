@@ -16,6 +16,8 @@ pub enum ImportVerdict {
     UnknownNode,
     /// The slot is already imported from that node, under the number asked for.
     Already,
+    /// This node hands its slots over to a replica.
+    HandingOver,
     /// Another move of the slot is under way.
     Busy,
     /// The slot is this node's own.
@@ -50,6 +52,9 @@ pub(crate) fn import_verdict(
     }
     if at.is_replica {
         return ImportVerdict::NotOwner;
+    }
+    if at.is_paused {
+        return ImportVerdict::HandingOver;
     }
     match running {
         Some(

@@ -1,6 +1,7 @@
 //! What a node does with each of the 16384 slots: it serves them, leaves them to their owner, or takes part in their moves.
 #![tactic(auto)]
 
+mod copy_id;
 mod ending;
 mod importing;
 mod keys;
@@ -11,6 +12,7 @@ mod running;
 mod slot_moves;
 mod state;
 
+pub use copy_id::CopyId;
 pub use ending::{NodeVerdict, epoch_after_import};
 pub use importing::ImportVerdict;
 pub use key_slot::MoveNo;

@@ -16,6 +16,8 @@ pub enum MigrateVerdict {
     UnknownNode,
     /// The slot already migrates to that node, under the number asked for.
     Already,
+    /// This node hands its slots over to a replica.
+    HandingOver,
     /// Another move of the slot is under way.
     Busy,
     /// The slot isn't this node's, or this node is a replica.
@@ -48,6 +50,9 @@ pub(crate) fn migrate_verdict(
     }
     if at.is_replica {
         return MigrateVerdict::NotOwner;
+    }
+    if at.is_paused {
+        return MigrateVerdict::HandingOver;
     }
     match running {
         Some(

@@ -20,6 +20,8 @@ pub struct Standing {
     pub node: NodeNo,
     /// The node is a replica.
     pub is_replica: bool,
+    /// The node is a master that hands its slots over to a replica.
+    pub is_paused: bool,
     /// The owner of the slot in the node's table.
     pub owner: Option<NodeNo>,
 }

@@ -1,5 +1,5 @@
 //! The moves of slots at a node.
-ghost use Rattle.std.specs.Prelude.{◌≡◌, ◌<◌, ◌^◌, ℕ, length, None, IfOk, OnOk, OnErr};
+ghost use Rattle.std.specs.Prelude.{◌≡◌, ◌<◌, ◌==◌, ◌^◌, ℕ, length, None, IfOk, OnOk, OnErr};
 ghost use Rattle.std.specs.Borrow.{sem};
 ghost use Rattle.std.specs.FinMap as map;
 ghost use Rattle.std.specs.Map.Iter.{ShowsInOrder, deref_pair};
@@ -80,6 +80,13 @@ impl SlotMoves {
         ensures fits { length (running_moves self.now) < 2 ^ 63 }
     {
         self.running.iter()
+    }
+
+    /// Whether the node takes part in no move. It takes no memory.
+    pub fn are_none(&self) -> bool
+        ensures { result ≡ (map.len self.now.running == 0) }
+    {
+        self.running.len() == 0
     }
 
     /// The greatest number of a move of the slot that the node took part in; 0 before the first. It takes no memory.

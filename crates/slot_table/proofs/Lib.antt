@@ -5,3 +5,4 @@ pub mod MergeLemmas
 pub mod JoinLemmas
 pub mod SameLemmas
 pub mod RememberedLemmas
+pub mod EpochLemmas

@@ -31,6 +31,10 @@ abbrev pub claimed : List (Run ℕ) → ℕ → ℕ → Option SlotEntry
 claimed [] owner slot = None
 claimed (run ∷ runs) owner slot = if is_in run.slots slot then Some (record { epoch = run.value; owner = owner }) else claimed runs owner slot
 
+-- the claim to the same slots, each of them in that epoch
+abbrev pub in_epoch : ℕ → List (Run ℕ) → List (Run ℕ)
+in_epoch epoch claim = map (λ (run : Run ℕ). record { slots = run.slots; value = epoch }) claim
+
 -- the slots that the claim takes, in rising order
 unfoldable pub taken : List (Option SlotEntry) → List (Run ℕ) → ℕ → List ℕ
 taken table claim owner = filter (λ slot. is_taken (entry_at table slot) (claimed claim owner slot)) (range_with_len 0 16384)

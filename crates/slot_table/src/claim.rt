@@ -1,6 +1,6 @@
 //! What a node claims.
 ghost use Rattle.std.specs.Prelude.{◌≡◌, IfOk};
-ghost use Rattle.slot_table.specs.Claims.{IsRising};
+ghost use Rattle.slot_table.specs.Claims.{IsRising, in_epoch};
 
 use crate::entry::Epoch;
 use crate::runs::Run;
@@ -52,6 +52,32 @@ impl Claim {
     {
         self.runs.as_slice()
     }
+
+    /// The claim to the same slots, each of them in that epoch.
+    pub fn in_epoch(&self, alloc: Global, epoch: Epoch) -> Result<Claim, AllocError>
+        ensures { IfOk result (λ claim. claim ≡ in_epoch epoch self.now) }
+    {
+        let runs = runs_in_epoch(alloc, self.runs(), epoch)?;
+        Claim::new(alloc, runs)
+    }
+}
+
+// The runs, each of them with that epoch.
+fn runs_in_epoch(
+    alloc: Global,
+    claim: &[Run<Epoch>],
+    epoch: Epoch,
+) -> Result<Vec<Run<Epoch>>, AllocError>
+    ensures { IfOk result (λ runs. runs.items ≡ in_epoch epoch claim.now) }
+{
+    let mut runs = Vec::with_capacity(alloc, claim.len())?;
+    for run in claim {
+        runs.push(Run {
+            slots: run.slots,
+            value: epoch,
+        })?;
+    }
+    Ok(runs)
 }
 
 impl Clone for Claim {

@@ -40,6 +40,10 @@ pub record StreamView : Type 0 where
   pub partial : List ℕ
   pub former : Option Base
 
+-- it has no beginning of a write past them
+abbrev pub is_whole : StreamView → Bool
+is_whole stream = length stream.partial == 0
+
 -- where what it received ends
 abbrev pub received : StreamView → ℕ
 received stream = end_of stream.held

@@ -2,14 +2,12 @@
 #![tactic(auto)]
 
 mod answer;
-mod pairs;
 mod piece;
 mod snapshot;
 mod stream_id;
 mod sync;
 
 pub use answer::{MOST_PIECE_BYTES, SyncAnswer};
-pub use pairs::{Pair, Pairs};
 pub use piece::Piece;
 pub use snapshot::Snapshot;
 pub use stream_id::{Base, StreamId};

@@ -1,8 +1,8 @@
 //! A whole keyspace, and the place in a stream that it is of.
 ghost use Rattle.std.specs.Prelude.{◌≡◌};
 
-use crate::pairs::Pairs;
 use crate::stream_id::StreamId;
+use keyspace::Pairs;
 use std::alloc::AllocError;
 
 /// What a stream's writes up to an offset leave. A copy shares the pairs.

@@ -1,3 +1,4 @@
+pub mod Agreeing
 pub mod Following
 pub mod Laws
 pub mod Places

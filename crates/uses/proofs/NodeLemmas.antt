@@ -77,31 +77,31 @@ still_fresh state conn is =
 
 -- ---- the decision
 
-abbrev asked_one : List ℕ → Bool → Asked
-asked_one key there = record { keys = key ∷ []; there = there ∷ []; asking = No }
+abbrev asked_one : List ℕ → Bool → Bool → Asked
+asked_one key paused there = record { keys = key ∷ []; there = there ∷ []; asking = No; paused = paused }
 
 -- in a slot that leaves, a key that is served is served once it is there
-leaving_still : (elsewhere : Decision) (frozen : Option (List (List ℕ))) (key : List ℕ) (there : Bool) → leaving elsewhere frozen (asked_one key there) ≡ Serve
-    → leaving elsewhere frozen (asked_one key true) ≡ Serve
-leaving_still elsewhere frozen key true serves = serves
-leaving_still elsewhere frozen key false serves = by (is_frozen frozen (key ∷ [])) serves
+leaving_still : (elsewhere : Decision) (frozen : Option (List (List ℕ))) (key : List ℕ) (paused there : Bool) → leaving elsewhere frozen (asked_one key paused there) ≡ Serve
+    → leaving elsewhere frozen (asked_one key paused true) ≡ Serve
+leaving_still elsewhere frozen key paused true serves = serves
+leaving_still elsewhere frozen key paused false serves = by (is_frozen frozen (key ∷ [])) serves
   where
     by : (held : Bool) → (if held then TryAgain Frozen else elsewhere) ≡ Serve → (if held then TryAgain Frozen else Serve) ≡ Serve
     by true serves = serves
     by false serves = refl
 
-in_slot_still : (slot : ℕ) (owner : Option ℕ) (state : SlotState Move) (key : List ℕ) (there : Bool) → in_slot slot owner state (asked_one key there) ≡ Serve
-    → in_slot slot owner state (asked_one key true) ≡ Serve
-in_slot_still slot owner Owned key there serves = serves
-in_slot_still slot owner Foreign key there serves = serves
-in_slot_still slot owner (Moving (Comes from number last drained)) key there serves = serves
-in_slot_still slot None (Moving (Leaves to number copies frozen)) key there serves = serves
-in_slot_still slot (Some owner) (Moving (Leaves to number copies frozen)) key there serves = leaving_still (Ask slot to number) frozen key there serves
+in_slot_still : (slot : ℕ) (owner : Option ℕ) (state : SlotState Move) (key : List ℕ) (paused there : Bool) → in_slot slot owner state (asked_one key paused there) ≡ Serve
+    → in_slot slot owner state (asked_one key paused true) ≡ Serve
+in_slot_still slot owner Owned key paused there serves = serves
+in_slot_still slot owner Foreign key paused there serves = serves
+in_slot_still slot owner (Moving (Comes from number last drained)) key paused there serves = serves
+in_slot_still slot None (Moving (Leaves to number copies frozen)) key paused there serves = serves
+in_slot_still slot (Some owner) (Moving (Leaves to number copies frozen)) key paused there serves = leaving_still (Ask slot to number) frozen key paused there serves
 
-still_served : (table : List (Option SlotEntry)) (moves : Moves) (node : ℕ) (key : List ℕ) (there : Bool) → decision table moves node (asked_one key there) ≡ Serve
-    → decision table moves node (asked_one key true) ≡ Serve
-still_served table moves node key there serves =
-    in_slot_still (hash_slot key) (owner_at table (hash_slot key)) (state_at table moves node (hash_slot key)) key there serves
+still_served : (table : List (Option SlotEntry)) (moves : Moves) (node : ℕ) (key : List ℕ) (paused there : Bool) → decision table moves node (asked_one key paused there) ≡ Serve
+    → decision table moves node (asked_one key paused true) ≡ Serve
+still_served table moves node key paused there serves =
+    in_slot_still (hash_slot key) (owner_at table (hash_slot key)) (state_at table moves node (hash_slot key)) key paused there serves
 
 -- ---- the steps
 
@@ -151,10 +151,10 @@ set_is_got t0 t1 t2 s0 s1 s2 s3 conn key value o1 o2 o3 opens is_conn setting ge
     let set = answered t1 s1 s2 conn _ o2 (Set key value Always) setting refl opening.0 first in
     let there : map.get s2.keyspace key ≡ Some (Str value) = ap (λ (s : NodeState). map.get s.keyspace key) set.1 ∙ get_set s1.keyspace key (Str value) in
     let still : IsFresh s2 conn = subst (λ (s : NodeState). IsFresh s conn) (sym set.1) (still_fresh s1 conn opening.0) in
-    let served_then : decision s1.table s1.moves s1.number (asked_one key true) ≡ Serve = still_served s1.table s1.moves s1.number key _ first in
+    let served_then : decision s1.table s1.moves s1.number (asked_one key (is_some s1.paused) true) ≡ Serve = still_served s1.table s1.moves s1.number key (is_some s1.paused) _ first in
     let second : IsServedBy s2 (key ∷ []) =
-    ap (λ (s : NodeState). decision s.table s.moves s.number (asked_one key (is_some (map.get s2.keyspace key)))) set.1
-    ∙ ap (λ found. decision s1.table s1.moves s1.number (asked_one key (is_some found))) there ∙ served_then in
+    ap (λ (s : NodeState). decision s.table s.moves s.number (asked_one key (is_some s.paused) (is_some (map.get s2.keyspace key)))) set.1
+    ∙ ap (λ found. decision s1.table s1.moves s1.number (asked_one key (is_some s1.paused) (is_some found))) there ∙ served_then in
     let got = answered t2 s2 s3 conn _ o3 (Get key) getting refl still second in
     got.0 ∙ ap (λ found. served (string_reply found)) there
 

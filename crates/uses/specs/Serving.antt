@@ -13,7 +13,7 @@ use Rattle.redirect.specs.declared.decision.Decision.TheVariants.{Serve}
 
 -- a command with these keys on a connection that sent no ASKING
 abbrev pub asked_at : NodeState → List (List ℕ) → Asked
-asked_at state keys = record { keys = keys; there = map (λ key. is_some (fin_map.get state.keyspace key)) keys; asking = No }
+asked_at state keys = record { keys = keys; there = map (λ key. is_some (fin_map.get state.keyspace key)) keys; asking = No; paused = is_some state.paused }
 
 -- the node decides to serve such a command
 abbrev pub IsServedBy : NodeState → List (List ℕ) → Type 0

@@ -5,7 +5,7 @@ use Rattle.std.proofs.lemmas.Bool.{cases_eq, cond-true, cond-false}
 use Rattle.std.proofs.lemmas.List.{get_or-set_other}
 use Rattle.std.specs.Prelude.{MatchBool, Result, Ok, Err, ⊤}
 use Rattle.bus.specs.declared.message.Body.{Body}
-use Rattle.bus.specs.declared.message.Body.TheVariants.{Copy, Ack, Drained, Claim, Report, Request as Requested, Grant, Sync, Piece, Snapshot}
+use Rattle.bus.specs.declared.message.Body.TheVariants.{Copy, Ack, Drained, Claim, Report, Request as Requested, Grant, Sync, Piece, Snapshot, Pause, Paused}
 use Rattle.bus.specs.declared.message.Message.{Message}
 use Rattle.command_table.specs.Keys.{data_keys}
 use Rattle.command_table.specs.Table.{command_of}
@@ -33,13 +33,14 @@ use Rattle.redirect.specs.declared.asked.Asking.TheVariants.{No}
 use Rattle.redirect.specs.declared.decision.Decision.{Decision}
 use Rattle.redirect.specs.declared.decision.Decision.TheVariants.{Serve, ServeImport, CrossSlot, Down, TryAgain, Ask, Moved}
 use Rattle.redirect.specs.declared.decision.Reason.TheVariants.{SomeAreMissing}
-use Rattle.slot_state.specs.Moves.{Moves, move_of}
+use Rattle.slot_state.specs.Moves.{Moves, copy_id, move_of}
 use Rattle.slot_state.specs.declared.ending.NodeVerdict.{NodeVerdict}
 use Rattle.slot_state.specs.declared.ending.NodeVerdict.TheVariants as ending
 use Rattle.slot_state.specs.declared.running.Move.{Move}
 use Rattle.slot_state.specs.declared.running.Move.TheVariants.{Leaves as Goes, Comes}
 use Rattle.slot_state.specs.declared.state.SlotState.{SlotState}
 use Rattle.slot_state.specs.declared.state.SlotState.TheVariants.{Owned, Foreign, Moving}
+use Rattle.slot_state.specs.declared.copy_id.CopyId.{CopyId}
 use Rattle.slot_table.specs.Claims.{merged}
 use Rattle.slot_table.specs.declared.entry.SlotEntry.{SlotEntry}
 use Rattle.node_step.specs.Claiming.{claimed_by}
@@ -53,12 +54,12 @@ use Rattle.election.specs.declared.running.Elected.{Elected}
 use Rattle.node_step.proofs.Ready.{in_election_keeps, ready_keeps}
 use Rattle.node_step.specs.Failing.{a_tick_older, members_of}
 use Rattle.node_step.specs.Messages.{Choice, delivered, ready, taken, taken_so, written_by_message}
-use Rattle.node_step.specs.Promotion.{promotion}
+use Rattle.node_step.specs.Promotion.{handed_promotion, promotion, promotion_to, table_handed}
 use Rattle.node_step.specs.Voting.{due_epoch, if_elected}
 use Rattle.node_step.specs.Orders.{ending_outcome, ending_verdict}
 use Rattle.node_step.specs.Outcome.{Outcome, silent}
 use Rattle.node_step.specs.Requests.{asking_for, asking_of, by_command, cluster_outcome, is_numbered, node_with_id, order_outcome, request_outcome, using_up, with_asking}
-use Rattle.node_step.specs.State.{NodeState, own_master}
+use Rattle.node_step.specs.State.{Handover, NodeState, is_replica, own_master}
 use Rattle.node_step.specs.Step.{IsAnswering, IsClosing, IsOpening, MayCome, NodeStep, written}
 use Rattle.node_step.specs.Ticks.{slots_tick, tick}
 use Rattle.node_step.specs.declared.event.Event.{Event}
@@ -67,8 +68,10 @@ use Rattle.node_step.specs.declared.outputs.Outputs.{Outputs}
 use Rattle.node_step.specs.declared.response.Answer.{Answer}
 use Rattle.node_step.specs.declared.response.Response.{Response}
 use Rattle.node_step.specs.declared.response.Response.TheVariants.{Nothing, Opened, Replied, Parked}
-use Rattle.stream_values.specs.Stream.{StreamView}
+use Rattle.stream_values.specs.Stream.{StreamView, is_same}
 use Rattle.world_run.specs.Executed.{decision_in}
+use Rattle.node_step.specs.Handovers.{failover, handing_over, is_at_end, may_pause, noting}
+use Rattle.bus.specs.declared.message.Handing.{Handing}
 
 -- the connection allows its next request what it did, or nothing any more
 abbrev pub IsCalm : Asking → Asking → Type 0
@@ -283,14 +286,18 @@ copy_stays node conn slot keys ticks copies.CopyOutstanding = still refl refl
 copy_stays node conn slot keys ticks copies.Exhausted = still refl refl
 copy_stays node conn slot keys ticks (copies.SendAgain to number copy) = record {
   config = refl;
-  opens = same_opens node.connections conn (waiting_for slot number copy ticks) (λ connection. refl);
-  asking = same_asking node.connections conn (waiting_for slot number copy ticks) (λ connection. refl) (λ connection. refl);
+  opens = same_opens node.connections conn (waiting_for (copy_id slot number copy) ticks) (λ connection. refl);
+  asking = same_asking node.connections conn (waiting_for (copy_id slot number copy) ticks) (λ connection. refl) (λ connection. refl);
 }
 copy_stays node conn slot keys ticks (copies.Copies to number copy) = record {
   config = refl;
-  opens = same_opens node.connections conn (waiting_for slot number copy ticks) (λ connection. refl);
-  asking = same_asking node.connections conn (waiting_for slot number copy ticks) (λ connection. refl) (λ connection. refl);
+  opens = same_opens node.connections conn (waiting_for (copy_id slot number copy) ticks) (λ connection. refl);
+  asking = same_asking node.connections conn (waiting_for (copy_id slot number copy) ticks) (λ connection. refl) (λ connection. refl);
 }
+
+failover_stays : (node : NodeState) (master : Option ℕ) → Stays node (failover node master).state
+failover_stays node None = still refl refl
+failover_stays node (Some master) = still refl refl
 
 -- the state after a command: all connections allow what they did, or the command was ASKING
 abbrev IsAfter : NodeState → Conn → Result Command CommandFault → NodeState → Type 0
@@ -309,6 +316,7 @@ cluster_after node conn cluster.Numbered = inl (record {
   opens = same_opens node.connections conn (λ connection. record connection { numbered = true }) (λ connection. refl);
   asking = same_asking node.connections conn (λ connection. record connection { numbered = true }) (λ connection. refl) (λ connection. refl);
 })
+cluster_after node conn cluster.Failover = inl (failover_stays node (own_master node))
 cluster_after node conn (cluster.Asking number) = inr (number, refl, refl)
 cluster_after node conn (cluster.Migrate host port keys timeout) = inl (copy_stays node conn (first_slot keys) (those_there node.keyspace keys) timeout (copy_verdict_on node keys (node_at node host port)))
 
@@ -408,13 +416,13 @@ stays_beside : {old : NodeState} (new : NodeState) (stream : StreamView) (keyspa
 stays_beside new stream keyspace stays = record { config = stays.config; opens = stays.opens; asking = stays.asking }
 
 -- what any message tells bears on no connection, and what is taken then
-module _ (node : NodeState) (from epoch : ℕ) (masters : List (Option ℕ)) (health : Health) (candidate : Candidate) (choice : Choice) where
+module _ (node : NodeState) (from epoch : ℕ) (masters : List (Option ℕ)) (health : Health) (candidate : Candidate) (handover : Handover) (choice : Choice) where
   abbrev heard : NodeState
-  heard = record node { current_epoch = epoch; masters = masters; health = health; candidate = candidate }
+  heard = record node { current_epoch = epoch; masters = masters; health = health; candidate = candidate; handover = handover }
 
-  acknowledged_stays : (slot number copy : ℕ) (keys : Option (List (List ℕ))) → Stays node (acknowledged heard slot number copy keys).state
-  acknowledged_stays slot number copy None = still refl refl
-  acknowledged_stays slot number copy (Some keys) = record { config = refl; opens = refl; asking = all_freed_asking node.connections _ }
+  acknowledged_stays : (id : CopyId) (keys : Option (List (List ℕ))) → Stays node (acknowledged heard id keys).state
+  acknowledged_stays id None = still refl refl
+  acknowledged_stays id (Some keys) = record { config = refl; opens = refl; asking = all_freed_asking node.connections _ }
 
   claim_stays : (is_own : Bool) (table : List (Option SlotEntry)) → Stays node (cond is_own (silent heard) (claimed_by heard table)).state
   claim_stays true table = still refl refl
@@ -422,15 +430,37 @@ module _ (node : NodeState) (from epoch : ℕ) (masters : List (Option ℕ)) (he
 
   elected_stays : (counted : Candidate) (won : Option Elected) → Stays node (if_elected (record heard { candidate = counted }) won).state
   elected_stays counted None = still refl refl
-  elected_stays counted (Some elected) = by_master (own_master heard)
+  elected_stays counted (Some elected) = by_plan counted.planned
     where
       by_master : (master : Option ℕ) → Stays node (promotion (record heard { candidate = counted }) elected.epoch master).state
       by_master None = still refl refl
       by_master (Some master) = still refl refl
 
+      handed : (master : Option ℕ) (told : Option Handing) → Stays node (handed_promotion (record heard { candidate = counted }) elected.epoch master told).state
+      handed None told = still refl refl
+      handed (Some master) None = still refl refl
+      handed (Some master) (Some handing) = by_place (is_at_end node.stream (Some handing))
+        where
+          by_place : (b : Bool) → Stays node (cond b (promotion_to (record heard { candidate = counted }) master elected.epoch true (table_handed (record heard { candidate = counted }) handing.slots elected.epoch))
+              (silent (record heard { candidate = counted }))).state
+          by_place true = still refl refl
+          by_place false = still refl refl
+
+      by_plan : (planned : Bool) → Stays node (cond planned (handed_promotion (record heard { candidate = counted }) elected.epoch (own_master heard) handover.note) (promotion (record heard { candidate = counted }) elected.epoch (own_master heard))).state
+      by_plan true = handed (own_master heard) handover.note
+      by_plan false = by_master (own_master heard)
+
+  pause_stays : (b : Bool) → Stays node (cond b (handing_over heard from) (silent heard)).state
+  pause_stays true = still refl refl
+  pause_stays false = still refl refl
+
+  noting_stays : (handing : Handing) (b : Bool) → Stays node (cond b (record heard { handover = noting handover handing }) heard)
+  noting_stays handing true = still refl refl
+  noting_stays handing false = still refl refl
+
   taken_so_stays : (body : Body) → Stays node (taken_so heard from choice body).state
-  taken_so_stays (Copy slot number copy pairs) = still refl refl
-  taken_so_stays (Ack slot number copy) = acknowledged_stays slot number copy (acknowledged_keys (move_of node.moves slot) from number copy)
+  taken_so_stays (Copy id pairs) = still refl refl
+  taken_so_stays (Ack id) = acknowledged_stays id (acknowledged_keys (move_of node.moves id.slot) from id.number id.copy)
   taken_so_stays (Drained slot number epoch) = still refl refl
   taken_so_stays (Claim slots replaced) = claim_stays (from == node.number) (merged node.table slots from)
   taken_so_stays (Report suspects) = still refl refl
@@ -439,6 +469,8 @@ module _ (node : NodeState) (from epoch : ℕ) (masters : List (Option ℕ)) (he
   taken_so_stays (Sync sync) = synced_is (λ (o : Outcome). Stays node o.state) heard from sync (still refl refl) (still refl refl)
   taken_so_stays (Piece piece) = pieced_keeps (Stays node) heard (λ stream keyspace. still refl refl) from piece choice.follower
   taken_so_stays (Snapshot snapshot) = restored_keeps (Stays node) heard (λ stream keyspace. still refl refl) from snapshot
+  taken_so_stays (Pause stream) = pause_stays (may_pause heard from stream)
+  taken_so_stays (Paused handing) = noting_stays handing (is_replica heard && is_same handing.stream heard.stream.held.id)
 
   taken_stays : (body : Body) → Stays node (taken heard from choice body).state
   taken_stays body =
@@ -451,14 +483,14 @@ delivered_stays node message choice = by_node (message.to == node.number)
     by_node : (is_here : Bool) → Stays node (cond is_here (taken (ready node message) message.from choice message.body) (silent node)).state
     by_node true =
         ready_keeps (λ (own : NodeState). Stays node (taken own message.from choice message.body).state) node message
-        (λ epoch masters health candidate as_before goes. taken_stays node message.from epoch masters health candidate choice message.body)
+        (λ epoch masters health candidate handover as_before goes. taken_stays node message.from epoch masters health candidate handover choice message.body)
     by_node false = still refl refl
 
 tick_stays : (node : NodeState) → Stays node (tick node).state
 tick_stays node =
     let aged = a_tick_older (slots_tick node).state in
     in_election_keeps (Stays node) aged (due_epoch aged)
-    (λ current candidate. record {
+    (λ current candidate handover. record {
       config = refl;
       opens = refl;
       asking = λ conn. all_aged_asking (all_freed node.connections is_over) conn ∙ all_freed_asking node.connections is_over conn;
@@ -602,7 +634,7 @@ slot_allowed slot (Some owner) (Moving (Goes to move copies frozen)) asked numbe
     (either (IsAllowed asked.asking number) (all_there asked) _ _ (λ same. absurd (cc))
     (either (IsAllowed asked.asking number) (none_there asked) _ _ (λ same. absurd (cc)) (λ same. absurd (cc))))
 slot_allowed slot None Owned asked number = λ same. absurd (cc)
-slot_allowed slot (Some owner) Owned asked number = λ same. absurd (cc)
+slot_allowed slot (Some owner) Owned asked number = either (IsAllowed asked.asking number) asked.paused _ _ (λ same. absurd (cc)) (λ same. absurd (cc))
 slot_allowed slot owner Foreign asked number = owner_allowed asked.asking number slot owner
 
 keys_allowed : (table : List (Option SlotEntry)) (moves : Moves) (node : ℕ) (keys : List (List ℕ)) (asked : Asked) (number : ℕ) → IsAllowed asked.asking number (by_keys table moves node keys asked)
@@ -655,6 +687,10 @@ module _ (asking : Asking) (number : ℕ) where
   copy_allowed node conn slot keys ticks (copies.SendAgain to move copy) = tt
   copy_allowed node conn slot keys ticks (copies.Copies to move copy) = tt
 
+  failover_allowed : (node : NodeState) (master : Option ℕ) → Allows (failover node master).response
+  failover_allowed node None = λ is. absurd (no_some refl is)
+  failover_allowed node (Some master) = λ is. absurd (no_some refl is)
+
   cluster_allowed : (node : NodeState) (conn : Conn) (command : ClusterCommand) → Allows (cluster_outcome node conn command).response
   cluster_allowed node conn (cluster.KeySlot key) = λ is. absurd (no_some refl is)
   cluster_allowed node conn cluster.MyId = λ is. absurd (no_some refl is)
@@ -664,6 +700,7 @@ module _ (asking : Asking) (number : ℕ) where
   cluster_allowed node conn (cluster.SlotState slot) = λ is. absurd (no_some refl is)
   cluster_allowed node conn (cluster.SetSlot slot order id move) = order_allowed node slot order (node_with_id node id) move
   cluster_allowed node conn cluster.Numbered = λ is. absurd (no_some refl is)
+  cluster_allowed node conn cluster.Failover = failover_allowed node (own_master node)
   cluster_allowed node conn (cluster.Asking move) = λ is. absurd (no_some refl is)
   cluster_allowed node conn (cluster.Migrate host port keys timeout) = copy_allowed node conn (first_slot keys) (those_there node.keyspace keys) timeout (copy_verdict_on node keys (node_at node host port))
 

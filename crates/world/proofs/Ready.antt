@@ -1,10 +1,10 @@
 -- Which connections a node takes a request of, from step to step: those that are open and wait for no reply.
-use Rattle.std.proofs.Common.{◌≡◌, ◌≢◌, ◌⊎◌, ◌==◌, ◌+◌, ◌<◌, length, ℕ, zero, suc, List, [], ◌∷◌, Bool, true, false, true≢false, cond, Contains, map, Option, Some, None, is_none, is_some, get_or, refl, sym, ap, subst, ◌∙◌, inl, inr, arith}
+use Rattle.std.proofs.Common.{◌&&◌, ◌≡◌, ◌≢◌, ◌⊎◌, ◌==◌, ◌+◌, ◌<◌, length, ℕ, zero, suc, List, [], ◌∷◌, Bool, true, false, true≢false, cond, Contains, map, Option, Some, None, is_none, is_some, get_or, refl, sym, ap, subst, ◌∙◌, inl, inr, arith}
 use Rattle.std.proofs.Math.ListN.{get_or-map}
 use Rattle.std.proofs.lemmas.Bool.{cases_eq, cases_Bool, cond-true, cond-false}
 use Rattle.std.specs.Prelude.{MatchBool, Result, Ok, Err, ⊤}
 use Rattle.bus.specs.declared.message.Body.{Body}
-use Rattle.bus.specs.declared.message.Body.TheVariants.{Copy, Ack, Drained, Claim, Report, Request as Requested, Grant, Sync, Piece, Snapshot}
+use Rattle.bus.specs.declared.message.Body.TheVariants.{Copy, Ack, Drained, Claim, Report, Request as Requested, Grant, Sync, Piece, Snapshot, Pause, Paused}
 use Rattle.bus.specs.declared.message.Message.{Message}
 use Rattle.command_table.specs.Table.{command_of}
 use Rattle.command_table.specs.declared.command.ClusterCommand.{ClusterCommand}
@@ -25,9 +25,10 @@ use Rattle.migrate.specs.declared.sending.CopyVerdict.TheVariants as copies
 use Rattle.redirect.specs.declared.asked.Asking.TheVariants.{No}
 use Rattle.redirect.specs.declared.decision.Decision.{Decision}
 use Rattle.redirect.specs.declared.decision.Decision.TheVariants.{Serve, ServeImport, CrossSlot, Down, TryAgain, Ask, Moved}
-use Rattle.slot_state.specs.Moves.{move_of}
+use Rattle.slot_state.specs.Moves.{copy_id, move_of}
 use Rattle.slot_state.specs.declared.ending.NodeVerdict.{NodeVerdict}
 use Rattle.slot_state.specs.declared.ending.NodeVerdict.TheVariants as ending
+use Rattle.slot_state.specs.declared.copy_id.CopyId.{CopyId}
 use Rattle.slot_table.specs.Claims.{merged}
 use Rattle.node_step.specs.Claiming.{claimed_by}
 use Rattle.node_step.specs.Commands.{command_outcome, decision_on}
@@ -39,12 +40,12 @@ use Rattle.election.specs.declared.running.Elected.{Elected}
 use Rattle.node_step.proofs.Ready.{in_election_keeps, ready_keeps}
 use Rattle.node_step.specs.Failing.{a_tick_older, members_of}
 use Rattle.node_step.specs.Messages.{Choice, delivered, ready, taken, taken_so, written_by_message}
-use Rattle.node_step.specs.Promotion.{promotion}
+use Rattle.node_step.specs.Promotion.{handed_promotion, promotion, promotion_to, table_handed}
 use Rattle.node_step.specs.Voting.{asked_for_vote, due_epoch, if_elected, request_of}
 use Rattle.node_step.specs.Orders.{ending_outcome, ending_verdict}
 use Rattle.node_step.specs.Outcome.{Outcome, release, silent}
 use Rattle.node_step.specs.Requests.{asking_for, asking_of, by_command, cluster_outcome, is_numbered, node_with_id, order_outcome, request_outcome, using_up}
-use Rattle.node_step.specs.State.{NodeState, own_master}
+use Rattle.node_step.specs.State.{Handover, NodeState, is_replica, own_master}
 use Rattle.node_step.specs.Step.{IsAnswering, IsClosing, IsOpening, MayCome, NodeStep, written}
 use Rattle.node_step.specs.Streams.{Requests, recorded}
 use Rattle.node_step.specs.Ticks.{slots_tick, tick}
@@ -58,6 +59,9 @@ use Rattle.resp_values.specs.declared.reply.Reply.{Reply}
 use Rattle.single_keyspace.proofs.Lists.{contains_nothing, from_map}
 use Rattle.slot_table.specs.declared.entry.SlotEntry.{SlotEntry}
 use Rattle.world.proofs.Connected.{cases_conn, changed, changed_here, found_with, is_not_with, is_with, same_conn, unchanged_there}
+use Rattle.node_step.specs.Handovers.{failover, handing_over, is_at_end, may_pause, noting}
+use Rattle.bus.specs.declared.message.Handing.{Handing}
+use Rattle.stream_values.specs.Stream.{is_same}
 
 -- the node takes a request of the connection
 abbrev pub may_at : ConnectionTable → Conn → Bool
@@ -238,11 +242,11 @@ order_keeps node conn slot Importing named number other free may = may
 order_keeps node conn slot Migrating named number other free may = may
 order_keeps node conn slot Node named number other free may = ending_keeps node conn slot (ending_verdict node slot named number) other free may
 
-parked_keeps : (node : NodeState) (conn : Conn) (slot number copy ticks : ℕ) (other : Conn) → IsFree conn Parked other → may_at node.connections other ≡ true
-    → may_at (with_change node.connections conn (waiting_for slot number copy ticks)) other ≡ true
-parked_keeps node conn slot number copy ticks other (inl apart) may =
-    ap may_ask (unchanged_there node.connections conn (waiting_for slot number copy ticks) (λ connection. refl) other apart) ∙ may
-parked_keeps node conn slot number copy ticks other (inr replied) may = absurd replied
+parked_keeps : (node : NodeState) (conn : Conn) (id : CopyId) (ticks : ℕ) (other : Conn) → IsFree conn Parked other → may_at node.connections other ≡ true
+    → may_at (with_change node.connections conn (waiting_for id ticks)) other ≡ true
+parked_keeps node conn id ticks other (inl apart) may =
+    ap may_ask (unchanged_there node.connections conn (waiting_for id ticks) (λ connection. refl) other apart) ∙ may
+parked_keeps node conn id ticks other (inr replied) may = absurd replied
 
 copy_keeps : (node : NodeState) (conn : Conn) (slot : ℕ) (keys : List (List ℕ)) (ticks : ℕ) (verdict : CopyVerdict) → Keeps conn node (copy_outcome node conn slot keys ticks verdict)
 copy_keeps node conn slot keys ticks copies.CrossSlot other free may = may
@@ -250,8 +254,12 @@ copy_keeps node conn slot keys ticks copies.WrongTarget other free may = may
 copy_keeps node conn slot keys ticks copies.NoKey other free may = may
 copy_keeps node conn slot keys ticks copies.CopyOutstanding other free may = may
 copy_keeps node conn slot keys ticks copies.Exhausted other free may = may
-copy_keeps node conn slot keys ticks (copies.SendAgain to number copy) other free may = parked_keeps node conn slot number copy ticks other free may
-copy_keeps node conn slot keys ticks (copies.Copies to number copy) other free may = parked_keeps node conn slot number copy ticks other free may
+copy_keeps node conn slot keys ticks (copies.SendAgain to number copy) other free may = parked_keeps node conn (copy_id slot number copy) ticks other free may
+copy_keeps node conn slot keys ticks (copies.Copies to number copy) other free may = parked_keeps node conn (copy_id slot number copy) ticks other free may
+
+failover_keeps : (node : NodeState) (conn : Conn) (master : Option ℕ) → Keeps conn node (failover node master)
+failover_keeps node conn None other free may = may
+failover_keeps node conn (Some master) other free may = may
 
 cluster_keeps : (node : NodeState) (conn : Conn) (command : ClusterCommand) → Keeps conn node (cluster_outcome node conn command)
 cluster_keeps node conn (cluster.KeySlot key) other free may = may
@@ -263,6 +271,7 @@ cluster_keeps node conn (cluster.SlotState slot) other free may = may
 cluster_keeps node conn (cluster.SetSlot slot order id number) other free may = order_keeps node conn slot order (node_with_id node id) number other free may
 cluster_keeps node conn cluster.Numbered other free may =
     changed_may node.connections conn (λ connection. record connection { numbered = true }) (λ connection. refl) (λ connection. refl) other ∙ may
+cluster_keeps node conn cluster.Failover other free may = failover_keeps node conn (own_master node) other free may
 cluster_keeps node conn (cluster.Asking number) other free may =
     changed_may node.connections conn (λ connection. record connection { asking = asking_for number }) (λ connection. refl) (λ connection. refl) other ∙ may
 cluster_keeps node conn (cluster.Migrate host port keys timeout) other free may = copy_keeps node conn (first_slot keys) (those_there node.keyspace keys) timeout (copy_verdict_on node keys (node_at node host port)) other free may
@@ -300,6 +309,10 @@ copy_frees node conn slot keys ticks copies.Exhausted = refl
 copy_frees node conn slot keys ticks (copies.SendAgain to number copy) = refl
 copy_frees node conn slot keys ticks (copies.Copies to number copy) = refl
 
+failover_frees : (node : NodeState) (master : Option ℕ) → (failover node master).released ≡ []
+failover_frees node None = refl
+failover_frees node (Some master) = refl
+
 cluster_frees : (node : NodeState) (conn : Conn) (command : ClusterCommand) → (cluster_outcome node conn command).released ≡ []
 cluster_frees node conn (cluster.KeySlot key) = refl
 cluster_frees node conn cluster.MyId = refl
@@ -309,6 +322,7 @@ cluster_frees node conn (cluster.GetKeysInSlot slot count) = refl
 cluster_frees node conn (cluster.SlotState slot) = refl
 cluster_frees node conn (cluster.SetSlot slot order id number) = order_frees node slot order (node_with_id node id) number
 cluster_frees node conn cluster.Numbered = refl
+cluster_frees node conn cluster.Failover = failover_frees node (own_master node)
 cluster_frees node conn (cluster.Asking number) = refl
 cluster_frees node conn (cluster.Migrate host port keys timeout) = copy_frees node conn (first_slot keys) (those_there node.keyspace keys) timeout (copy_verdict_on node keys (node_at node host port))
 
@@ -359,9 +373,9 @@ same_ready event old outcome same none = record {
 silent_ready : (event : Event) (old : NodeState) (outcome : Outcome) → outcome ≡ silent old → KeepsReady event old outcome
 silent_ready event old outcome is = subst (KeepsReady event old) (sym is) (same_ready event old (silent old) refl refl)
 
-acknowledged_ready : (event : Event) (old node : NodeState) (slot number copy : ℕ) (keys : Option (List (List ℕ))) → node.connections ≡ old.connections → KeepsReady event old (acknowledged node slot number copy keys)
-acknowledged_ready event old node slot number copy None same = same_ready event old (silent node) same refl
-acknowledged_ready event old node slot number copy (Some keys) same = record {
+acknowledged_ready : (event : Event) (old node : NodeState) (id : CopyId) (keys : Option (List (List ℕ))) → node.connections ≡ old.connections → KeepsReady event old (acknowledged node id keys)
+acknowledged_ready event old node id None same = same_ready event old (silent node) same refl
+acknowledged_ready event old node id (Some keys) same = record {
   ready = λ other spared may. all_freed_may node.connections _ other (ap (λ (table : ConnectionTable). may_at table other) same ∙ may);
   freed = λ one among. ap (λ (table : ConnectionTable). may_at table one.conn) (sym same) ∙ those_waited node.connections _ _ one among;
 }
@@ -381,21 +395,42 @@ quiet_ready : (event : Event) (old node : NodeState) → node.connections ≡ ol
 quiet_ready event old node same = same_ready event old (silent node) same refl
 
 -- what any message tells bears on no connection, and what is taken then
-module _ (event : Event) (old : NodeState) (epoch : ℕ) (masters : List (Option ℕ)) (health : Health) (candidate : Candidate) where
+module _ (event : Event) (old : NodeState) (epoch : ℕ) (masters : List (Option ℕ)) (health : Health) (candidate : Candidate) (handover : Handover) where
   abbrev heard : NodeState
-  heard = record old { current_epoch = epoch; masters = masters; health = health; candidate = candidate }
+  heard = record old { current_epoch = epoch; masters = masters; health = health; candidate = candidate; handover = handover }
 
   elected_ready : (node : NodeState) → node.connections ≡ old.connections → (won : Option Elected) → KeepsReady event old (if_elected node won)
   elected_ready node same None = quiet_ready event old node same
-  elected_ready node same (Some elected) = by_master (own_master node)
+  elected_ready node same (Some elected) = by_plan node.candidate.planned
     where
       by_master : (master : Option ℕ) → KeepsReady event old (promotion node elected.epoch master)
       by_master None = quiet_ready event old node same
       by_master (Some master) = same_ready event old (promotion node elected.epoch (Some master)) same refl
 
+      handed : (master : Option ℕ) (told : Option Handing) → KeepsReady event old (handed_promotion node elected.epoch master told)
+      handed None told = quiet_ready event old node same
+      handed (Some master) None = quiet_ready event old node same
+      handed (Some master) (Some handing) = by_place (is_at_end node.stream (Some handing))
+        where
+          by_place : (b : Bool) → KeepsReady event old (cond b (promotion_to node master elected.epoch true (table_handed node handing.slots elected.epoch)) (silent node))
+          by_place true = same_ready event old (promotion_to node master elected.epoch true (table_handed node handing.slots elected.epoch)) same refl
+          by_place false = quiet_ready event old node same
+
+      by_plan : (planned : Bool) → KeepsReady event old (cond planned (handed_promotion node elected.epoch (own_master node) node.handover.note) (promotion node elected.epoch (own_master node)))
+      by_plan true = handed (own_master node) node.handover.note
+      by_plan false = by_master (own_master node)
+
+  pause_ready : (from : ℕ) (b : Bool) → KeepsReady event old (cond b (handing_over heard from) (silent heard))
+  pause_ready from true = same_ready event old (handing_over heard from) refl refl
+  pause_ready from false = quiet_ready event old heard refl
+
+  noting_ready : (handing : Handing) (b : Bool) → KeepsReady event old (silent (cond b (record heard { handover = noting handover handing }) heard))
+  noting_ready handing true = quiet_ready event old (record heard { handover = noting handover handing }) refl
+  noting_ready handing false = quiet_ready event old heard refl
+
   taken_so_ready : (from : ℕ) (choice : Choice) (body : Body) → KeepsReady event old (taken_so heard from choice body)
-  taken_so_ready from choice (Copy slot number copy pairs) = same_ready event old (arrival heard from slot number copy pairs) refl refl
-  taken_so_ready from choice (Ack slot number copy) = acknowledged_ready event old heard slot number copy (acknowledged_keys (move_of old.moves slot) from number copy) refl
+  taken_so_ready from choice (Copy id pairs) = same_ready event old (arrival heard from id pairs) refl refl
+  taken_so_ready from choice (Ack id) = acknowledged_ready event old heard id (acknowledged_keys (move_of old.moves id.slot) from id.number id.copy) refl
   taken_so_ready from choice (Drained slot number drained) = same_ready event old (noted heard from slot number drained) refl refl
   taken_so_ready from choice (Claim runs replaced) = by_own (from == old.number)
     where
@@ -410,6 +445,8 @@ module _ (event : Event) (old : NodeState) (epoch : ℕ) (masters : List (Option
       pieced_keeps (λ (node : NodeState). KeepsReady event old (silent node)) heard (λ stream keyspace. quiet_ready event old _ refl) from piece choice.follower
   taken_so_ready from choice (Snapshot snapshot) =
       restored_keeps (λ (node : NodeState). KeepsReady event old (silent node)) heard (λ stream keyspace. quiet_ready event old _ refl) from snapshot
+  taken_so_ready from choice (Pause stream) = pause_ready from (may_pause heard from stream)
+  taken_so_ready from choice (Paused handing) = noting_ready handing (is_replica heard && is_same handing.stream heard.stream.held.id)
 
   taken_ready : (from : ℕ) (choice : Choice) (body : Body) → KeepsReady event old (taken heard from choice body)
   taken_ready from choice body = recorded_ready event old (taken_so heard from choice body) (written_by_message heard from body) choice.dropped (taken_so_ready from choice body)
@@ -420,7 +457,7 @@ delivered_ready old message choice = by_node (message.to == old.number)
     by_node : (here : Bool) → KeepsReady (Deliver message) old (cond here (taken (ready old message) message.from choice message.body) (silent old))
     by_node true =
         ready_keeps (λ (node : NodeState). KeepsReady (Deliver message) old (taken node message.from choice message.body)) old message
-        (λ epoch masters health candidate as_before goes. taken_ready (Deliver message) old epoch masters health candidate message.from choice message.body)
+        (λ epoch masters health candidate handover as_before goes. taken_ready (Deliver message) old epoch masters health candidate handover message.from choice message.body)
     by_node false = same_ready (Deliver message) old (silent old) refl refl
 
 tick_ready : (old : NodeState) → KeepsReady Tick old (tick old)
@@ -428,7 +465,7 @@ tick_ready old = record {
   ready = λ other spared may.
       let aged = a_tick_older (slots_tick old).state in
       in_election_keeps (λ (node : NodeState). may_at node.connections other ≡ true) aged (due_epoch aged)
-      (λ current candidate. all_aged_may (all_freed old.connections is_over) other ∙ all_freed_may old.connections is_over other may);
+      (λ current candidate handover. all_aged_may (all_freed old.connections is_over) other ∙ all_freed_may old.connections is_over other may);
   freed = λ one among. those_waited old.connections is_over _ one among;
 }
 

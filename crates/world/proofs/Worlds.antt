@@ -85,7 +85,7 @@ played_on old new step outputs reached ample same plays =
           (plays_one_more (first_scene old.scene.config) old.scene new.scene before.steps step before.outputs outputs before.plays plays);
     }
 
--- who keeps to the asking rule does so up to the first promotion
+-- who keeps to the asking rule does so up to the first unplanned promotion
 keeps_by_end : (past : List Entry) (entry : Entry) (entries : List Entry) (is_end : Bool) → MayAsk past entry.node (answered entry.deed) → KeepsAsking (entry ∷ past) entries
     → KeepsAsking past (cond is_end [] (entry ∷ entries))
 keeps_by_end past entry entries true may keeps = tt

@@ -9,7 +9,7 @@ use Rattle.node_step.specs.declared.response.Answer.{Answer}
 use Rattle.node_step.specs.declared.response.Response.{Response}
 use Rattle.node_step.specs.declared.response.Response.TheVariants.{Nothing, Opened, Replied, Parked}
 use Rattle.node_step.specs.declared.response.Why.{Why}
-use Rattle.node_step.specs.declared.response.Why.TheVariants.{NotACommand, Decided, Reported, Told, Imports, Migrates, Ends, Copies}
+use Rattle.node_step.specs.declared.response.Why.TheVariants.{NotACommand, Decided, Reported, Told, Imports, Migrates, Ends, Copies, TakesOver}
 use Rattle.world_run.specs.Run.{Deed, Entry}
 use Rattle.world_run.specs.Run.Deed.{Made, Skipped}
 
@@ -45,6 +45,7 @@ decision_in (Imports verdict) = None
 decision_in (Migrates verdict) = None
 decision_in (Ends verdict) = None
 decision_in (Copies verdict) = None
+decision_in TakesOver = None
 
 -- ---- executed commands
 

@@ -8,7 +8,7 @@ use Rattle.world_run.specs.Promotions.{Promoted, promotions, until_promotion}
 use Rattle.world_run.specs.Run.{Entry, IsRun, sent_by}
 
 -- whatever the orders that move slots, and however messages are late, repeated or lost: in each run in which clients keep to
--- the asking rule up to the first promotion, the replies of the commands that were executed up to there are those of one keyspace
+-- the asking rule up to the first unplanned promotion, the replies of the commands that were executed up to there are those of one keyspace
 -- executing them in their order
 abbrev pub SingleKeyspace : Type 0
 SingleKeyspace = (config : ClusterConfig) (entries : List Entry) → IsCluster config → IsRun config entries → KeepsAsking [] (until_promotion entries)

@@ -1,5 +1,5 @@
 -- Promotions in a run (Redis Cluster specification, "Replica election and promotion").
-use Rattle.std.specs.Prelude.{ℕ, Bool, List, [], ◌∷◌, is_some, Option, None, option_map, if◌then◌else◌}
+use Rattle.std.specs.Prelude.{ℕ, Bool, false, not, List, [], ◌∷◌, Option, Some, None, option_map, if◌then◌else◌}
 use Rattle.std.specs.List.{filter_map}
 use Rattle.node_step.specs.declared.promotion.Promotion.{Promotion}
 use Rattle.world_run.specs.Run.{Deed, Entry}
@@ -22,11 +22,12 @@ promotion_at entry = option_map (λ promotion. record { node = entry.node; promo
 abbrev pub promotions : List Entry → List Promoted
 promotions entries = filter_map promotion_at entries
 
--- ---- up to the first one
+-- ---- up to the first unplanned one
 
--- replies are those of one keyspace no longer: writes that the former master executed may be lost
+-- where the former master didn't hand over, replies are those of one keyspace no longer: writes that it executed may be lost
 abbrev pub ends_one_keyspace : Option Promotion → Bool
-ends_one_keyspace promotion = is_some promotion
+ends_one_keyspace None = false
+ends_one_keyspace (Some promotion) = not promotion.planned
 
 -- the entries before the first such promotion; all of them, if there is none
 abbrev pub until_promotion : List Entry → List Entry

@@ -1,8 +1,8 @@
 //! Keys with their values, in a list that copies share.
 ghost use Rattle.std.specs.Prelude.{◌≡◌, length, IfOk};
 
+use crate::value::Value;
 use byte_string::ByteString;
-use keyspace::Value;
 use std::alloc::{AllocError, Global};
 use std::marker::Model;
 use std::sync::Arc;

@@ -1,0 +1,3 @@
+mod AskingLemmas
+mod HandingLemmas
+mod NotingLemmas
