@@ -13,10 +13,15 @@ from dataclasses import dataclass, field
 
 SLOTS = 16384
 # The bodies of the messages that a step may send, by what happens at the node.
-SENT_BY = {"Copy": {"Ack"}, "Ack": {"Drained"}, "Drained": set(), "Claim": set(), "Report": set(), "tick": {"Copy", "Drained"}, "request": {"Drained"}}
-# What each tick tells all others behind that. Of these messages only those are drawn that arrive.
-SIGNS_OF_LIFE = {"Claim", "Report"}
-SENT_BY_ORDER = {"IMPORTING": set(), "MIGRATING": {"Drained"}, "NODE": {"Claim"}, "MIGRATE": {"Copy"}}
+SENT_BY = {
+    "Copy": {"Ack", "Piece"}, "Ack": {"Drained", "Piece"}, "Drained": set(), "Claim": {"Piece"}, "Report": set(),
+    "Sync": {"Piece", "Snapshot"}, "Piece": set(), "Snapshot": set(), "Request": {"Grant"}, "Grant": {"Claim"}, "Pause": {"Paused"}, "Paused": set(),
+    "tick": {"Copy", "Drained"}, "request": {"Drained", "Piece"},
+}
+# What each tick tells others behind that. Of these messages only those are drawn that arrive. And what it may ask behind them.
+SIGNS_OF_LIFE = {"Claim", "Report", "Sync"}
+ASKED_BY_TICK = {"Pause", "Paused", "Request"}
+SENT_BY_ORDER = {"IMPORTING": set(), "MIGRATING": {"Drained"}, "NODE": {"Claim"}, "MIGRATE": {"Copy"}, "FAILOVER": {"Pause"}}
 # The commands on keys: those that leave their keys there, those that remove them, and those that change nothing.
 WRITING = {"SET", "SETNX", "MSET", "GETSET", "APPEND", "INCR", "DECR", "INCRBY", "HSET", "HSETNX", "HINCRBY"}
 REMOVING = {"DEL", "GETDEL"}
@@ -74,6 +79,9 @@ class Node:
     # How many orders wait for an acknowledgement.
     waiting: int = 0
     epoch: int = 1
+    # The node whose replica it is, if it is one, and whether it hands its slots over.
+    master: int | None = None
+    hands_over: bool = False
     is_up: bool = True
 
     def decision(self, keys, is_asking):
@@ -88,7 +96,7 @@ class Node:
             comes = move is not None and not move.leaves and is_asking
             return None if comes else "CLUSTERDOWN" if owner is None else f"MOVED {owner}"
         if move is None:
-            return None
+            return "TRYAGAIN" if self.hands_over else None
         if move.frozen in keys:
             return "TRYAGAIN"
         there = [key in self.keys for key in keys]
@@ -106,6 +114,12 @@ class Node:
         self.epoch = max(self.epoch, *(epoch for epoch, _ in self.owners)) + 1
         self.owners[slot] = (self.epoch, self.number)
         self.moves.pop(slot, None)
+
+    def take_place(self, epoch):
+        """It is elected: the slots of its master are its own."""
+        self.epoch = epoch
+        self.owners = [(epoch, self.number) if owner == self.master else (since, owner) for since, owner in self.owners]
+        self.master = None
 
     def claim(self):
         return {slot: entry for slot, entry in enumerate(self.owners) if entry[1] == self.number}
@@ -140,7 +154,8 @@ class Play:
     def __init__(self, config, script, printed):
         self.ids = [node["id"] for node in config["nodes"]]
         owners = owners_at_first(config)
-        self.nodes = [Node(number, list(owners)) for number in range(len(self.ids))]
+        masters = [self.ids.index(node["replica_of"]) if "replica_of" in node else None for node in config["nodes"]]
+        self.nodes = [Node(number, list(owners), master=master) for number, master in enumerate(masters)]
         self.ports = {(node["host"], str(node["port"])): number for number, node in enumerate(config["nodes"])}
         self.clients, self.messages, self.arrows, self.notes = {}, {}, [], []
         self.printed, self.at = printed, 0
@@ -176,8 +191,8 @@ class Play:
         if not self.is_up(number) or order not in ("CLUSTER", "MIGRATE"):
             return self.nothing()
         node = self.nodes[number]
-        if order == "CLUSTER" and len(words) > 3:
-            order = words[3].upper()
+        if order == "CLUSTER" and len(words) > 1:
+            order = words[3 if len(words) > 3 else 1].upper()
         reply = self.next_of("admin", str(number))
         self.note(number, f"{self.shown(words)}: {shorter(reply) if reply else 'waits'}")
         if reply is None:
@@ -188,7 +203,7 @@ class Play:
 
     def obey(self, node, order, words):
         """A node was told of a move of a slot."""
-        if order == "MIGRATE":
+        if order in ("MIGRATE", "FAILOVER"):
             return
         slot, other = int(words[2]), self.ids.index(words[4])
         if order == "NODE" and other == node.number and slot in node.moves:
@@ -210,6 +225,7 @@ class Play:
         self.release(number)
         self.send(number, SENT_BY["tick"])
         self.send(number, SIGNS_OF_LIFE, are_drawn=False)
+        self.send(number, ASKED_BY_TICK)
 
     def play_stop(self, number, _words):
         if not self.is_up(number):
@@ -236,8 +252,18 @@ class Play:
             self.acknowledge(self.nodes[number], content)
         elif body == "Claim":
             self.nodes[number].take_claim(content)
+        elif body == "Grant":
+            self.promote(number)
         self.release(number)
         self.send(number, SENT_BY[body], content)
+        if self.next_of("promoted", str(number)) is not None:
+            self.note(number, "is promoted")
+
+    def promote(self, number):
+        """A vote elects the node where its claims are printed, and behind them that it is promoted."""
+        behind = next((line for line in self.printed[self.at:] if not line.startswith("sent ")), "")
+        if behind.startswith(f"promoted {number} "):
+            self.nodes[number].take_place(int(behind.split(" ")[2]))
 
     def source_of(self, number, key):
         """From which node the slot of the key comes to this one, if it does."""
@@ -275,6 +301,7 @@ class Play:
             name, to, body = int(parts[1]), int(parts[3]), parts[4]
             arrow = Arrow("message", body, ("node", number), ("node", to), self.row)
             arrow.content = (body, self.content_of(number, body, to, key))
+            self.nodes[number].hands_over |= body == "Paused"
             self.messages[name] = arrow
             if are_drawn:
                 self.arrows.append(arrow)

@@ -8,7 +8,7 @@ import program
 from clusters import ports_of
 from moving import SLOT, SOURCE, TARGET, order
 from program import Server
-from wire import OK, PATIENCE, spelled, talk
+from wire import OK, PATIENCE, accepted, shut, spelled, talk
 
 NUMBERED = [b"CLUSTER", b"NUMBERED"]
 GET = [b"GET", b"foo"]
@@ -101,11 +101,7 @@ class Node:
         threading.Thread(target=self.serve, daemon=True).start()
 
     def serve(self):
-        while True:
-            try:
-                client, _ = self.listener.accept()
-            except OSError:
-                return
+        for client in accepted(self.listener):
             with client:
                 client.settimeout(PATIENCE)
                 self.converse(client, client.makefile("rb"))
@@ -127,7 +123,8 @@ class Node:
         self.asked.append(words)
 
     def close(self):
-        self.listener.close()
+        """Connections that it has stay."""
+        shut(self.listener)
 
 
 def moved(node):

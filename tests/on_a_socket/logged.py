@@ -1,6 +1,7 @@
 """`serve --log`: standard error has a line for each client that isn't served, with the node and the reason, and for each slot that arrives
-at a node or leaves it, with the other node and the keys, and how many seconds after the beginning it was. Nobody waits for who reads it,
-and where too many lines wait it says how many are missing. Without the option nothing is told.
+at a node or leaves it, with the other node and the keys, and how many seconds after the beginning it was. So it is for a master that hands over, its
+replica that notes it, and that is promoted. Nobody waits for who reads it, and where too many lines wait it says how many are missing. Without the
+option nothing is told.
 """
 
 import contextlib
@@ -13,17 +14,18 @@ import time
 
 import clusters
 import program
-from clusters import ports_of
+from clusters import ports_of, replica_of
 from descriptors import COMING, limit, outcome, served_in_time, told_at
 from memory import limited
-from moving import SLOT, SOURCE, TARGET
+from moving import SLOT, SOURCE, TARGET, in_time
 from program import PATIENCE, Server
 from refusals import free_row
 from resharding import reshard_patiently
-from wire import OK, PING, PONG, ask, connect, spelled, talk
+from wire import NIL, OK, PING, PONG, array, ask, bulk, connect, spelled, talk
 
 LINE = re.compile(rb"rcluster: (\d+\.\d{3}) node (\d+): a client isn't served, since (.*)\n")
 OF_A_SLOT = re.compile(rb"rcluster: (\d+\.\d{3}) (node \d+: slot \d+ (?:arrived from node \d+, keys|left for node \d+, keys deleted): \d+)\n")
+OF_A_HANDOVER = re.compile(rb"rcluster: (\d+\.\d{3}) (node \d+: (?:hands over to|noted that|promoted in place of) node \d+[^\n]*)\n")
 MISSING = re.compile(rb"rcluster: \d+\.\d{3} lines that are missing before this one: (\d+)\n")
 NOT_STARTED = re.compile(
     rb"rcluster: \d+\.\d{3} node \d+: a thread isn't started, since the system starts no thread\n"
@@ -47,6 +49,7 @@ def play(judge):
     play_threads(judge)
     play_no_reader(judge)
     play_slots(judge)
+    play_handover(judge)
 
 
 def play_descriptors(judge):
@@ -147,7 +150,7 @@ def play_slots(judge):
                 judge.equal("a key of a slot that moves is set", talk(ports[SOURCE], spelled(b"SET", b"{foo}%d" % count, b"v")), OK)
             moves = [reshard_patiently(ports[0], f"{SLOT}-{SLOT + 1}"), reshard_patiently(ports[0], source=TARGET, target=SOURCE)]
             judge.equal("slots are moved", [status for status, _ in moves], [0, 0])
-            judge_slots(judge, f"slots move, options {options}", server, wanted if options else [])
+            judge_told(judge, f"slots move, options {options}", server, OF_A_SLOT, wanted if options else [])
 
 
 def told_of(slot, source, target, keys):
@@ -155,12 +158,37 @@ def told_of(slot, source, target, keys):
     return [b"node %d: slot %d arrived from node %d, keys: %d" % (target, slot, source, keys), b"node %d: slot %d left for node %d, keys deleted: 0" % (source, slot, target)]
 
 
-def judge_slots(judge, what, server, wanted):
-    """These lines, in this order, and no other."""
+def play_handover(judge):
+    """A master with keys, all of which its replica has, hands over to that."""
+    replica = replica_of(SOURCE)
+    keys = [b"{foo}%d" % it for it in range(10, 10 + KEYS)]
+    count = sum(len(spelled(b"SET", it, b"v")) for it in keys)
+    wanted = [
+        b"node %d: hands over to node %d, bytes of its stream: %d" % (SOURCE, replica, count),
+        b"node %d: noted that node %d hands over, bytes of its stream: %d, received: %d" % (replica, SOURCE, count, count),
+        b"node %d: promoted in place of node %d as planned, epoch: 2, bytes of its stream: %d" % (replica, SOURCE, count),
+    ]
+    for options in (["--log"], []):
+        what = f"a master hands over, options {options}"
+        cluster = clusters.six_nodes(tick_ms=20)
+        ports = ports_of(cluster)
+        with Server(cluster, *options) as server:
+            for key in keys:
+                judge.equal(f"{what}: a key is set", talk(ports[SOURCE], spelled(b"SET", key, b"v")), OK)
+            listing = spelled(b"CLUSTER", b"GETKEYSINSLOT", b"%d" % SLOT, b"100")
+            listed = array(*map(bulk, keys))
+            judge.equal(f"{what}: the replica has all keys", in_time(ports[replica], listing, listed), listed)
+            judge.equal(f"{what}: it is asked to take over", talk(ports[replica], spelled(b"CLUSTER", b"FAILOVER")), OK)
+            judge.equal(f"{what}: it does", in_time(ports[replica], spelled(b"GET", b"foo"), NIL), NIL)
+            judge_told(judge, what, server, OF_A_HANDOVER, wanted if options else [])
+
+
+def judge_told(judge, what, server, form, wanted):
+    """These lines of that form, in this order, and no other."""
     lines = lines_in_time(server, len(wanted))
     took = time.monotonic() - server.begun
-    found = [it for it in map(OF_A_SLOT.fullmatch, lines) if it]
-    judge.equal(f"{what}: other lines", [it for it in lines if not OF_A_SLOT.fullmatch(it)], [])
-    judge.equal(f"{what}: nodes, slots and keys", [it[2] for it in found], wanted)
+    found = [it for it in map(form.fullmatch, lines) if it]
+    judge.equal(f"{what}: other lines", [it for it in lines if not form.fullmatch(it)], [])
+    judge.equal(f"{what}: what is told", [it[2] for it in found], wanted)
     times = [float(it[1]) for it in found]
     judge.true(f"{what}: the times don't fall, and are of the run", times == sorted(times) and all(it <= took for it in times), repr((times, took)))

@@ -32,8 +32,14 @@ def run(*words, text=None, files=()):
         for name in files:
             with open(os.path.join(folder, name), "wb") as file:
                 file.write(files[name])
-        done = subprocess.run([PATH, *words], cwd=folder, capture_output=True, timeout=PATIENCE, check=False)
-    return done.returncode, done.stdout, done.stderr
+        with BEGINNING:
+            begun = subprocess.Popen([PATH, *words], cwd=folder, stdout=subprocess.PIPE, stderr=subprocess.PIPE)
+        with begun:
+            try:
+                output, errors = begun.communicate(timeout=PATIENCE)
+            finally:
+                begun.kill()
+    return begun.returncode, output, errors
 
 
 def write(folder, text):

@@ -14,7 +14,7 @@ from calling import NO_ADDRESSES, Node, cli, no_address
 from clusters import node_id, ports_of
 from moving import SLOT, SOURCE, TARGET, in_time
 from program import Server
-from wire import OK, PATIENCE, array, bulk, connect, moved, number, reply_of, slot_of, spelled, talk
+from wire import OK, PATIENCE, accepted, array, bulk, connect, moved, number, reply_of, shut, slot_of, spelled, talk
 
 ID = [node_id(it).encode() for it in range(3)]
 ABOUT = b"%d" % SLOT
@@ -408,11 +408,7 @@ class Relay:
             threading.Thread(target=self.accept, args=[node], daemon=True).start()
 
     def accept(self, node):
-        while True:
-            try:
-                client, _ = self.listeners[node].accept()
-            except OSError:
-                return
+        for client in accepted(self.listeners[node]):
             threading.Thread(target=self.converse, args=[node, client], daemon=True).start()
 
     def converse(self, node, client):
@@ -444,7 +440,7 @@ class Relay:
 
     def close(self):
         for listener in self.listeners:
-            listener.close()
+            shut(listener)
 
 
 def tables(ports):

@@ -67,12 +67,6 @@ def masters_with(does, *answers, before=([], [], []), kind=Busy):
     return masters
 
 
-def refuse(node):
-    """Has the node refuse connections. Those that it has stay."""
-    node.listener.shutdown(socket.SHUT_RDWR)
-    node.listener.close()
-
-
 def lost(source, target):
     return f"rcluster: slot 12182: 127.0.0.1:{source} can't move a key to 127.0.0.1:{target}, which can't be reached: {REFUSED}".encode()
 
@@ -97,7 +91,7 @@ def judge_told(judge, what, told, ports):
 
 def play_target_that_goes(judge, what):
     """a target that goes as a key isn't acknowledged"""
-    masters = masters_with(lambda count: count == 3 and refuse(masters.nodes[TARGET]), *[NOT_ACKNOWLEDGED] * 20)
+    masters = masters_with(lambda count: count == 3 and masters.nodes[TARGET].close(), *[NOT_ACKNOWLEDGED] * 20)
     judge.equal(f"{what}: all of it", program.run(*words_of(masters.ports[0])), (1, b"fault V2\n", lost(masters.ports[SOURCE], masters.ports[TARGET])))
     judge.equal(f"{what}: how often it was asked for", masters.nodes[SOURCE].migrates, 3)
     masters.close()
@@ -108,7 +102,7 @@ def play_target_that_went(judge, what):
     is_over = threading.Event()
 
     def keep_silent(_count):
-        refuse(masters.nodes[TARGET])
+        masters.nodes[TARGET].close()
         is_over.wait(PATIENCE)
 
     masters = masters_with(keep_silent)

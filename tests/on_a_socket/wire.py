@@ -54,6 +54,25 @@ def connect(port):
     return client
 
 
+def accepted(listener):
+    """The connections that come to a listener, until it is shut. It is closed here and by nobody else: once another thread had closed
+    it, its number could be a newer listener's, and the next call would take a connection that came to that one.
+    """
+    with listener:
+        while True:
+            try:
+                client, _ = listener.accept()
+            except OSError:
+                return
+            yield client
+
+
+def shut(listener):
+    """Has a listener refuse connections from now on."""
+    with contextlib.suppress(OSError):
+        listener.shutdown(socket.SHUT_RDWR)
+
+
 def refuses_in_time(port):
     """Whether nobody can connect there, at the latest once the patience has ended."""
     last = time.monotonic() + PATIENCE
