@@ -10,7 +10,6 @@ again a millisecond later what is to be tried again. It needs Debian's redis-ser
 
 import contextlib
 import json
-import math
 import multiprocessing
 import socket
 import statistics
@@ -23,6 +22,7 @@ import load
 import servers
 from redis_cluster import nodes_at, redis_cluster, wait_until_whole
 from run import measure
+from watching import OK, PATIENCE, connect, percentile, playing, watch
 
 # How long a tick is, in milliseconds, and how often a handover is measured.
 TICK_MS, ROUNDS = (10, 100), 9
@@ -33,9 +33,8 @@ MASTER, REPLICA, OTHERS = 2, 5, (0, 1)
 KEYS = ("b", "c", "x")
 # How many clients write, how many requests are in a pipeline, and by how many processes they are played.
 WRITERS, PIPELINE, PROCESSES = 20, 16, 4
-# For how many seconds all write before the handover and behind it, and how long a handover may take, in seconds.
-BEFORE, BEHIND, PATIENCE = 1.5, 0.5, 60
-OK = b"+OK\r\n"
+# For how many seconds all write before the handover and behind it.
+BEFORE, BEHIND = 1.5, 0.5
 FAILOVER = load.encode(b"CLUSTER", b"FAILOVER")
 
 
@@ -77,11 +76,6 @@ def spread(times):
     """The median, the least and the most, in milliseconds."""
     times = [1000 * it for it in times]
     return [f"{it:,.0f}" for it in (statistics.median(times), min(times), max(times))]
-
-
-def percentile(times, percent):
-    """That of sorted times."""
-    return times[max(math.ceil(len(times) * percent / 100), 1) - 1] if times else math.nan
 
 
 # ---- a round
@@ -138,25 +132,6 @@ class Handover:
         self.rate = sum(it.count_before(begun) for it in writers) / BEFORE
         self.before = [took for sent, took in requests if begun - BEFORE <= sent < begun]
         self.meanwhile = [took for sent, took in requests if begun <= sent < begun + self.took]
-
-
-@contextlib.contextmanager
-def playing(players, ended):
-    for it in players:
-        it.start()
-    try:
-        yield
-    finally:
-        ended.set()
-        for it in players:
-            it.join(PATIENCE)
-            it.kill()
-
-
-def connect(port):
-    client = socket.create_connection(("127.0.0.1", port), PATIENCE)
-    client.setsockopt(socket.IPPROTO_TCP, socket.TCP_NODELAY, 1)
-    return client
 
 
 def ask(replica):
@@ -233,19 +208,6 @@ def write_all(port, names, ended, told):
     for it in threads:
         it.join()
     told.put(("written", writers))
-
-
-def watch(port, key, ended, told):
-    """Sets the key again and again, and notes when each request was sent, and how long it took."""
-    request, seen = load.encode(b"SET", key.encode(), b"x" * 16), []
-    with connect(port) as client:
-        while not ended.is_set():
-            sent = time.monotonic()
-            client.sendall(request)
-            if (reply := client.recv(100)) != OK:
-                raise SystemExit(f"a client of another master is told {reply}")
-            seen.append((sent, time.monotonic() - sent))
-    told.put(("watched", seen))
 
 
 if __name__ == "__main__":

@@ -1,14 +1,16 @@
 #!/usr/bin/env python3
 """Measures how fast keys move from one node to another: a slot of 10,000 keys by one `rcluster reshard`, and eight slots of 10,000 keys each by
-eight of them at once.
+eight of them at once; and how long a client's requests take while 500 slots move.
 
 usage: bench/moves.py [PROGRAM] [--out FILE]    by default the program that ./check built
 
-Both nodes are served by one process, and nobody else asks them. A copy of up to 16 keys takes two messages between the nodes: itself
+Both nodes are served by one process, and nobody else asks them but these clients. A copy of up to 16 keys takes two messages between the nodes: itself
 and its acknowledgement. The report goes to the output, and to FILE.
 """
 
 import contextlib
+import itertools
+import multiprocessing
 import re
 import statistics
 import subprocess
@@ -18,10 +20,15 @@ import time
 import load
 import servers
 from run import measure
+from watching import PATIENCE, percentile, playing, watch
 
 KEYS, ROUNDS, AT_ONCE = 10_000, 5, 8
 # The last slot of the first master, of two.
 LAST = 8191
+# How many slots move while a client of each master is watched, with how many keys each, and for how many seconds it is watched before that.
+MANY, FEW, BEFORE = 500, 20, 3
+# A key of each master, in a slot that stays.
+STAYING = (b"b", b"a")
 
 
 def main(words):
@@ -36,6 +43,17 @@ def moves(report):
     alone, together = zip(*(measured(options, slots) for options in servers.WAYS.values()))
     report.row(f"A slot of {KEYS:,} keys, seconds", *[spread(it, "{:.3f}") for it in alone])
     report.row(f"{AT_ONCE} such slots at once, seconds", *[spread(it, "{:.3f}") for it in together])
+    report.say(f"\n## Requests while {MANY} slots move")
+    report.say(f"\nOne `rcluster reshard` moves {MANY} slots with {FEW} keys each to the other master, and another one moves them back. A client at each master sets a key of a slot that stays, one request after another. Milliseconds that 99 of 100 requests take at most, of those in {BEFORE} seconds before and of those meanwhile.")
+    report.table("What", *servers.WAYS)
+    watched_all = [watched(options) for options in servers.WAYS.values()]
+    for what, form, values in [
+        ("Seconds, there and back", "{:.2f}", [it.took for it in watched_all]),
+        ("Before", "{:.3f}", [it.before for it in watched_all]),
+        ("Meanwhile", "{:.3f}", [it.meanwhile for it in watched_all]),
+        ("Quotient", "{:.2f}", [it.meanwhile / it.before for it in watched_all]),
+    ]:
+        report.row(what, *map(form.format, values))
 
 
 def spread(figures, form):
@@ -62,17 +80,53 @@ def all_at_once(server, turn, slots):
     return time.monotonic() - begun
 
 
+class Watched:
+    """How long a move took, in seconds, and what 99 of 100 requests took at most before it and meanwhile, in milliseconds."""
+
+    def __init__(self, took, before, meanwhile):
+        self.took = took
+        self.before, self.meanwhile = (1000 * percentile(sorted(it), 99) for it in (before, meanwhile))
+
+
+def watched(options):
+    ports = servers.free_ports(2)
+    slots = dict(tags_of(range(MANY)))
+    with servers.Server("rcluster", [servers.PROGRAM, "serve", "--masters", "2", "--port", str(ports), *options], ports) as server:
+        keys = (b"{%b}%d" % (tag, it) for tag in slots.values() for it in range(FEW))
+        load.send_all(server.port, (load.encode(b"SET", key, b"value") for key in keys), b"+OK\r\n")
+        ended_all, told = multiprocessing.Event(), multiprocessing.Queue()
+        players = [multiprocessing.Process(target=watch, args=(ports + it, key.decode(), ended_all, told)) for it, key in enumerate(STAYING)]
+        with playing(players, ended_all):
+            time.sleep(BEFORE)
+            begun = time.monotonic()
+            for turn in range(2):
+                run = start(server, turn, 0, MANY - 1)
+                _, error = run.communicate()
+                if run.returncode:
+                    sys.exit(f"a run failed: {error!r}")
+            took = time.monotonic() - begun
+            ended_all.set()
+            requests = [it for _ in players for it in told.get(timeout=PATIENCE)[1]]
+    before = [it for sent, it in requests if begun - BEFORE <= sent < begun]
+    return Watched(took, before, [it for sent, it in requests if begun <= sent < begun + took])
+
+
 def tagged_slots(count):
     """So many slots of the first node, each with a tag that hashes to it."""
-    found = {}
-    for it in range(100_000):
+    return dict(itertools.islice(tags_of(range(LAST + 1)), count))
+
+
+def tags_of(slots):
+    """These slots with a tag for each, in the order in which tags are found."""
+    found = set()
+    for it in range(1_000_000):
         tag = b"%d" % it
         slot = slot_of(tag)
-        if slot <= LAST and slot not in found:
-            found[slot] = tag
-        if len(found) == count:
-            return found
-    raise AssertionError("no tags")
+        if slot in slots and slot not in found:
+            found.add(slot)
+            yield slot, tag
+        if len(found) == len(slots):
+            return
 
 
 def slot_of(key):
@@ -84,10 +138,10 @@ def slot_of(key):
     return crc & 16383
 
 
-def start(server, turn, slot):
-    """A run that moves the slot, in turn from the first master to the second and back."""
+def start(server, turn, first, last=None):
+    """A run that moves the slot, or these slots, in turn from the first master to the second and back."""
     source, target = ("%040x" % it for it in (turn % 2, 1 - turn % 2))
-    words = [servers.PROGRAM, "reshard", "--addr", f"127.0.0.1:{server.port}", "--from", source, "--to", target, "--slots", f"{slot}-{slot}"]
+    words = [servers.PROGRAM, "reshard", "--addr", f"127.0.0.1:{server.port}", "--from", source, "--to", target, "--slots", f"{first}-{first if last is None else last}"]
     return subprocess.Popen(words, stdout=subprocess.DEVNULL, stderr=subprocess.PIPE)
 
 
