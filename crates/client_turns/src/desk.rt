@@ -7,22 +7,24 @@ use std::sync::{Arc, Mutex, Wait};
 
 /// A client that no thread serves yet.
 #[derive(Drop)]
-pub struct Newcomer {
+pub struct Newcomer<A> {
     /// Its connection.
     pub stream: Arc<TcpStream, Global>,
     /// By which it is removed from the clients of the cluster.
     pub client: usize,
+    /// What it has asked of the node: nothing yet.
+    pub asks: A,
 }
 
 /// The newcomers that wait for one thread.
 #[derive(Drop)]
-pub struct Desk {
-    waiting: Mutex<Waiting>,
+pub struct Desk<A> {
+    waiting: Mutex<Waiting<A>>,
 }
 
 #[derive(Drop)]
-struct Waiting {
-    newcomers: VecDeque<Newcomer>,
+struct Waiting<A> {
+    newcomers: VecDeque<Newcomer<A>>,
     // The thread has ended.
     is_closed: bool,
 }
@@ -42,9 +44,9 @@ impl From<AllocError> for DeskFault {
     }
 }
 
-impl Desk {
+impl<A: Drop> Desk<A> {
     /// One at which nobody waits.
-    pub fn new(alloc: Global) -> Desk {
+    pub fn new(alloc: Global) -> Desk<A> {
         let waiting = Waiting {
             newcomers: VecDeque::new(alloc),
             is_closed: false,
@@ -55,7 +57,7 @@ impl Desk {
     }
 
     /// Has the newcomer wait for the thread.
-    pub fn put<R: Wait>(&self, rt: &R, newcomer: Newcomer) -> Result<(), DeskFault> {
+    pub fn put<R: Wait>(&self, rt: &R, newcomer: Newcomer<A>) -> Result<(), DeskFault> {
         let mut waiting = self.waiting.lock(rt);
         if waiting.is_closed {
             return Err(DeskFault::Closed);
@@ -67,7 +69,7 @@ impl Desk {
     }
 
     /// The next newcomer, if one waits.
-    pub fn take<R: Wait>(&self, rt: &R) -> Option<Newcomer> {
+    pub fn take<R: Wait>(&self, rt: &R) -> Option<Newcomer<A>> {
         let mut waiting = self.waiting.lock(rt);
         waiting.newcomers.pop_front()
     }

@@ -1,11 +1,13 @@
 //! A client that a thread serves in turn with others.
 
+ghost use Rattle.listener.specs.Turns.{IsParked};
+
 use crate::lingering::{Lingering, is_told};
-use listener::{ConnFault, Farewell, Left, Next, Rest, SharedGate, Talk};
+use listener::{Came, ConnFault, Farewell, Left, Next, Rest, SharedGate, Talk, read_once};
 use mio::event::Event;
-use resp2::{Counting, Reply};
+use resp2::Counting;
 use std::alloc::Global;
-use std::io::{ErrorKind, Read};
+use std::io::Read;
 use std::mem;
 use std::net::{Shutdown, TcpStream};
 use std::os::fd::{AsRawFd, RawFd};
@@ -127,38 +129,26 @@ impl<G: SharedGate> Guest<G> {
         }
     }
 
-    // Reads once. An error is how the conversation ended.
-    fn read_once(&mut self, input: &mut [u8]) -> Result<(), Result<Rest, ConnFault>> {
-        let mut stream = &*self.stream;
-        match stream.read(input) {
-            Ok(0) => Err(Ok(Rest::Unfinished)),
-            Ok(count) => {
-                self.may_read = self.has_hung_up || count == input.len();
-                self.take(&input[..count])
-            }
-            Err(error) => match error.kind() {
-                ErrorKind::WouldBlock => {
-                    self.may_read = false;
-                    Ok(())
-                }
-                ErrorKind::Interrupted => Ok(()),
-                _ => Err(Err(ConnFault::Reader)),
-            },
-        }
-    }
-
-    // Takes what the client has sent. An error is how the conversation ends by that.
-    fn take(&mut self, bytes: &[u8]) -> Result<(), Result<Rest, ConnFault>> {
-        match &mut self.stage {
-            Stage::Talking(talk) => {
+    // Reads once. An error is how the conversation ends by that.
+    fn read_once(&mut self, room: &mut [u8]) -> Result<(), Result<Rest, ConnFault>> {
+        let mut reader = Counting::new(&*self.stream);
+        let came = match &mut self.stage {
+            Stage::Talking(talk) => talk.read_once(&mut reader, room).map_err(Err)?,
+            Stage::Leaving(lingering) => read_on(lingering, &mut reader, room)?,
+            Stage::New | Stage::Ended(_, _) | Stage::Parting { .. } | Stage::Over => return Ok(()),
+        };
+        match came {
+            Came::Bytes(count) => {
+                self.may_read = self.has_hung_up || count == room.len();
                 self.next = Next::Answer;
-                talk.read(bytes).map_err(Err)
+                Ok(())
             }
-            Stage::Leaving(lingering) => match lingering.note_read(bytes.len()) {
-                true => Ok(()),
-                false => Err(Ok(Rest::Unfinished)),
-            },
-            Stage::New | Stage::Ended(_, _) | Stage::Parting { .. } | Stage::Over => Ok(()),
+            Came::End => Err(Ok(Rest::Unfinished)),
+            Came::Nothing => {
+                self.may_read = false;
+                Ok(())
+            }
+            Came::Interrupted => Ok(()),
         }
     }
 
@@ -207,10 +197,7 @@ impl<G: SharedGate> Guest<G> {
                     is_told: is_told(Err(fault)),
                 },
             },
-            Stage::Ended(talk, ended) => Stage::Parting {
-                farewell: talk.end(gate, ended),
-                is_told: is_told(ended),
-            },
+            Stage::Ended(talk, ended) => part(talk.end(gate, ended), ended),
             stage => stage,
         };
     }
@@ -233,25 +220,16 @@ impl<G: SharedGate> Guest<G> {
         let Stage::Talking(talk) = &mut self.stage else {
             return;
         };
-        gate.exchange(&mut self.asks);
-        let reply = match is_closed {
-            true => gate.wait(talk.conn()),
-            false => gate.look(talk.conn()),
-        };
-        gate.exchange(&mut self.asks);
-        match reply {
-            Some(reply) => self.hear(reply),
-            None if is_closed => self.end(Err(ConnFault::Unanswered)),
-            None => {}
+        if !talk.is_parked() {
+            return;
         }
-    }
-
-    fn hear(&mut self, reply: Reply) {
-        if let Stage::Talking(talk) = &mut self.stage
-            && talk.is_parked()
-        {
-            talk.hear(reply);
-            self.next = Next::Answer;
+        gate.exchange(&mut self.asks);
+        let heard = hear(talk, gate, is_closed);
+        gate.exchange(&mut self.asks);
+        match heard {
+            Ok(true) => self.next = Next::Answer,
+            Ok(false) => {}
+            Err(fault) => self.end(Err(fault)),
         }
     }
 
@@ -356,5 +334,44 @@ impl<G: SharedGate> Guest<G> {
     /// Whether nothing more is done for the client.
     pub(crate) fn is_over(&self) -> bool {
         matches!(&self.stage, Stage::Over)
+    }
+}
+
+// How a conversation goes on that ended so. Behind a write that failed nothing more is written.
+fn part<S: Drop>(farewell: Farewell<S>, ended: Result<Rest, ConnFault>) -> Stage<S> {
+    match ended {
+        Err(ConnFault::Writer) => Stage::Over,
+        _ => Stage::Parting {
+            farewell,
+            is_told: is_told(ended),
+        },
+    }
+}
+
+// Takes the reply that comes later, if the node has it by now, and says whether it has. A fault is that none will come any more.
+fn hear<G: SharedGate>(
+    talk: &mut Talk<G::Answer>,
+    gate: &mut G,
+    is_closed: bool,
+) -> Result<bool, ConnFault>
+    requires { IsParked talk.old }
+{
+    if is_closed {
+        talk.wait(gate)?;
+        return Ok(true);
+    }
+    Ok(talk.listen(gate))
+}
+
+// Reads and forgets what came. An error is that the client has left, or was read for long enough.
+fn read_on<R: Read>(
+    lingering: &mut Lingering,
+    reader: &mut Counting<R>,
+    room: &mut [u8],
+) -> Result<Came, Result<Rest, ConnFault>> {
+    let came = read_once(reader, room).map_err(Err)?;
+    match came {
+        Came::Bytes(count) if !lingering.note_read(count) => Err(Ok(Rest::Unfinished)),
+        _ => Ok(came),
     }
 }

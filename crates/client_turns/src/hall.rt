@@ -1,13 +1,11 @@
 //! What a thread needs to serve clients in turn.
 
-use crate::desk::Desk;
 use mio::unix::SourceFd;
 use mio::{Events, Interest, Poll, Token, Waker};
 use std::alloc::{AllocError, Global};
 use std::io;
 use std::net::{Net, TcpStream};
 use std::os::fd::{AsRawFd, RawFd};
-use std::sync::Arc;
 
 // So many bytes are read at most from a client in its turn. All clients are read into the same room.
 const READ_SIZE: usize = 65_536;
@@ -20,8 +18,6 @@ pub(crate) const CALL: Token = Token(usize::MAX);
 
 /// What a thread needs to serve clients in turn. It is made before the thread is started.
 pub struct Hall {
-    /// Where clients wait for the thread.
-    pub desk: Arc<Desk, Global>,
     pub(crate) poll: Poll,
     pub(crate) events: Events,
     pub(crate) input: Vec<u8>,
@@ -31,7 +27,6 @@ pub struct Hall {
 impl Drop for Hall {
     fn drop(self) {
         let Hall {
-            desk: _,
             poll: _,
             events: _,
             input: _,
@@ -57,14 +52,12 @@ impl From<AllocError> for HallFault {
 impl Hall {
     /// A hall with nobody in it. It takes memory, and descriptors of the system.
     pub fn new<R: Net>(rt: &R, alloc: Global) -> Result<Hall, HallFault> {
-        let desk = Arc::new(alloc, Desk::new(alloc)).map_err(AllocError::from)?;
         let events = Events::with_capacity(alloc, MOST_EVENTS)?;
         let input = vec![in alloc; 0u8; READ_SIZE]?;
         let Ok(poll) = Poll::new(rt) else {
             return Err(HallFault::Descriptor);
         };
         Ok(Hall {
-            desk,
             poll,
             events,
             input,

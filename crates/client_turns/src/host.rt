@@ -1,6 +1,6 @@
 //! A thread that serves many clients of a node in turn, each when its socket is ready.
 
-use crate::desk::Newcomer;
+use crate::desk::{Desk, Newcomer};
 use crate::guest::Guest;
 use crate::hall::{CALL, Hall};
 use crate::register::Register;
@@ -18,19 +18,20 @@ use std::time::Duration;
 // How many milliseconds pass at most before what wants memory is tried again where memory was refused.
 const PAUSE: u64 = 10;
 
-/// Serves the clients that come to the desk of the hall at the node of the gate, until the node is closed and all of them have left. The register
+/// Serves the clients that come to the desk at the node of the gate, until the node is closed and all of them have left. The register
 /// is told of each that leaves.
 pub fn serve_guests<G: SharedGate, L: Register, R: Clock + Wait>(
     rt: &R,
     alloc: Global,
     gate: &mut G,
     register: &L,
+    desk: &Desk<G::Asks>,
     hall: Hall,
 ) {
     let mut host = Host::new(alloc, hall);
     for _ in rt.forever() {
-        host.turn(rt, gate, register);
-        if gate.is_closed() && host.is_alone(rt) {
+        host.turn(rt, gate, register, desk);
+        if gate.is_closed() && host.is_alone(rt, desk) {
             return;
         }
     }
@@ -80,11 +81,17 @@ impl<G: SharedGate> Host<G> {
 
     // A turn of all clients for whom there is something to be done. They are read and written to while others may have the node, and
     // ask it one behind another.
-    fn turn<L: Register, R: Clock + Wait>(&mut self, rt: &R, gate: &mut G, register: &L) {
+    fn turn<L: Register, R: Clock + Wait>(
+        &mut self,
+        rt: &R,
+        gate: &mut G,
+        register: &L,
+        desk: &Desk<G::Asks>,
+    ) {
         let is_called = self.wait(rt, gate.is_closed());
         let is_closed = gate.is_closed();
         if is_called {
-            self.welcome(rt, gate, register);
+            self.welcome(rt, register, desk);
         }
         if is_called || is_closed {
             self.listen(gate, is_closed);
@@ -137,25 +144,29 @@ impl<G: SharedGate> Host<G> {
     }
 
     // Takes those in that wait at the desk.
-    fn welcome<L: Register, R: Wait>(&mut self, rt: &R, gate: &G, register: &L) {
+    fn welcome<L: Register, R: Wait>(&mut self, rt: &R, register: &L, desk: &Desk<G::Asks>) {
         for _ in rt.forever() {
-            let Some(newcomer) = self.hall.desk.take(rt) else {
+            let Some(newcomer) = desk.take(rt) else {
                 return;
             };
             let client = newcomer.client;
-            if !self.admit(gate, newcomer) {
+            if !self.admit(newcomer) {
                 register.note_refused(client);
             }
         }
     }
 
     // Takes a client in, and says whether there was memory for it, here and in the system.
-    fn admit(&mut self, gate: &G, newcomer: Newcomer) -> bool {
-        let Newcomer { stream, client } = newcomer;
+    fn admit(&mut self, newcomer: Newcomer<G::Asks>) -> bool {
+        let Newcomer {
+            stream,
+            client,
+            asks,
+        } = newcomer;
         if self.prepare(&*stream).is_err() {
             return false;
         }
-        self.add(Guest::new(stream, client, gate.begin())).is_ok()
+        self.add(Guest::new(stream, client, asks)).is_ok()
     }
 
     // Prepares all for a client on this connection. An error is that there is no memory for it, here or in the system.
@@ -320,8 +331,8 @@ impl<G: SharedGate> Host<G> {
     }
 
     // Whether all clients have left, and none waits at the desk, which takes none from then on.
-    fn is_alone<R: Wait>(&self, rt: &R) -> bool {
-        self.guests.is_empty() && self.hall.desk.close(rt)
+    fn is_alone<R: Wait>(&self, rt: &R, desk: &Desk<G::Asks>) -> bool {
+        self.guests.is_empty() && desk.close(rt)
     }
 }
 

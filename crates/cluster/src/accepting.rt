@@ -2,6 +2,7 @@
 
 use crate::one_client::serve_client;
 use client_turns::{Desk, DeskFault, Newcomer};
+use node_cell::{Admission, Asks};
 use shared_cluster::{HasLinks, Incident, Node, Refused, Runtime, SharedCluster, Shortage};
 use std::alloc::{AllocError, Global};
 use std::net::TcpStream;
@@ -17,13 +18,14 @@ const PAUSE: u64 = 10;
 const STACK_SIZE: usize = 262_144;
 
 /// Accepts the clients of the node of that number until it is closed. Each waits at one of the desks, in turn, or where there are none
-/// is served by a thread of its own.
+/// is served by a thread of its own. By the admission each begins what it asks.
 pub(crate) fn accept_clients<C: HasLinks<R> + Drop + Send + 'static, R: Runtime>(
     rt: R,
     alloc: Global,
     cluster: &Arc<SharedCluster<C>, Global>,
+    admission: &Admission<C::Cluster>,
     number: usize,
-    desks: &[Arc<Desk, Global>],
+    desks: &[Arc<Desk<Asks<C::Cluster>>, Global>],
 )
 where
     C::Cluster: Send + Sync + 'static,
@@ -35,6 +37,7 @@ where
         rt,
         alloc,
         cluster,
+        admission,
         node,
         number,
         desks,
@@ -49,9 +52,10 @@ struct Entrance<'a, C: HasLinks<R>, R: Runtime> {
     rt: R,
     alloc: Global,
     cluster: &'a Arc<SharedCluster<C>, Global>,
+    admission: &'a Admission<C::Cluster>,
     node: &'a Node<C>,
     number: usize,
-    desks: &'a [Arc<Desk, Global>],
+    desks: &'a [Arc<Desk<Asks<C::Cluster>>, Global>],
     // The desk at which the next client waits, if there are desks.
     turn: usize,
 }
@@ -112,7 +116,11 @@ where
         }
         let stream = Arc::new(self.alloc, stream).map_err(AllocError::from)?;
         let client = clients.add(&self.rt, self.number, &stream)?;
-        let newcomer = Newcomer { stream, client };
+        let newcomer = Newcomer {
+            stream,
+            client,
+            asks: self.admission.begin(),
+        };
         let begun = match self.desks.get(desk) {
             Some(desk) => desk.put(&self.rt, newcomer).map_err(refused_by),
             None => self.start(newcomer),
@@ -124,13 +132,17 @@ where
     }
 
     // Starts the thread of a client.
-    fn start(&self, newcomer: Newcomer) -> Result<(), Refused> {
-        let Newcomer { stream, client } = newcomer;
+    fn start(&self, newcomer: Newcomer<Asks<C::Cluster>>) -> Result<(), Refused> {
+        let Newcomer {
+            stream,
+            client,
+            asks,
+        } = newcomer;
         let (rt, alloc, number) = (self.rt, self.alloc, self.number);
         let clients = Arc::try_clone(&self.cluster.clients)?;
         let cluster = Arc::try_clone(self.cluster)?;
         let started = Builder::new().stack_size(STACK_SIZE).spawn(&rt, move || {
-            serve_client(rt, alloc, cluster, number, &*stream);
+            serve_client(rt, alloc, cluster, number, asks, &*stream);
             clients.remove(&rt, client);
         });
         match started {

@@ -1,7 +1,7 @@
 //! The time of a node, which passes in ticks, and its end where it is stopped alone.
 
 use crate::crowd::Crowd;
-use node_cell::{HoldsCell, NodeGate};
+use node_cell::{Asks, HoldsCell, NodeGate};
 use node_step::Event;
 use shared_cluster::{Incident, Node, SharedCluster, Stop};
 use shared_node::Gate;
@@ -26,11 +26,12 @@ pub(crate) struct Timing {
     pub(crate) has_threads: bool,
 }
 
-/// Lets the time of the node of that number pass, until the end or until all of its ticks are counted.
+/// Lets the time of the node of that number pass, of which nothing is asked yet, until the end or until all of its ticks are counted.
 pub(crate) fn pass_time<C: HoldsCell + Drop, R: Clock + Wait + Copy + Drop>(
     rt: R,
     cluster: &SharedCluster<C>,
     number: usize,
+    asks: Asks<C::Cluster>,
     timing: Timing,
 ) {
     let Some(node) = cluster.node(number) else {
@@ -43,7 +44,7 @@ pub(crate) fn pass_time<C: HoldsCell + Drop, R: Clock + Wait + Copy + Drop>(
         has_threads,
     } = timing;
     let stop = &cluster.stop;
-    let mut gate = Gate::new(rt, &node.shared, node.begin());
+    let mut gate = Gate::new(rt, &node.shared, asks);
     let mut crowd = Crowd::watched(has_threads, interval);
     let mut rest = interval;
     for _ in 0..own.min(most) {

@@ -3,7 +3,7 @@
 use crate::threads::add;
 use client_turns::{Desk, Hall, HallFault, Register, serve_guests};
 use mio::Waker;
-use node_cell::HoldsCell;
+use node_cell::{Admission, Asks, HoldsCell};
 use shared_cluster::{
     HasLinks, Incident, Mail, Node, Runtime, SeeingGate, SharedCluster, Shortage,
 };
@@ -18,43 +18,22 @@ pub(crate) fn start_loops<C: HasLinks<R> + Drop + Send + 'static, R: Runtime>(
     rt: R,
     alloc: Global,
     cluster: &Arc<SharedCluster<C>, Global>,
+    admission: &Arc<Admission<C::Cluster>, Global>,
     number: usize,
     count: usize,
     threads: &mut Vec<JoinHandle<()>>,
-) -> Result<Vec<Arc<Desk, Global>>, Shortage>
+) -> Result<Vec<Arc<Desk<Asks<C::Cluster>>, Global>>, Shortage>
 where
     C::Cluster: Send + Sync + 'static,
 {
     let halls = halls_of(rt, alloc, cluster.node(number), count)?;
-    let desks = desks_of(alloc, halls.as_slice())?;
-    match start_in(rt, alloc, cluster, number, halls, threads) {
-        Ok(()) => Ok(desks),
-        Err(shortage) => Err(shortage),
-    }
-}
-
-// Starts such a thread in each of these halls.
-fn start_in<C: HasLinks<R> + Drop + Send + 'static, R: Runtime>(
-    rt: R,
-    alloc: Global,
-    cluster: &Arc<SharedCluster<C>, Global>,
-    number: usize,
-    halls: Vec<Hall>,
-    threads: &mut Vec<JoinHandle<()>>,
-) -> Result<(), Shortage>
-where
-    C::Cluster: Send + Sync + 'static,
-{
+    let mut desks = Vec::with_capacity(alloc, count)?;
     for hall in halls {
-        add(start_loop(rt, alloc, cluster, number, hall), threads)?;
-    }
-    Ok(())
-}
-
-fn desks_of(alloc: Global, halls: &[Hall]) -> Result<Vec<Arc<Desk, Global>>, AllocError> {
-    let mut desks = Vec::with_capacity(alloc, halls.len())?;
-    for hall in halls {
-        let desk = Arc::try_clone(&hall.desk)?;
+        let desk = Arc::new(alloc, Desk::new(alloc)).map_err(AllocError::from)?;
+        add(
+            start_loop(rt, alloc, cluster, admission, number, &desk, hall),
+            threads,
+        )?;
         desks.push(desk).map_err(AllocError::from)?;
     }
     Ok(desks)
@@ -113,37 +92,50 @@ fn start_loop<C: HasLinks<R> + Drop + Send + 'static, R: Runtime>(
     rt: R,
     alloc: Global,
     cluster: &Arc<SharedCluster<C>, Global>,
+    admission: &Arc<Admission<C::Cluster>, Global>,
     number: usize,
+    desk: &Arc<Desk<Asks<C::Cluster>>, Global>,
     hall: Hall,
 ) -> Result<JoinHandle<()>, Shortage>
 where
     C::Cluster: Send + Sync + 'static,
 {
     let cluster = Arc::try_clone(cluster)?;
+    let admission = Arc::try_clone(admission)?;
+    let desk = Arc::try_clone(desk)?;
     let started = thread::spawn(&rt, move || {
-        serve_in_turn(rt, alloc, &*cluster, number, hall);
+        serve_in_turn(
+            rt,
+            alloc,
+            &*cluster,
+            number,
+            admission.begin(),
+            &*desk,
+            hall,
+        );
     });
     started.map_err(|_| Shortage::Thread)
 }
 
-// Serves clients of the node of that number, those that come to the desk of the hall, until the node is closed and all of them have left.
+// Serves clients of the node of that number, those that come to the desk, until the node is closed and all of them have left.
 fn serve_in_turn<C: HasLinks<R> + Drop, R: Runtime>(
     rt: R,
     alloc: Global,
     cluster: &SharedCluster<C>,
     number: usize,
+    asks: Asks<C::Cluster>,
+    desk: &Desk<Asks<C::Cluster>>,
     hall: Hall,
 ) {
-    let Some(node) = cluster.node(number) else {
+    let Some(mut gate) = SeeingGate::new(rt, alloc, cluster, number, asks, Mail::IsSent) else {
         return;
     };
-    let mut gate = SeeingGate::new(rt, alloc, cluster, node, number, Mail::IsSent);
     let clients = NodeClients {
         rt,
         cluster,
         number,
     };
-    serve_guests(&rt, alloc, &mut gate, &clients, hall);
+    serve_guests(&rt, alloc, &mut gate, &clients, desk, hall);
 }
 
 // The clients of the node of that number.

@@ -1,11 +1,11 @@
 //! A client that is served by a thread of its own.
 
 use client_turns::{Lingering, is_told};
-use listener::{ConnFault, Rest, serve_conn};
+use listener::{Came, ConnFault, Rest, read_once, serve_conn};
+use node_cell::Asks;
 use resp2::Counting;
 use shared_cluster::{HasLinks, Mail, Runtime, SeeingGate, SharedCluster};
 use std::alloc::Global;
-use std::io::{ErrorKind, Read};
 use std::net::{Shutdown, TcpStream};
 use std::rt::Clock;
 use std::sync::Arc;
@@ -13,15 +13,16 @@ use std::sync::Arc;
 // So many bytes are read at once of a client that was told why its conversation ended. They lie on the stack of its thread.
 const ROOM: usize = 4_096;
 
-/// Serves one client, and is then done with the cluster. What ends the conversation concerns this client alone.
+/// Serves one client, which has asked nothing yet, and is then done with the cluster. What ends the conversation concerns this client alone.
 pub(crate) fn serve_client<C: HasLinks<R> + Drop, R: Runtime>(
     rt: R,
     alloc: Global,
     cluster: Arc<SharedCluster<C>, Global>,
     number: usize,
+    asks: Asks<C::Cluster>,
     stream: &TcpStream,
 ) {
-    let ended = converse(rt, alloc, &*cluster, number, stream);
+    let ended = converse(rt, alloc, &*cluster, number, asks, stream);
     drop(cluster);
     // A bad byte isn't told from the client's own end here. Behind that end there is nothing to read.
     if is_told(ended.map(|_| Rest::BadByte)) {
@@ -34,14 +35,14 @@ fn converse<C: HasLinks<R> + Drop, R: Runtime>(
     alloc: Global,
     cluster: &SharedCluster<C>,
     number: usize,
+    asks: Asks<C::Cluster>,
     stream: &TcpStream,
 ) -> Result<(), ConnFault> {
-    let Some(node) = cluster.node(number) else {
-        return Err(ConnFault::Unanswered);
-    };
     // A reply is one write, so nothing is gained by waiting for more.
     let _nodelay = stream.set_nodelay(true);
-    let mut gate = SeeingGate::new(rt, alloc, cluster, node, number, Mail::IsFetched);
+    let Some(mut gate) = SeeingGate::new(rt, alloc, cluster, number, asks, Mail::IsFetched) else {
+        return Err(ConnFault::Unanswered);
+    };
     let mut reader = Counting::new(stream);
     let mut writer = Counting::new(stream);
     serve_conn(alloc, &mut gate, &mut reader, &mut writer)
@@ -69,10 +70,9 @@ fn linger<R: Clock>(rt: &R, stream: &TcpStream) {
 
 // Reads once, and says whether more may be read.
 fn reads_on(stream: &TcpStream, room: &mut [u8], lingering: &mut Lingering) -> bool {
-    let mut stream = stream;
-    match stream.read(room) {
-        Ok(0) => false,
-        Ok(count) => lingering.note_read(count),
-        Err(error) => error.kind() == ErrorKind::Interrupted,
+    match read_once(&mut Counting::new(stream), room) {
+        Ok(Came::Bytes(count)) => lingering.note_read(count),
+        Ok(Came::Interrupted) => true,
+        Ok(Came::End | Came::Nothing) | Err(_) => false,
     }
 }

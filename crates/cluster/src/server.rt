@@ -126,12 +126,13 @@ where
     ensures count { IfOk result (λ stations. vec_len stations ≡ length places.items) }
     ensures nodes { IfOk result (λ stations. map (λ station. station.cell.node) stations.items ≡ range_with_len 0 (length config.now.nodes)) }
 {
+    let admission = Arc::new(alloc, Admission::<K>::new(config)).map_err(AllocError::from)?;
     let nodes = nodes_at::<K, W, L, R>(alloc, config, places)?;
     let times = Times {
         interval: Duration::from_millis(u64::from(config.tick_ms())),
         course,
     };
-    let nodes = run_all(rt, alloc, nodes, times, witness)?;
+    let nodes = run_all(rt, alloc, nodes, &admission, times, witness)?;
     stations_of(alloc, nodes)
 }
 
@@ -169,6 +170,7 @@ fn run_all<C: HasLinks<R> + Drop + Send + 'static, R: Runtime>(
     rt: R,
     alloc: Global,
     nodes: Vec<Node<C>>,
+    admission: &Arc<Admission<C::Cluster>, Global>,
     times: Times,
     witness: &Arc<Witness, Global>,
 ) -> Result<Vec<Node<C>>, ServeFault>
@@ -178,7 +180,7 @@ where
 {
     let count = nodes.len();
     let cluster = share(alloc, nodes, witness)?;
-    run(rt, alloc, &cluster, times)?;
+    run(rt, alloc, &cluster, admission, times)?;
     match Arc::into_inner(cluster) {
         Some(cluster) if cluster.nodes.len() == count => Ok(cluster.nodes),
         _ => Err(ServeFault::Thread),
@@ -205,6 +207,7 @@ fn run<C: HasLinks<R> + Drop + Send + 'static, R: Runtime>(
     rt: R,
     alloc: Global,
     cluster: &Arc<SharedCluster<C>, Global>,
+    admission: &Arc<Admission<C::Cluster>, Global>,
     times: Times,
 ) -> Result<(), ServeFault>
 where
@@ -212,7 +215,7 @@ where
 {
     // Without those that serve clients in turn, a node has three threads.
     let mut threads = Vec::with_capacity(alloc, cluster.nodes.len().saturating_mul(3))?;
-    let started = start_all(rt, alloc, cluster, times, &mut threads);
+    let started = start_all(rt, alloc, cluster, admission, times, &mut threads);
     match started {
         Ok(()) => cluster.stop.wait(&rt),
         Err(_) => cluster.stop.end(),
@@ -309,7 +312,7 @@ fn node_at<K: Deployment, W: Web, L: Log + Drop, R: Runtime>(
     let number = NodeNo::new(number as u8).unwrap();
     let (seat, ends, listener) = place.into_parts();
     let station = station_at::<K, W, L, R>(alloc, config, number, seat, ends)?;
-    Ok(Node::new(station, Admission::new(config), listener))
+    Ok(Node::new(station, listener))
 }
 
 // A station of the node of that number, as it begins.

@@ -5,6 +5,7 @@ use crate::clock::{Timing, pass_time};
 use crate::loops::start_loops;
 use crate::server::{ServeFault, Times};
 use client_turns::Desk;
+use node_cell::{Admission, Asks};
 use shared_cluster::{HasLinks, Incident, Runtime, SharedCluster, Shortage, carry};
 use std::alloc::{AllocError, Global};
 use std::sync::Arc;
@@ -16,6 +17,7 @@ pub(crate) fn start_all<C: HasLinks<R> + Drop + Send + 'static, R: Runtime>(
     rt: R,
     alloc: Global,
     cluster: &Arc<SharedCluster<C>, Global>,
+    admission: &Arc<Admission<C::Cluster>, Global>,
     times: Times,
     threads: &mut Vec<JoinHandle<()>>,
 ) -> Result<(), ServeFault>
@@ -23,7 +25,7 @@ where
     C::Cluster: Send + Sync + 'static,
 {
     for number in 0..cluster.nodes.len() {
-        start_node(rt, alloc, cluster, number, times, threads)?;
+        start_node(rt, alloc, cluster, admission, number, times, threads)?;
     }
     Ok(())
 }
@@ -33,6 +35,7 @@ fn start_node<C: HasLinks<R> + Drop + Send + 'static, R: Runtime>(
     rt: R,
     alloc: Global,
     cluster: &Arc<SharedCluster<C>, Global>,
+    admission: &Arc<Admission<C::Cluster>, Global>,
     number: usize,
     times: Times,
     threads: &mut Vec<JoinHandle<()>>,
@@ -40,7 +43,7 @@ fn start_node<C: HasLinks<R> + Drop + Send + 'static, R: Runtime>(
 where
     C::Cluster: Send + Sync + 'static,
 {
-    let started = start_each(rt, alloc, cluster, number, times, threads);
+    let started = start_each(rt, alloc, cluster, admission, number, times, threads);
     if let Err(shortage) = started {
         let node = number;
         let unstarted = Incident::ThreadNotStarted { node, shortage };
@@ -54,6 +57,7 @@ fn start_each<C: HasLinks<R> + Drop + Send + 'static, R: Runtime>(
     rt: R,
     alloc: Global,
     cluster: &Arc<SharedCluster<C>, Global>,
+    admission: &Arc<Admission<C::Cluster>, Global>,
     number: usize,
     times: Times,
     threads: &mut Vec<JoinHandle<()>>,
@@ -61,9 +65,21 @@ fn start_each<C: HasLinks<R> + Drop + Send + 'static, R: Runtime>(
 where
     C::Cluster: Send + Sync + 'static,
 {
-    add(start_clock(rt, cluster, number, times.of(number)), threads)?;
-    let desks = start_loops(rt, alloc, cluster, number, times.loops(), threads)?;
-    add(start_accepting(rt, alloc, cluster, number, desks), threads)?;
+    let timing = times.of(number);
+    add(start_clock(rt, cluster, admission, number, timing), threads)?;
+    let desks = start_loops(
+        rt,
+        alloc,
+        cluster,
+        admission,
+        number,
+        times.loops(),
+        threads,
+    )?;
+    add(
+        start_accepting(rt, alloc, cluster, admission, number, desks),
+        threads,
+    )?;
     add(start_carrying(rt, alloc, cluster, number), threads)
 }
 
@@ -80,6 +96,7 @@ pub(crate) fn add(
 fn start_clock<C: HasLinks<R> + Drop + Send + 'static, R: Runtime>(
     rt: R,
     cluster: &Arc<SharedCluster<C>, Global>,
+    admission: &Arc<Admission<C::Cluster>, Global>,
     number: usize,
     timing: Timing,
 ) -> Result<JoinHandle<()>, Shortage>
@@ -87,8 +104,9 @@ where
     C::Cluster: Send + Sync + 'static,
 {
     let cluster = Arc::try_clone(cluster)?;
+    let admission = Arc::try_clone(admission)?;
     let started = thread::spawn(&rt, move || {
-        pass_time(rt, &*cluster, number, timing);
+        pass_time(rt, &*cluster, number, admission.begin(), timing);
         cluster.stop.end();
     });
     started.map_err(|_| Shortage::Thread)
@@ -99,15 +117,17 @@ fn start_accepting<C: HasLinks<R> + Drop + Send + 'static, R: Runtime>(
     rt: R,
     alloc: Global,
     cluster: &Arc<SharedCluster<C>, Global>,
+    admission: &Arc<Admission<C::Cluster>, Global>,
     number: usize,
-    desks: Vec<Arc<Desk, Global>>,
+    desks: Vec<Arc<Desk<Asks<C::Cluster>>, Global>>,
 ) -> Result<JoinHandle<()>, Shortage>
 where
     C::Cluster: Send + Sync + 'static,
 {
     let cluster = Arc::try_clone(cluster)?;
+    let admission = Arc::try_clone(admission)?;
     let started = thread::spawn(&rt, move || {
-        accept_clients(rt, alloc, &cluster, number, desks.as_slice());
+        accept_clients(rt, alloc, &cluster, &*admission, number, desks.as_slice());
     });
     started.map_err(|_| Shortage::Thread)
 }

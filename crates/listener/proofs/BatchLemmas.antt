@@ -1,6 +1,6 @@
 -- Bytes that wait, go out, or go out in part.
-use Rattle.std.proofs.Common.{◌≡◌, ◌+◌, ℕ, List, [], ◌++◌, append_assoc, append-nil, drop, take, Ok, Err, OnErr, OnOk, Result, sym, ◌∙◌, ap, subst}
-use Rattle.std.proofs.lemmas.List.{drop-drop, take-append-drop}
+use Rattle.std.proofs.Common.{◌≡◌, ◌≢◌, ◌+◌, ℕ, List, [], ◌∷◌, ◌++◌, append_assoc, append-nil, drop, take, Ok, Err, IfOk, OnErr, OnOk, Result, arith, inl, inr, refl, sym, ◌∙◌, ap, subst}
+use Rattle.std.proofs.lemmas.List.{drop-drop, length-append, take-append-drop}
 use Rattle.std.specs.Io.KnownBytes.{Appends}
 use Rattle.std.proofs.KnownBytes.{Appends-nil, Appends-trans}
 use Rattle.resp2.specs.Counting.{HasRisen}
@@ -8,6 +8,11 @@ use Rattle.resp2.specs.Writing.{AppendsBeginning}
 use Rattle.resp2.proofs.Beginnings.{begun_behind, begun_before}
 use Rattle.listener.specs.Streams.{Fails, Sends, Stream, change}
 use Rattle.listener.specs.Progress.{Puts}
+use Rattle.listener.specs.Turns.{Accounts, IsLeftBy, Writes}
+use Rattle.listener.specs.declared.batch.Wrote.{Wrote}
+use Rattle.listener.specs.declared.batch.Wrote.TheVariants as wrote
+use Rattle.listener.specs.declared.outgoing.Left.{Left}
+use Rattle.listener.specs.declared.outgoing.Left.TheVariants as left
 
 -- first p and then q were put
 pub puts_again : (a b c : Stream) (x y z p q : List ℕ) → Puts (change a b) (change x y) p → Puts (change b c) (change y z) q → Puts (change a c) (change x z) (p ++ q)
@@ -100,3 +105,44 @@ puts_some a b batch left sent count wrote rest =
       all = ap (λ w. take count (drop sent batch) ++ w) (rest ∙ sym (drop-drop count sent batch)) ∙ take-append-drop count (drop sent batch)
           ∙ sym (append-nil (drop sent batch));
     }
+
+-- bytes that wait make others wait behind them
+pub waits_behind : (x p : List ℕ) → x ≢ [] → x ++ p ≢ []
+waits_behind [] p some = absurd (some refl)
+waits_behind (byte ∷ x) p some = λ none. cc
+
+-- what a write did to the bytes that wait is so where others wait behind them
+pub writes_more : (did : Wrote) (a b : Stream) (x y p : List ℕ) → Writes did (change a b) (change x y) → Writes did (change a b) (change (x ++ p) (y ++ p))
+writes_more wrote.Nothing a b x y p writes = (ap (λ w. w ++ p) writes.0, writes.1)
+writes_more wrote.Some a b x y p writes = (omega (arith, writes.0, length-append x p, length-append y p), writes.1)
+writes_more wrote.Interrupted a b x y p writes = (ap (λ w. w ++ p) writes.0, waits_behind x p writes.1, writes.2)
+writes_more wrote.Blocked a b x y p writes = (ap (λ w. w ++ p) writes.0, waits_behind x p writes.1, writes.2)
+
+pub writes_behind : {E : Type 0} (r : Result Wrote E) (a b : Stream) (x y p : List ℕ) → IfOk r (λ did. Writes did (change a b) (change x y))
+    → IfOk r (λ did. Writes did (change a b) (change (x ++ p) (y ++ p)))
+writes_behind (Ok did) a b x y p writes = writes_more did a b x y p writes
+writes_behind (Err e) a b x y p writes = tt
+
+-- what is told of the rest is true of what was sent
+pub accounts : (did : Wrote) (told : Left) (a b : Stream) (x y : List ℕ) → Writes did (change a b) (change x y) → IsLeftBy did y told → Accounts told (change a b) (change x y)
+accounts wrote.Nothing left.Nothing a b x y writes is = (is, writes.1)
+accounts wrote.Some left.Nothing a b x y writes is = (is, writes.1)
+accounts wrote.Interrupted left.Nothing a b x y writes is = absurd (writes.1 (sym writes.0 ∙ is))
+accounts wrote.Blocked left.Nothing a b x y writes is = absurd (writes.1 (sym writes.0 ∙ is))
+accounts wrote.Nothing left.More a b x y writes is = absurd (is refl)
+accounts wrote.Some left.More a b x y writes is = inl writes.0
+accounts wrote.Interrupted left.More a b x y writes is = inr writes.2
+accounts wrote.Blocked left.More a b x y writes is = inr writes.2
+accounts wrote.Nothing left.Blocked a b x y writes is = cc
+accounts wrote.Some left.Blocked a b x y writes is = cc
+accounts wrote.Interrupted left.Blocked a b x y writes is = cc
+accounts wrote.Blocked left.Blocked a b x y writes is = writes.2
+accounts wrote.Nothing left.NoMemory a b x y writes is = writes
+accounts wrote.Some left.NoMemory a b x y writes is = cc
+accounts wrote.Interrupted left.NoMemory a b x y writes is = cc
+accounts wrote.Blocked left.NoMemory a b x y writes is = cc
+
+-- a beginning of what waited went out, and nothing of the bytes behind it
+pub fails_in_front : {T E : Type 0} (r : Result T E) (a b : Stream) (x p : List ℕ) → OnErr r (Fails (change a b) x) → OnErr r (Fails (change a b) (x ++ p))
+fails_in_front (Ok value) a b x p fails = tt
+fails_in_front (Err e) a b x p fails = fails_before a b x p fails

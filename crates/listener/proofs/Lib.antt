@@ -3,3 +3,4 @@ pub mod BatchLemmas
 pub mod DeskLemmas
 pub mod TalkLemmas
 pub mod TurnLemmas
+pub mod InTurnsLemmas

@@ -1,4 +1,5 @@
 pub mod Conversation
+pub mod InTurns
 pub mod Progress
 pub mod Streams
 pub mod Turns

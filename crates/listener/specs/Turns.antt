@@ -1,5 +1,5 @@
 -- A conversation between two turns: what was answered, what is left of the input, and what the client is still to be sent.
-use Rattle.std.specs.Prelude.{◌≡◌, ◌≢◌, ◌<◌, ℕ, List, [], ◌∷◌, ◌++◌, drop, length, Option, None, Some, Result, Ok}
+use Rattle.std.specs.Prelude.{◌≡◌, ◌≢◌, ◌⊎◌, ◌<◌, ◌≤◌, ℕ, List, [], ◌∷◌, ◌++◌, drop, take, length, Option, None, Some, Result, Ok}
 use Rattle.std.specs.Io.KnownBytes.{Consumes, IsAtEnd, Keeps}
 use Rattle.resp2.specs.Counting.{HasRisen}
 use Rattle.resp_values.specs.Reply.{reply_spelling}
@@ -14,11 +14,17 @@ use Rattle.node_step.specs.declared.response.Response.TheVariants.{Parked, Repli
 use Rattle.node_gate.specs.Asks.{Asked}
 use Rattle.node_gate.specs.Asks.Asked.{asking, waiting}
 use Rattle.connections.specs.declared.conn.Conn.{Conn}
+use Rattle.listener.specs.declared.batch.Wrote.{Wrote}
+use Rattle.listener.specs.declared.batch.Wrote.TheVariants as wrote
 use Rattle.listener.specs.declared.farewell.Farewell.{Farewell}
 use Rattle.listener.specs.declared.outgoing.Held.{Held}
 use Rattle.listener.specs.declared.outgoing.Held.TheVariants as held
+use Rattle.listener.specs.declared.outgoing.Left.{Left}
+use Rattle.listener.specs.declared.outgoing.Left.TheVariants as left
 use Rattle.listener.specs.declared.outgoing.Outgoing.{Outgoing}
 use Rattle.listener.specs.declared.outgoing.TheConstants.{MOST_WAITING}
+use Rattle.listener.specs.declared.reading.Came.{Came}
+use Rattle.listener.specs.declared.reading.Came.TheVariants as came
 use Rattle.listener.specs.declared.requests.Next.{Next}
 use Rattle.listener.specs.declared.requests.Next.TheVariants as next
 use Rattle.listener.specs.declared.talk.Talk.{Talk}
@@ -126,3 +132,38 @@ pub record Leaves (allowed : Asked → Type 0) (asked : Change (List Asked)) (in
   pub left : List ℕ
   pub talks : Talks allowed asked input output ended left
   pub told : farewell ≡ left ++ line_of ended
+
+-- what a write that doesn't wait did to the bytes that wait
+abbrev pub Writes : Wrote → Change Stream → Change (List ℕ) → Type 0
+Writes wrote.Nothing out waits = (waits.new ≡ waits.old) × (out.new.failures ≡ out.old.failures)
+Writes wrote.Some out waits = (length waits.new < length waits.old) × (out.new.failures ≡ out.old.failures)
+Writes _ out waits = (waits.new ≡ waits.old) × (waits.old ≢ []) × HasRisen out.old.failures out.new.failures
+
+-- what is told of the bytes that still wait behind such a write
+abbrev pub IsLeftBy : Wrote → List ℕ → Left → Type 0
+IsLeftBy did waits left.Nothing = waits ≡ []
+IsLeftBy did waits left.More = did ≢ wrote.Nothing
+IsLeftBy did waits left.Blocked = did ≡ wrote.Blocked
+IsLeftBy did waits left.NoMemory = did ≡ wrote.Nothing
+
+-- what was sent by one write, by what is told of the rest: only a writer whose count has risen takes the rest later, and what there is
+-- no memory for was not begun
+abbrev pub Accounts : Left → Change Stream → Change (List ℕ) → Type 0
+Accounts left.Nothing out waits = (waits.new ≡ []) × (out.new.failures ≡ out.old.failures)
+Accounts left.More out waits = (length waits.new < length waits.old) ⊎ HasRisen out.old.failures out.new.failures
+Accounts left.Blocked out waits = HasRisen out.old.failures out.new.failures
+Accounts left.NoMemory out waits = (waits.new ≡ waits.old) × (out.new.failures ≡ out.old.failures)
+
+-- what one read gave: bytes that stand in front in the room now; the end, unless there was no room; or nothing, where the reader's
+-- count has risen
+abbrev pub Gives : Came → Change Stream → List ℕ → Type 0
+Gives (came.Bytes count) input room = (0 < count) × (count ≤ length room) × Consumes input.old.bytes input.new.bytes (take count room)
+    × (input.new.failures ≡ input.old.failures)
+Gives came.End input room = Keeps input.old.bytes input.new.bytes × (0 < length room → IsAtEnd input.new.bytes) × (input.new.failures ≡ input.old.failures)
+Gives _ input room = Keeps input.old.bytes input.new.bytes × HasRisen input.old.failures input.new.failures
+
+-- what one read did to a conversation: what came stands behind the bytes that are not answered, once
+abbrev pub ReadsOnce : Came → Change Stream → ℕ → ReaderState → ReaderState → Type 0
+ReadsOnce (came.Bytes count) input room old new = (0 < count) × Reads input count old new
+ReadsOnce came.End input room old new = (new ≡ old) × (0 < room → IsAtEnd input.new.bytes) × Keeps input.old.bytes input.new.bytes × (input.new.failures ≡ input.old.failures)
+ReadsOnce _ input room old new = (new ≡ old) × Keeps input.old.bytes input.new.bytes × HasRisen input.old.failures input.new.failures

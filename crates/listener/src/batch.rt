@@ -1,10 +1,10 @@
 //! The batch of replies that go out together, and what is written behind it.
-ghost use Rattle.std.specs.Prelude.{◌≡◌, ◌+◌, ◌≤◌, ◌++◌, [], false, vec_len, OnOk, OnErr, IfErr, MatchBool, drop};
+ghost use Rattle.std.specs.Prelude.{◌≡◌, ◌≢◌, ◌+◌, ◌≤◌, ◌++◌, [], false, vec_len, OnOk, OnErr, IfOk, IfErr, MatchBool, drop};
 ghost use Rattle.resp_values.specs.Reply.{reply_spelling};
 ghost use Rattle.listener.specs.Conversation.{error_bytes};
 ghost use Rattle.listener.specs.Progress.{Puts};
 ghost use Rattle.listener.specs.Streams.{Fails, Sends, change, streams};
-ghost use Rattle.listener.specs.Turns.{held_bytes, reply_in};
+ghost use Rattle.listener.specs.Turns.{Writes, held_bytes, reply_in};
 
 use crate::fault::ConnFault;
 use crate::outgoing::Held;
@@ -23,7 +23,10 @@ const LONG_VALUE: usize = 16_384;
 pub(crate) enum Wrote {
     /// There was nothing to write.
     Nothing,
+    /// The writer took some.
     Some,
+    /// A signal came before the writer took some.
+    Interrupted,
     /// The writer takes nothing now.
     Blocked,
 }
@@ -142,26 +145,44 @@ pub(crate) fn write_once<W: Write>(
     sent: &mut usize,
     writer: &mut Counting<W>,
 ) -> Result<Wrote, ConnFault>
-    ensures put { Puts (streams W.contents writer.old writer.new) (change (drop sent.old batch.old.items) (drop sent.new batch.new.items)) [] }
-    ensures err { IfErr result (λ fault. fault ≡ ConnFault.Writer) }
+    ensures put { OnOk result (Puts (streams W.contents writer.old writer.new) (change (drop sent.old batch.old.items) (drop sent.new batch.new.items)) []) }
+    ensures wrote { IfOk result (λ wrote. Writes wrote (streams W.contents writer.old writer.new) (change (drop sent.old batch.old.items) (drop sent.new batch.new.items))) }
+    ensures fault { IfErr result (λ fault. fault ≡ ConnFault.Writer) }
+    ensures err { OnErr result (Fails (streams W.contents writer.old writer.new) (drop sent.old batch.old.items)) }
 {
     let rest = rest_of(batch.as_slice(), *sent);
     if rest.is_empty() {
         return Ok(Wrote::Nothing);
     }
     match writer.write(rest) {
+        Ok(0) => write_on(batch, sent, writer),
         Ok(count) => {
-            if count == 0 {
-                return Err(ConnFault::Writer);
-            }
             note_sent(batch, sent, count);
             Ok(Wrote::Some)
         }
         Err(error) => match error.kind() {
             ErrorKind::WouldBlock => Ok(Wrote::Blocked),
-            ErrorKind::Interrupted => Ok(Wrote::Some),
+            ErrorKind::Interrupted => Ok(Wrote::Interrupted),
             _ => Err(ConnFault::Writer),
         },
+    }
+}
+
+// Writes the rest to a writer that took nothing of it. One that takes nothing once more has failed, and that is counted.
+fn write_on<W: Write>(
+    batch: &mut Vec<u8>,
+    sent: &mut usize,
+    writer: &mut Counting<W>,
+) -> Result<Wrote, ConnFault>
+    requires { drop sent.old batch.old.items ≢ [] }
+    ensures put { OnOk result (Puts (streams W.contents writer.old writer.new) (change (drop sent.old batch.old.items) (drop sent.new batch.new.items)) []) }
+    ensures wrote { IfOk result (λ wrote. Writes wrote (streams W.contents writer.old writer.new) (change (drop sent.old batch.old.items) (drop sent.new batch.new.items))) }
+    ensures fault { IfErr result (λ fault. fault ≡ ConnFault.Writer) }
+    ensures err { OnErr result (Fails (streams W.contents writer.old writer.new) (drop sent.old batch.old.items)) }
+{
+    match flush(batch, sent, writer) {
+        Ok(()) => Ok(Wrote::Some),
+        Err(_) => Err(ConnFault::Writer),
     }
 }
 

@@ -190,28 +190,10 @@ fn take_turn<G: NodeGate>(
         Next::Write => Ok(None),
         Next::Answer => Ok(None),
         Next::Hear => {
-            wait_for_reply(gate, talk)?;
+            talk.wait(gate)?;
             Ok(None)
         }
     }
-}
-
-// Waits for the reply to the request that is parked.
-fn wait_for_reply<G: NodeGate>(gate: &mut G, talk: &mut Talk<G::Answer>) -> Result<(), ConnFault>
-    requires { IsParked talk.old }
-    ensures heard { OnOk result (Hears (IsAllowed G.may G.may_refuse G.may_give) talk.old.conn (change (G.asked gate.old) (G.asked gate.new))
-        (change (waiting_of G.Answer.gave talk.old.outgoing) (waiting_of G.Answer.gave talk.new.outgoing))) }
-    ensures here { OnOk result (talk.new.outgoing.held ≢ Held.Parked) }
-    ensures none { OnErr result (Adds (IsAllowed G.may G.may_refuse G.may_give) (change (G.asked gate.old) (G.asked gate.new)) (waiting talk.old.conn None ∷ [])) }
-    ensures kept { OnErr result (talk.new ≡ talk.old) }
-    ensures fault { IfErr result (λ fault. fault ≡ ConnFault.Unanswered) }
-    ensures same { (talk.new.conn ≡ talk.old.conn) × (talk.new.requests ≡ talk.old.requests) }
-{
-    let Some(reply) = gate.wait(talk.conn()) else {
-        return Err(ConnFault::Unanswered);
-    };
-    talk.hear(reply);
-    Ok(())
 }
 
 // Writes what waits, while others may ask the node.

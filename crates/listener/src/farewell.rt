@@ -1,10 +1,11 @@
 //! What a client is still to be sent once its conversation has ended.
-ghost use Rattle.std.specs.Prelude.{◌≡◌, ◌≢◌, ◌++◌, [], None, Err, IfOk, IfErr, OnOk, OnErr};
+ghost use Rattle.std.specs.Prelude.{◌≡◌, ◌++◌, [], Err, IfOk, IfErr, OnOk, OnErr};
 ghost use Rattle.listener.specs.Conversation.{line_of};
 ghost use Rattle.listener.specs.Progress.{Puts};
 ghost use Rattle.listener.specs.Streams.{Fails, Sends, change, streams};
-ghost use Rattle.listener.specs.Turns.{farewell_of, line_bytes, waiting_of};
+ghost use Rattle.listener.specs.Turns.{Accounts, IsLeftBy, farewell_of, line_bytes, waiting_of};
 
+use crate::batch::Wrote;
 use crate::fault::ConnFault;
 use crate::outgoing::{Left, Outgoing};
 use crate::requests::Rest;
@@ -54,25 +55,28 @@ impl<S: Answered + Drop> Farewell<S> {
         }
     }
 
-    /// Sends some of it by one write, and says what is left. An error is that the writer failed.
+    /// Sends some of it by one write, and says what is left. An error is that the writer failed: its count has risen.
     pub fn finish<W: Write>(&mut self, writer: &mut Counting<W>) -> Result<Left, ConnFault>
-        ensures put { Puts (streams W.contents writer.old writer.new) (change (farewell_of S.gave self.old) (farewell_of S.gave self.new)) [] }
-        ensures nothing { IfOk result (λ left. left ≡ Left.Nothing → farewell_of S.gave self.new ≡ []) }
-        ensures err { IfErr result (λ fault. fault ≡ ConnFault.Writer) }
+        ensures put { OnOk result (Puts (streams W.contents writer.old writer.new) (change (farewell_of S.gave self.old) (farewell_of S.gave self.new)) []) }
+        ensures left { IfOk result (λ left. Accounts left (streams W.contents writer.old writer.new) (change (farewell_of S.gave self.old) (farewell_of S.gave self.new))) }
+        ensures fault { IfErr result (λ fault. fault ≡ ConnFault.Writer) }
+        ensures err { OnErr result (Fails (streams W.contents writer.old writer.new) (farewell_of S.gave self.old)) }
     {
         self.settle();
-        let left = self.outgoing.write_some(writer)?;
-        Ok(self.left_with(left))
+        let wrote = self.outgoing.write_some(writer)?;
+        Ok(self.left_by(wrote))
     }
 
-    // What is left, where so much is left of the replies.
-    fn left_with(&self, left: Left) -> Left
-        ensures same { self.now.line ≡ None → result ≡ left }
-        ensures line { self.now.line ≢ None → result ≢ Left.Nothing }
+    // What is left behind a write that did this.
+    fn left_by(&self, wrote: Wrote) -> Left
+        ensures { IsLeftBy wrote (farewell_of S.gave self.now) result }
     {
-        match left {
-            Left::Nothing if self.line.is_some() => Left::NoMemory,
-            _ => left,
+        match self.outgoing.left_by(wrote) {
+            Left::Nothing if self.line.is_some() => match wrote {
+                Wrote::Nothing => Left::NoMemory,
+                Wrote::Some | Wrote::Interrupted | Wrote::Blocked => Left::More,
+            },
+            left => left,
         }
     }
 

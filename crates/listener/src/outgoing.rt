@@ -4,7 +4,7 @@ ghost use Rattle.resp_values.specs.Reply.{reply_spelling};
 ghost use Rattle.listener.specs.Conversation.{error_bytes};
 ghost use Rattle.listener.specs.Progress.{Puts};
 ghost use Rattle.listener.specs.Streams.{Fails, Sends, change, streams};
-ghost use Rattle.listener.specs.Turns.{HasRoom, held_bytes, reply_in, waiting_of};
+ghost use Rattle.listener.specs.Turns.{HasRoom, IsLeftBy, Writes, held_bytes, reply_in, waiting_of};
 
 use crate::batch::{Wrote, fits, fits_in, flush, line_fits, puts_held, send_held, write_once};
 use crate::fault::ConnFault;
@@ -156,19 +156,19 @@ impl<S: Answered + Drop> Outgoing<S> {
         self.held = Held::Nothing;
     }
 
-    /// Writes once, and says what is left. The writer may be one that doesn't wait.
+    /// Writes once, and says what that did. The writer may be one that doesn't wait.
     pub(crate) fn write_some<W: Write>(
         &mut self,
         writer: &mut Counting<W>,
-    ) -> Result<Left, ConnFault>
-        ensures put { Puts (streams W.contents writer.old writer.new) (change (waiting_of S.gave self.old) (waiting_of S.gave self.new)) [] }
-        ensures nothing { IfOk result (λ left. left ≡ Left.Nothing → waiting_of S.gave self.new ≡ []) }
+    ) -> Result<Wrote, ConnFault>
+        ensures put { OnOk result (Puts (streams W.contents writer.old writer.new) (change (waiting_of S.gave self.old) (waiting_of S.gave self.new)) []) }
+        ensures wrote { IfOk result (λ wrote. Writes wrote (streams W.contents writer.old writer.new) (change (waiting_of S.gave self.old) (waiting_of S.gave self.new))) }
         ensures parked { (self.old.held ≡ Held.Parked → self.new.held ≡ Held.Parked) × (self.old.held ≢ Held.Parked → self.new.held ≢ Held.Parked) }
-        ensures err { IfErr result (λ fault. fault ≡ ConnFault.Writer) }
+        ensures fault { IfErr result (λ fault. fault ≡ ConnFault.Writer) }
+        ensures err { OnErr result (Fails (streams W.contents writer.old writer.new) (waiting_of S.gave self.old)) }
     {
         self.settle();
-        let wrote = write_once(&mut self.batch, &mut self.sent, writer)?;
-        Ok(self.left_by(wrote))
+        write_once(&mut self.batch, &mut self.sent, writer)
     }
 
     // Puts what is held into the batch, where memory allows, and no part of the batch was sent.
@@ -181,14 +181,16 @@ impl<S: Answered + Drop> Outgoing<S> {
         }
     }
 
-    fn left_by(&self, wrote: Wrote) -> Left
-        ensures { result ≡ Left.Nothing → waiting_of S.gave self.now ≡ [] }
+    /// What is left behind a write that did this.
+    pub(crate) fn left_by(&self, wrote: Wrote) -> Left
+        ensures { IsLeftBy wrote (waiting_of S.gave self.now) result }
     {
         if self.sent >= self.batch.len() && !self.has_held() {
             return Left::Nothing;
         }
         match wrote {
             Wrote::Some => Left::More,
+            Wrote::Interrupted => Left::More,
             Wrote::Blocked => Left::Blocked,
             Wrote::Nothing => Left::NoMemory,
         }

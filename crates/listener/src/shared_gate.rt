@@ -18,10 +18,6 @@ pub trait SharedGate: NodeGate {
 
     ghost asked_by: { Self.Asks → List Asked };
 
-    /// What a new conversation has asked: nothing yet.
-    fn begin(&self) -> Self::Asks
-        ensures { asked_by result ≡ [] };
-
     /// Changes places with the conversation that asked this: from now on that one has the gate, and the node with it.
     fn exchange(&mut self, asks: &mut Self::Asks)
         ensures comes { Self.asked self.new ≡ asked_by asks.old }

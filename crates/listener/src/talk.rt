@@ -1,28 +1,31 @@
 //! A conversation between two turns.
-ghost use Rattle.std.specs.Prelude.{◌≡◌, ◌≢◌, ◌⊎◌, ◌<◌, ◌++◌, [], length, Err, Ok, None, IfOk, IfErr, OnOk, OnErr, MatchBool};
+ghost use Rattle.std.specs.Prelude.{◌≡◌, ◌≢◌, ◌⊎◌, ◌<◌, ◌++◌, ◌∷◌, [], true, false, length, Err, Ok, None, IfOk, IfErr, OnOk, OnErr, MatchBool};
+ghost use Rattle.node_gate.specs.Asks.Asked.{waiting};
 ghost use Rattle.resp_values.specs.Reply.{reply_spelling};
 ghost use Rattle.listener.specs.Conversation.{line_of};
 ghost use Rattle.listener.specs.Progress.{Closes, Halts, IsOfAnswering, Opens, Puts, Refuses};
-ghost use Rattle.listener.specs.Streams.{Fails, IsAllowed, Sends, Stream, change, streams};
-ghost use Rattle.listener.specs.Turns.{EndsTurn, HasRoom, IsParked, Turns, desk_of, farewell_of, waiting_of};
+ghost use Rattle.listener.specs.Streams.{Adds, Fails, IsAllowed, Sends, Stream, change, streams};
+ghost use Rattle.listener.specs.Turns.{Accounts, EndsTurn, HasRoom, Hears, IsParked, ReadsNot, ReadsOnce, Turns, desk_of, farewell_of, waiting_of};
 
 use crate::farewell::Farewell;
 use crate::fault::ConnFault;
 use crate::outgoing::{Held, Left, Outgoing};
+use crate::reading::{Came, read_once};
 use crate::requests::{Next, Rest, answer_some, ask_alone};
+use crate::shared_gate::SharedGate;
 use connections::Conn;
 use node_gate::{Answered, NodeGate};
 use node_step::{Event, Response};
 use resp2::{Counting, Reader, Reply};
 use std::alloc::Global;
 use std::io;
-use std::io::Write;
+use std::io::{Read, Write};
 
 /// A conversation between two of its turns: its connection, the bytes that are not answered yet, and what the client is still to be
 /// sent.
 ///
-/// A turn takes the bytes that came ([`read`](Talk::read)), has the node answer requests ([`answer`](Talk::answer)), and sends replies
-/// ([`finish`](Talk::finish)). None of them waits for the client, so one thread serves many.
+/// A turn reads the bytes that came ([`read_once`](Talk::read_once)), has the node answer requests ([`answer`](Talk::answer)), and sends
+/// replies ([`finish`](Talk::finish)). None of them waits for the client, so one thread serves many.
 #[derive(Drop)]
 pub struct Talk<S> {
     pub(crate) conn: Conn,
@@ -47,13 +50,6 @@ impl<S: Answered + Drop> Talk<S> {
         })
     }
 
-    /// The connection.
-    pub fn conn(&self) -> Conn
-        ensures { result ≡ self.now.conn }
-    {
-        self.conn
-    }
-
     /// Whether the last request was parked, so that its reply is to be heard.
     pub fn is_parked(&self) -> bool
         ensures { MatchBool result (IsParked self.now) (self.now.outgoing.held ≢ Held.Parked) }
@@ -61,8 +57,26 @@ impl<S: Answered + Drop> Talk<S> {
         matches!(self.outgoing.held, Held::Parked)
     }
 
+    /// Reads once, and takes what came. The reader may be one that doesn't wait.
+    pub fn read_once<R: Read>(
+        &mut self,
+        reader: &mut Counting<R>,
+        room: &mut [u8],
+    ) -> Result<Came, ConnFault>
+        ensures read { IfOk result (λ came. ReadsOnce came (streams R.remaining reader.old reader.new) (length room.new) self.old.requests self.new.requests) }
+        ensures failed { IfErr result (λ fault. ReadsNot (streams R.remaining reader.old reader.new) fault) }
+        ensures kept { OnErr result (self.new.requests ≡ self.old.requests) }
+        ensures same { (self.new.conn ≡ self.old.conn) × (self.new.outgoing ≡ self.old.outgoing) }
+    {
+        let came = read_once(reader, room)?;
+        if let Came::Bytes(count) = came {
+            self.read(&room[..count])?;
+        }
+        Ok(came)
+    }
+
     /// Takes bytes that the client sent. An error is that there is no memory for them.
-    pub fn read(&mut self, bytes: &[u8]) -> Result<(), ConnFault>
+    pub(crate) fn read(&mut self, bytes: &[u8]) -> Result<(), ConnFault>
         ensures took { OnOk result ((self.new.requests.pending ≡ self.old.requests.pending ++ bytes.now) × (self.new.requests.fault ≡ self.old.requests.fault)) }
         ensures refused { OnErr result (self.new.requests ≡ self.old.requests) }
         ensures fault { IfErr result (λ fault. fault ≡ ConnFault.Memory) }
@@ -107,8 +121,42 @@ impl<S: Answered + Drop> Talk<S> {
         )
     }
 
+    /// Takes the reply that comes later, if the node has it by now, and says whether it has.
+    pub fn listen<G: SharedGate<Answer = S>>(&mut self, gate: &mut G) -> bool
+        requires { IsParked self.old }
+        ensures heard { result ≡ true → Hears (IsAllowed G.may G.may_refuse G.may_give) self.old.conn (change (G.asked gate.old) (G.asked gate.new))
+            (change (waiting_of S.gave self.old.outgoing) (waiting_of S.gave self.new.outgoing)) }
+        ensures here { result ≡ true → self.new.outgoing.held ≢ Held.Parked }
+        ensures none { result ≡ false → (self.new ≡ self.old) × (G.asked gate.new ≡ G.asked gate.old) }
+        ensures same { (self.new.conn ≡ self.old.conn) × (self.new.requests ≡ self.old.requests) }
+    {
+        let Some(reply) = gate.look(self.conn) else {
+            return false;
+        };
+        self.hear(reply);
+        true
+    }
+
+    /// Waits for the reply that comes later. A fault is that none will come any more.
+    pub fn wait<G: NodeGate<Answer = S>>(&mut self, gate: &mut G) -> Result<(), ConnFault>
+        requires { IsParked self.old }
+        ensures heard { OnOk result (Hears (IsAllowed G.may G.may_refuse G.may_give) self.old.conn (change (G.asked gate.old) (G.asked gate.new))
+            (change (waiting_of S.gave self.old.outgoing) (waiting_of S.gave self.new.outgoing))) }
+        ensures here { OnOk result (self.new.outgoing.held ≢ Held.Parked) }
+        ensures none { OnErr result (Adds (IsAllowed G.may G.may_refuse G.may_give) (change (G.asked gate.old) (G.asked gate.new)) (waiting self.old.conn None ∷ [])) }
+        ensures kept { OnErr result (self.new ≡ self.old) }
+        ensures fault { IfErr result (λ fault. fault ≡ ConnFault.Unanswered) }
+        ensures same { (self.new.conn ≡ self.old.conn) × (self.new.requests ≡ self.old.requests) }
+    {
+        let Some(reply) = gate.wait(self.conn) else {
+            return Err(ConnFault::Unanswered);
+        };
+        self.hear(reply);
+        Ok(())
+    }
+
     /// Puts the reply that came later behind those that wait.
-    pub fn hear(&mut self, reply: Reply)
+    pub(crate) fn hear(&mut self, reply: Reply)
         requires { IsParked self.old }
         ensures put { waiting_of S.gave self.new.outgoing ≡ waiting_of S.gave self.old.outgoing ++ reply_spelling reply }
         ensures here { self.new.outgoing.held ≢ Held.Parked }
@@ -117,15 +165,17 @@ impl<S: Answered + Drop> Talk<S> {
         self.outgoing.hear(reply);
     }
 
-    /// Sends some of the replies by one write, and says what is left. An error is that the writer failed.
+    /// Sends some of the replies by one write, and says what is left. An error is that the writer failed: its count has risen.
     pub fn finish<W: Write>(&mut self, writer: &mut Counting<W>) -> Result<Left, ConnFault>
-        ensures put { Puts (streams W.contents writer.old writer.new) (change (waiting_of S.gave self.old.outgoing) (waiting_of S.gave self.new.outgoing)) [] }
-        ensures nothing { IfOk result (λ left. left ≡ Left.Nothing → waiting_of S.gave self.new.outgoing ≡ []) }
+        ensures put { OnOk result (Puts (streams W.contents writer.old writer.new) (change (waiting_of S.gave self.old.outgoing) (waiting_of S.gave self.new.outgoing)) []) }
+        ensures left { IfOk result (λ left. Accounts left (streams W.contents writer.old writer.new) (change (waiting_of S.gave self.old.outgoing) (waiting_of S.gave self.new.outgoing))) }
         ensures parked { (IsParked self.old → IsParked self.new) × (self.old.outgoing.held ≢ Held.Parked → self.new.outgoing.held ≢ Held.Parked) }
         ensures same { (self.new.conn ≡ self.old.conn) × (self.new.requests ≡ self.old.requests) }
-        ensures err { IfErr result (λ fault. fault ≡ ConnFault.Writer) }
+        ensures fault { IfErr result (λ fault. fault ≡ ConnFault.Writer) }
+        ensures err { OnErr result (Fails (streams W.contents writer.old writer.new) (waiting_of S.gave self.old.outgoing)) }
     {
-        self.outgoing.write_some(writer)
+        let wrote = self.outgoing.write_some(writer)?;
+        Ok(self.outgoing.left_by(wrote))
     }
 
     /// Sends all replies that wait, however long the writer takes.

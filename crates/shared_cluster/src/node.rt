@@ -1,7 +1,6 @@
 //! A node of a cluster that is served.
-ghost use Rattle.std.specs.Prelude.{◌≡◌, []};
 
-use node_cell::{Admission, Asks, HoldsCell};
+use node_cell::HoldsCell;
 use shared_node::SharedNode;
 use slot_table::NodeNo;
 use std::io;
@@ -19,7 +18,6 @@ const WAKING: u64 = 100;
 pub struct Node<C: HoldsCell> {
     /// The node behind its lock.
     pub shared: SharedNode<C>,
-    admission: Admission<C::Cluster>,
     /// Where its clients connect.
     pub listener: TcpListener,
     // The node whose messages are taken first the next time.
@@ -27,11 +25,10 @@ pub struct Node<C: HoldsCell> {
 }
 
 impl<C: HoldsCell + Drop> Node<C> {
-    /// The node with this cell, whose clients begin with this admission.
-    pub fn new(cell: C, admission: Admission<C::Cluster>, listener: TcpListener) -> Node<C> {
+    /// The node with this cell, whose clients connect there.
+    pub fn new(cell: C, listener: TcpListener) -> Node<C> {
         Node {
             shared: SharedNode::new(cell),
-            admission,
             listener,
             first_sender: AtomicU64::new(0),
         }
@@ -40,13 +37,6 @@ impl<C: HoldsCell + Drop> Node<C> {
     /// The cell, once nobody serves the node.
     pub fn into_cell(self) -> C {
         self.shared.into_cell()
-    }
-
-    /// What is asked of the node by one conversation: nothing yet.
-    pub fn begin(&self) -> Asks<C::Cluster>
-        ensures { result ≡ [] }
-    {
-        self.admission.begin()
     }
 
     // The number of the node whose messages are taken first. It may be greater than that of the last node.

@@ -1,5 +1,5 @@
 //! The way of a cluster's conversations to their node.
-ghost use Rattle.std.specs.Prelude.{◌≡◌};
+ghost use Rattle.std.specs.Prelude.{◌≡◌, IfSome};
 
 use crate::arrivals::Arrival;
 use crate::carrying::{Replies, carry_at_once, send};
@@ -64,25 +64,28 @@ pub enum Mail {
 }
 
 impl<'n, C: HasLinks<R> + Drop, R: Clock + Wait + Copy> SeeingGate<'n, C, R> {
-    /// A new conversation's way to this node of the cluster, which has that number.
+    /// The way of a conversation that has asked this to the node of that number. None where there is no such node.
     pub fn new(
         rt: R,
         alloc: Global,
         cluster: &'n SharedCluster<C>,
-        node: &'n Node<C>,
         number: usize,
+        asks: Asks<C::Cluster>,
         mail: Mail,
-    ) -> SeeingGate<'n, C, R> {
-        SeeingGate {
+    ) -> Option<SeeingGate<'n, C, R>>
+        ensures { IfSome result (λ seeing. ⟦<Gate<'n, C, R> as NodeGate>⟧.asked seeing.gate ≡ asks) }
+    {
+        let node = cluster.node(number)?;
+        Some(SeeingGate {
             rt,
             alloc,
-            gate: Gate::new(rt, &node.shared, node.begin()),
+            gate: Gate::new(rt, &node.shared, asks),
             cluster,
             node,
             number,
             mail,
             steps: 0,
-        }
+        })
     }
 
     // The slot that may arrive by this event, where somebody listens. The node is held then.
@@ -162,10 +165,6 @@ impl<'n, C: HasLinks<R> + Drop, R: Clock + Wait + Copy> SharedGate for SeeingGat
     type Asks = Asks<C::Cluster>;
 
     ghost asked_by = { λ asks. asks };
-
-    fn begin(&self) -> Asks<C::Cluster> {
-        self.node.begin()
-    }
 
     fn exchange(&mut self, asks: &mut Asks<C::Cluster>) {
         self.gate.exchange(asks);

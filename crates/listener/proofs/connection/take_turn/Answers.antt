@@ -18,20 +18,20 @@ returns-in-Write-clause-answered g c out = rw c.in-Write.is at c.in_ok-answer.en
 pub returns-in-Answer-clause-answered : goal.returns-in-Answer-clause-answered
 returns-in-Answer-clause-answered g c out = rw c.in-Answer.is at c.in_ok-answer.ensures.turns (room_is_here _ c.requires.room) out
 
-pub returns-in_err-wait_for_reply-in-Hear-clause-halts : goal.returns-in_err-wait_for_reply-in-Hear-clause-halts
-returns-in_err-wait_for_reply-in-Hear-clause-halts g c =
-    let p = err_from_is_err_and c.from_residual-in_err-wait_for_reply-in-Hear.result c.from_residual-in_err-wait_for_reply-in-Hear.ensures.1 in
-    rw (p.1, p.2, c.in_err-wait_for_reply-in-Hear.ensures.fault, c.in_err-wait_for_reply-in-Hear.ensures.kept)
+pub returns-in_err-wait-in-Hear-clause-halts : goal.returns-in_err-wait-in-Hear-clause-halts
+returns-in_err-wait-in-Hear-clause-halts g c =
+    let p = err_from_is_err_and c.from_residual-in_err-wait-in-Hear.result c.from_residual-in_err-wait-in-Hear.ensures.1 in
+    rw (p.1, p.2, c.in_err-wait-in-Hear.ensures.fault, c.in_err-wait-in-Hear.ensures.kept)
     (λ (out : Stream). parks_denied _ _ _ _ _ _ (rw c.in-Hear.is at c.in_ok-answer.ensures.turns (room_is_here _ c.requires.room) out)
-    (rw c.answer.ensures.same at c.in_err-wait_for_reply-in-Hear.ensures.none))
+    (rw c.answer.ensures.same at c.in_err-wait-in-Hear.ensures.none))
 
-pub returns-in_ok-wait_for_reply-in-Hear-clause-answered : goal.returns-in_ok-wait_for_reply-in-Hear-clause-answered
-returns-in_ok-wait_for_reply-in-Hear-clause-answered g c out =
+pub returns-in_ok-wait-in-Hear-clause-answered : goal.returns-in_ok-wait-in-Hear-clause-answered
+returns-in_ok-wait-in-Hear-clause-answered g c out =
     parks_heard _ _ _ _ _ (rw c.in-Hear.is at c.in_ok-answer.ensures.turns (room_is_here _ c.requires.room) out)
-    (rw c.answer.ensures.same at c.in_ok-wait_for_reply-in-Hear.ensures.heard)
-    (ap (λ (state : ReaderState). state.pending) c.wait_for_reply.ensures.same.1) refl
+    (rw c.answer.ensures.same at c.in_ok-wait-in-Hear.ensures.heard)
+    (ap (λ (state : ReaderState). state.pending) c.wait.ensures.same.1) refl
 
-pub returns-in_ok-wait_for_reply-in-Hear-clause-shorter : goal.returns-in_ok-wait_for_reply-in-Hear-clause-shorter
-returns-in_ok-wait_for_reply-in-Hear-clause-shorter g c =
-    rw c.wait_for_reply.ensures.same.1
+pub returns-in_ok-wait-in-Hear-clause-shorter : goal.returns-in_ok-wait-in-Hear-clause-shorter
+returns-in_ok-wait-in-Hear-clause-shorter g c =
+    rw c.wait.ensures.same.1
     (parks_shorter _ _ _ _ (rw c.in-Hear.is at c.in_ok-answer.ensures.turns (room_is_here _ c.requires.room) (record { bytes = None; failures = 0 })))
