@@ -93,7 +93,7 @@ may_come (Send words) event None waits may = absurd waits
 may_come (Send words) event (Some call) waits may = comes_to call.stage event waits may
 may_come (Done answer close) event under waits may = absurd may
 
-pool_on : (deeds : List Deed) (deed : Deed) (pool : Pool) → pool_behind (deeds ++ deed ∷ []) pool ≡ pool_after deed.action deed.event (pool_behind deeds pool)
+pub pool_on : (deeds : List Deed) (deed : Deed) (pool : Pool) → pool_behind (deeds ++ deed ∷ []) pool ≡ pool_after deed.action deed.event (pool_behind deeds pool)
 pool_on [] deed pool = refl
 pool_on (first ∷ deeds) deed pool = pool_on deeds deed (pool_after first.action first.event pool)
 

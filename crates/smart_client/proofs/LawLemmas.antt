@@ -30,7 +30,7 @@ words_sent (Connect address) = []
 words_sent (Send words) = words
 words_sent (Done answer close) = []
 
-abbrev is_sending : Action → Type 0
+abbrev pub is_sending : Action → Type 0
 is_sending (Connect address) = ⊥
 is_sending (Send words) = ⊤
 is_sending (Done answer close) = ⊥
@@ -40,7 +40,7 @@ unfolding words_sent
 sent_words one other same = ap words_sent same
 
 -- a call that sends the words of its command waits for the reply to it
-sends_it : (stage : Stage) (action : Action) (words : List (List ℕ)) → is_refused words ≡ false → IsFor stage action words → action ≡ Send words → stage ≡ Sent
+pub sends_it : (stage : Stage) (action : Action) (words : List (List ℕ)) → is_refused words ≡ false → IsFor stage action words → action ≡ Send words → stage ≡ Sent
 sends_it Connecting action words plain asked is = absurd (subst is_sending (sym (sym asked.1 ∙ is)) tt)
 sends_it Introducing action words plain asked is = absurd (differ (ap is_refused (sent_words _ _ (sym asked ∙ is)) ∙ plain))
   where
@@ -80,7 +80,7 @@ behind_turn client old new call happened.BadReply action is may follows = inl (e
 behind_turn client old new call (happened.Broken handed) action is may follows = inl (ends_done _ old new action follows)
 behind_turn client old new call happened.NoMemory action is may follows = inl (ends_done _ old new action follows)
 
-behind : (old new : ClientState) (call : Call) (event : Event) (action : Action) → old.call ≡ Some call → call.stage ≡ Sent → MayCome old.call event → Steps old event action new → IsDone action ⊎ IsRefusal event
+pub behind : (old new : ClientState) (call : Call) (event : Event) (action : Action) → old.call ≡ Some call → call.stage ≡ Sent → MayCome old.call event → Steps old event action new → IsDone action ⊎ IsRefusal event
 behind old new call event action under is may steps =
     go (subst (λ (c : Option Call). Follows (next c old event) old action new ⊎ (IsTrue (takes_memory (next c old event)) × Follows (Ends (Err Memory)) old action new)) under steps)
   where
@@ -93,12 +93,12 @@ behind old new call event action under is may steps =
 
 -- ---- within a call
 
--- a call of a command is under way, or is over
-pub data IsAt (words : List (List ℕ)) (limit : ℕ) (client : ClientState) : Type 0 where
-  under : (call : Call) → client.call ≡ Some call → call.words ≡ words → client.limit ≡ limit → IsBounded limit call → IsAt words limit client
-  past : client.call ≡ None → IsAt words limit client
+-- a call of a command is under way, and this was wanted last; or it is over
+pub data IsAt (words : List (List ℕ)) (limit : ℕ) (client : ClientState) (wanted : Action) : Type 0 where
+  under : (call : Call) → client.call ≡ Some call → call.words ≡ words → client.limit ≡ limit → IsBounded limit call → IsFor call.stage wanted words → IsAt words limit client wanted
+  past : client.call ≡ None → IsAt words limit client wanted
 
-none_within : (event : Event) → MayCome None event → IsWithin event → ⊥
+pub none_within : (event : Event) → MayCome None event → IsWithin event → ⊥
 none_within (happened.Call words) may within = within
 none_within happened.Connected may within = may
 none_within happened.NotConnected may within = may
@@ -108,40 +108,34 @@ none_within (happened.Broken handed) may within = may
 none_within happened.NoMemory may within = may
 
 -- a step within the call
-stays : (words : List (List ℕ)) (limit : ℕ) (old new : ClientState) (event : Event) (action : Action) → IsAt words limit old → IsWithin event → MayCome old.call event → Steps old event action new → IsAt words limit new
-stays words limit old new event action (past none) within may steps = absurd (none_within event (subst (λ (c : Option Call). MayCome c event) none may) within)
-stays words limit old new event action (under call is same of bounded) within may steps =
+pub stays : (words : List (List ℕ)) (limit : ℕ) (old new : ClientState) (event : Event) (wanted action : Action) → IsAt words limit old wanted → IsWithin event → MayCome old.call event → Steps old event action new → IsAt words limit new action
+stays words limit old new event wanted action (past none) within may steps = absurd (none_within event (subst (λ (c : Option Call). MayCome c event) none may) within)
+stays words limit old new event wanted action (under call is same of bounded asked) within may steps =
     go (passes old new call event action is (subst (λ (c : Option Call). MayCome c event) is may) (subst (λ (n : ℕ). IsBounded n call) (sym of) bounded) steps)
   where
-    go : Passes old.limit call action new → IsAt words limit new
-    go (on next then_is advances limit_is) = under next then_is (advances.words ∙ same) (limit_is ∙ of) (subst (λ (n : ℕ). IsBounded n next) of advances.bounded)
+    go : Passes old.limit call action new → IsAt words limit new action
+    go (on next then_is advances limit_is) =
+        under next then_is (advances.words ∙ same) (limit_is ∙ of) (subst (λ (n : ℕ). IsBounded n next) of advances.bounded) (subst (λ (ws : List (List ℕ)). IsFor next.stage action ws) same advances.asked)
     go (over done then_none limit_is) = past then_none
 
-found : (words : List (List ℕ)) (limit : ℕ) (old middle new : ClientState) (sending later : Moment) → is_refused words ≡ false → IsAt words limit old → IsWithin sending.event
-    → MayCome old.call sending.event → Steps old sending.event sending.action middle → MayCome middle.call later.event → Steps middle later.event later.action new
-    → sending.action ≡ Send words → IsDone later.action ⊎ IsRefusal later.event
-found words limit old middle new sending later plain (past none) within may steps may_later steps_later is = absurd (none_within sending.event (subst (λ (c : Option Call). MayCome c sending.event) none may) within)
-found words limit old middle new sending later plain (under call call_is same of bounded) within may steps may_later steps_later is =
-    go (passes old middle call sending.event sending.action call_is (subst (λ (c : Option Call). MayCome c sending.event) call_is may) (subst (λ (n : ℕ). IsBounded n call) (sym of) bounded) steps)
-  where
-    go : Passes old.limit call sending.action middle → IsDone later.action ⊎ IsRefusal later.event
-    go (on next then_is advances limit_is) =
-        behind middle new next later.event later.action then_is
-        (sends_it next.stage sending.action words plain (subst (λ (ws : List (List ℕ)). IsFor next.stage sending.action ws) same advances.asked) is) may_later steps_later
-    go (over done then_none limit_is) = absurd (subst IsDone is done)
+found : (words : List (List ℕ)) (limit : ℕ) (middle new : ClientState) (sending : Action) (later : Moment) → is_refused words ≡ false → IsAt words limit middle sending → IsWithin later.event
+    → MayCome middle.call later.event → Steps middle later.event later.action new → sending ≡ Send words → IsDone later.action ⊎ IsRefusal later.event
+found words limit middle new sending later plain (past none) within may steps is = absurd (none_within later.event (subst (λ (c : Option Call). MayCome c later.event) none may) within)
+found words limit middle new sending later plain (under call call_is same of bounded asked) within may steps is =
+    behind middle new call later.event later.action call_is (sends_it call.stage sending words plain asked is) may steps
 
-inside : (words : List (List ℕ)) (limit : ℕ) (old new : ClientState) (before after : List Moment) (sending later : Moment) → is_refused words ≡ false → IsAt words limit old
+inside : (words : List (List ℕ)) (limit : ℕ) (old new : ClientState) (wanted : Action) (before after : List Moment) (sending later : Moment) → is_refused words ≡ false → IsAt words limit old wanted
     → AreWithin (before ++ sending ∷ later ∷ after) → IsRun old (before ++ sending ∷ later ∷ after) new → sending.action ≡ Send words → IsDone later.action ⊎ IsRefusal later.event
-inside words limit old new [] after sending later plain at within run is =
-    found words limit old run.0 run.3.0 sending later plain at within.0 run.1 run.2 run.3.1 run.3.2 is
-inside words limit old new (moment ∷ before) after sending later plain at within run is =
-    inside words limit run.0 new before after sending later plain (stays words limit old run.0 moment.event moment.action at within.0 run.1 run.2) within.1 run.3 is
+inside words limit old new wanted [] after sending later plain at within run is =
+    found words limit run.0 run.3.0 sending.action later plain (stays words limit old run.0 sending.event wanted sending.action at within.0 run.1 run.2) within.1.0 run.3.1 run.3.2 is
+inside words limit old new wanted (moment ∷ before) after sending later plain at within run is =
+    inside words limit run.0 new moment.action before after sending later plain (stays words limit old run.0 moment.event wanted moment.action at within.0 run.1 run.2) within.1 run.3 is
 
 -- ---- from the beginning of the call
 
 -- the step that begins it: the client goes to a node, or refuses the words
-data Begins (words : List (List ℕ)) (old : ClientState) (action : Action) (new : ClientState) : Type 0 where
-  connecting : is_refused words ≡ false → ¬ is_sending action → IsAt words old.limit new → Begins words old action new
+pub data Begins (words : List (List ℕ)) (old : ClientState) (action : Action) (new : ClientState) : Type 0 where
+  connecting : is_refused words ≡ false → ¬ is_sending action → IsAt words old.limit new action → Begins words old action new
   refusing : IsDone action → new.call ≡ None → Begins words old action new
 
 idle : (old new : ClientState) (answer : Answer) (words : List (List ℕ)) (action : Action) → old.call ≡ None → Follows (Ends answer) old action new → Begins words old action new
@@ -154,9 +148,9 @@ begins_by : (refused : Bool) (words : List (List ℕ)) (old new : ClientState) (
 begins_by true words old new action is none follows = idle old new (Err NotData) words action none follows
 begins_by false words old new action is none follows =
     connecting is (λ (so : is_sending action). subst is_sending follows.1 so)
-    (under (fresh old words) (ap (λ (client : ClientState). client.call) follows.0) refl (ap (λ (client : ClientState). client.limit) follows.0) (record { few = omega arith; within = omega arith }))
+    (under (fresh old words) (ap (λ (client : ClientState). client.call) follows.0) refl (ap (λ (client : ClientState). client.limit) follows.0) (record { few = omega arith; within = omega arith }) (_, follows.1))
 
-begins : (words : List (List ℕ)) (old new : ClientState) (event : Event) (action : Action) → event ≡ happened.Call words → MayCome old.call event → Steps old event action new → Begins words old action new
+pub begins : (words : List (List ℕ)) (old new : ClientState) (event : Event) (action : Action) → event ≡ happened.Call words → MayCome old.call event → Steps old event action new → Begins words old action new
 begins words old new event action is may steps =
     go old.call refl (subst (λ (e : Event). MayCome old.call e) is may) (subst (λ (e : Event). Steps old e action new) is steps)
   where
@@ -184,5 +178,5 @@ sends_once words old new (moment ∷ before) after sending later call is =
     go (begins words old call.2.0 moment.event moment.action call.0 call.2.1 call.2.2)
   where
     go : Begins words old moment.action call.2.0 → IsDone later.action ⊎ IsRefusal later.event
-    go (connecting plain silent at) = inside words old.limit call.2.0 new before after sending later plain at call.1 call.2.3 is
+    go (connecting plain silent at) = inside words old.limit call.2.0 new moment.action before after sending later plain at call.1 call.2.3 is
     go (refusing done none) = absurd (nothing_behind call.2.0 new before after sending later none call.1 call.2.3)

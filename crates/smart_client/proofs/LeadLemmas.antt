@@ -1,5 +1,5 @@
 -- Where connections lead, from deed to deed.
-use Rattle.std.proofs.Common.{◌≡◌, ◌++◌, ◌∷◌, ◌==◌, ◌&&◌, ℕ, Bool, true, false, cond, List, [], length, map, set, remove, get_or, Option, Some, None, MatchBool, refl, ap, sym, ◌∙◌}
+use Rattle.std.proofs.Common.{◌≡◌, ◌++◌, ◌∷◌, ◌==◌, ◌&&◌, ℕ, Bool, true, false, cond, List, [], length, map, remove, get_or, Option, Some, None, MatchBool, refl, ap, sym, ◌∙◌}
 use Rattle.std.proofs.lemmas.List.{map-append}
 use Rattle.std.proofs.lemmas.Option.{get_or_from_slice_get}
 use Rattle.std.proofs.Math.Seq.{map-set_same}
@@ -7,7 +7,7 @@ use Rattle.redirection.specs.Address.{Place}
 use Rattle.smart_client.specs.Calls.{Calls, ClientView, ConnectionsLead, Deed, WiresMove, closed_if, is_begun, pool_behind, wires_closed_if}
 use Rattle.smart_client.specs.Pool.{Pool, closed, is_lost, place_in, pool_after, with_new, without_place}
 use Rattle.smart_client.specs.Step.{Answer}
-use Rattle.smart_client.specs.Wires.{Brings, Channel, IsFresh, Joins, Moves, Uses, Wires}
+use Rattle.smart_client.specs.Wires.{Brings, Channel, IsFresh, Joins, Moves, Uses, Wires, wires_without, with_channel}
 use Rattle.smart_client.specs.declared.action.Action.{Action}
 use Rattle.smart_client.specs.declared.action.Action.TheVariants.{Connect, Send, Done}
 use Rattle.smart_client.specs.declared.action.Event.{Event}
@@ -26,24 +26,24 @@ module _ (end : Channel → Place) (made : (address : Place) (fresh : Channel) �
       ∙ ap (λ (place : Place). pool.addresses ++ place ∷ []) (made address joins.fresh joins.is_fresh)
   joined address pool used false old new lead same = ap (λ (wires : Wires). map end wires.channels) same ∙ lead
 
-  left : (is_lost : Bool) (addresses : List Place) (used : Option ℕ) (place : ℕ) (channels : List Channel) → used ≡ Some place → map end channels ≡ addresses
-      → map end (cond is_lost (remove channels place) channels) ≡ (cond is_lost (closed (record { addresses = addresses; used = used })) (record { addresses = addresses; used = used })).addresses
-  left true addresses used place channels is lead =
-      map-remove end channels place ∙ ap (λ (places : List Place). remove places place) lead ∙ ap (λ (o : Option ℕ). without_place addresses o) (sym is)
-  left false addresses used place channels is lead = lead
+  left : (is_lost : Bool) (addresses : List Place) (used : Option ℕ) (place : ℕ) (wires : Wires) → used ≡ Some place → map end wires.channels ≡ addresses
+      → map end (cond is_lost (wires_without (Some place) wires) wires).channels ≡ (cond is_lost (closed (record { addresses = addresses; used = used })) (record { addresses = addresses; used = used })).addresses
+  left true addresses used place wires is lead =
+      map-remove end wires.channels place ∙ ap (λ (places : List Place). remove places place) lead ∙ ap (λ (o : Option ℕ). without_place addresses o) (sym is)
+  left false addresses used place wires is lead = lead
 
   none_left : (is_lost : Bool) (addresses : List Place) → addresses ≡ (cond is_lost (closed (record { addresses = addresses; used = None })) (record { addresses = addresses; used = None })).addresses
   none_left true addresses = refl
   none_left false addresses = refl
 
-  used_on : (words : List (List ℕ)) (event : Event) (addresses : List Place) (used : Option ℕ) (old new : List Channel) → map end old ≡ addresses → Uses words event used old new
-      → map end new ≡ (cond (is_lost event) (closed (record { addresses = addresses; used = used })) (record { addresses = addresses; used = used })).addresses
-  used_on words event addresses None old new lead uses = ap (map end) uses.1 ∙ lead ∙ none_left (is_lost event) addresses
+  used_on : (words : List (List ℕ)) (event : Event) (addresses : List Place) (used : Option ℕ) (old new : Wires) → map end old.channels ≡ addresses → Uses words event used old new
+      → map end new.channels ≡ (cond (is_lost event) (closed (record { addresses = addresses; used = used })) (record { addresses = addresses; used = used })).addresses
+  used_on words event addresses None old new lead uses = ap (λ (wires : Wires). map end wires.channels) uses.1 ∙ lead ∙ none_left (is_lost event) addresses
   used_on words event addresses (Some place) old new lead uses =
-      let same : end uses.after ≡ end (get_or old place uses.before) =
-      kept words event uses.before uses.after uses.brings ∙ ap end (sym (get_or_from_slice_get old place uses.before uses.before uses.there)) in
-      ap (map end) uses.left
-      ∙ left (is_lost event) addresses (Some place) place (set old place uses.after) refl (map-set_same end old place uses.after uses.before same ∙ lead)
+      let same : end uses.after ≡ end (get_or old.channels place uses.before) =
+      kept words event uses.before uses.after uses.brings ∙ ap end (sym (get_or_from_slice_get old.channels place uses.before uses.before uses.there)) in
+      ap (λ (wires : Wires). map end wires.channels) uses.left
+      ∙ left (is_lost event) addresses (Some place) place (with_channel place uses.after old) refl (map-set_same end old.channels place uses.after uses.before same ∙ lead)
 
   same_lead : (old new : Wires) (addresses : List Place) → map end old.channels ≡ addresses → new ≡ old → map end new.channels ≡ addresses
   same_lead old new addresses lead same = ap (λ (wires : Wires). map end wires.channels) same ∙ lead
@@ -52,13 +52,13 @@ module _ (end : Channel → Place) (made : (address : Place) (fresh : Channel) �
       → map end new.channels ≡ (pool_after action event pool).addresses
   leads_on (Connect address) happened.Connected pool old new lead moves =
       joined address pool (Some (place_in pool.addresses address)) (place_in pool.addresses address == length pool.addresses) old new lead moves
-  leads_on (Connect address) happened.NotConnected pool old new lead moves = ap (map end) moves.0 ∙ lead
+  leads_on (Connect address) happened.NotConnected pool old new lead moves = ap (λ (wires : Wires). map end wires.channels) moves.0 ∙ lead
   leads_on (Connect address) (happened.Call words) pool old new lead moves = absurd moves
   leads_on (Connect address) (happened.Reply reply) pool old new lead moves = absurd moves
   leads_on (Connect address) happened.BadReply pool old new lead moves = absurd moves
   leads_on (Connect address) (happened.Broken handed) pool old new lead moves = absurd moves
   leads_on (Connect address) happened.NoMemory pool old new lead moves = same_lead old new pool.addresses lead moves
-  leads_on (Send words) event pool old new lead moves = used_on words event pool.addresses pool.used old.channels new.channels lead moves.0
+  leads_on (Send words) event pool old new lead moves = used_on words event pool.addresses pool.used old new lead moves
   leads_on (Done answer close) event pool old new lead moves = absurd moves
 
   all_lead : (deeds : List Deed) (pool : Pool) (old new : Wires) → map end old.channels ≡ pool.addresses → WiresMove deeds pool old new

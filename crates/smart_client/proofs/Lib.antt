@@ -1,6 +1,8 @@
 pub mod LawLemmas
 pub mod LeadLemmas
 pub mod ReadLemmas
+pub mod EndLemmas
+pub mod CauseLemmas
 pub mod PoolLemmas
 pub mod RequestLemmas
 pub mod CallLemmas

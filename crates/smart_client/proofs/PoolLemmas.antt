@@ -1,14 +1,14 @@
 -- Places among the open connections.
-use Rattle.std.proofs.Common.{◌≡◌, ◌+◌, ◌++◌, ◌∷◌, ◌<◌, ◌≤◌, ◌==◌, ℕ, suc, Bool, true, false, cond, not, ltb, List, [], map, remove, take, drop, set, get_or, length, Option, Some, None, is_some, IsTrue, IsFalse, inl, inr, refl, ap, sym, subst, ◌∙◌, arith}
+use Rattle.std.proofs.Common.{◌≡◌, ◌+◌, ◌++◌, ◌∷◌, ◌<◌, ◌≤◌, ◌==◌, ℕ, zero, suc, Bool, true, false, cond, not, ltb, List, [], map, remove, take, drop, set, get_or, length, Option, Some, None, is_some, IsTrue, IsFalse, inl, inr, refl, ap, sym, subst, ◌∙◌, arith}
 use Rattle.std.specs.List.{position_or_len}
 use Rattle.std.proofs.lemmas.Bool.{cases_lt, lt-ltb, le-ltb, ne_eqb}
-use Rattle.std.specs.Prelude.{option_map}
+use Rattle.std.specs.Prelude.{option_map, option_to_list, slice_get}
 use Rattle.std.proofs.lemmas.List.{map-append, map-set, take-map, drop-map, length-map}
 use Rattle.std.proofs.lemmas.Option.{slice_get-get_or, slice_get-map}
 use Rattle.std.proofs.Math.Seq.{map-set_same}
 use Rattle.redirection.specs.Address.{Place}
 use Rattle.smart_client.specs.Pool.{Pool, closed, is_lost, is_same, place_in, turned_to, unused, with_new, without_place}
-use Rattle.smart_client.specs.Wires.{Brings, Channel, Uses, left_by}
+use Rattle.smart_client.specs.Wires.{Brings, Channel, Uses, Wires, at_place, left_by, wires_without}
 use Rattle.smart_client.specs.declared.action.Event.{Event}
 use Rattle.cluster_config.proofs.PlaceLemmas.{position-le}
 
@@ -36,30 +36,50 @@ pub is_without : {A B : Type 0} (f : A → B) (old new : List A) (place : ℕ) (
     → map f new ≡ without_place (map f old) used
 is_without f old new place used is then = rw is (rw then (map-remove f old place))
 
+-- what was taken out of its place stands behind those that were closed before
+pub is_gone : {A : Type 0} (f : A → Channel) (items : List A) (gone : A) (place : ℕ) (used : Option ℕ) (others closed : List A) → used ≡ Some place → place < length items → gone ≡ get_or items place gone
+    → closed ≡ others ++ gone ∷ [] → map f closed ≡ map f others ++ at_place (map f items) used
+is_gone {A = A} f items gone place used others closed is lt there pushed =
+    ap (λ (xs : List A). map f xs) pushed ∙ map-append f others (gone ∷ [])
+    ∙ ap (λ (found : Option Channel). map f others ++ option_to_list found) (sym (slice_get-map f items place ∙ ap (option_map f) (slice_get-get_or items place gone lt ∙ ap Some (sym there))))
+    ∙ ap (λ (o : Option ℕ). map f others ++ at_place (map f items) o) (sym is)
+
 -- ---- the connection in use takes a request
 
-module _ {A : Type 0} (channel_of : A → Channel) (items : List A) (place : ℕ) (item before : A) (used : Option ℕ) (words : List (List ℕ)) (event : Event) where
-  takes : (new : List Channel) → used ≡ Some place → place < length items → get_or items place before ≡ before → Brings words (channel_of before) event (channel_of item)
-      → new ≡ left_by event place (map channel_of (set items place item)) → Uses words event used (map channel_of items) new
+-- what was put at a place is there
+pub set_there : {A : Type 0} (xs : List A) (n : ℕ) (old new : A) → slice_get xs n ≡ Some old → slice_get (set xs n new) n ≡ Some new
+set_there [] n old new there = cc
+set_there (x ∷ xs) zero old new there = refl
+set_there (x ∷ xs) (suc n) old new there = set_there xs n old new there
+
+module _ {A : Type 0} (channel_of : A → Channel) (items : List A) (place : ℕ) (item before : A) (used : Option ℕ) (words : List (List ℕ)) (event : Event) (closed_before : List Channel) (failures : ℕ) where
+  abbrev wires : List A → List Channel → Wires
+  wires of closed = record { channels = map channel_of of; closed = closed; failures = failures }
+
+  takes : (new : Wires) → used ≡ Some place → place < length items → get_or items place before ≡ before → Brings words (channel_of before) event (channel_of item)
+      → new ≡ left_by event place (wires (set items place item) closed_before) → Uses words event used (wires items closed_before) new
   takes new is lt same brings then = rw is (record {
     before = channel_of before;
     after = channel_of item;
     there = slice_get-map channel_of items place ∙ ap (option_map channel_of) (slice_get-get_or items place before lt ∙ ap Some same);
     brings = brings;
-    left = then ∙ ap (left_by event place) (map-set channel_of items place item);
+    left = then ∙ ap (λ (channels : List Channel). left_by event place (record { channels = channels; closed = closed_before; failures = failures })) (map-set channel_of items place item);
   })
 
   pub stays : used ≡ Some place → place < length items → get_or items place before ≡ before → Brings words (channel_of before) event (channel_of item)
-      → false ≡ is_lost event → Uses words event used (map channel_of items) (map channel_of (set items place item))
+      → false ≡ is_lost event → Uses words event used (wires items closed_before) (wires (set items place item) closed_before)
   stays is lt same brings kept =
-      takes _ is lt same brings (ap (λ (lost : Bool). cond lost (remove (map channel_of (set items place item)) place) (map channel_of (set items place item))) kept)
+      takes _ is lt same brings (ap (λ (lost : Bool). cond lost (wires_without (Some place) (wires (set items place item) closed_before)) (wires (set items place item) closed_before)) kept)
 
-  pub leaves : (new : List Channel) → used ≡ Some place → place < length items → get_or items place before ≡ before → Brings words (channel_of before) event (channel_of item)
-      → new ≡ without_place (map channel_of (set items place item)) used → true ≡ is_lost event → Uses words event used (map channel_of items) new
-  leaves new is lt same brings then lost =
-      takes new is lt same brings
-      (then ∙ ap (without_place (map channel_of (set items place item))) is
-      ∙ ap (λ (lost : Bool). cond lost (remove (map channel_of (set items place item)) place) (map channel_of (set items place item))) lost)
+  pub leaves : (new closed : List Channel) → used ≡ Some place → place < length items → get_or items place before ≡ before → Brings words (channel_of before) event (channel_of item)
+      → new ≡ without_place (map channel_of (set items place item)) used → closed ≡ closed_before ++ at_place (map channel_of (set items place item)) used → true ≡ is_lost event
+      → Uses words event used (wires items closed_before) (record { channels = new; closed = closed; failures = failures })
+  leaves new closed is lt same brings then gone lost =
+      takes _ is lt same brings
+      (ap (λ (channels : List Channel). record { channels = channels; closed = closed; failures = failures }) then
+      ∙ ap (λ (others : List Channel). record { channels = without_place (map channel_of (set items place item)) used; closed = others; failures = failures }) gone
+      ∙ ap (λ (o : Option ℕ). wires_without o (wires (set items place item) closed_before)) is
+      ∙ ap (λ (lost : Bool). cond lost (wires_without (Some place) (wires (set items place item) closed_before)) (wires (set items place item) closed_before)) lost)
 
 module _ {A : Type 0} (address_of : A → Place) where
   abbrev pub pool_as : List A → Option ℕ → Pool

@@ -6,7 +6,7 @@ use Rattle.smart_client.specs.ErrorKind.{kind_of}
 use Rattle.smart_client.specs.Pool.{Pool, closed, pool_after}
 use Rattle.smart_client.specs.State.{ClientState}
 use Rattle.smart_client.specs.Step.{Answer, MayCome, MayComeTo, Steps}
-use Rattle.smart_client.specs.Wires.{Channel, Moves, Uses, Wires, wires_without}
+use Rattle.smart_client.specs.Wires.{Moves, Uses, Wires, wires_without}
 use Rattle.smart_client.specs.declared.action.Action.{Action}
 use Rattle.smart_client.specs.declared.action.Action.TheVariants.{Connect, Send, Done}
 use Rattle.smart_client.specs.declared.action.Event.{Event}
@@ -164,8 +164,8 @@ pub record IsRead (old : ClientView) (reply : Reply) (new : ClientView) : Type 0
   pub done : new.deeds ≡ old.deeds ++ (front ++ record { action = Send sent; event = happened.Reply reply } ∷ [])
   pub between : Wires
   pub moved : WiresMove front old.pool old.wires between
-  pub after : List Channel
-  pub reads : Uses sent (happened.Reply reply) (pool_behind front old.pool).used between.channels after
+  pub after : Wires
+  pub reads : Uses sent (happened.Reply reply) (pool_behind front old.pool).used between after
 
 -- a call gives no reply but one that was read so
 abbrev pub RepliesAreRead : Type 0

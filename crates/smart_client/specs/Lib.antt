@@ -5,5 +5,6 @@ pub mod ErrorKind
 pub mod Pool
 pub mod Turns
 pub mod Calls
+pub mod Causes
 pub mod Faults
 pub mod Wires

@@ -1,7 +1,7 @@
 //! The open connections of a client.
-ghost use Rattle.std.specs.Prelude.{◌≡◌, ◌==◌, ◌++◌, ◌∷◌, [], false, length, IsTrue, IsFalse, OnOk, OnErr};
+ghost use Rattle.std.specs.Prelude.{◌≡◌, ◌==◌, ◌++◌, ◌∷◌, [], ℕ, false, length, IsTrue, IsFalse, OnOk, OnErr};
 ghost use Rattle.smart_client.specs.Pool.{closed, empty_pool, is_lost, is_same, place_in, pool_after, turned_to, unused, with_new, without_place};
-ghost use Rattle.smart_client.specs.Wires.{Uses, channel_at};
+ghost use Rattle.smart_client.specs.Wires.{Uses, at_place, channel_at, wires_of};
 ghost use Rattle.smart_client.specs.Step.{MayComeTo};
 ghost use Rattle.smart_client.specs.declared.action.Action.TheVariants.{Send};
 ghost use Rattle.smart_client.specs.declared.call.Stage.TheVariants.{Sent};
@@ -10,6 +10,7 @@ use crate::action::Event;
 use crate::connect::Reaches;
 use crate::connection::Connection;
 use crate::peers::is_same;
+use history::History;
 use redirection::Address;
 use resp2::Words;
 use std::alloc::{AllocError, Global};
@@ -22,6 +23,8 @@ pub(crate) struct ConnectionPool<R: Read + Reaches + Drop, W: Write + Reaches + 
     items: Vec<Connection<R, W>>,
     // The place of the one in use.
     used: Option<usize>,
+    // Those that were closed, each as it was then. Only proofs read it.
+    closed: History<Connection<R, W>>,
 }
 
 impl<R: Read + Reaches + Drop, W: Write + Reaches + Drop> Model for ConnectionPool<R, W> {
@@ -33,6 +36,7 @@ impl<R: Read + Reaches + Drop, W: Write + Reaches + Drop> Model for ConnectionPo
     ghost view = { λ pool. record {
       pool = record { addresses = map (λ connection. connection.address) pool.items.items; used = pool.used };
       channels = map (channel_at R.remaining W.contents R.place W.place) pool.items.items;
+      closed = map (channel_at R.remaining W.contents R.place W.place) pool.closed;
     } };
 
     ghost invariant = { λ pool. IfSome pool.used (λ place. place < length pool.items.items) };
@@ -41,11 +45,12 @@ impl<R: Read + Reaches + Drop, W: Write + Reaches + Drop> Model for ConnectionPo
 impl<R: Read + Reaches + Drop, W: Write + Reaches + Drop> ConnectionPool<R, W> {
     /// None yet.
     pub(crate) fn new(alloc: Global) -> ConnectionPool<R, W>
-        ensures { result ≡ record { pool = empty_pool; channels = [] } }
+        ensures { result ≡ record { pool = empty_pool; channels = []; closed = [] } }
     {
         ConnectionPool {
             items: Vec::new(alloc),
             used: None,
+            closed: History::new(),
         }
     }
 
@@ -55,6 +60,7 @@ impl<R: Read + Reaches + Drop, W: Write + Reaches + Drop> ConnectionPool<R, W> {
         ensures known { IsTrue result → (place_in self.old.pool.addresses address.now == length self.old.pool.addresses) ≡ false }
         ensures none { IsFalse result → (self.new.pool ≡ unused self.old.pool) × (place_in self.old.pool.addresses address.now ≡ length self.old.pool.addresses) }
         ensures channels { self.new.channels ≡ self.old.channels }
+        ensures closed { self.new.closed ≡ self.old.closed }
     {
         self.used = self
             .items
@@ -74,6 +80,7 @@ impl<R: Read + Reaches + Drop, W: Write + Reaches + Drop> ConnectionPool<R, W> {
     pub(crate) fn add(&mut self, connection: Connection<R, W>) -> Result<(), AllocError>
         ensures ok { OnOk result (self.new.pool ≡ with_new self.old.pool connection.address) }
         ensures grown { OnOk result (self.new.channels ≡ self.old.channels ++ channel_at R.remaining W.contents R.place W.place connection ∷ []) }
+        ensures closed { OnOk result (self.new.closed ≡ self.old.closed) }
         ensures err { OnErr result (self.new ≡ self.old) }
     {
         let place = self.items.len();
@@ -87,7 +94,7 @@ impl<R: Read + Reaches + Drop, W: Write + Reaches + Drop> ConnectionPool<R, W> {
     pub(crate) fn exchange(&mut self, words: &Words) -> Event
         ensures event { MayComeTo Sent result }
         ensures pool { self.new.pool ≡ pool_after (Send words.now) result self.old.pool }
-        ensures channels { Uses words.now result self.old.pool.used self.old.channels self.new.channels }
+        ensures wires { (failures : ℕ) → Uses words.now result self.old.pool.used (wires_of self.old failures) (wires_of self.new failures) }
     {
         let Some(place) = self.used else {
             return Event::Broken { handed: false };
@@ -103,9 +110,11 @@ impl<R: Read + Reaches + Drop, W: Write + Reaches + Drop> ConnectionPool<R, W> {
     pub(crate) fn close(&mut self)
         ensures pool { self.new.pool ≡ closed self.old.pool }
         ensures channels { self.new.channels ≡ without_place self.old.channels self.old.pool.used }
+        ensures closed { self.new.closed ≡ self.old.closed ++ at_place self.old.channels self.old.pool.used }
     {
         if let Some(place) = self.used.take() {
-            let _closed = self.items.remove(place);
+            let closed = self.items.remove(place);
+            self.closed.push(&closed);
         }
     }
 }

@@ -46,7 +46,7 @@ impl<C: Connect + Drop> Connections<C> {
     /// No connection yet.
     pub fn new(alloc: Global, connect: C) -> Connections<C>
         ensures deeds { result.deeds ≡ [] }
-        ensures pool { result.pool ≡ record { pool = empty_pool; channels = [] } }
+        ensures pool { result.pool ≡ record { pool = empty_pool; channels = []; closed = [] } }
     {
         Connections {
             alloc,
@@ -63,7 +63,7 @@ impl<C: Connect + Drop> Connections<C> {
         ensures deeds { self.new.deeds ≡ self.old.deeds }
         ensures pool { self.new.pool.pool ≡ pool_after action.now result self.old.pool.pool }
         ensures wires { Moves action.now result self.old.pool.pool
-            (wires_of self.old.pool.channels (C.failures self.old.connect)) (wires_of self.new.pool.channels (C.failures self.new.connect)) }
+            (wires_of self.old.pool (C.failures self.old.connect)) (wires_of self.new.pool (C.failures self.new.connect)) }
     {
         match action {
             Action::Connect(address) => self.turn_to(address),
@@ -78,7 +78,7 @@ impl<C: Connect + Drop> Connections<C> {
         ensures deeds { self.new.deeds ≡ self.old.deeds }
         ensures pool { self.new.pool.pool ≡ pool_after (Connect address.now) result self.old.pool.pool }
         ensures wires { Moves (Connect address.now) result self.old.pool.pool
-            (wires_of self.old.pool.channels (C.failures self.old.connect)) (wires_of self.new.pool.channels (C.failures self.new.connect)) }
+            (wires_of self.old.pool (C.failures self.old.connect)) (wires_of self.new.pool (C.failures self.new.connect)) }
     {
         if self.pool.turn_to(address) {
             return Event::Connected;
@@ -95,7 +95,7 @@ impl<C: Connect + Drop> Connections<C> {
         ensures deeds { self.new.deeds ≡ self.old.deeds }
         ensures ok { OnOk result (self.new.pool.pool ≡ with_new self.old.pool.pool address.now) }
         ensures joins { OnOk result (Joins address.now
-            (wires_of self.old.pool.channels (C.failures self.old.connect)) (wires_of self.new.pool.channels (C.failures self.new.connect))) }
+            (wires_of self.old.pool (C.failures self.old.connect)) (wires_of self.new.pool (C.failures self.new.connect))) }
         ensures err { OnErr result (self.new.pool ≡ self.old.pool) }
         ensures misses { IfErr result (λ fault. Misses fault (C.failures self.old.connect) (C.failures self.new.connect)) }
     {
@@ -115,7 +115,7 @@ impl<C: Connect + Drop> Network for Connections<C> {
 
     ghost pool = { λ connections. connections.pool.pool };
 
-    ghost wires = { λ connections. wires_of connections.pool.channels (C.failures connections.connect) };
+    ghost wires = { λ connections. wires_of connections.pool (C.failures connections.connect) };
 
     fn perform(&mut self, action: Action) -> Event {
         let event = self.carry_out(&action);

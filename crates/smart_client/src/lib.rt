@@ -27,6 +27,6 @@ pub use connections::Connections;
 pub use fault::ClientFault;
 pub use law::{
     a_command_is_sent_again_only_after_a_refusal, connections_lead_to_their_addresses,
-    replies_are_read_from_the_connection_in_use,
+    faults_have_causes, replies_are_read_from_the_connection_in_use,
 };
 pub use network::Network;

@@ -9,7 +9,7 @@ use crate::action::{Action, Event};
 /// A client's way to the nodes: it keeps the connections, one for each address, does what the client's core wants, and says
 /// what came of it.
 ///
-/// Clauses see all that was done, which connections there are, and the bytes on them.
+/// Clauses see all that was done, which connections there are and which were closed, and the bytes on them.
 pub trait Network {
     ghost use Rattle.std.specs.Prelude.{List};
     ghost use Rattle.smart_client.specs.Calls.{Deed};
