@@ -1,6 +1,7 @@
 pub mod Rising
 pub mod Under
 pub mod Merging
+pub mod EachNode
 pub mod Parts
 pub mod Prefixes
 pub mod Counts

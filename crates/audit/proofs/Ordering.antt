@@ -1,57 +1,73 @@
--- Whether stations are those of all nodes, in order.
-use Rattle.std.proofs.Common.{◌≡◌, ◌≢◌, ◌<◌, ◌+◌, ◌∙◌, ℕ, zero, suc, List, [], ◌∷◌, ◌++◌, length, map, take, get_or, refl, sym, ap, subst, arith}
+-- Stations of all nodes, in their order or in another.
+use Rattle.std.proofs.Common.{◌≡◌, ◌<◌, ◌∙◌, ℕ, List, [], ◌∷◌, length, map, IfErr, IfOk, Result, Ok, Err, refl, sym, ap, arith}
+use Rattle.std.proofs.lemmas.Bool.{lt-ltb}
+use Rattle.std.proofs.lemmas.List.{length-map}
+use Rattle.std.proofs.lemmas.List.FromFn.{length-range_with_len}
+use Rattle.std.proofs.lemmas.List.Sorted.{Contains-permutation, IsPermutation-map}
 use Rattle.std.specs.List.{range_with_len}
-use Rattle.std.proofs.lemmas.List.{get_or-map, map_more, take_all}
-use Rattle.std.proofs.lemmas.List.FromFn.{get_or-range_with_len}
+use Rattle.std.specs.List.Sorted.{IsPermutation}
+use Rattle.cluster_config.specs.Config.{ClusterConfig}
 use Rattle.links.specs.Stations.{StationView}
 use Rattle.tickets.specs.Tickets.{once_below, times}
-use Rattle.tickets.proofs.TotalLemmas.{once_below-next, times-append}
-use Rattle.audit.specs.Gathered.{parts_of}
-use Rattle.audit.specs.Merge.{AreEachOnce, nodes_of}
+use Rattle.audit.specs.declared.gathering.AuditFault.{AuditFault}
+use Rattle.audit.specs.declared.gathering.AuditFault.TheVariants.{Memory, Stranger}
+use Rattle.audit.specs.Gathered.{IsGathered, part_of, parts_of}
+use Rattle.audit.specs.Law.{RunView}
+use Rattle.audit.specs.Merge.{AreEachOnce, PartView, nodes_of}
 use Rattle.audit.specs.Stations.{AreInOrder, cells_of}
-use Rattle.audit.proofs.Parts.{none_below_zero}
-
-one_more : (a n : ℕ) → range_with_len a (suc n) ≡ range_with_len a n ++ (a + n) ∷ []
-one_more a zero = ap (λ k. k ∷ []) (omega arith)
-one_more a (suc n) = ap (λ l. a ∷ l) (one_more (a + 1) n ∙ ap (λ k. range_with_len (a + 1) n ++ k ∷ []) (omega arith))
+use Rattle.audit.proofs.EachNode.{one_if, same_times, times_in_order}
 
 abbrev number_of : StationView → ℕ
 number_of station = station.cell.node
 
--- the next one is that of the next node
-pub in_order_more : (stations : List StationView) (number : ℕ) (station : StationView) → number < length stations → station ≡ get_or stations number station → number_of station ≡ number
-    → map number_of (take number stations) ≡ range_with_len 0 number → map number_of (take (number + 1) stations) ≡ range_with_len 0 (number + 1)
-in_order_more stations number station within is own so_far =
-    let next : suc number ≡ number + 1 = omega arith in
-    map_more number_of stations number station within ∙ ap (λ (numbers : List ℕ). numbers ++ number_of (get_or stations number station) ∷ []) so_far
-    ∙ ap (λ (n : ℕ). range_with_len 0 number ++ n ∷ []) (sym (ap number_of is) ∙ own ∙ omega arith) ∙ sym (one_more 0 number) ∙ ap (range_with_len 0) next
-
-pub all_in_order : (stations : List StationView) (count number : ℕ) → 0 < count → length stations ≡ count → number ≡ count → map number_of (take number stations) ≡ range_with_len 0 number → AreInOrder count stations
-all_in_order stations count number some whole end so_far =
-    (some, whole, ap (map number_of) (sym (take_all number stations (omega (arith, whole, end)))) ∙ so_far ∙ ap (range_with_len 0) end)
-
--- one that isn't that of its place
-pub not_in_order : (stations : List StationView) (count number : ℕ) (station : StationView) → number < count → station ≡ get_or stations number station → number_of station ≢ number
-    → AreInOrder count stations → ⊥
-not_in_order stations count number station within is other order =
-    let inside : number < length stations = subst (λ (n : ℕ). number < n) (sym order.1) within in
-    other (ap number_of is ∙ sym (get_or-map number_of stations number station 0 inside) ∙ ap (λ (numbers : List ℕ). get_or numbers number 0) order.2
-    ∙ get_or-range_with_len 0 count number 0 within ∙ omega arith)
-
 -- stations of all nodes are some
-pub some_are_there : (count : ℕ) (stations : List StationView) → length stations ≡ 0 → AreInOrder count stations → ⊥
-some_are_there count stations none order = let whole = order.1 in let some = order.0 in omega (arith, whole, some, none)
+pub some_are_there : (count : ℕ) (stations : List StationView) → length stations ≡ 0 → 0 < count → AreEachOnce count (nodes_of (parts_of (cells_of stations))) → ⊥
+some_are_there count [] none some once =
+    let one = once 0 in
+    let wanted : once_below 0 count ≡ 1 = ap one_if (lt-ltb 0 count some) in
+    omega (arith, one, wanted)
+some_are_there count (station ∷ stations) none some once = omega (arith, none)
 
--- in order, they are each node once
-times_in_order : (n count : ℕ) → times n (range_with_len 0 count) ≡ once_below n count
-times_in_order n zero = sym (none_below_zero n)
-times_in_order n (suc count) =
-    ap (times n) (one_more 0 count) ∙ times-append n (range_with_len 0 count) ((0 + count) ∷ []) ∙ ap (λ (last : ℕ). times n (range_with_len 0 count) + times n (last ∷ [])) (omega arith)
-    ∙ ap (λ (before : ℕ). before + times n (count ∷ [])) (times_in_order n count) ∙ sym (once_below-next n count) ∙ ap (once_below n) (omega arith)
+-- by their numbers
+pub are_in_order : (count other : ℕ) (stations : List StationView) → other ≡ count → 0 < count → map number_of stations ≡ range_with_len 0 count → AreInOrder other stations
+are_in_order count other stations same some order = (
+  omega (arith, same, some),
+  sym (length-map stations number_of) ∙ ap length order ∙ length-range_with_len 0 count ∙ sym same,
+  order ∙ ap (range_with_len 0) (sym same),
+)
 
 nodes_are : (stations : List StationView) → nodes_of (parts_of (cells_of stations)) ≡ map number_of stations
 nodes_are [] = refl
 nodes_are (station ∷ stations) = ap (λ (numbers : List ℕ). station.cell.node ∷ numbers) (nodes_are stations)
 
+-- in order, they are each node once
 pub each_once : (count : ℕ) (stations : List StationView) → AreInOrder count stations → AreEachOnce count (nodes_of (parts_of (cells_of stations)))
 each_once count stations order n = ap (times n) (nodes_are stations ∙ order.2) ∙ times_in_order n count
+
+-- by their numbers they aren't each node once
+pub not_each_once : (count other : ℕ) (stations : List StationView) → other ≡ count → (AreEachOnce count (map number_of stations) → ⊥) → AreEachOnce other (nodes_of (parts_of (cells_of stations))) → ⊥
+not_each_once count other stations same none once = none (λ n. ap (times n) (sym (nodes_are stations)) ∙ once n ∙ ap (once_below n) same)
+
+-- ---- in another order
+
+-- parts in another order are the same run
+same_run : (config : ClusterConfig) (parts others : List PartView) (run : RunView) → IsPermutation parts others → IsGathered config others run → IsGathered config parts run
+same_run config parts others run same is = record {
+  each_once = λ n. same_times (λ (part : PartView). part.node) n parts others same ∙ is.each_once n;
+  config_is = is.config_is;
+  run_is = is.run_is;
+  numbered = is.numbered;
+  journals_are = λ part among. is.journals_are part (Contains-permutation parts others part same among);
+}
+
+pub gathered_in_order : (config : ClusterConfig) (stations ordered : List StationView) (result : Result RunView AuditFault) → IsPermutation stations ordered → IfOk result (IsGathered config (parts_of (cells_of ordered)))
+    → IfOk result (IsGathered config (parts_of (cells_of stations)))
+gathered_in_order config stations ordered (Ok run) same is =
+    same_run config (parts_of (cells_of stations)) (parts_of (cells_of ordered)) run
+    (IsPermutation-map part_of (cells_of stations) (cells_of ordered) (IsPermutation-map (λ (station : StationView). station.cell) stations ordered same)) is
+gathered_in_order config stations ordered (Err fault) same is = tt
+
+-- where memory alone was refused, there is no stranger
+pub never_stranger : (P : Type 0) (result : Result RunView AuditFault) → IfErr result (λ fault. fault ≡ Memory) → IfErr result (λ fault. fault ≡ Stranger → P)
+never_stranger P (Ok run) is = tt
+never_stranger P (Err fault) is = λ same. cc

@@ -1,6 +1,6 @@
 -- What is left of the nodes of a cluster.
-use Rattle.std.proofs.Common.{◌≡◌, ◌≢◌, ◌<◌, ◌+◌, ◌∙◌, ◌==◌, ◌++◌, ◌⊎◌, ℕ, zero, suc, Bool, true, false, cond, List, [], ◌∷◌, length, map, Contains, refl, sym, ap, subst, inl, inr, arith}
-use Rattle.std.proofs.lemmas.Bool.{cases_eq, eq-eqb, eqb-true, lt-ltb, ltb-false, ltb-true, ne_eqb}
+use Rattle.std.proofs.Common.{◌≡◌, ◌<◌, ◌+◌, ◌∙◌, ◌==◌, ◌++◌, ◌⊎◌, ℕ, zero, suc, Bool, true, false, List, [], ◌∷◌, length, map, Contains, refl, sym, ap, subst, inl, inr, arith}
+use Rattle.std.proofs.lemmas.Bool.{cases_eq, eq-eqb, eqb-true, lt-ltb, ltb-false, ltb-true}
 use Rattle.std.proofs.lemmas.List.Elements.{All-nil, All-push}
 use Rattle.std.specs.List.{remove}
 use Rattle.std.specs.Prelude.{nat_lt, slice_index_or}
@@ -13,6 +13,7 @@ use Rattle.single_keyspace.proofs.Lists.{contains_first, contains_more, first_or
 use Rattle.tickets.specs.Tickets.{drawn, once_below, seats_of, table_of, times}
 use Rattle.tickets.specs.declared.seat.Seat.{Seat}
 use Rattle.audit.specs.Merge.{AreEachOnce, AreTaken, IsOfNode, IsTaken, IsWithout, PartView, journal_of, nodes_of}
+use Rattle.audit.proofs.EachNode.{none_below_zero, one_if}
 
 -- a cell that is finished is a part of its cluster
 pub is_part : (config own : ClusterConfig) (n node seats : ℕ) (journal entries : List JournalEntry) (state : NodeState) (seat : Seat) (table : TableId) → own ≡ config → n ≡ node → entries ≡ journal
@@ -24,23 +25,6 @@ is_part config own n node seats journal entries state seat table same at are his
     let of_n : IsOfNode config n journal = subst (λ (m : ℕ). IsOfNode config m journal) (sym at) of_config in
     let within : node < length config.nodes = subst (λ (c : ClusterConfig). node < length c.nodes) same below in
     (subst (IsOfNode config n) (sym are) of_n, omega (arith, within, at), draws ∙ ap tickets_of (sym are), of_table, of_seats)
-
-abbrev one_if : Bool → ℕ
-one_if test = cond test 1 0
-
--- ---- one node's part
-
--- none of the first parts is that of the node
-abbrev pub NoneBefore : ℕ → ℕ → List PartView → Type 0
-NoneBefore number place parts = (i : ℕ) (other : PartView) → i < place → (slice_index_or parts i other).node ≢ number
-
-pub none_at_all : (number : ℕ) (parts : List PartView) → NoneBefore number (length parts) parts → times number (nodes_of parts) ≡ 0
-none_at_all number [] none = refl
-none_at_all number (part ∷ parts) none =
-    let here : part.node ≢ number = none 0 part (omega arith) in
-    let first : one_if (number == part.node) ≡ 0 = ap one_if (ne_eqb number part.node (λ same. here (sym same))) in
-    let rest = none_at_all number parts (λ i other below. none (suc i) other (omega (arith, below))) in
-    omega (arith, first, rest)
 
 -- ---- a part that is taken out
 
@@ -111,13 +95,6 @@ former_journal (first ∷ journals) entries (suc node) below = former_journal jo
 length_pushed : {A : Type 0} (xs : List A) (x : A) → length (xs ++ x ∷ []) ≡ length xs + 1
 length_pushed [] x = refl
 length_pushed (y ∷ xs) x = let rest = length_pushed xs x in omega (arith, rest)
-
-pub none_below_zero : (n : ℕ) → once_below n 0 ≡ 0
-none_below_zero n = by_test (nat_lt n 0) refl
-  where
-    by_test : (test : Bool) → nat_lt n 0 ≡ test → one_if test ≡ 0
-    by_test true is = let less = ltb-true n 0 is in absurd (omega (arith, less))
-    by_test false is = refl
 
 module _ (config : ClusterConfig) (table : TableId) (seat_count : ℕ) (parts : List PartView) where
   pub none_taken : AreTaken config table seat_count parts 0 [] [] parts

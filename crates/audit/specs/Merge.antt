@@ -99,21 +99,21 @@ nodes_of parts = map (λ (part : PartView). part.node) parts
 abbrev pub AreEachOnce : ℕ → List ℕ → Type 0
 AreEachOnce count nodes = (n : ℕ) → times n nodes ≡ once_below n count
 
--- the part at the place is that of the node
-abbrev pub IsAt : List PartView → ℕ → ℕ → Type 0
-IsAt parts number place = (place < length parts) × ((other : PartView) → (slice_index_or parts place other).node ≡ number)
+-- what stands at the place is of the node
+abbrev pub IsAt : {A : Type 0} → (A → ℕ) → List A → ℕ → ℕ → Type 0
+IsAt {A} node all number place = (place < length all) × ((other : A) → node (slice_index_or all place other) ≡ number)
 
 -- its journal is that of its node among these
 pub record IsTaken (count : ℕ) (journals : List (List JournalEntry)) (part : PartView) : Type 0 where
   pub below : part.node < count
   pub is : journal_of journals part.node ≡ part.entries
 
--- one part fewer
-pub record IsWithout (parts : List PartView) (part : PartView) (left : List PartView) : Type 0 where
+-- one fewer
+pub record IsWithout {A : Type 0} (all : List A) (one : A) (left : List A) : Type 0 where
   pub place : ℕ
-  pub within : place < length parts
-  pub at : slice_index_or parts place part ≡ part
-  pub is : left ≡ remove parts place
+  pub within : place < length all
+  pub at : slice_index_or all place one ≡ one
+  pub is : left ≡ remove all place
 
 -- the journals of the first so many nodes, with the seats that drew their tickets, and the parts that are left of all
 pub record AreTaken (config : ClusterConfig) (table : TableId) (seat_count : ℕ) (parts : List PartView) (count : ℕ) (journals : List (List JournalEntry)) (seats : List Seat) (left : List PartView) : Type 0 where

@@ -1,6 +1,7 @@
 //! The journals of all nodes of a cluster, checked and merged into the run that they are.
 #![tactic(auto)]
 
+mod each_node;
 mod gathering;
 mod journal;
 mod law;

@@ -1,8 +1,8 @@
 //! The journals of a cluster, in the order of its nodes.
 ghost use Rattle.std.specs.Prelude.{◌≡◌, [], length, IfNone, IfOk, IfSome};
-ghost use Rattle.audit.specs.Merge.{AreEachOnce, AreTaken, IsAt, IsWithout, nodes_of};
-ghost use Rattle.tickets.specs.Tickets.{times};
+ghost use Rattle.audit.specs.Merge.{AreEachOnce, AreTaken, nodes_of};
 
+use crate::each_node::take_node;
 use crate::journal::NodeJournal;
 use crate::part::Part;
 use node_cell::Deployment;
@@ -42,27 +42,4 @@ pub(crate) fn take_apart<K: Deployment>(
         return Ok(None);
     }
     Ok(Some(Taken { journals, seats }))
-}
-
-// Takes the first part of that node out of the others.
-fn take_node<K: Deployment>(parts: &mut Vec<Part<K>>, number: usize) -> Option<Part<K>>
-    ensures node { IfSome result (λ part. part.node ≡ number) }
-    ensures some { IfSome result (λ part. IsWithout parts.old.items part parts.new.items) }
-    ensures none { IfNone result (times number (nodes_of parts.old.items) ≡ 0) }
-{
-    let place = place_of(parts.as_slice(), number)?;
-    Some(parts.remove(place))
-}
-
-// Where the first part of that node stands.
-fn place_of<K: Deployment>(parts: &[Part<K>], number: usize) -> Option<usize>
-    ensures some { IfSome result (λ place. IsAt parts.now number place) }
-    ensures none { IfNone result (times number (nodes_of parts.now) ≡ 0) }
-{
-    for place in 0..parts.len() {
-        if parts[place].node().index() == number {
-            return Some(place);
-        }
-    }
-    None
 }

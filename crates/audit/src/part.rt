@@ -4,6 +4,7 @@ ghost use Rattle.audit.specs.Merge.{IsOfNode};
 ghost use Rattle.node_cell.specs.Journal.{tickets_of};
 ghost use Rattle.tickets.specs.Tickets.{drawn, seats_of, table_of};
 
+use crate::each_node::OfNode;
 use node_cell::{Deployment, Entry, Journal, NodeCell};
 use slot_table::NodeNo;
 use std::marker::{Model, PhantomData};
@@ -46,13 +47,6 @@ impl<K: Deployment> Part<K> {
         }
     }
 
-    /// Which node it is.
-    pub(crate) fn node(&self) -> NodeNo
-        ensures { result ≡ self.now.node }
-    {
-        self.node
-    }
-
     /// The journal and the seat.
     pub(crate) fn into_parts(self) -> (Vec<Entry>, Seat)
         ensures entries { result.0.items ≡ self.entries }
@@ -66,5 +60,13 @@ impl<K: Deployment> Part<K> {
             cluster: _,
         } = self;
         (entries, seat)
+    }
+}
+
+impl<K: Deployment> OfNode for Part<K> {
+    ghost node = { λ part. part.node };
+
+    fn node_number(&self) -> usize {
+        self.node.index()
     }
 }

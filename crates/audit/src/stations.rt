@@ -1,12 +1,13 @@
 //! The journals of all stations, gathered.
-ghost use Rattle.std.specs.Prelude.{◌≡◌, ◌<◌, [], All, IfErr, IfOk, OnOk, List, length, map, true, false};
+ghost use Rattle.std.specs.Prelude.{◌≡◌, ◌<◌, [], All, IfErr, IfOk, OnOk, List, length, map};
 ghost use Rattle.audit.specs.Gathered.{IsAllOf, IsGathered, parts_of};
-ghost use Rattle.audit.specs.Merge.{AllAreSound, PartView};
+ghost use Rattle.audit.specs.Merge.{AllAreSound, AreEachOnce, PartView, nodes_of};
 ghost use Rattle.audit.specs.Stations.{AreInOrder, cells_of, ends_of};
-ghost use Rattle.audit.specs.declared.gathering.AuditFault.TheVariants.{Stranger};
+ghost use Rattle.audit.specs.declared.gathering.AuditFault.TheVariants.{Memory, Stranger};
 ghost use Rattle.links.specs.Stations.{IsStation};
 ghost use Rattle.tickets.specs.Tickets.{id_of};
 
+use crate::each_node::{OfNode, put_in_order};
 use crate::gathering::AuditFault;
 use crate::order::{Taken, take_apart};
 use crate::part::Part;
@@ -18,11 +19,19 @@ use std::alloc::{AllocError, Global};
 use std::sync::Wait;
 use tickets::{Table, close};
 
-/// The run that the nodes of the cluster `K` made, by their stations at the links `W`, in the order of the nodes. Nobody serves the nodes
-/// any more, and there were as many seats as there are nodes.
+impl<K: Deployment, W: Web, R: Wait + Drop> OfNode for Station<K, W, Journal, R> {
+    ghost node = { λ station. station.cell.node };
+
+    fn node_number(&self) -> usize {
+        self.number().index()
+    }
+}
+
+/// The run that the nodes of the cluster `K` made, by their stations at the links `W`, which may come in any order. Nobody serves the
+/// nodes any more, and there were as many seats as there are nodes.
 ///
 /// What a node took it received over a link, so its sender had sent it: nothing is looked for in the journals, and they are never told to
-/// hold a message that nobody sent. `Stranger` comes only where the stations aren't those of all nodes, in order.
+/// hold a message that nobody sent. `Stranger` comes only where the stations aren't those of each node once.
 pub fn gather_stations<K: Deployment, W: Web, R: Wait + Drop>(
     alloc: Global,
     table: &Table,
@@ -31,42 +40,40 @@ pub fn gather_stations<K: Deployment, W: Web, R: Wait + Drop>(
     requires table { id_of table.now ≡ K.table }
     requires seats { K.seats ≡ length K.config.nodes }
     ensures run { IfOk result (λ run. IsGathered K.config (parts_of (cells_of stations.items)) run) }
-    ensures stranger { IfErr result (λ fault. fault ≡ Stranger → AreInOrder (length K.config.nodes) stations.items → ⊥) }
+    ensures stranger { IfErr result (λ fault. fault ≡ Stranger → 0 < length K.config.nodes → AreEachOnce (length K.config.nodes) (nodes_of (parts_of (cells_of stations.items))) → ⊥) }
 {
     if stations.is_empty() {
         return Err(AuditFault::Stranger);
     }
     let config = stations[0].config().clone()?;
     let count = config.nodes().len();
-    if !are_in_order(stations.as_slice(), count) {
-        return Err(AuditFault::Stranger);
-    }
-    let (parts, ends) = finish_all(alloc, stations)?;
-    compare_all(ends);
-    match take_apart(alloc, count, parts)? {
-        Some(taken) => Ok(merge::<K>(table, config, taken)),
+    match put_in_order(alloc, count, stations)? {
+        Some(in_order) => gather_in_order(alloc, table, config, in_order),
         None => Err(AuditFault::Stranger),
     }
 }
 
-// Whether these are the stations of so many nodes, in order.
-fn are_in_order<K: Deployment, W: Web, R: Wait + Drop>(
-    stations: &[Station<K, W, Journal, R>],
-    count: usize,
-) -> bool
-    requires { 0 < count }
-    ensures yes { result ≡ true → AreInOrder count stations.now }
-    ensures no { result ≡ false → AreInOrder count stations.now → ⊥ }
+// The run that the nodes made, by their stations in the order of the nodes.
+fn gather_in_order<K: Deployment, W: Web, R: Wait + Drop>(
+    alloc: Global,
+    table: &Table,
+    config: Config,
+    stations: Vec<Station<K, W, Journal, R>>,
+) -> Result<WorldRun, AuditFault>
+    requires table { id_of table.now ≡ K.table }
+    requires seats { K.seats ≡ length K.config.nodes }
+    requires config { config ≡ K.config }
+    requires order { AreInOrder (length K.config.nodes) stations.items }
+    ensures run { IfOk result (λ run. IsGathered K.config (parts_of (cells_of stations.items)) run) }
+    ensures memory { IfErr result (λ fault. fault ≡ Memory) }
 {
-    if stations.len() != count {
-        return false;
+    let count = config.nodes().len();
+    let (parts, ends) = finish_all(alloc, stations)?;
+    compare_all(ends);
+    match take_apart(alloc, count, parts)? {
+        Some(taken) => Ok(merge::<K>(table, config, taken)),
+        None => unreachable!(),
     }
-    for number in 0..count {
-        if stations[number].number().index() != number {
-            return false;
-        }
-    }
-    true
 }
 
 // What is left of each station: the part of its node, and its ends of the links.
