@@ -13,7 +13,7 @@ use crate::watched::{Seen, Watched};
 use bytes::Bytes;
 use cluster_config::NodeId;
 use command_table::number_in;
-use key_slot::{MoveNo, Slot, SlotRange};
+use key_slot::{Slot, SlotRange};
 use redirection::Address;
 use resharder::{MovedSlot, Plan, ReshardFault, Resharder};
 use smart_client::{Connections, Network};
@@ -267,11 +267,7 @@ fn slot_in(text: &str) -> Option<Slot> {
 
 // It is written at once, so that a reader knows of each slot when it has moved.
 fn print<R: AllocGlobal + Print>(rt: &R, moved: &MovedSlot) -> Result<(), ToolFailure> {
-    let number = moved.number.map_or(0, MoveNo::get);
-    let line = format!(in rt.alloc();
-        "slot {} move {number} keys {}\n",
-        moved.slot.get(),
-        moved.keys
-    )?;
-    write(rt, line.as_bytes())
+    let mut line = Vec::new(rt.alloc());
+    moved.print(&mut line)?;
+    write(rt, line.as_slice())
 }

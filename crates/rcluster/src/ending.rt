@@ -38,6 +38,14 @@ pub fn explain(rt: &(impl Print + Eprint), error: &Error) -> io::Result<ExitCode
     Ok(ExitCode::from(error.exit_code() as u8))
 }
 
+/// The end where the words of the command line can't be had.
+pub fn explain_words(rt: &(impl Print + Eprint), error: &io::Error) -> io::Result<ExitCode> {
+    if error.kind() == io::ErrorKind::InvalidData {
+        return refuse(rt, "a word of the command line isn't UTF-8");
+    }
+    fail(rt, ProgramFault::Memory)
+}
+
 // The code goes to the output, and a sentence for people to standard error.
 fn print_failure(rt: &(impl Print + Eprint), failure: &Failure) -> io::Result<ExitCode> {
     eprintln!(rt; "{failure}")?;

@@ -2,6 +2,7 @@ pub mod Faults
 pub mod Migration
 pub mod Nodes
 pub mod Orders
+pub mod Printing
 pub mod Replies
 pub mod Runs
 pub mod State

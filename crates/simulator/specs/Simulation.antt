@@ -14,7 +14,7 @@ use Rattle.final_answers.specs.Law.{AreAnswered}
 use Rattle.simulator.specs.Printing.{printed}
 
 -- the cluster begins, the steps are played, and what came out of them is printed; the replies of what was executed up to the first
--- promotion are those of one keyspace, no epoch has two masters, each promoted node begins with its prefix, and the answer to each call
+-- promotion that wasn't planned are those of one keyspace, no epoch has two masters, each promoted node begins with its prefix, and the answer to each call
 -- says what became of its command
 pub record Simulates (config : ClusterConfig) (steps : List Step) (text : List ℕ) : Type 0 where
   pub scene : SceneView
