@@ -1,5 +1,6 @@
 /* Refuses one allocation of the program that loads this library first: the one whose number, from 1 on, REFUSED says.
-   At the end it writes to the file COUNTED how many were asked for. */
+   At the end it writes to the file COUNTED how many were asked for. A program that is killed comes to no such end: the file REACHED is made
+   as the allocation is refused. */
 #include <fcntl.h>
 #include <stdio.h>
 #include <stdlib.h>
@@ -11,10 +12,23 @@ extern void *__libc_realloc(void *block, size_t size);
 
 static unsigned long asked;
 
+static void reach(void) {
+    const char *reached = getenv("REACHED");
+    int file = reached == NULL ? -1 : open(reached, O_WRONLY | O_CREAT, 0600);
+    if (file >= 0) {
+        close(file);
+    }
+}
+
 static int is_refused(void) {
     const char *refused = getenv("REFUSED");
-    asked += 1;
-    return refused != NULL && asked == strtoul(refused, NULL, 10);
+    /* Threads may ask at once. */
+    unsigned long number = __atomic_add_fetch(&asked, 1, __ATOMIC_SEQ_CST);
+    if (refused == NULL || number != strtoul(refused, NULL, 10)) {
+        return 0;
+    }
+    reach();
+    return 1;
 }
 
 void *malloc(size_t size) {

@@ -272,6 +272,8 @@ def play_words(judge):
         status, output, error = program.run(*words, text=text)
         judge.equal(f"{what}: status, and nothing on standard output", (status, output), (2, b""))
         judge.within(f"{what}: usage on standard error", said.encode(), error)
+    said = b"error: a word of the command line isn't UTF-8\n\nFor more information, try '--help'.\n"
+    judge.equal("a word that isn't UTF-8", program.run("cli", "--addr", "127.0.0.1:7000", "GET", b"\xff"), (2, b"", said))
     judge.equal("--version", program.run("--version"), (0, b"rcluster 0.1.0\n", b""))
     status, output, error = program.run("serve", "--help")
     judge.equal("serve --help: status, and nothing on standard error", (status, error), (0, b""))

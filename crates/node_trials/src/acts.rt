@@ -39,13 +39,25 @@ pub fn conn_of(key: usize) -> Conn {
     Conn { key, generation: 0 }
 }
 
-/// The request of words with one blank between them.
+/// The request of words with one blank between them. `*9` stands for a word of 9 letters.
 pub fn words_of(alloc: Global, text: &str) -> Result<Words> {
     let mut words = Vec::new(alloc);
     for word in text.split(' ') {
-        words.push(ByteString::copy_from_slice(alloc, bytes_of(word))?)?;
+        words.push(word_of(alloc, word)?)?;
     }
     Words::new(words).context("the words are no request")
+}
+
+fn word_of(alloc: Global, text: &str) -> Result<ByteString> {
+    match text.strip_prefix("*") {
+        Some(len) => letters(alloc, len.parse::<usize>()?),
+        None => Ok(ByteString::copy_from_slice(alloc, bytes_of(text))?),
+    }
+}
+
+fn letters(alloc: Global, len: usize) -> Result<ByteString> {
+    let bytes = vec![in alloc; b'v'; len]?;
+    Ok(ByteString::copy_from_slice(alloc, bytes.as_slice())?)
 }
 
 fn bytes_of(word: &str) -> &[u8] {

@@ -106,7 +106,16 @@ struct Case {
     given: &'static str,
 }
 
-const CASES: [Case; 2] = [
+const CASES: [Case; 3] = [
+    // The first tickets of a conversation.
+    Case {
+        calls: &[
+            Apply(Open),
+            Apply(Ask(0, "SET a 1")),
+            Apply(Ask(0, "get a")),
+        ],
+        given: "0 1 +OK\r\n2 $1\r\n1\r\njournal 0 1 +OK\r\n2 $1\r\n1\r\n",
+    },
     // Each step draws a ticket and is entered, also one without an answer. A connection that is closed is never answered again, also
     // when another one is opened.
     Case {

@@ -35,6 +35,17 @@ const WITH_REPLICAS: &[u8] = b"{\"tick_ms\":10,\"node_timeout\":20,\"backlog\":6
 {\"id\":\"0000000000000000000000000000000000000005\",\"host\":\"127.0.0.1\",\"port\":7005,\"replica_of\":\"0000000000000000000000000000000000000002\"}],\
 \"voters\":[\"0000000000000000000000000000000000000000\"]}";
 
+// The same where much of a stream is kept.
+const WITH_LONG_STREAMS: &[u8] =
+    b"{\"tick_ms\":10,\"node_timeout\":20,\"backlog\":131072,\"nodes\":[\
+{\"id\":\"0000000000000000000000000000000000000000\",\"host\":\"127.0.0.1\",\"port\":7000,\"slots\":[[0,5460]]},\
+{\"id\":\"0000000000000000000000000000000000000001\",\"host\":\"127.0.0.1\",\"port\":7001,\"slots\":[[5461,10922]]},\
+{\"id\":\"0000000000000000000000000000000000000002\",\"host\":\"127.0.0.1\",\"port\":7002,\"slots\":[[10923,16383]]},\
+{\"id\":\"0000000000000000000000000000000000000003\",\"host\":\"127.0.0.1\",\"port\":7003,\"replica_of\":\"0000000000000000000000000000000000000000\"},\
+{\"id\":\"0000000000000000000000000000000000000004\",\"host\":\"127.0.0.1\",\"port\":7004,\"replica_of\":\"0000000000000000000000000000000000000001\"},\
+{\"id\":\"0000000000000000000000000000000000000005\",\"host\":\"127.0.0.1\",\"port\":7005,\"replica_of\":\"0000000000000000000000000000000000000002\"}],\
+\"voters\":[\"0000000000000000000000000000000000000000\"]}";
+
 // Two masters with half of the slots each, and two replicas of the first one, of which the second one has no vote. A node that is silent for a
 // tick is suspected.
 const WITH_ELECTIONS: &[u8] = b"{\"tick_ms\":10,\"node_timeout\":1,\"backlog\":64,\"nodes\":[\
@@ -79,6 +90,11 @@ fn config_of(alloc: Global, text: &[u8], nodes: usize) -> Result<Config, ConfigF
 /// The same with a replica of each. Node 5 is the replica of node 2. A node keeps the last 64 bytes of its stream.
 pub fn with_replicas(alloc: Global) -> Result<Config, ConfigFault> {
     read_config(alloc, WITH_REPLICAS)
+}
+
+/// The same where a node keeps the last 131,072 bytes of its stream.
+pub fn with_long_streams(alloc: Global) -> Result<Config, ConfigFault> {
+    read_config(alloc, WITH_LONG_STREAMS)
 }
 
 /// Two masters with half of the slots each. Nodes 2 and 3 are replicas of node 0, and all but node 3 vote. A node is suspected once it is silent

@@ -1,7 +1,7 @@
 //! Masters that write their streams, and replicas that follow them. A node that is refused memory is as it was, so each step is made at
 //! a second try.
 
-use crate::clusters::with_replicas;
+use crate::clusters::{with_long_streams, with_replicas};
 use crate::rows::{Rows, other_answer};
 use crate::telling::tell;
 use anyhow::Result;
@@ -104,9 +104,30 @@ const LOST_PIECE: Rows = &[
     "5 CLUSTER COUNTKEYSINSLOT 15495 | :0\r\n",
 ];
 
+// A write of 100,031 bytes, of which nothing comes: the replica asks for them, and gets two pieces.
+const LONG_WRITE: Rows = &[
+    "2 SET x *100000 | +OK\r\npiece 0+100031 ",
+    "5 tick | claim claim claim claim claim report report report report report sync 0 ",
+    "deliver 12 | piece 0+65536 ",
+    "deliver 13 | ",
+    "5 tick | claim claim claim claim claim report report report report report sync 65536 ",
+    "deliver 24 | piece 65536+34495 ",
+    "5 CLUSTER COUNTKEYSINSLOT 16287 | :0\r\n",
+    "deliver 25 | ",
+    "5 CLUSTER COUNTKEYSINSLOT 16287 | :1\r\n",
+    "5 tick | claim claim claim claim claim report report report report report sync 100031 ",
+];
+
 /// Says whether another answer came of a step than without a refusal.
 pub fn try_out<R: AllocGlobal + Print>(rt: &R) -> Result<()> {
     let config = with_replicas(rt.alloc())?;
     let other = other_answer(rt.alloc(), &config, &CASES)?;
     Ok(tell(rt, "following", other)?)
+}
+
+/// Says whether another answer came of a step where much is written at once.
+pub fn try_long_write<R: AllocGlobal + Print>(rt: &R) -> Result<()> {
+    let config = with_long_streams(rt.alloc())?;
+    let other = other_answer(rt.alloc(), &config, &[LONG_WRITE])?;
+    Ok(tell(rt, "long write", other)?)
 }

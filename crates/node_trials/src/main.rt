@@ -7,11 +7,13 @@ mod audited_cells;
 mod audited_stations;
 mod audits;
 mod callers;
+mod calls;
 mod cells;
 mod clusters;
 mod conversation;
 mod copies;
 mod dealing;
+mod devices;
 mod failover;
 mod following;
 mod full_link;
@@ -20,12 +22,16 @@ mod growth;
 mod handing_over;
 mod in_memory;
 mod key_move;
+mod lines;
 mod mail;
+mod memory_nodes;
 mod moves;
 mod nodes;
 mod pace;
 mod playing;
+mod race;
 mod refused;
+mod replay;
 mod rows;
 mod runtime;
 mod seats;
@@ -54,9 +60,12 @@ enum Trial {
     Refused,
     Moves,
     Following,
+    LongWrite,
     Failover,
+    Race,
     Handovers,
     Writes,
+    Devices,
     Cells,
     Seats,
     Callers,
@@ -70,13 +79,16 @@ enum Trial {
 }
 
 // The words of the trials, in the order in which they are played.
-const TRIALS: [(&str, Trial); 15] = [
+const TRIALS: [(&str, Trial); 18] = [
     ("refused", Trial::Refused),
     ("moves", Trial::Moves),
     ("following", Trial::Following),
+    ("long_write", Trial::LongWrite),
     ("failover", Trial::Failover),
+    ("race", Trial::Race),
     ("handovers", Trial::Handovers),
     ("writes", Trial::Writes),
+    ("devices", Trial::Devices),
     ("cells", Trial::Cells),
     ("seats", Trial::Seats),
     ("callers", Trial::Callers),
@@ -151,9 +163,12 @@ fn try_out<R: Runtime>(rt: R, trial: Trial) -> Result<()> {
         Trial::Refused => refused::try_out(rt),
         Trial::Moves => moves::try_out(&rt),
         Trial::Following => following::try_out(&rt),
+        Trial::LongWrite => following::try_long_write(&rt),
         Trial::Failover => failover::try_out(&rt),
+        Trial::Race => race::try_out(&rt),
         Trial::Handovers => handing_over::try_out(&rt),
         Trial::Writes => writes::try_out(rt),
+        Trial::Devices => devices::try_out(rt),
         Trial::Cells => cells::try_out(&rt),
         Trial::Seats => seats::try_out(&rt),
         Trial::Callers => callers::try_out(&rt),

@@ -1,16 +1,79 @@
-//! A conversation that judges itself. Whichever allocation is refused, the client reads what it would read otherwise, up to
-//! the line that tells of refused memory, or to the end of the connection.
+//! Conversations and calls that judge themselves. Whichever allocation is refused, the client reads what it would read otherwise, up to
+//! the line that tells of refused memory, or to the end of the connection, and the node's keys are those that its journal leaves. A call
+//! is answered as what passed for it allows.
 ghost use Rattle.std.specs.Prelude.{◌≡◌, length};
 
+use crate::calls::{CALLS, make, may_come};
 use crate::clusters::three_masters;
-use crate::conversation::{Client, hold, hold_in_turns};
+use crate::conversation::{Client, Held, Manner, Place, hold};
 use crate::growth::{hash_is_unchanged, map_is_unchanged};
+use crate::replay::is_replayed;
 use crate::second_tries::{buffer_is_unchanged, reader_loses_nothing};
 use crate::telling::tell;
 use anyhow::{Result, bail};
 use cluster_config::Config;
 use std::alloc::{AllocError, Global};
 use std::sync::Wait;
+
+// A conversation, and what its client reads where memory is ample.
+struct Conversation {
+    place: Place,
+    pieces: &'static [&'static [u8]],
+    replies: &'static [&'static [u8]],
+    // What the node is asked then: all its keys are among these.
+    asked: &'static [&'static str],
+}
+
+const CONVERSATIONS: [Conversation; 4] = [
+    // Commands of all kinds.
+    Conversation {
+        place: Place::Third,
+        pieces: &[REQUESTS],
+        replies: &REPLIES,
+        asked: &["GET a", "GET {a}1", "HGETALL {a}h"],
+    },
+    // A request that is cut behind each of its bytes.
+    Conversation {
+        place: Place::Third,
+        pieces: &[
+            b"*", b"1", b"\r", b"\n", b"$", b"4", b"\r", b"\n", b"P", b"I", b"N", b"G", b"\r",
+            b"\n",
+        ],
+        replies: &[b"+PONG\r\n"],
+        asked: &[],
+    },
+    // Numbers that can't be counted up.
+    Conversation {
+        place: Place::Second,
+        pieces: &[
+            b"*3\r\n$3\r\nSET\r\n$1\r\nc\r\n$19\r\n9223372036854775807\r\n",
+            b"*2\r\n$4\r\nINCR\r\n$1\r\nc\r\n",
+            b"*2\r\n$3\r\nGET\r\n$1\r\nc\r\n",
+            b"*3\r\n$3\r\nSET\r\n$1\r\nc\r\n$2\r\n01\r\n",
+            b"*2\r\n$4\r\nINCR\r\n$1\r\nc\r\n",
+        ],
+        replies: &[
+            b"+OK\r\n",
+            b"-ERR increment or decrement would overflow\r\n",
+            b"$19\r\n9223372036854775807\r\n",
+            b"+OK\r\n",
+            b"-ERR value is not an integer or out of range\r\n",
+        ],
+        asked: &["GET c"],
+    },
+    // A key that is set once, though twice is asked for it.
+    Conversation {
+        place: Place::Third,
+        pieces: &[
+            b"*4\r\n$3\r\nSET\r\n$1\r\nx\r\n$1\r\n1\r\n$2\r\nNX\r\n",
+            b"*4\r\n$3\r\nSET\r\n$1\r\nx\r\n$1\r\n1\r\n$2\r\nNX\r\n",
+            b"*3\r\n$6\r\nEXISTS\r\n$1\r\nx\r\n$1\r\nx\r\n",
+            b"*3\r\n$3\r\nDEL\r\n$1\r\nx\r\n$1\r\nx\r\n",
+        ],
+        replies: &[b"+OK\r\n", b"$-1\r\n", b":2\r\n", b":1\r\n"],
+        asked: &["GET x"],
+    },
+];
 
 const REQUESTS: &[u8] = b"*3\r\n$3\r\nSET\r\n$1\r\na\r\n$1\r\n1\r\n\
 *2\r\n$3\r\nget\r\n$1\r\na\r\n\
@@ -41,12 +104,10 @@ const REPLIES: [&[u8]; 9] = [
 const OUT_OF_MEMORY: &[u8] = b"-OOM out of memory\r\n";
 
 // What the client takes is no allocation of the program.
-const CLIENT: Client<'static> = Client {
-    pieces: &[REQUESTS],
-    reader_fails: false,
-    room: usize::MAX,
-    reserved: 1024,
-};
+const RESERVED: usize = 1024;
+
+// So many bytes are taken at once from a client that is served in turns.
+const FEW: usize = 7;
 
 /// Says whether another answer came than the replies or the memory line. What was refused once succeeds at a second try.
 pub fn try_out<R: Wait + AllocGlobal + Print + Copy + Drop>(rt: R) -> Result<()> {
@@ -58,8 +119,8 @@ fn other_answer<R: Wait + AllocGlobal + Copy + Drop>(rt: R) -> Result<Option<Str
     try_again(rt.alloc())?;
     // Nothing is read where memory is refused before.
     let config = three_masters(rt.alloc())?;
-    match judged(answers(rt, &config)?)? {
-        None => judged(answers_in_turns(rt, &config)?),
+    match other_in_conversations(rt, &config)? {
+        None => other_of_calls(rt.alloc()),
         other => Ok(other),
     }
 }
@@ -81,41 +142,77 @@ fn try_again(alloc: Global) -> Result<()> {
     Ok(())
 }
 
-fn answers<R: Wait + AllocGlobal + Drop>(rt: R, config: &Config) -> Result<Vec<u8>, AllocError>
-    requires three { length config.now.nodes ≡ 3 }
-{
-    let alloc = rt.alloc();
-    let held = hold(rt, alloc, config, CLIENT)?;
-    Ok(held.written.bytes)
-}
-
-fn answers_in_turns<R: Wait + AllocGlobal + Drop>(
+fn other_in_conversations<R: Wait + AllocGlobal + Copy + Drop>(
     rt: R,
     config: &Config,
-) -> Result<Vec<u8>, AllocError>
+) -> Result<Option<String>>
     requires three { length config.now.nodes ≡ 3 }
 {
-    let alloc = rt.alloc();
-    hold_in_turns(rt, alloc, config, REQUESTS, CLIENT.reserved)
+    for conversation in &CONVERSATIONS {
+        for manner in [Manner::Thread, Manner::Turns] {
+            let held = hold(rt, rt.alloc(), config, client_of(conversation, manner))?;
+            let other = judged(rt.alloc(), conversation, held)?;
+            if other.is_some() {
+                return Ok(other);
+            }
+        }
+    }
+    Ok(None)
 }
 
-// The answers, where they are others than the client may read.
-fn judged(answers: Vec<u8>) -> Result<Option<String>> {
-    if may_be_read(answers.as_slice()) {
+// A client that is served in turns takes a few bytes at a time.
+fn client_of(conversation: &Conversation, manner: Manner) -> Client<'static> {
+    let client = Client {
+        place: conversation.place,
+        manner,
+        reserved: RESERVED,
+        asked: conversation.asked,
+        ..Client::new(conversation.pieces)
+    };
+    match manner {
+        Manner::Thread => client,
+        Manner::Turns => Client {
+            few: FEW,
+            waits: true,
+            ..client
+        },
+    }
+}
+
+// The answers, where they are others than the client may read, or that the node's keys are others than its journal leaves.
+fn judged(alloc: Global, conversation: &Conversation, held: Held) -> Result<Option<String>> {
+    if !may_be_read(held.written.bytes.as_slice(), conversation.replies) {
+        return Ok(Some(String::from_utf8(held.written.bytes)?));
+    }
+    if is_replayed(alloc, held.after.journal.as_slice(), held.after.keys)? {
         return Ok(None);
     }
-    Ok(Some(String::from_utf8(answers)?))
+    Ok(Some(text_of(alloc, "the keys are not those that the journal leaves")?))
+}
+
+fn text_of(alloc: Global, text: &str) -> Result<String, AllocError> {
+    format!(in alloc; "{text}")
 }
 
 // Whether the bytes are the first replies, perhaps with the line behind them that tells of refused memory.
-fn may_be_read(bytes: &[u8]) -> bool {
+fn may_be_read(bytes: &[u8], replies: &[&[u8]]) -> bool {
     let mut rest = bytes;
-    for reply in REPLIES {
-        if rest.starts_with(reply) {
-            rest = &rest[reply.len()..];
-        } else {
-            return rest.is_empty() || rest == OUT_OF_MEMORY;
+    for reply in replies {
+        match rest.strip_prefix(*reply) {
+            Some(behind) => rest = behind,
+            None => return rest.is_empty() || rest == OUT_OF_MEMORY,
         }
     }
     rest.is_empty() || rest == OUT_OF_MEMORY
+}
+
+// The first call that is answered otherwise than what passed for it allows.
+fn other_of_calls(alloc: Global) -> Result<Option<String>> {
+    for call in &CALLS {
+        let made = make(alloc, call, None)?;
+        if !may_come(alloc, call, &made)? {
+            return Ok(Some(format!(in alloc; "{:?} of a call", made.answer)?));
+        }
+    }
+    Ok(None)
 }

@@ -2,7 +2,8 @@
 
 use crate::stream_node::{Node, stream_id};
 use anyhow::Result;
-use repl_stream::{OfferFault, Stream};
+use byte_string::ByteString;
+use repl_stream::{OfferFault, Stream, StreamFault};
 use std::io;
 use stream_values::{Piece, Sync, SyncAnswer};
 
@@ -68,4 +69,22 @@ fn show_what_comes<R: Print>(rt: &R, answer: &SyncAnswer) -> io::Result<()> {
 
 fn show_piece<R: Print>(rt: &R, piece: &Piece) -> io::Result<()> {
     println!(rt; "{} bytes from {}", piece.bytes().len(), piece.from())
+}
+
+/// Prints a part of a stream, each line of it behind a blank, or why there is none.
+pub fn show_part<R: Print>(
+    rt: &R,
+    name: &str,
+    part: Result<ByteString, StreamFault>,
+) -> Result<()> {
+    match part {
+        Ok(bytes) => show_bytes(rt, name, bytes.as_slice())?,
+        Err(fault) => println!(rt; "{name}: {fault}")?,
+    }
+    Ok(())
+}
+
+fn show_bytes<R: Print>(rt: &R, name: &str, bytes: &[u8]) -> io::Result<()> {
+    let text = std::str::from_utf8(bytes).unwrap_or("?");
+    println!(rt; "{name}: {text:?}")
 }

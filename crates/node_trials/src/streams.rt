@@ -1,6 +1,6 @@
 //! Streams: what replicas and masters make of writes, pieces, snapshots and a promotion, over both bodies of a stream.
 
-use crate::stream_lines::{show, show_answer, show_offer};
+use crate::stream_lines::{show, show_answer, show_offer, show_part};
 use crate::stream_node::{Node, Offered, snapshot, stream_id};
 use anyhow::Result;
 use repl_stream::{Backlog, Stream, WholeStream};
@@ -62,7 +62,21 @@ pub fn try_out<R: AllocGlobal + Print>(rt: &R) -> Result<()> {
     for course in COURSES {
         play_last(rt, course)?;
     }
-    Ok(())
+    show_parts(rt)
+}
+
+// Three writes of 27 bytes each.
+const THREE_WRITES: &[u8] = b"*3\r\n$3\r\nSET\r\n$1\r\na\r\n$1\r\n1\r\n\
+*3\r\n$3\r\nSET\r\n$1\r\na\r\n$1\r\n2\r\n\
+*3\r\n$3\r\nSET\r\n$1\r\na\r\n$1\r\n3\r\n";
+
+// Parts of a ring behind three writes: one that begins a byte too early, and one from the first byte on that is kept.
+fn show_parts<R: AllocGlobal + Print>(rt: &R) -> Result<()> {
+    let mut ring = Backlog::new(rt.alloc(), stream_id((2, 0))?, 64)?;
+    ring.append(THREE_WRITES);
+    println!(rt; "the ring holds {} to {}", ring.first(), ring.end())?;
+    show_part(rt, "10 bytes from 16", ring.piece(rt.alloc(), 16, 10))?;
+    show_part(rt, "10 bytes from 17", ring.piece(rt.alloc(), 17, 10))
 }
 
 fn play_whole<R: AllocGlobal + Print>(rt: &R, course: Course) -> Result<()> {

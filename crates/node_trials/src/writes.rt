@@ -2,11 +2,14 @@
 ghost use Rattle.std.specs.Prelude.{◌≡◌, length};
 
 use crate::clusters::three_masters;
-use crate::conversation::{Client, Held, hold};
+use crate::conversation::{Client, Held, Manner, hold};
+use crate::in_memory::Failing;
 use crate::telling::say;
 use anyhow::Result;
 use cluster_config::Config;
 use listener::ConnFault;
+use node_cell::Entry;
+use node_core::Event;
 use std::alloc::{AllocError, Global};
 use std::sync::Wait;
 
@@ -23,6 +26,8 @@ const SET_AND_GET: &[u8] =
 
 const SET_AND_HALF: &[u8] =
     b"*3\r\n$3\r\nSET\r\n$1\r\na\r\n$1\r\n1\r\n*3\r\n$3\r\nSET\r\n$1\r\na\r\n$1\r\n";
+
+const SET_FOO: &[u8] = b"*3\r\n$3\r\nSET\r\n$3\r\nfoo\r\n$1\r\nv\r\n";
 
 const BAD_BYTE: &[u8] = b"PING\r\n";
 
@@ -117,15 +122,15 @@ const BROKEN: [Broken; 7] = [
     },
 ];
 
-// A value that is set, and read by requests of the same piece.
+/// A value that is set, and read by requests of the same piece.
 #[derive(Clone, Copy)]
-struct Reads {
-    // How long the value is.
-    len: usize,
-    // How often it is read.
-    times: usize,
-    // Whether it is read twice by each request, in an array.
-    twice: bool,
+pub struct Reads {
+    /// How long the value is.
+    pub len: usize,
+    /// How often it is read.
+    pub times: usize,
+    /// Whether it is read twice by each request, in an array.
+    pub twice: bool,
 }
 
 // Replies of less than 64 KiB are written together.
@@ -194,7 +199,27 @@ fn judge<R: Wait + AllocGlobal + Print + Copy + Drop>(rt: R, config: &Config) ->
         "a value that is cut off isn't begun again",
         is_cut(rt, config)?,
     )?;
+    judge_cut_requests(rt, config)?;
     judge_writes(rt, config)
+}
+
+fn judge_cut_requests<R: Wait + AllocGlobal + Print + Copy + Drop>(
+    rt: R,
+    config: &Config,
+) -> Result<()>
+    requires three { length config.now.nodes ≡ 3 }
+{
+    say(
+        &rt,
+        "beginnings of a request are neither answered nor executed",
+        are_silent(rt, config)?,
+    )?;
+    let is_executed = is_executed(rt, config)?;
+    Ok(say(
+        &rt,
+        "a request whose reply can't be written is executed",
+        is_executed,
+    )?)
 }
 
 fn judge_writes<R: Wait + AllocGlobal + Print + Copy + Drop>(rt: R, config: &Config) -> Result<()>
@@ -206,18 +231,14 @@ fn judge_writes<R: Wait + AllocGlobal + Print + Copy + Drop>(rt: R, config: &Con
     Ok(say(&rt, "long replies are several writes", apart)?)
 }
 
-fn all_break<R: Wait + AllocGlobal + Copy + Drop>(
-    rt: R,
-    config: &Config,
-) -> Result<bool, AllocError>
+fn all_break<R: Wait + AllocGlobal + Copy + Drop>(rt: R, config: &Config) -> Result<bool>
     requires three { length config.now.nodes ≡ 3 }
 {
     for row in &BROKEN {
         let client = Client {
-            pieces: row.pieces,
             reader_fails: row.reader_fails,
             room: row.room,
-            reserved: 0,
+            ..Client::new(row.pieces)
         };
         let held = hold(rt, rt.alloc(), config, client)?;
         if !came(row, &held) {
@@ -230,8 +251,70 @@ fn all_break<R: Wait + AllocGlobal + Copy + Drop>(
 fn came(row: &Broken, held: &Held) -> bool {
     held.ended == Err(row.ended)
         && held.written.bytes.as_slice() == row.written
-        && held.failures == row.failures
-        && held.steps == row.steps
+        && held.reader_failures.saturating_add(held.writer_failures) == row.failures
+        && held.after.journal.len() == row.steps
+}
+
+// Each shorter beginning of a request, and then the end of what the client sends.
+fn are_silent<R: Wait + AllocGlobal + Copy + Drop>(rt: R, config: &Config) -> Result<bool>
+    requires three { length config.now.nodes ≡ 3 }
+{
+    for len in 0..SET_FOO.len() {
+        for manner in [Manner::Thread, Manner::Turns] {
+            let pieces = [SET_FOO.get(..len).unwrap_or(SET_FOO)];
+            let client = Client {
+                manner,
+                ..Client::new(&pieces)
+            };
+            let held = hold(rt, rt.alloc(), config, client)?;
+            if !is_silent(&held) {
+                return Ok(false);
+            }
+        }
+    }
+    Ok(true)
+}
+
+// Nothing was written, and the connection was opened and closed, and nothing else.
+fn is_silent(held: &Held) -> bool {
+    held.ended == Ok(()) && held.written.calls == 0 && is_unused(held.after.journal.as_slice())
+}
+
+fn is_unused(journal: &[Entry]) -> bool {
+    match journal {
+        [
+            Entry::Step {
+                event: first,
+                outputs: _,
+            },
+            Entry::Step {
+                event: last,
+                outputs: _,
+            },
+        ] => { matches!(first, Event::Open) && matches!(last, Event::Close(_)) }
+        _ => false,
+    }
+}
+
+// The writer fails at its first call, and the key is set.
+fn is_executed<R: Wait + AllocGlobal + Copy + Drop>(rt: R, config: &Config) -> Result<bool>
+    requires three { length config.now.nodes ≡ 3 }
+{
+    let client = Client {
+        writing: Some(Failing {
+            after: 0,
+            once: true,
+        }),
+        asked: &["GET foo"],
+        ..Client::new(&[SET_FOO])
+    };
+    let held = hold(rt, rt.alloc(), config, client)?;
+    Ok(
+        held.ended == Err(ConnFault::Writer)
+            && held.written.calls == 1
+            && held.written.bytes.is_empty()
+            && held.after.answers.as_slice() == b"$1\r\nv\r\n".as_slice(),
+    )
 }
 
 fn all_written<R: Wait + AllocGlobal + Copy + Drop>(
@@ -239,7 +322,7 @@ fn all_written<R: Wait + AllocGlobal + Copy + Drop>(
     config: &Config,
     rows: &[Reads],
     at_once: bool,
-) -> Result<bool, AllocError>
+) -> Result<bool>
     requires three { length config.now.nodes ≡ 3 }
 {
     for row in rows {
@@ -253,7 +336,7 @@ fn all_written<R: Wait + AllocGlobal + Copy + Drop>(
 }
 
 // What was written of a long value ends where the writer fails, and isn't begun again.
-fn is_cut<R: Wait + AllocGlobal + Copy + Drop>(rt: R, config: &Config) -> Result<bool, AllocError>
+fn is_cut<R: Wait + AllocGlobal + Copy + Drop>(rt: R, config: &Config) -> Result<bool>
     requires three { length config.now.nodes ≡ 3 }
 {
     let held = read(rt, config, LONG, ROOM)?;
@@ -270,20 +353,20 @@ fn read<R: Wait + AllocGlobal + Copy + Drop>(
     config: &Config,
     reads: Reads,
     room: usize,
-) -> Result<Held, AllocError>
+) -> Result<Held>
     requires three { length config.now.nodes ≡ 3 }
 {
     let piece = requests(rt.alloc(), reads)?;
+    let pieces = [piece.as_slice()];
     let client = Client {
-        pieces: &[piece.as_slice()],
-        reader_fails: false,
         room,
-        reserved: 0,
+        ..Client::new(&pieces)
     };
     hold(rt, rt.alloc(), config, client)
 }
 
-fn requests(alloc: Global, reads: Reads) -> Result<Vec<u8>, AllocError> {
+/// The requests.
+pub fn requests(alloc: Global, reads: Reads) -> Result<Vec<u8>, AllocError> {
     let mut bytes = Vec::from_slice(alloc, b"*3\r\n$3\r\nSET\r\n$1\r\na\r\n")?;
     push_value(&mut bytes, reads.len)?;
     for _ in 0..reads.times {
@@ -292,7 +375,8 @@ fn requests(alloc: Global, reads: Reads) -> Result<Vec<u8>, AllocError> {
     Ok(bytes)
 }
 
-fn replies(alloc: Global, reads: Reads) -> Result<Vec<u8>, AllocError> {
+/// The replies to them.
+pub fn replies(alloc: Global, reads: Reads) -> Result<Vec<u8>, AllocError> {
     let mut bytes = Vec::from_slice(alloc, b"+OK\r\n")?;
     for _ in 0..reads.times {
         if reads.twice {
