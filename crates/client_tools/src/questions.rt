@@ -101,7 +101,7 @@ impl<N: Network + Drop> Questions<N> {
 fn reply_in(event: Event) -> Result<Reply, ToolFailure> {
     match event {
         Event::Reply(reply) => Ok(reply),
-        Event::NoMemory => Err(ToolFailure::from(ToolFault::Memory)),
+        Event::NoMemory { .. } => Err(ToolFailure::from(ToolFault::Memory)),
         Event::BadReply => Err(ToolFailure::from(HandoverFault::BadReply)),
         Event::Call(_) | Event::Connected | Event::NotConnected | Event::Broken { .. } => {
             Err(ToolFailure::from(HandoverFault::NotReached))

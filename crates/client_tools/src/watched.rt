@@ -146,7 +146,7 @@ impl Seen {
             | Event::Connected
             | Event::NotConnected
             | Event::Broken { .. }
-            | Event::NoMemory => {}
+            | Event::NoMemory { .. } => {}
         }
     }
 

@@ -238,15 +238,20 @@ impl<G: SharedGate> Guest<G> {
         if self.left == Left::Blocked {
             return;
         }
+        match self.write_some() {
+            Some(Ok(left)) => self.note_left(rt, left),
+            Some(Err(fault)) => self.give_up(fault),
+            None => {}
+        }
+    }
+
+    // Writes once, if something may wait to be written.
+    fn write_some(&mut self) -> Option<Result<Left, ConnFault>> {
         let mut writer = Counting::new(&*self.stream);
-        let written = match &mut self.stage {
-            Stage::Talking(talk) => talk.finish(&mut writer),
-            Stage::Parting { farewell, .. } => farewell.finish(&mut writer),
-            Stage::New | Stage::Ended(_, _) | Stage::Leaving(_) | Stage::Over => return,
-        };
-        match written {
-            Ok(left) => self.note_left(rt, left),
-            Err(fault) => self.give_up(fault),
+        match &mut self.stage {
+            Stage::Talking(talk) => Some(talk.finish(&mut writer)),
+            Stage::Parting { farewell, .. } => Some(farewell.finish(&mut writer)),
+            Stage::New | Stage::Ended(_, _) | Stage::Leaving(_) | Stage::Over => None,
         }
     }
 

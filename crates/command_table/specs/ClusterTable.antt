@@ -12,7 +12,6 @@ use Rattle.command_table.specs.declared.command.Command.{Command}
 use Rattle.command_table.specs.declared.command.Command.TheVariants.{Cluster}
 use Rattle.command_table.specs.declared.command.ClusterCommand.{ClusterCommand}
 use Rattle.command_table.specs.declared.command.ClusterCommand.TheVariants.{KeySlot, MyId, Slots, CountKeysInSlot, GetKeysInSlot, SlotState, SetSlot, Numbered, Failover, Asking, Migrate}
-use Rattle.command_table.specs.declared.command.TheConstants.{MOST_MIGRATED_KEYS}
 use Rattle.command_table.specs.declared.command.SlotOrder.{SlotOrder}
 use Rattle.command_table.specs.declared.command.SlotOrder.TheVariants.{Importing, Migrating, Node}
 use Rattle.command_table.specs.declared.fault.CommandFault.{CommandFault}
@@ -109,7 +108,7 @@ migration host _ keys _ _ = Err NotAnInteger
 -- the word KEYS, in letters of any case, and some keys, but not too many, where an empty word stands in the place of the key
 abbrev pub are_keys : List ℕ → List ℕ → List (List ℕ) → Bool
 are_keys place word keys =
-    length place == 0 && str_eq_ignore_ascii_case word (codes "keys") && nat_le 1 (length keys) && nat_le (length keys) MOST_MIGRATED_KEYS
+    length place == 0 && str_eq_ignore_ascii_case word (codes "keys") && nat_le 1 (length keys) && nat_le (length keys) 16
 
 -- MIGRATE takes these five, or behind them KEYS with keys
 abbrev pub with_migration : List (List ℕ) → Result Command CommandFault

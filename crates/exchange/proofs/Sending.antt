@@ -59,4 +59,5 @@ received words (Reply reply) old new sends receives = (sends, receives)
 received words BadReply old new sends receives = (sends, receives)
 received words (Broken false) old new sends receives = absurd receives
 received words (Broken true) old new sends receives = inr (sends, receives)
-received words NoMemory old new sends receives = inr (sends, receives)
+received words (NoMemory false) old new sends receives = absurd receives
+received words (NoMemory true) old new sends receives = (sends, receives)

@@ -82,11 +82,12 @@ Receives old (Reply reply) new = Answers reply old new
 Receives old BadReply new = IfNone old.fault (IsSpoilt old new)
 Receives old (Broken false) new = ⊥
 Receives old (Broken true) new = Ends old new
-Receives old NoMemory new = IfNone old.fault (IsShort old new)
+Receives old (NoMemory false) new = ⊥
+Receives old (NoMemory true) new = IfNone old.fault (IsShort old new)
 
 -- what a fault of the bytes is to a client
 abbrev pub outcome_of : Fault → Outcome
-outcome_of fault.Memory = NoMemory
+outcome_of fault.Memory = NoMemory true
 outcome_of fault.Protocol = BadReply
 outcome_of fault.TooLong = BadReply
 
@@ -100,4 +101,5 @@ Exchanges words old (Broken false) new = IsUnsent old.outlet new.outlet × (new.
 Exchanges words old (Broken true) new =
     (IsCutOff (request_spelling words) old.outlet new.outlet × (new.inlet ≡ old.inlet))
     ⊎ (Sends words old.outlet new.outlet × Receives old.inlet (Broken true) new.inlet)
-Exchanges words old NoMemory new = (new ≡ old) ⊎ (Sends words old.outlet new.outlet × Receives old.inlet NoMemory new.inlet)
+Exchanges words old (NoMemory false) new = new ≡ old
+Exchanges words old (NoMemory true) new = Sends words old.outlet new.outlet × Receives old.inlet (NoMemory true) new.inlet

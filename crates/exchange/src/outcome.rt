@@ -15,5 +15,8 @@ pub enum Outcome {
         handed: bool,
     },
     /// Memory was refused.
-    NoMemory,
+    NoMemory {
+        /// The request was handed to the connection before, all of it.
+        handed: bool,
+    },
 }

@@ -35,7 +35,7 @@ pub fn exchange<R: Read, W: Write>(
 {
     buffers.output.clear();
     let Ok(()) = write_words(words, &mut buffers.output) else {
-        return Outcome::NoMemory;
+        return Outcome::NoMemory { handed: false };
     };
     match hand_over(buffers.output.as_slice(), sender) {
         Ok(()) => receive(reader, replies, buffers.input.as_mut_slice()),
@@ -72,12 +72,12 @@ fn receive<R: Read>(
     Outcome::Broken { handed: true }
 }
 
-// What a fault of the bytes is to the client.
+// What a fault of the bytes that came is to the client.
 fn outcome_of(fault: Fault) -> Outcome
     ensures { result ≡ outcome_of fault }
 {
     match fault {
-        Fault::Memory => Outcome::NoMemory,
+        Fault::Memory => Outcome::NoMemory { handed: true },
         Fault::Protocol | Fault::TooLong => Outcome::BadReply,
     }
 }

@@ -18,7 +18,7 @@ use Rattle.smart_client.specs.declared.action.Event.{Event}
 use Rattle.smart_client.specs.declared.action.Event.TheVariants as happened
 use Rattle.smart_client.specs.declared.call.Call.{Call}
 use Rattle.smart_client.specs.declared.call.Stage.TheVariants.{Sent}
-use Rattle.smart_client.specs.declared.client_core.TheConstants.{MOST_REDIRECTIONS}
+use Rattle.smart_client.specs.Limits.{most_redirections}
 use Rattle.smart_client.specs.declared.fault.ClientFault.TheVariants.{Lost, TooManyRedirects, StillTryAgain, Memory, NotConnected, BadReply, NotData}
 use Rattle.world.specs.Asking.{HadNoOffset, WasAnswered, past_of}
 use Rattle.world.specs.Clients.{ClientView, leads_to, new_client, node_at, used_by}
@@ -113,7 +113,7 @@ abbrev pub HasReason : SceneView → Step → ClientView → Answer → Type 0
 HasReason old made client (Ok reply) = IsAnswered old made client reply
 HasReason old made client (Err Lost) = Breaks made client × IsHandedOver client.core.call
 HasReason old made client (Err NotConnected) = Breaks made client ⊎ IsOutOfReach old made client
-HasReason old made client (Err TooManyRedirects) = (last : IsSentOn made client) × (last.call.redirections ≡ MOST_REDIRECTIONS)
+HasReason old made client (Err TooManyRedirects) = (last : IsSentOn made client) × (last.call.redirections ≡ most_redirections)
 HasReason old made client (Err StillTryAgain) = (last : IsPutOff made client) × (last.call.repeats ≡ client.core.limit)
 HasReason old made client (Err BadReply) = ⊥
 HasReason old made client (Err NotData) = (words : List (List ℕ)) × IsBeginning made client words × (is_refused words ≡ true)

@@ -6,12 +6,10 @@ use crate::steps::NoStep;
 use client_tools::Shown;
 use cluster_config::{Config, ConfigFault, read_config};
 use config_report::report;
-use simulator::{ScriptFault, read_script};
 use std::alloc::{AllocError, Global};
-use std::fs;
 use std::io::ErrorKind;
 use std::rt::Files;
-use world::Step;
+use std::{fs, io};
 
 /// The cluster that the file describes.
 pub fn read_cluster<R: Files + AllocGlobal>(rt: &R, path: &str) -> Result<Config, InputFailure> {
@@ -26,30 +24,33 @@ pub fn read_cluster<R: Files + AllocGlobal>(rt: &R, path: &str) -> Result<Config
     }
 }
 
-/// The steps of the script in the file.
-pub fn read_steps<R: Files + AllocGlobal>(rt: &R, path: &str) -> Result<Vec<Step>, InputFailure> {
-    let alloc = rt.alloc();
-    let text = read(rt, path)?;
-    match read_script(alloc, text.as_slice()) {
-        Ok(steps) => Ok(steps),
-        Err(ScriptFault::Memory) => Err(InputFailure::from(AllocError)),
-        Err(ScriptFault::Line(line)) => {
-            let detail = report_line(alloc, path, line, line_of(text.as_slice(), line));
-            Err(InputFailure::new(InputFault::Script(line), detail))
-        }
+/// The file of a script, at its beginning.
+pub fn open_script<R: Files + AllocGlobal>(rt: &R, path: &str) -> Result<R::File, InputFailure> {
+    match fs::open(rt, path) {
+        Ok(file) => Ok(file),
+        Err(error) => Err(unreadable(rt.alloc(), path, &error)),
     }
+}
+
+/// That the file can't be read, and why.
+pub fn unreadable(alloc: Global, path: &str, error: &io::Error) -> InputFailure {
+    if error.kind() == ErrorKind::OutOfMemory {
+        return InputFailure::from(AllocError);
+    }
+    let detail = format!(in alloc; "{path} can't be read: {error}");
+    InputFailure::new(InputFault::Unreadable, detail)
+}
+
+/// That the line of this number, from 1 on, is no step of the script in the file, and why.
+pub fn no_step(alloc: Global, path: &str, number: u64, text: &[u8]) -> InputFailure {
+    let detail = report_line(alloc, path, number, line_of(text, number));
+    InputFailure::new(InputFault::Script(number), detail)
 }
 
 fn read<R: Files + AllocGlobal>(rt: &R, path: &str) -> Result<Vec<u8>, InputFailure> {
     match fs::read(rt, path) {
         Ok(text) => Ok(text),
-        Err(error) if error.kind() == ErrorKind::OutOfMemory => {
-            Err(InputFailure::from(AllocError))
-        }
-        Err(error) => {
-            let detail = format!(in rt.alloc(); "{path} can't be read: {error}");
-            Err(InputFailure::new(InputFault::Unreadable, detail))
-        }
+        Err(error) => Err(unreadable(rt.alloc(), path, &error)),
     }
 }
 

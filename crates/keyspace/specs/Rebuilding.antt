@@ -3,7 +3,7 @@ use Rattle.std.specs.Prelude.{ℕ, List, [], ◌∷◌, Bool, ◌&&◌, nat_le, 
 use Rattle.hash.specs.Pairs.{Pairs}
 use Rattle.hash.specs.Size.{words_of}
 use Rattle.resp_values.specs.Request.{request_spelling}
-use Rattle.resp_values.specs.declared.words.TheConstants.{MOST_WORDS, MOST_REQUEST_BYTES}
+use Rattle.resp_values.specs.Limits.{most_words, most_request_bytes}
 use Rattle.keyspace.specs.declared.value.Value.{Value}
 use Rattle.keyspace.specs.declared.value.Value.TheVariants.{Str, Hash}
 
@@ -14,7 +14,7 @@ rebuilding key (Hash pairs) = codes "HSET" ∷ key ∷ words_of pairs
 
 -- the request has no more words than a request may have, and no more bytes
 abbrev pub fits_request : List (List ℕ) → Bool
-fits_request words = nat_le (length words) MOST_WORDS && nat_le (length (request_spelling words)) MOST_REQUEST_BYTES
+fits_request words = nat_le (length words) most_words && nat_le (length (request_spelling words)) most_request_bytes
 
 -- a hash with these fields may be left at the key (the limit is ours)
 abbrev pub fits_hash : List ℕ → Pairs → Bool

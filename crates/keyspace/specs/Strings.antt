@@ -6,7 +6,7 @@ use Rattle.std.specs.Cmp.Lexicographic.{slice_cmp}
 use Rattle.std.specs.Fmt.{signed_decimal}
 use Rattle.resp_values.specs.declared.reply.Reply.{Reply}
 use Rattle.resp_values.specs.declared.reply.Reply.TheVariants.{Simple, Integer, Bulk, Null}
-use Rattle.resp_values.specs.declared.words.TheConstants.{MOST_WORD_BYTES}
+use Rattle.resp_values.specs.Limits.{most_word_bytes}
 use Rattle.command_table.specs.Numbers.{number_of}
 use Rattle.command_table.specs.declared.error_line.ErrorLine.{ErrorLine}
 use Rattle.command_table.specs.declared.error_line.ErrorLine.TheVariants.{TooLong, NotAnInteger, Overflow, WrongType}
@@ -93,7 +93,7 @@ getdel_of (Some (Hash pairs)) = refused WrongType
 
 -- a string may be left at the key: it fits in a word of a request, and the request that makes it again keeps its limits
 abbrev pub fits_string : List ℕ → List ℕ → Bool
-fits_string key bytes = nat_le (length bytes) MOST_WORD_BYTES && fits_request (rebuilding key (Str bytes))
+fits_string key bytes = nat_le (length bytes) most_word_bytes && fits_request (rebuilding key (Str bytes))
 
 abbrev pub fitting : List ℕ → List ℕ → Option (List ℕ)
 fitting key bytes = if fits_string key bytes then Some bytes else None

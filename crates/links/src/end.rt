@@ -92,11 +92,18 @@ impl<T: Drop, R: Wait + Drop> LinkEnd<T, R> {
 }
 
 impl<T: Drop, R: Wait + Drop> Link for LinkEnd<T, R> {
+    ghost use Rattle.std.specs.Prelude.{⊤};
+
     type Carried = T;
 
     ghost sent = { λ end. end.sent };
 
     ghost received = { λ end. end.received };
+
+    ghost may_hand_back = { λ end. WasFull end.sent };
+
+    // The queue leaves no mark where it gives nothing, so nothing can be said of what waits then.
+    ghost may_give_none = { λ _. ⊤ };
 
     fn send(&mut self, carried: T) -> Result<(), T> {
         LinkEnd::send(self, carried)

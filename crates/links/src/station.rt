@@ -292,8 +292,8 @@ impl<K: Deployment, W: Web, L: Log + Drop, R: Wait + Drop> HoldsCell for Station
         asks.ask_node(&mut self.cell, event)
     }
 
-    fn take_reply(&mut self, conn: Conn) -> Option<Reply> {
-        self.cell.take_reply(conn)
+    fn take_reply(&mut self, asks: &mut Asks<K>, conn: Conn) -> Option<Reply> {
+        asks.take_reply(&mut self.cell, conn)
     }
 
     fn core(&self) -> &Core {

@@ -6,7 +6,7 @@ use Rattle.std.proofs.KnownBytes.{Appends-nil, Appends-trans}
 use Rattle.resp2.specs.Counting.{HasRisen}
 use Rattle.resp2.specs.Writing.{AppendsBeginning}
 use Rattle.resp2.proofs.Beginnings.{begun_behind, begun_before}
-use Rattle.listener.specs.Streams.{Fails, Sends, Stream, change}
+use Rattle.listener.specs.Streams.{Fails, FailsLast, Sends, Stream, change}
 use Rattle.listener.specs.Progress.{Puts}
 use Rattle.listener.specs.Turns.{Accounts, IsLeftBy, Writes}
 use Rattle.listener.specs.declared.batch.Wrote.{Wrote}
@@ -45,21 +45,25 @@ puts_out a b x y p sent empty =
 pub sends_both : (a b c : Stream) (x p : List ℕ) → Sends (change a b) x → Appends b.bytes c.bytes p → c.failures ≡ b.failures → Sends (change a c) (x ++ p)
 sends_both a b c x p sent wrote same = record { appends = Appends-trans _ _ _ x p sent.appends wrote; same = same ∙ sent.same }
 
+-- none failed before
+pub breaks_behind : (a b c : Stream) → b.failures ≡ a.failures → FailsLast b c → FailsLast a c
+breaks_behind a b c same breaks = record { risen = subst (λ n. HasRisen n c.failures) same breaks.risen; last = breaks.last }
+
 -- what waited went out, and a beginning of these bytes
-pub fails_behind : (a b c : Stream) (x p : List ℕ) → Sends (change a b) x → AppendsBeginning b.bytes c.bytes p → HasRisen b.failures c.failures → Fails (change a c) (x ++ p)
-fails_behind a b c x p sent begun risen =
-    record { begun = begun_behind _ _ _ x p sent.appends begun; risen = subst (λ n. HasRisen n c.failures) sent.same risen }
+pub fails_behind : (a b c : Stream) (x p : List ℕ) → Sends (change a b) x → Fails (change b c) p → Fails (change a c) (x ++ p)
+fails_behind a b c x p sent fails =
+    record { begun = begun_behind _ _ _ x p sent.appends fails.begun; breaks = breaks_behind a b c sent.same fails.breaks }
 
 -- a beginning of what waited went out, and nothing of these bytes
 pub fails_before : (a b : Stream) (x p : List ℕ) → Fails (change a b) x → Fails (change a b) (x ++ p)
-fails_before a b x p fails = record { begun = begun_before _ _ x p fails.begun; risen = fails.risen }
+fails_before a b x p fails = record { begun = begun_before _ _ x p fails.begun; breaks = fails.breaks }
 
 -- bytes were put, and then a beginning of what waits went out
 pub fails_after : (a b c : Stream) (x y p : List ℕ) → Puts (change a b) (change x y) p → b.failures ≡ a.failures → Fails (change b c) y → Fails (change a c) (x ++ p)
 fails_after a b c x y p puts same fails =
     record {
       begun = subst (λ w. AppendsBeginning a.bytes c.bytes w) puts.all (begun_behind _ _ _ puts.sent y puts.appends fails.begun);
-      risen = subst (λ n. HasRisen n c.failures) same fails.risen;
+      breaks = breaks_behind a b c same fails.breaks;
     }
 
 -- bytes were put, and then all that waits went out
@@ -93,7 +97,7 @@ on_err_both (Err e) both p q = both p q
 pub fails_alone : {T E : Type 0} (r : Result T E) (a b c : Stream) (x y p : List ℕ) → Sends (change a b) x → y ≡ p → OnErr r (Fails (change b c) y) → OnErr r (Fails (change a c) (x ++ p))
 fails_alone (Ok value) a b c x y p sent alone fails = tt
 fails_alone (Err error) a b c x y p sent alone fails =
-    fails_behind a b c x p sent (subst (λ w. AppendsBeginning b.bytes c.bytes w) alone fails.begun) fails.risen
+    fails_behind a b c x p sent (subst (λ w. Fails (change b c) w) alone fails)
 
 -- some of what is left of the batch went out
 pub puts_some : (a b : Stream) (batch left : List ℕ) (sent count : ℕ) → Appends a.bytes b.bytes (take count (drop sent batch)) → left ≡ drop (sent + count) batch

@@ -7,7 +7,6 @@ use Rattle.std.specs.Prelude.{Some, None}
 use Rattle.std.specs.List.{flat_map}
 use Rattle.std.specs.Io.KnownBytes.{Consumes}
 use Rattle.std.proofs.KnownBytes.{Consumes-trans}
-use Rattle.resp2.specs.Counting.{HasRisen}
 use Rattle.resp_values.specs.Reply.{reply_spelling}
 use Rattle.resp_values.specs.declared.words.TheConstants.{MOST_WORD_BYTES}
 use Rattle.resp_values.specs.Request.{IsRequest, request_spelling}
@@ -29,11 +28,11 @@ use Rattle.node_step.specs.declared.response.Response.TheVariants.{Nothing, Open
 use Rattle.listener.specs.declared.fault.ConnFault.{ConnFault}
 use Rattle.listener.specs.declared.fault.ConnFault.TheVariants.{Reader, Writer, Memory, Exhausted, Unanswered, Endless}
 use Rattle.listener.specs.declared.requests.Rest.{Rest}
-use Rattle.listener.specs.Streams.{Adds, Change, Fails, Sends, Stream, change}
+use Rattle.listener.specs.Streams.{Adds, Change, Fails, FailsLast, Sends, Stream, change}
 use Rattle.listener.specs.Conversation.{ComesBy, EndsBy, Exchange, HasNoReply, IsSpoilt, ReadsTo, Tail, asked_for, awaited, AreAnswered, fault_of, replies_bytes}
 use Rattle.listener.specs.Progress.{Answers, Desk, Halts, IsOfAnswering, Puts, Stops, WriterCount}
 use Rattle.listener.proofs.HistoryLemmas.{adds_again, adds_nothing}
-use Rattle.listener.proofs.BatchLemmas.{puts_again, puts_nothing, puts_waiting}
+use Rattle.listener.proofs.BatchLemmas.{breaks_behind, puts_again, puts_nothing, puts_waiting}
 
 -- one request after another, and then the rest
 spelled_again : (a b c : List ℕ) (xs ys : List (List (List ℕ))) → a ≡ stream_spelling xs ++ b → b ≡ stream_spelling ys ++ c → a ≡ stream_spelling (xs ++ ys) ++ c
@@ -56,12 +55,17 @@ replies_bytes-append : (xs ys : List Exchange) → replies_bytes (xs ++ ys) ≡ 
 replies_bytes-append xs ys = flat_map-append (λ (exchange : Exchange). reply_spelling exchange.reply) xs ys
 
 -- where the writer didn't fail, its count is what it was
-pub writes_on : (ended : Result Rest ConnFault) (n : ℕ) → ended ≢ Err Writer → WriterCount ended n n
-writes_on ended n other = record { failed = λ e. absurd (other e); same = λ _. refl }
+pub writes_on : (ended : Result Rest ConnFault) (out : Stream) → ended ≢ Err Writer → WriterCount ended out out
+writes_on ended out other = record { failed = λ e. absurd (other e); same = λ _. refl }
 
 -- and where it did, it has risen
-writes_no_more : (old new : ℕ) → HasRisen old new → WriterCount (Err Writer) old new
-writes_no_more old new risen = record { failed = λ _. risen; same = λ other. absurd (other refl) }
+writes_no_more : (old new : Stream) → FailsLast old new → WriterCount (Err Writer) old new
+writes_no_more old new breaks = record { failed = λ _. breaks; same = λ other. absurd (other refl) }
+
+-- none failed before
+counts_behind : (ended : Result Rest ConnFault) (a b c : Stream) → b.failures ≡ a.failures → WriterCount ended b c → WriterCount ended a c
+counts_behind ended a b c same count =
+    record { failed = λ is. breaks_behind a b c same (count.failed is); same = λ other. count.same other ∙ same }
 
 module _ (allowed : Asked → Type 0) (conn : Conn) where
   -- no request was answered yet
@@ -158,7 +162,7 @@ module _ (allowed : Asked → Type 0) (conn : Conn) where
         spelled = spelled_again _ _ _ p.requests q.requests p.spelled q.spelled;
         puts = rw (replies_bytes-append p.exchanges q.exchanges) (puts_again _ _ _ _ _ _ _ _ p.puts q.puts);
         waits = q.waits;
-        count = subst (λ n. WriterCount ended n c.out.failures) p.same q.count;
+        count = counts_behind ended a.out b.out c.out p.same q.count;
         ends = q.ends;
       }
 
@@ -177,7 +181,7 @@ module _ (allowed : Asked → Type 0) (conn : Conn) where
         spelled = rest;
         puts = puts_nothing a.out a.waiting;
         waits = λ _. refl;
-        count = writes_on ended a.out.failures other;
+        count = writes_on ended a.out other;
         ends = ends;
       }
 
@@ -195,7 +199,7 @@ module _ (allowed : Asked → Type 0) (conn : Conn) where
         spelled = refl;
         puts = record { sent = fails.begun.written; appends = fails.begun.appends; all = fails.begun.split ∙ sym (append-nil a.waiting) };
         waits = λ other. absurd (other refl);
-        count = writes_no_more _ _ fails.risen;
+        count = writes_no_more _ _ fails.breaks;
         ends = refl;
       }
 
@@ -243,7 +247,7 @@ module _ (allowed : Asked → Type 0) (conn : Conn) where
           all = fails.begun.split ∙ ap (λ w. a.waiting ++ w) (sym (append-nil (reply_spelling reply)));
         };
         waits = λ other. absurd (other refl);
-        count = writes_no_more _ _ fails.risen;
+        count = writes_no_more _ _ fails.breaks;
         ends = refl;
       }
 

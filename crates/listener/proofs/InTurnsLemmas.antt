@@ -88,7 +88,7 @@ module _ (allowed : Asked → Type 0) (conn : Conn) where
 
   -- a writer that has not failed ended nothing
   not_by_writer : (ended : Result Rest ConnFault) (a b : Desk) → a.out.failures ≡ 0 → b.out.failures ≡ 0 → Halts allowed conn ended a b → ended ≢ Err Writer
-  not_by_writer ended a b none still halts is = absurd (let risen = halts.count.failed is in omega (arith, risen, none, still))
+  not_by_writer ended a b none still halts is = absurd (let risen = (halts.count.failed is).risen in omega (arith, risen, none, still))
 
   -- what a turn was, behind what was held before
   parts_put : (ended : Result Rest ConnFault) (start : Desk) (course : Course) (sent waits : List ℕ) → Parts allowed conn ended start course

@@ -61,7 +61,7 @@ module _ (allowed : Asked → Type 0) where
         left = [];
         puts = puts_nothing output [];
         waits = λ _. sym empty;
-        count = writes_on (Err fault) output.failures (λ e. unopened_is_not_writer _ _ refuses.why (cc));
+        count = writes_on (Err fault) output (λ e. unopened_is_not_writer _ _ refuses.why (cc));
       }
 
   -- a connection was opened, and closed at last
@@ -112,7 +112,7 @@ module _ (allowed : Asked → Type 0) where
               appends = talks.puts.appends;
               split = talks.puts.all ∙ sym (append-nil talks.replies);
             };
-            risen = talks.count.failed e;
+            breaks = talks.count.failed e;
           })
 
       in_full : ended ≢ Err Writer → Tells result ended (change a c) (talks.replies ++ line_of ended)

@@ -33,7 +33,7 @@ pub record Course : Type 0 where
 
 -- a writer that holds these bytes, and has not failed
 abbrev pub holding : List ℕ → Stream
-holding bytes = record { bytes = Some bytes; failures = 0 }
+holding bytes = record { bytes = Some bytes; failures = 0; at_failure = None }
 
 -- the same as the clauses of a turn see it
 abbrev pub desk_in : Course → Desk

@@ -2,7 +2,6 @@
 use Rattle.std.specs.Prelude.{◌≡◌, ◌≢◌, ℕ, List, [], ◌∷◌, ◌++◌, ◌⊎◌, Result, Ok, Err}
 use Rattle.std.specs.List.{flat_map}
 use Rattle.std.specs.Io.KnownBytes.{Appends, Consumes}
-use Rattle.resp2.specs.Counting.{HasRisen}
 use Rattle.resp2.specs.Stream.{stream_spelling}
 use Rattle.connections.specs.declared.conn.Conn.{Conn}
 use Rattle.node_step.specs.declared.event.Event.TheVariants.{Open, Close}
@@ -14,7 +13,7 @@ use Rattle.node_gate.specs.Asks.Asked.{asking}
 use Rattle.listener.specs.declared.fault.ConnFault.{ConnFault}
 use Rattle.listener.specs.declared.fault.ConnFault.TheVariants.{Reader, Writer, Endless}
 use Rattle.listener.specs.declared.requests.Rest.{Rest}
-use Rattle.listener.specs.Streams.{Adds, Change, Stream, change}
+use Rattle.listener.specs.Streams.{Adds, Change, FailsLast, Stream, change}
 use Rattle.listener.specs.Conversation.{Converses, EndsBy, EndsUnopened, Exchange, IsUnopened, ReadsTo, Tail, asked_for, AreAnswered, replies_bytes}
 
 -- what waited went out or still waits, and so do these bytes behind it
@@ -43,10 +42,10 @@ pub record Answers (allowed : Asked → Type 0) (conn : Conn) (old new : Desk) :
   pub puts : Puts (change old.out new.out) (change old.waiting new.waiting) (replies_bytes exchanges)
   pub same : new.out.failures ≡ old.out.failures
 
--- the writer's count has risen where that ended the conversation, and else is what it was
-pub record WriterCount (ended : Result Rest ConnFault) (old new : ℕ) : Type 0 where
-  pub failed : ended ≡ Err Writer → HasRisen old new
-  pub same : ended ≢ Err Writer → new ≡ old
+-- a call of the writer failed, and was the last one, where that ended the conversation; and else none failed
+pub record WriterCount (ended : Result Rest ConnFault) (old new : Stream) : Type 0 where
+  pub failed : ended ≡ Err Writer → FailsLast old new
+  pub same : ended ≢ Err Writer → new.failures ≡ old.failures
 
 -- whole requests were answered, and then this ended the conversation. Where the writer failed, it may have taken any part of what waits
 pub record Halts (allowed : Asked → Type 0) (conn : Conn) (ended : Result Rest ConnFault) (old new : Desk) : Type 0 where
@@ -59,7 +58,7 @@ pub record Halts (allowed : Asked → Type 0) (conn : Conn) (ended : Result Rest
   pub spelled : old.pending ≡ stream_spelling requests ++ tail.rest
   pub puts : Puts (change old.out new.out) (change old.waiting left) (replies_bytes exchanges)
   pub waits : ended ≢ Err Writer → left ≡ new.waiting
-  pub count : WriterCount ended old.out.failures new.out.failures
+  pub count : WriterCount ended old.out new.out
   pub ends : EndsBy conn ended tail
 
 -- a fault that comes while requests are answered, and not of reading
@@ -100,4 +99,4 @@ pub record Talks (allowed : Asked → Type 0) (asked : Change (List Asked)) (inp
   pub left : List ℕ
   pub puts : Puts output (change [] left) replies
   pub waits : ended ≢ Err Writer → left ≡ waiting
-  pub count : WriterCount ended output.old.failures output.new.failures
+  pub count : WriterCount ended output.old output.new

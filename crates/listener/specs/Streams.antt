@@ -1,7 +1,7 @@
 -- A client's two streams, and what was asked of the node: before a call, and after it.
 use Rattle.std.specs.Prelude.{◌≡◌, ℕ, List, ◌++◌, Option, All, IfSome, MatchResult}
 use Rattle.std.specs.Io.KnownBytes.{Appends}
-use Rattle.resp2.specs.Counting.{inner_of, failures_of, HasRisen}
+use Rattle.resp2.specs.Counting.{inner_of, failures_of, failed_of, HasRisen}
 use Rattle.resp2.specs.Writing.{AppendsBeginning}
 use Rattle.resp2.specs.declared.counting.Counting.{Counting}
 use Rattle.connections.specs.declared.conn.Conn.{Conn}
@@ -20,13 +20,15 @@ pub record Change (A : Type 0) : Type 0 where
 abbrev pub change : {A : Type 0} → A → A → Change A
 change old new = record { old = old; new = new }
 
--- the bytes that a reader has left or a writer holds, where they are known, and how many calls of it failed
+-- the bytes that a reader has left or a writer holds, where they are known; how many calls of it failed; and the bytes as the last of
+-- those left them
 pub record Stream : Type 0 where
   pub bytes : Option (List ℕ)
   pub failures : ℕ
+  pub at_failure : Option (List ℕ)
 
 abbrev pub stream_of : {D : Type 0} → (D → Option (List ℕ)) → Counting D → Stream
-stream_of bytes counting = record { bytes = bytes (inner_of counting); failures = failures_of counting }
+stream_of bytes counting = record { bytes = bytes (inner_of counting); failures = failures_of counting; at_failure = bytes (failed_of counting) }
 
 abbrev pub streams : {D : Type 0} → (D → Option (List ℕ)) → Counting D → Counting D → Change Stream
 streams bytes old new = change (stream_of bytes old) (stream_of bytes new)
@@ -36,10 +38,15 @@ pub record Sends (out : Change Stream) (bytes : List ℕ) : Type 0 where
   pub appends : Appends out.old.bytes out.new.bytes bytes
   pub same : out.new.failures ≡ out.old.failures
 
--- a call failed, and of the bytes a beginning was written
+-- a call failed, and nothing was written after it
+pub record FailsLast (old new : Stream) : Type 0 where
+  pub risen : HasRisen old.failures new.failures
+  pub last : new.bytes ≡ new.at_failure
+
+-- a call failed, and of the bytes a beginning was written, but nothing after that
 pub record Fails (out : Change Stream) (bytes : List ℕ) : Type 0 where
   pub begun : AppendsBeginning out.old.bytes out.new.bytes bytes
-  pub risen : HasRisen out.old.failures out.new.failures
+  pub breaks : FailsLast out.old out.new
 
 -- the gate may give these outputs for the event, or refuse it with this fault; and it may give this reply to a connection that waits
 abbrev pub IsAllowed : (Event → Outputs → Type 0) → (Event → StepFault → Type 0) → (Conn → Reply → Type 0) → Asked → Type 0

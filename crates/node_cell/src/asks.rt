@@ -1,10 +1,11 @@
 //! What was asked of a node through one gate.
-ghost use Rattle.std.specs.Prelude.{◌≡◌, ◌<◌, ◌++◌, ◌∷◌, [], length, IfOk, IfErr};
+ghost use Rattle.std.specs.Prelude.{◌≡◌, ◌<◌, ◌++◌, ◌∷◌, [], length, None, Some, IfOk, IfErr, IfNone, IfSome};
 ghost use Rattle.node_cell.specs.Asks.{noted};
 ghost use Rattle.node_gate.specs.Asks.{outcome_of, IsOwn};
 ghost use Rattle.node_gate.specs.Asks.Asked.{asking, waiting};
+ghost use Rattle.node_step.specs.Released.{reply_to, without_reply_to};
 ghost use Rattle.node_step.specs.State.{first_state};
-ghost use Rattle.node_cell.specs.Journal.{Enters, IsHistory, IsRefused};
+ghost use Rattle.node_cell.specs.Journal.{Enters, IsGiven, IsHistory, IsRefused};
 
 use crate::cell::NodeCell;
 use crate::deployment::Deployment;
@@ -41,8 +42,8 @@ impl Model for Asking {
 /// What was asked of a node of the cluster `K` through one gate: the events that were given to it and the replies that were waited
 /// for, each with what came of it. Only proofs read it.
 ///
-/// Nobody asks a node but by this, and it begins with an [`Admission`](crate::Admission) alone. So a gate that says what was asked
-/// through it says all that it asked.
+/// Nobody asks a node or takes a reply from it but by this, and it begins with an [`Admission`](crate::Admission) alone. So a gate
+/// that says what was asked through it says all that it asked, and all replies that it took.
 pub struct Asks<K: Deployment> {
     asked: History<Asking>,
     cluster: PhantomData<K>,
@@ -103,8 +104,33 @@ impl<K: Deployment> Asks<K> {
         answered
     }
 
-    /// Notes which reply came to the connection that waited for it.
-    pub fn note_wait(&mut self, conn: Conn, reply: &Option<Reply>)
+    /// Takes the first reply that waits at the node for the connection, and notes that it came.
+    pub fn take_reply<L: Log>(&mut self, cell: &mut NodeCell<K, L>, conn: Conn) -> Option<Reply>
+        ensures came { IfSome result (λ reply. self.new ≡ self.old ++ waiting conn (Some reply) ∷ []) }
+        ensures none { IfNone result (self.new ≡ self.old) }
+        ensures cluster { cell.old.config ≡ K.config }
+        ensures number { cell.old.node < length cell.old.config.nodes }
+        ensures history { IsHistory (first_state cell.old.config cell.old.node) cell.old.journal cell.old.state }
+        ensures given { IfSome result (λ reply. IsGiven cell.old.journal (record { conn = conn; reply = reply })) }
+        ensures reply { result ≡ reply_to conn cell.old.undelivered }
+        ensures left { cell.new ≡ record cell.old { undelivered = without_reply_to conn cell.old.undelivered } }
+    {
+        let found = cell.take_reply(conn);
+        if found.is_some() {
+            self.note_wait(conn, &found);
+        }
+        found
+    }
+
+    /// Notes that no reply will come to the connection that waited for one.
+    pub fn note_none(&mut self, conn: Conn)
+        ensures { self.new ≡ self.old ++ waiting conn None ∷ [] }
+    {
+        self.note_wait(conn, &None);
+    }
+
+    // Notes what came to the connection that waited.
+    fn note_wait(&mut self, conn: Conn, reply: &Option<Reply>)
         ensures { self.new ≡ self.old ++ waiting conn reply.now ∷ [] }
     {
         self.asked.push(&Asking {

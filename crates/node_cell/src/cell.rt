@@ -184,8 +184,8 @@ impl<K: Deployment, L: Log> NodeCell<K, L> {
         &self.core
     }
 
-    /// Takes the first reply that waits for the connection.
-    pub fn take_reply(&mut self, conn: Conn) -> Option<Reply>
+    /// Takes the first reply that waits for the connection, as [`Asks`](crate::Asks) has it taken.
+    pub(crate) fn take_reply(&mut self, conn: Conn) -> Option<Reply>
         ensures cluster { self.old.config ≡ K.config }
         ensures number { self.old.node < length self.old.config.nodes }
         ensures history { IsHistory (first_state self.old.config self.old.node) self.old.journal self.old.state }

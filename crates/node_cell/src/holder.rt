@@ -1,8 +1,8 @@
 //! What conversations ask, behind the lock of their node.
-ghost use Rattle.std.specs.Prelude.{◌≡◌, ◌<◌, ◌==◌, ◌++◌, ◌∷◌, [], length, not, IfOk, IfErr, IfSome};
+ghost use Rattle.std.specs.Prelude.{◌≡◌, ◌<◌, ◌==◌, ◌++◌, ◌∷◌, [], length, not, Some, IfOk, IfErr, IfNone, IfSome};
 ghost use Rattle.node_cell.specs.Journal.{Enters, IsGiven, IsHistory, IsRefused};
 ghost use Rattle.node_gate.specs.Asks.{outcome_of, IsOwn};
-ghost use Rattle.node_gate.specs.Asks.Asked.{asking};
+ghost use Rattle.node_gate.specs.Asks.Asked.{asking, waiting};
 ghost use Rattle.node_step.specs.Released.{reply_to, without_reply_to};
 ghost use Rattle.node_step.specs.State.{first_state};
 
@@ -37,8 +37,10 @@ pub trait HoldsCell {
         ensures ok { IfOk result (λ entered. Enters (cell self.old) event entered (cell self.new)) }
         ensures err { IfErr result (λ fault. IsRefused (cell self.old) event fault (cell self.new)) };
 
-    /// Takes the first reply that waits for the connection.
-    fn take_reply(&mut self, conn: Conn) -> Option<Reply>
+    /// Takes the first reply that waits for the connection, as [`Asks::take_reply`] takes it.
+    fn take_reply(&mut self, asks: &mut Asks<Self::Cluster>, conn: Conn) -> Option<Reply>
+        ensures came { IfSome result (λ reply. asks.new ≡ asks.old ++ waiting conn (Some reply) ∷ []) }
+        ensures none { IfNone result (asks.new ≡ asks.old) }
         ensures cluster { (cell self.old).config ≡ Self.Cluster.config }
         ensures number { (cell self.old).node < length (cell self.old).config.nodes }
         ensures history { IsHistory (first_state (cell self.old).config (cell self.old).node) (cell self.old).journal (cell self.old).state }
@@ -68,8 +70,8 @@ impl<K: Deployment, L: Log> HoldsCell for NodeCell<K, L> {
         asks.ask_node(self, event)
     }
 
-    fn take_reply(&mut self, conn: Conn) -> Option<Reply> {
-        NodeCell::take_reply(self, conn)
+    fn take_reply(&mut self, asks: &mut Asks<K>, conn: Conn) -> Option<Reply> {
+        asks.take_reply(self, conn)
     }
 
     fn core(&self) -> &Core {

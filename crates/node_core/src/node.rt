@@ -17,7 +17,7 @@ use crate::messages::take;
 use crate::requests::request;
 use crate::ticks::pass_tick;
 use bus::{Handing, Message, Replaced};
-use cluster_config::{Config, NodeConfig, Role};
+use cluster_config::Config;
 use connections::Conn;
 use key_slot::Slot;
 use node_parts::{Draft, NodeParts, plain};
@@ -26,10 +26,9 @@ use repl_stream::{Backlog, Replaces, Stream};
 use resp_values::Words;
 use slot_state::SlotMoves;
 use slot_store::{SlotKeys, SlotParts, SlotStore};
-use slot_table::{Epoch, NodeNo, SlotTable};
+use slot_table::{NodeNo, SlotTable};
 use std::alloc::{AllocError, Global};
 use std::marker::Model;
-use stream_values::StreamId;
 
 /// A node of the cluster: what it holds, and the steps that it takes.
 #[derive(Drop)]
@@ -59,31 +58,24 @@ impl NodeCore<SlotStore, Backlog> {
     pub fn begin(alloc: Global, config: Config, number: NodeNo) -> Result<Core, AllocError>
         ensures { IfOk result (λ core. core ≡ first_state config number) }
     {
-        let id = StreamId {
-            node: number,
-            epoch: Epoch::new(0),
-        };
-        let stream = Backlog::new(alloc, id, kept_bytes(&config))?;
-        let store = SlotStore::new(alloc)?;
-        NodeCore::new(alloc, config, number, store, stream)
+        NodeCore::new(alloc, config, number, SlotStore::new(alloc)?)
     }
 }
 
 impl<S: SlotParts + SlotKeys + Replaces, T: Stream> NodeCore<S, T> {
-    /// The node of that number over an empty store, as it begins. Its stream is kept in the body that is given.
+    /// The node of that number over an empty store, as it begins.
     pub fn new(
         alloc: Global,
         config: Config,
         number: NodeNo,
         store: S,
-        stream: T,
     ) -> Result<NodeCore<S, T>, AllocError>
     where
         T: Drop,
         requires { S.contents store ≡ fin_map.empty }
         ensures { IfOk result (λ core. core ≡ first_state config number) }
     {
-        let parts = NodeParts::new(alloc, config, number, store, stream)?;
+        let parts = NodeParts::new(alloc, config, number, store)?;
         Ok(NodeCore { parts })
     }
 
@@ -272,21 +264,5 @@ impl<S: SlotParts + SlotKeys + Replaces, T: Stream> NodeCore<S, T> {
     {
         let _was_open = self.parts.connections.close(conn);
         plain::<K>(ticket, Response::Nothing)
-    }
-}
-
-// How many of the last bytes of its stream a node keeps: only replicas ask for them.
-fn kept_bytes(config: &Config) -> usize {
-    if config.nodes().iter().any(is_replica) {
-        config.backlog() as usize
-    } else {
-        0
-    }
-}
-
-fn is_replica(node: &NodeConfig) -> bool {
-    match node.role {
-        Role::Replica { .. } => true,
-        Role::Master { .. } => false,
     }
 }

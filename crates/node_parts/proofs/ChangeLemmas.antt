@@ -1,5 +1,5 @@
 -- Changes of a node, and a draft that is made.
-use Rattle.std.proofs.Common.{◌≡◌, ◌≤◌, ◌+◌, ℕ, List, [], ◌∷◌, length, Option, Some, None, refl, sym, ap, ◌∙◌, subst, arith}
+use Rattle.std.proofs.Common.{◌≡◌, ◌≤◌, ◌+◌, ◌-◌, ℕ, List, [], ◌∷◌, length, Option, Some, None, refl, sym, ap, ◌∙◌, subst, arith}
 use Rattle.bus.specs.declared.message.Body.{Body}
 use Rattle.migrate.specs.Acknowledging.{frozen_keys}
 use Rattle.slot_state.specs.Moves.{move_of}
@@ -20,7 +20,7 @@ use Rattle.node_step.specs.declared.response.Response.TheVariants.{Replied}
 use Rattle.node_step.specs.declared.response.Why.{Why}
 use Rattle.resp_values.specs.declared.reply.Reply.{Reply}
 use Rattle.node_step.specs.Requests.{using_up}
-use Rattle.node_step.specs.State.{NodeState}
+use Rattle.node_step.specs.State.{NodeState, kept_in}
 use Rattle.node_step.specs.Streams.{MayGiveUp, Requests, recorded}
 use Rattle.resp2.specs.Stream.{stream_spelling}
 use Rattle.stream_values.specs.Stream.{StreamView, written}
@@ -161,7 +161,7 @@ pub record GivesUp (old : NodeState) (outcome : Outcome) (requests : Requests) (
   pub state : new ≡ (recorded outcome requests dropped).state
 
 gives_up : (old after new : NodeState) (outcome : Outcome) (requests : Requests) → after ≡ outcome.state → after.stream ≡ old.stream
-    → GoesOn (stream_spelling requests) after.stream new.stream → new ≡ record after { stream = new.stream } → GivesUp old outcome requests new
+    → GoesOn (kept_in old.config) (stream_spelling requests) after.stream new.stream → new ≡ record after { stream = new.stream } → GivesUp old outcome requests new
 gives_up old after new outcome [] same own goes state = record {
   dropped = 0;
   within = omega arith;
@@ -169,7 +169,7 @@ gives_up old after new outcome [] same own goes state = record {
 }
 gives_up old after new outcome (request ∷ requests) same own goes state = record {
   dropped = goes.dropped;
-  within = subst (λ (s : StreamView). goes.dropped ≤ length s.held.bytes + length (stream_spelling (request ∷ requests))) own goes.within;
+  within = subst (λ (s : StreamView). goes.dropped ≤ length s.held.bytes + length (stream_spelling (request ∷ requests)) - kept_in old.config) own goes.within;
   state =
       state ∙ ap (λ s. record after { stream = s }) goes.stream
       ∙ ap (λ (n : NodeState). record n { stream = written goes.dropped (stream_spelling (request ∷ requests)) n.stream }) same;
@@ -199,7 +199,7 @@ made_comes ticket old May draft outputs new is are applied =
     let given : GivesUp old outcome is.requests applied.made =
     gives_up old made.after applied.made outcome is.requests (leads_to_one (at_epoch old draft.epoch) draft.plan draft.change made.after outcome.state made.changes records.state)
     ((keeps_own (at_epoch old draft.epoch) draft.plan draft.change made.after made.changes).stream)
-    (subst (λ bytes. GoesOn bytes made.after.stream applied.made.stream) records.written made.goes_on) made.state in
+    (subst (λ bytes. GoesOn (kept_in old.config) bytes made.after.stream applied.made.stream) records.written made.goes_on) made.state in
     record {
       outcome = recorded outcome is.requests given.dropped;
       may = is.may_come given.dropped given.within;
@@ -223,7 +223,7 @@ nothing_made : (old new : NodeState) (draft : Draft) → draft.epoch ≡ old.cur
     → IsMade (at_epoch old draft.epoch) draft.plan draft.change draft.written.items new → new ≡ old
 nothing_made old new draft own none empty made =
     let same : made.after ≡ old = subst (λ (c : Change). Becomes (at_epoch old draft.epoch) draft.plan c made.after) none made.changes ∙ ap (at_epoch old) own in
-    let stays : new.stream ≡ made.after.stream = subst (λ bytes. GoesOn bytes made.after.stream new.stream) empty made.goes_on in
+    let stays : new.stream ≡ made.after.stream = subst (λ bytes. GoesOn (kept_in old.config) bytes made.after.stream new.stream) empty made.goes_on in
     made.state ∙ ap (λ (s : StreamView). record made.after { stream = s }) stays ∙ same
 
 pub promotion_comes : (ticket : ℕ) (old : NodeState) (May : Outcome → Type 0) (outcome : Outcome) (draft : Draft) (outputs : Outputs) (new : NodeState) → May outcome → Promotes old outcome draft

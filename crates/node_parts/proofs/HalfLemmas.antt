@@ -17,7 +17,7 @@ use Rattle.node_step.specs.Copies.{noted}
 use Rattle.node_step.specs.Handovers.{wishing}
 use Rattle.node_step.specs.Orders.{with_moves}
 use Rattle.node_step.specs.Requests.{at_connection, using_up, with_numbers}
-use Rattle.node_step.specs.State.{NodeState}
+use Rattle.node_step.specs.State.{NodeState, kept_in}
 use Rattle.node_step.specs.Ticks.{older}
 use Rattle.slot_state.specs.Moves.{Moves, move_of}
 use Rattle.slot_state.specs.declared.copy_id.CopyId.{CopyId}
@@ -105,21 +105,21 @@ module _ (old new : NodeState) (plan : Plan) (keys : Keyspace) (running : Moves)
   stays Ages ends = ap (λ (n : NodeState). n.stream) ends
 
   pub both_halves : (change : Change) (bytes : List ℕ) → CanBegin old.keyspace old.moves plan change → Begins old.keyspace old.moves plan change keys running
-      → GoesOn bytes old.stream stream → Finishes begun change new → IsMade old plan change bytes new
+      → GoesOn (kept_in old.config) bytes old.stream stream → Finishes begun change new → IsMade old plan change bytes new
   both_halves change bytes can begins goes ends =
       record {
         after = without new;
         changes = leads change can begins ends;
-        goes_on = subst (λ (s : StreamView). GoesOn bytes old.stream s) (sym (stays change ends)) goes;
+        goes_on = subst (λ (s : StreamView). GoesOn (kept_in old.config) bytes old.stream s) (sym (stays change ends)) goes;
         state = refl;
       }
 
 -- nothing is written, and the stream stays
-pub nothing_written : (bytes : List ℕ) (old new : StreamView) → (length bytes == 0) ≡ true → new ≡ old → GoesOn bytes old new
-nothing_written [] old new none same = same
-nothing_written (byte ∷ bytes) old new none same = let not_none : suc (length bytes) ≡ 0 = eqb-true (suc (length bytes)) 0 none in let never : ⊥ = omega (arith, not_none) in absurd never
+pub nothing_written : (kept : ℕ) (bytes : List ℕ) (old new : StreamView) → (length bytes == 0) ≡ true → new ≡ old → GoesOn kept bytes old new
+nothing_written kept [] old new none same = same
+nothing_written kept (byte ∷ bytes) old new none same = let not_none : suc (length bytes) ≡ 0 = eqb-true (suc (length bytes)) 0 none in let never : ⊥ = omega (arith, not_none) in absurd never
 
 -- something is written
-pub some_written : (bytes : List ℕ) (old new : StreamView) → (length bytes == 0) ≡ false → Writes bytes old new → GoesOn bytes old new
-some_written [] old new some writes = absurd (true≢false (sym (eq-eqb 0 0 refl) ∙ some))
-some_written (byte ∷ bytes) old new some writes = writes
+pub some_written : (kept : ℕ) (bytes : List ℕ) (old new : StreamView) → (length bytes == 0) ≡ false → Writes kept bytes old new → GoesOn kept bytes old new
+some_written kept [] old new some writes = absurd (true≢false (sym (eq-eqb 0 0 refl) ∙ some))
+some_written kept (byte ∷ bytes) old new some writes = writes

@@ -6,26 +6,19 @@ use Rattle.node_parts.specs.Drafts.{at_epoch}
 use Rattle.node_parts.specs.Succession.{succeeded_by}
 use Rattle.node_parts.specs.declared.draft.Draft.{Draft}
 use Rattle.node_parts.specs.declared.change.Change.{Change}
-use Rattle.node_step.specs.State.{NodeState}
+use Rattle.node_step.specs.State.{NodeState, kept_in}
 use Rattle.stream_values.specs.Stream.{StreamView, Writes}
 
--- the bytes are put behind the stream; where there are none it stays
-abbrev pub GoesOn : List ℕ → StreamView → StreamView → Type 0
-GoesOn [] old new = new ≡ old
-GoesOn (byte ∷ bytes) old new = Writes (byte ∷ bytes) old new
+-- the bytes are put behind the stream, of which so many of the last ones are kept; where there are none it stays
+abbrev pub GoesOn : ℕ → List ℕ → StreamView → StreamView → Type 0
+GoesOn kept [] old new = new ≡ old
+GoesOn kept (byte ∷ bytes) old new = Writes kept (byte ∷ bytes) old new
 
 -- the node changed, and the bytes stand behind its stream
 pub record IsMade (old : NodeState) (plan : Plan) (change : Change) (bytes : List ℕ) (new : NodeState) : Type 0 where
   pub after : NodeState
   pub changes : Becomes old plan change after
-  pub goes_on : GoesOn bytes after.stream new.stream
-  pub state : new ≡ record after { stream = new.stream }
-
--- the same of bytes that are some
-pub record IsWritten (old : NodeState) (plan : Plan) (change : Change) (bytes : List ℕ) (new : NodeState) : Type 0 where
-  pub after : NodeState
-  pub changes : Becomes old plan change after
-  pub writes : Writes bytes after.stream new.stream
+  pub goes_on : GoesOn (kept_in old.config) bytes after.stream new.stream
   pub state : new ≡ record after { stream = new.stream }
 
 -- a draft is made: its change, what it writes, and a promotion, if there is one

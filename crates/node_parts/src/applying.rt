@@ -61,6 +61,7 @@ impl<S: SlotParts + SlotKeys, T: Stream> NodeParts<S, T> {
 // Makes room for so many bytes behind the stream. That they have offsets was seen before.
 fn make_room<T: Stream>(stream: &mut Replica<T>, count: usize) -> Result<(), AllocError>
     ensures stream { stream.new.stream ≡ stream.old.stream }
+    ensures keeps { stream.new.keeps ≡ stream.old.keeps }
     ensures room { OnOk result (count ≤ stream.new.room) }
     ensures offset { OnOk result (received stream.new.stream + count < 2 ^ 64) }
 {
@@ -75,7 +76,8 @@ fn make_room<T: Stream>(stream: &mut Replica<T>, count: usize) -> Result<(), All
 fn write<T: Stream>(stream: &mut Replica<T>, bytes: &[u8])
     requires room { length bytes.now ≤ stream.old.room }
     requires offset { received stream.old.stream + length bytes.now < 2 ^ 64 }
-    ensures { GoesOn bytes.now stream.old.stream stream.new.stream }
+    ensures goes_on { GoesOn stream.old.keeps bytes.now stream.old.stream stream.new.stream }
+    ensures keeps { stream.new.keeps ≡ stream.old.keeps }
 {
     if !bytes.is_empty() {
         stream.append(bytes);

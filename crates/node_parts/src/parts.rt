@@ -1,12 +1,13 @@
 //! The parts of a node.
-ghost use Rattle.std.specs.Prelude.{◌≡◌, IfOk, None, slice_index_or};
+ghost use Rattle.std.specs.Prelude.{◌≡◌, IfOk, None, is_some, slice_index_or};
 ghost use Rattle.std.specs.FinMap as fin_map;
-ghost use Rattle.node_step.specs.State.{first_id, first_masters, first_state};
+ghost use Rattle.std.specs.List.{list_any};
+ghost use Rattle.node_step.specs.State.{first_id, first_masters, first_state, kept_in, master_in};
 
 use crate::electing::ElectionState;
 use crate::masters::{first_at, first_masters};
 use bus::Handing;
-use cluster_config::Config;
+use cluster_config::{Config, NodeConfig, Role};
 use connections::Connections;
 use repl_stream::{Replica, Stream};
 use slot_state::SlotMoves;
@@ -71,7 +72,9 @@ impl<S: SlotParts + SlotKeys, T: Stream> Model for NodeParts<S, T> {
       connections = parts.connections;
     } };
 
-    ghost invariant = { λ parts. length parts.table ≡ 16384 };
+    ghost use Rattle.node_step.specs.State.{kept_in};
+
+    ghost invariant = { λ parts. (length parts.table ≡ 16384) × (parts.stream.keeps ≡ kept_in parts.config) };
 }
 
 impl<S: SlotParts + SlotKeys + Drop, T: Stream + Drop> Drop for NodeParts<S, T> {
@@ -94,13 +97,12 @@ impl<S: SlotParts + SlotKeys + Drop, T: Stream + Drop> Drop for NodeParts<S, T> 
 }
 
 impl<S: SlotParts + SlotKeys, T: Stream> NodeParts<S, T> {
-    /// Those of the node of that number over an empty store, as it begins. Its stream is kept in the body that is given.
+    /// Those of the node of that number over an empty store, as it begins.
     pub fn new(
         alloc: Global,
         config: Config,
         number: NodeNo,
         store: S,
-        stream: T,
     ) -> Result<NodeParts<S, T>, AllocError>
     where
         S: Drop,
@@ -112,6 +114,7 @@ impl<S: SlotParts + SlotKeys, T: Stream> NodeParts<S, T> {
         let table = SlotTable::new(alloc, owners.as_slice())?;
         let masters = first_masters(&config);
         let id = first_id(&config, number);
+        let stream = Replica::begin(alloc, id, kept_bytes(&config))?;
         Ok(NodeParts {
             alloc,
             config,
@@ -123,7 +126,7 @@ impl<S: SlotParts + SlotKeys, T: Stream> NodeParts<S, T> {
             paused: None,
             asks_master: false,
             note: None,
-            stream: Replica::new(alloc, stream, id),
+            stream,
             connections: Connections::new(alloc),
         })
     }
@@ -133,6 +136,32 @@ impl<S: SlotParts + SlotKeys, T: Stream> NodeParts<S, T> {
         ensures { self.new ≡ self.old }
     {
         self.table.keep_claim_of(self.alloc, self.number)
+    }
+}
+
+// How many of the last bytes of its stream a node keeps: only replicas ask for them.
+fn kept_bytes(config: &Config) -> usize
+    ensures { result ≡ kept_in config.now }
+{
+    if has_replica(config.nodes()) {
+        config.backlog() as usize
+    } else {
+        0
+    }
+}
+
+fn has_replica(nodes: &[NodeConfig]) -> bool
+    ensures { result ≡ list_any (λ node. is_some (master_in node.role)) nodes.now }
+{
+    nodes.iter().any(|node| is_replica(node))
+}
+
+fn is_replica(node: &NodeConfig) -> bool
+    ensures { result ≡ is_some (master_in node.now.role) }
+{
+    match node.role {
+        Role::Replica { .. } => true,
+        Role::Master { .. } => false,
     }
 }
 

@@ -1,6 +1,7 @@
 -- The state of a node (Redis Cluster specification, "Redis Cluster nodes attributes", "Cluster live reconfiguration",
 -- "Cluster current epoch", "Failure detection", "Replica election and promotion").
-use Rattle.std.specs.Prelude.{ℕ, Bool, false, List, [], Option, Some, None, is_some, map, slice_index_or}
+use Rattle.std.specs.Prelude.{ℕ, Bool, false, List, [], Option, Some, None, is_some, map, slice_index_or, if◌then◌else◌}
+use Rattle.std.specs.List.{list_any}
 use Rattle.std.specs.FinMap as fin_map
 use Rattle.keyspace.specs.Keyspace.{Keyspace}
 use Rattle.slot_table.specs.declared.entry.SlotEntry.{SlotEntry}
@@ -71,6 +72,10 @@ master_in (Replica of) = Some of
 
 abbrev pub first_masters : List NodeConfig → List (Option ℕ)
 first_masters nodes = map (λ (node : NodeConfig). master_in node.role) nodes
+
+-- how many of the last bytes of a stream each node keeps: none where no replica asks for them
+abbrev pub kept_in : ClusterConfig → ℕ
+kept_in config = if list_any (λ (node : NodeConfig). is_some (master_in node.role)) config.nodes then config.backlog else 0
 
 -- the stream of a master is its own, that of a replica its master's
 abbrev pub first_id : Option ℕ → ℕ → StreamId

@@ -1,6 +1,6 @@
 -- What becomes of the stream of writes (Redis documentation, "Redis replication": a master sends its replicas the commands
 -- that change its keys; what is put there for a key that moves is ours).
-use Rattle.std.specs.Prelude.{◌≤◌, ◌+◌, length, ◌&&◌, ◌++◌, ◌==◌, ℕ, Bool, true, false, not, List, [], ◌∷◌, filter, map, is_some, Option, Some, None, Result, Ok, Err, codes, if◌then◌else◌}
+use Rattle.std.specs.Prelude.{◌≤◌, ◌+◌, ◌-◌, length, ◌&&◌, ◌++◌, ◌==◌, ℕ, Bool, true, false, not, List, [], ◌∷◌, filter, map, is_some, Option, Some, None, Result, Ok, Err, codes, if◌then◌else◌}
 use Rattle.std.specs.FinMap as fin_map
 use Rattle.resp2.specs.Stream.{stream_spelling}
 use Rattle.resp_values.specs.declared.reply.Reply.{Reply}
@@ -24,7 +24,7 @@ use Rattle.node_step.specs.Claiming.{is_lost}
 use Rattle.node_step.specs.Orders.{to_all}
 use Rattle.node_step.specs.Outcome.{Outcome}
 use Rattle.node_step.specs.Roles.{replicas_of}
-use Rattle.node_step.specs.State.{NodeState}
+use Rattle.node_step.specs.State.{NodeState, kept_in}
 use Rattle.node_step.specs.declared.response.Response.{Response}
 use Rattle.node_step.specs.declared.response.Response.TheVariants.{Nothing, Opened, Replied, Parked}
 use Rattle.node_step.specs.declared.response.Why.{Why}
@@ -88,9 +88,10 @@ written_by_loss node table = map deletion (filter (λ key. is_lost node table (h
 abbrev pub written_by_claim : NodeState → ℕ → List (Run ℕ) → Requests
 written_by_claim node from taken = if from == node.number then [] else written_by_loss node (merged node.table taken from)
 
--- so many bytes in front of the stream may be kept no longer, as these requests are put behind it
+-- so many bytes in front of the stream may be kept no longer, as these requests are put behind it: but the last ones are, as many as the
+-- configuration says
 abbrev pub MayGiveUp : NodeState → Requests → ℕ → Type 0
-MayGiveUp node requests dropped = dropped ≤ length node.stream.held.bytes + length (stream_spelling requests)
+MayGiveUp node requests dropped = dropped ≤ length node.stream.held.bytes + length (stream_spelling requests) - kept_in node.config
 
 -- all that a step writes goes to the replicas as one piece, behind its other messages
 abbrev pub recorded : Outcome → Requests → ℕ → Outcome

@@ -51,7 +51,8 @@ fn said_at<K: Deployment>(
     Ok(gather(alloc, table, list).map(|run| run.steps()))
 }
 
-fn both_cells<K: Deployment>(
+/// The cells of both nodes, as they begin.
+pub fn both_cells<K: Deployment>(
     alloc: Global,
     config: &Config,
     first: Seat,

@@ -2,7 +2,7 @@
 
 use crate::acts::words_of;
 use crate::in_memory::Failing;
-use crate::lines::{Deed, Desk, Exchange, Last, Line, Seen, last_handed, next_request};
+use crate::lines::{Deed, Desk, Exchange, Last, Line, Seen, last_handed};
 use crate::memory_nodes::Nodes;
 use anyhow::{Context, Result};
 use redirection::Address;
@@ -204,17 +204,9 @@ fn may_come_of_failure(call: &Call, seen: Seen, fault: ClientFault) -> bool {
 fn may_come_without(call: &Call, seen: Seen, fault: ClientFault) -> bool {
     let last = last_handed(call.lines, seen);
     match fault {
-        ClientFault::Lost => is_of_command(last) || is_command_next(call, seen),
+        ClientFault::Lost => is_of_command(last),
         ClientFault::Memory => !is_unanswered(last) && !is_final(call, last),
         _ => false,
-    }
-}
-
-// A client that has no memory for the bytes of its command takes it for sent.
-fn is_command_next(call: &Call, seen: Seen) -> bool {
-    match next_request(call.lines, seen) {
-        Some(exchange) => exchange.is_command,
-        None => false,
     }
 }
 

@@ -230,7 +230,7 @@ fn make<K: Deployment>(
     match call {
         Apply(act) => apply(alloc, &mut cells.asks, &mut cells.cell, given, act),
         Deliver => deliver(cells, given),
-        TakeReply(key) => Ok(take_reply(&mut cells.cell, given, key)?),
+        TakeReply(key) => Ok(take_reply(&mut cells.asks, &mut cells.cell, given, key)?),
         TakeSent => Ok(take_sent(cells, given)?),
     }
 }
@@ -284,11 +284,12 @@ fn push_entered<K: Deployment>(
 }
 
 fn take_reply<K: Deployment>(
+    asks: &mut Asks<K>,
     cell: &mut NodeCell<K, Journal>,
     given: &mut Vec<u8>,
     key: usize,
 ) -> Result<(), AllocError> {
-    match cell.take_reply(conn_of(key)) {
+    match asks.take_reply(cell, conn_of(key)) {
         Some(reply) => append_reply(&reply, given),
         None => given.extend_from_slice(b"none "),
     }

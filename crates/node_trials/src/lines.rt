@@ -216,21 +216,3 @@ fn last_on(line: &Line, passed: Passed, before: Option<Last>) -> Option<Last> {
     }
     last
 }
-
-/// The request that comes next on the connection on which bytes were handed over last, where all requests before it are answered.
-pub fn next_request(lines: &[Line], seen: Seen) -> Option<Exchange> {
-    let mut next = None;
-    for (line, passed) in lines.iter().zip(&seen.passed) {
-        if passed.handed > 0 {
-            next = unsent(line, *passed);
-        }
-    }
-    next
-}
-
-fn unsent(line: &Line, passed: Passed) -> Option<Exchange> {
-    match current(line, passed) {
-        Some((exchange, rest)) if rest.handed == 0 => Some(exchange),
-        _ => None,
-    }
-}

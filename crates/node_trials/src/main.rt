@@ -13,6 +13,7 @@ mod clusters;
 mod conversation;
 mod copies;
 mod dealing;
+mod deliveries;
 mod devices;
 mod failover;
 mod following;
@@ -67,6 +68,7 @@ enum Trial {
     Writes,
     Devices,
     Cells,
+    Deliveries,
     Seats,
     Callers,
     Locks,
@@ -79,7 +81,7 @@ enum Trial {
 }
 
 // The words of the trials, in the order in which they are played.
-const TRIALS: [(&str, Trial); 18] = [
+const TRIALS: [(&str, Trial); 19] = [
     ("refused", Trial::Refused),
     ("moves", Trial::Moves),
     ("following", Trial::Following),
@@ -90,6 +92,7 @@ const TRIALS: [(&str, Trial); 18] = [
     ("writes", Trial::Writes),
     ("devices", Trial::Devices),
     ("cells", Trial::Cells),
+    ("deliveries", Trial::Deliveries),
     ("seats", Trial::Seats),
     ("callers", Trial::Callers),
     ("locks", Trial::Locks),
@@ -170,6 +173,7 @@ fn try_out<R: Runtime>(rt: R, trial: Trial) -> Result<()> {
         Trial::Writes => writes::try_out(rt),
         Trial::Devices => devices::try_out(rt),
         Trial::Cells => cells::try_out(&rt),
+        Trial::Deliveries => deliveries::try_out(&rt),
         Trial::Seats => seats::try_out(&rt),
         Trial::Callers => callers::try_out(&rt),
         Trial::Locks => two_nodes::try_out(rt),

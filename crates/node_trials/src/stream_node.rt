@@ -42,10 +42,10 @@ impl<T: Stream + Drop> Drop for Node<T> {
 }
 
 impl<T: Stream + Drop> Node<T> {
-    /// A node with nothing of the stream (2, 0).
-    pub fn new(alloc: Global, stream: T) -> Result<Node<T>> {
+    /// A node with nothing of the stream (2, 0), which is to keep so many of its last bytes.
+    pub fn new(alloc: Global, kept: usize) -> Result<Node<T>> {
         Ok(Node {
-            replica: Replica::new(alloc, stream, stream_id((2, 0))?),
+            replica: Replica::begin(alloc, stream_id((2, 0))?, kept)?,
             store: TreeStore::new(alloc),
         })
     }

@@ -65,6 +65,9 @@ pub fn try_out<R: AllocGlobal + Print>(rt: &R) -> Result<()> {
     show_parts(rt)
 }
 
+// How many of the last bytes are to be kept.
+const LAST: usize = 64;
+
 // Three writes of 27 bytes each.
 const THREE_WRITES: &[u8] = b"*3\r\n$3\r\nSET\r\n$1\r\na\r\n$1\r\n1\r\n\
 *3\r\n$3\r\nSET\r\n$1\r\na\r\n$1\r\n2\r\n\
@@ -72,7 +75,7 @@ const THREE_WRITES: &[u8] = b"*3\r\n$3\r\nSET\r\n$1\r\na\r\n$1\r\n1\r\n\
 
 // Parts of a ring behind three writes: one that begins a byte too early, and one from the first byte on that is kept.
 fn show_parts<R: AllocGlobal + Print>(rt: &R) -> Result<()> {
-    let mut ring = Backlog::new(rt.alloc(), stream_id((2, 0))?, 64)?;
+    let mut ring = Backlog::begin(rt.alloc(), stream_id((2, 0))?, LAST)?;
     ring.append(THREE_WRITES);
     println!(rt; "the ring holds {} to {}", ring.first(), ring.end())?;
     show_part(rt, "10 bytes from 16", ring.piece(rt.alloc(), 16, 10))?;
@@ -80,18 +83,16 @@ fn show_parts<R: AllocGlobal + Print>(rt: &R) -> Result<()> {
 }
 
 fn play_whole<R: AllocGlobal + Print>(rt: &R, course: Course) -> Result<()> {
-    let stream = WholeStream::new(rt.alloc(), stream_id((2, 0))?);
-    play(rt, stream, course)
+    play::<WholeStream, R>(rt, course)
 }
 
 fn play_last<R: AllocGlobal + Print>(rt: &R, course: Course) -> Result<()> {
-    let stream = Backlog::new(rt.alloc(), stream_id((2, 0))?, 64)?;
-    play(rt, stream, course)
+    play::<Backlog, R>(rt, course)
 }
 
 // Plays the course at a node with this body of a stream.
-fn play<T: Stream + Drop, R: AllocGlobal + Print>(rt: &R, stream: T, course: Course) -> Result<()> {
-    let mut node = Node::new(rt.alloc(), stream)?;
+fn play<T: Stream + Drop, R: AllocGlobal + Print>(rt: &R, course: Course) -> Result<()> {
+    let mut node = Node::<T>::new(rt.alloc(), LAST)?;
     let played = play_at(rt, &mut node, course);
     drop(node);
     played

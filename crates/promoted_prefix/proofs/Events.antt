@@ -1,5 +1,5 @@
 -- What each step of a node leaves of all streams.
-use Rattle.std.proofs.Common.{◌≡◌, ◌≢◌, ◌⊎◌, ◌==◌, ◌&&◌, ℕ, Bool, true, false, cond, List, [], ◌∷◌, Option, Some, None, refl, sym, ap, subst, ◌∙◌, inl, inr, append-nil}
+use Rattle.std.proofs.Common.{◌≡◌, ◌≢◌, ◌⊎◌, ◌==◌, ◌&&◌, ◌≤◌, ◌+◌, arith, length, ℕ, Bool, true, false, cond, List, [], ◌∷◌, Option, Some, None, refl, sym, ap, subst, ◌∙◌, inl, inr, append-nil}
 use Rattle.std.proofs.lemmas.Bool.{both_ways}
 use Rattle.std.specs.Prelude.{All, is_some, ⊤}
 use Rattle.bus.specs.declared.message.Body.{Body}
@@ -150,6 +150,7 @@ module _ (full : FullStreams) (n : ℕ) (node : NodeState) where
       let all : Requests = request ∷ requests in
       let bytes : List ℕ = stream_spelling all in
       let more : FullStreams = longer full id bytes in
+      let few : dropped ≤ length node.stream.held.bytes + length bytes = omega (arith, within) in
       by_none all (recorded outcome all dropped) none
       (record {
         grows = longer_grows full id bytes;
@@ -158,12 +159,12 @@ module _ (full : FullStreams) (n : ℕ) (node : NodeState) where
           number = leaves.number ∙ master.number;
           role = leaves.role ∙ master.role;
           has = subst (HasWhole more n) (λ i. record { stream = written dropped bytes (sym leaves.stream i); keyspace = sym leaves.keyspace i })
-              (written_whole full n (follower_of node) master.has all are dropped within);
+              (written_whole full n (follower_of node) master.has all are dropped few);
         });
         sent = all_of_both (IsSound more) outcome.sent _ (λ to said among. said_more full more (longer_grows full id bytes) said (sent to said among))
             (all_to_all (IsSound more) (replicas_of outcome.state.masters outcome.state.number) _
             (subst (λ (stream : StreamView). IsTruePiece more (record { stream = stream.held.id; from = end_of stream.held; bytes = bytes; base = stream.former })) (sym leaves.stream)
-            (written_piece full n (follower_of node) master.has all are dropped within)));
+            (written_piece full n (follower_of node) master.has all are dropped few)));
         begins = begins_nothing (recorded outcome all dropped) none;
       })
 

@@ -1,6 +1,5 @@
 //! A stream of which the last bytes are kept.
-ghost use Rattle.std.specs.Prelude.{◌≡◌, ◌≤◌, length, IfOk};
-ghost use Rattle.stream_values.specs.Stream.{begun};
+ghost use Rattle.std.specs.Prelude.{◌≤◌, length};
 
 use crate::fault::StreamFault;
 use crate::page_ring::PageRing;
@@ -20,19 +19,6 @@ pub struct Backlog {
     ghost within: { length ring.items ≤ end },
 }
 
-impl Backlog {
-    ghost use Rattle.repl_stream.specs.Bodies.{last_of};
-
-    /// A stream without bytes, which begins at offset 0, and will keep the last `capacity` bytes.
-    pub fn new(alloc: Global, id: StreamId, capacity: usize) -> Result<Backlog, AllocError>
-        ensures empty { IfOk result (λ stream. last_of stream ≡ begun id 0) }
-        ensures capacity { IfOk result (λ stream. stream.ring.capacity ≡ capacity) }
-    {
-        let ring = PageRing::with_capacity(alloc, capacity)?;
-        Ok(Backlog { id, end: 0, ring })
-    }
-}
-
 impl Stream for Backlog {
     ghost use Rattle.std.specs.Prelude.{◌^◌};
     ghost use Rattle.repl_stream.specs.Bodies.{last_of, overwritten};
@@ -42,6 +28,13 @@ impl Stream for Backlog {
     ghost room = { λ stream. 2 ^ 64 };
 
     ghost gives_up = { overwritten };
+
+    ghost keeps = { λ stream. stream.ring.capacity };
+
+    fn begin(alloc: Global, id: StreamId, kept: usize) -> Result<Backlog, AllocError> {
+        let ring = PageRing::with_capacity(alloc, kept)?;
+        Ok(Backlog { id, end: 0, ring })
+    }
 
     fn id(&self) -> StreamId {
         self.id

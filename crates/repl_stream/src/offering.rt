@@ -27,6 +27,7 @@ impl<T: Stream> Replica<T> {
             (record { stream = self.new.stream; keyspace = S.contents store.new })) }
         ensures refused { IfErr result (λ fault. IsRefusedFor fault (verdict_on self.old.stream piece.now)) }
         ensures unchanged { OnErr result ((self.new.stream ≡ self.old.stream) × (S.contents store.new ≡ S.contents store.old)) }
+        ensures keeps { self.new.keeps ≡ self.old.keeps }
     {
         let place = self.judge(piece)?;
         self.take(alloc, store, piece, place)?;
@@ -83,6 +84,7 @@ impl<T: Stream> Replica<T> {
             (record { stream = self.old.stream; keyspace = S.contents store.old }) piece.now
             (record { stream = self.new.stream; keyspace = S.contents store.new })) }
         ensures err { OnErr result ((self.new.stream ≡ self.old.stream) × (S.contents store.new ≡ S.contents store.old)) }
+        ensures keeps { self.new.keeps ≡ self.old.keeps }
     {
         let stayed = front(self.partial.as_slice(), place - self.offset);
         let news = news_of(piece, place);

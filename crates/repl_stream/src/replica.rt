@@ -1,9 +1,9 @@
 //! What a node has of a stream.
-ghost use Rattle.std.specs.Prelude.{◌≡◌, ◌≤◌};
+ghost use Rattle.std.specs.Prelude.{◌≡◌, ◌≤◌, IfOk};
 ghost use Rattle.stream_values.specs.Stream.{first_stream, is_whole, promoted, received};
 
 use crate::stream::Stream;
-use std::alloc::Global;
+use std::alloc::{AllocError, Global};
 use std::marker::Model;
 use stream_values::{Base, StreamId};
 
@@ -45,23 +45,25 @@ impl<T: Stream> Model for Replica<T> {
         former = replica.former;
       };
       room = T.room replica.stream;
+      keeps = T.keeps replica.stream;
     } };
 
     ghost invariant = { λ replica. end_of (T.held replica.stream) ≡ replica.offset + length replica.partial.items };
 }
 
 impl<T: Stream> Replica<T> {
-    /// Nothing yet of a stream, in this body, from where it begins.
-    pub fn new(alloc: Global, mut stream: T, id: StreamId) -> Replica<T>
-        ensures { result.stream ≡ first_stream id }
+    /// Nothing yet of a stream, from where it begins. It is to keep so many of the last bytes.
+    pub fn begin(alloc: Global, id: StreamId, kept: usize) -> Result<Replica<T>, AllocError>
+        ensures stream { IfOk result (λ replica. replica.stream ≡ first_stream id) }
+        ensures keeps { IfOk result (λ replica. replica.keeps ≡ kept) }
     {
-        stream.begin_at(id, 0);
-        Replica {
+        let stream = T::begin(alloc, id, kept)?;
+        Ok(Replica {
             stream,
             offset: 0,
             partial: Vec::new(alloc),
             former: None,
-        }
+        })
     }
 
     /// The stream that it follows, or writes.
@@ -102,7 +104,8 @@ impl<T: Stream> Replica<T> {
 
     /// Makes the node, which was a replica, a master: it goes on from its offset under an id of its own. It takes no memory.
     pub fn promote(&mut self, id: StreamId)
-        ensures { self.new.stream ≡ promoted id self.old.stream }
+        ensures stream { self.new.stream ≡ promoted id self.old.stream }
+        ensures keeps { self.new.keeps ≡ self.old.keeps }
     {
         self.former = Some(Base {
             stream: self.stream.id(),

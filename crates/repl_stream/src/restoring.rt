@@ -24,12 +24,13 @@ impl<T: Stream> Replica<T> {
         ensures ok { OnOk result (record { stream = self.new.stream; keyspace = S.contents store.new }
             ≡ restored snapshot.now (record { stream = self.old.stream; keyspace = S.contents store.old })) }
         ensures err { OnErr result ((self.new.stream ≡ self.old.stream) × (S.contents store.new ≡ S.contents store.old)) }
+        ensures keeps { self.new.keeps ≡ self.old.keeps }
     {
         if self.knows(snapshot) {
             return Ok(());
         }
         *store = store_of(alloc, snapshot.pairs.as_slice())?;
-        self.begin(snapshot.stream, snapshot.offset);
+        self.begin_again(snapshot.stream, snapshot.offset);
         Ok(())
     }
 
@@ -40,8 +41,9 @@ impl<T: Stream> Replica<T> {
     }
 
     // The stream goes on from there, and nothing of it is kept.
-    fn begin(&mut self, id: StreamId, offset: u64)
-        ensures { self.new.stream ≡ record self.old.stream { held = begun id offset; offset = offset; partial = [] } }
+    fn begin_again(&mut self, id: StreamId, offset: u64)
+        ensures stream { self.new.stream ≡ record self.old.stream { held = begun id offset; offset = offset; partial = [] } }
+        ensures keeps { self.new.keeps ≡ self.old.keeps }
     {
         self.stream.begin_at(id, offset);
         self.offset = offset;

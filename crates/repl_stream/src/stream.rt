@@ -10,7 +10,8 @@ use stream_values::StreamId;
 
 /// Bytes of a stream, from the first offset of which they are kept to the last that came.
 ///
-/// It may give up bytes in front as others come: how many, each body says for itself. All offsets are below 2 ^ 64.
+/// It may give up bytes in front as others come: how many, each body says for itself, but none of the last ones that it was made to keep.
+/// All offsets are below 2 ^ 64.
 pub trait Stream {
     ghost use Rattle.std.specs.Prelude.{ℕ};
     ghost use Rattle.stream_values.specs.Stream.{Held};
@@ -23,6 +24,14 @@ pub trait Stream {
 
     /// As many bytes in front go as so many more come.
     ghost gives_up: { Self → ℕ → ℕ };
+
+    /// None of so many of the last bytes goes.
+    ghost keeps: { Self → ℕ };
+
+    /// A stream without bytes, which begins at offset 0, and is to keep so many of the last bytes.
+    fn begin(alloc: Global, id: StreamId, kept: usize) -> Result<Self, AllocError>
+        ensures empty { IfOk result (λ stream. held stream ≡ begun id 0) }
+        ensures keeps { IfOk result (λ stream. keeps stream ≡ kept) };
 
     /// The stream.
     fn id(&self) -> StreamId
@@ -39,6 +48,7 @@ pub trait Stream {
     /// Makes room for so many more bytes.
     fn reserve(&mut self, count: usize) -> Result<(), AllocError>
         ensures held { held self.new ≡ held self.old }
+        ensures keeps { keeps self.new ≡ keeps self.old }
         ensures room { OnOk result (count ≤ room self.new) };
 
     /// Puts the bytes, for which there is room, behind those that it has. It takes no memory.
@@ -46,7 +56,8 @@ pub trait Stream {
         requires room { length bytes.now ≤ room self.old }
         requires fits { end_of (held self.old) + length bytes.now < 2 ^ 64 }
         ensures appended { held self.new ≡ with_appended (gives_up self.old (length bytes.now)) bytes.now (held self.old) }
-        ensures within { gives_up self.old (length bytes.now) ≤ length (held self.old).bytes + length bytes.now };
+        ensures within { gives_up self.old (length bytes.now) ≤ length (held self.old).bytes + length bytes.now - keeps self.old }
+        ensures keeps { keeps self.new ≡ keeps self.old };
 
     /// At most so many bytes, from that offset on. From the end on there are none.
     fn piece(&self, alloc: Global, from: u64, most: usize) -> Result<ByteString, StreamFault>
@@ -59,9 +70,11 @@ pub trait Stream {
     fn cut_at(&mut self, offset: u64, id: StreamId)
         requires { offset ≤ end_of (held self.old) }
         ensures cut { held self.new ≡ cut offset id (held self.old) }
+        ensures keeps { keeps self.new ≡ keeps self.old }
         ensures room { room self.old ≤ room self.new };
 
     /// Keeps nothing: the next byte is the one at that offset of that stream.
     fn begin_at(&mut self, id: StreamId, offset: u64)
-        ensures { held self.new ≡ begun id offset };
+        ensures held { held self.new ≡ begun id offset }
+        ensures keeps { keeps self.new ≡ keeps self.old };
 }

@@ -1,36 +1,23 @@
 //! A stream of which all is kept.
-ghost use Rattle.std.specs.Prelude.{◌≡◌, ◌+◌, ◌<◌, ◌^◌, length};
-ghost use Rattle.stream_values.specs.Stream.{begun};
+ghost use Rattle.std.specs.Prelude.{◌+◌, ◌<◌, ◌^◌, length};
 
 use crate::fault::StreamFault;
 use crate::parts::part;
 use crate::stream::Stream;
 use byte_string::ByteString;
 use std::alloc::{AllocError, Global};
+use std::snapshot::Snapshot;
 use stream_values::StreamId;
 
 /// A stream of which all bytes are kept, from where it began.
-#[derive(Debug, Drop)]
+#[derive(Drop)]
 pub struct WholeStream {
     id: StreamId,
     first: u64,
     bytes: Vec<u8>,
+    // How many it has to keep, for clauses alone: it keeps more.
+    kept: Snapshot<usize>,
     ghost fits: { first + length bytes.items < 2 ^ 64 },
-}
-
-impl WholeStream {
-    ghost use Rattle.repl_stream.specs.Bodies.{all_of};
-
-    /// A stream without bytes, which begins at offset 0.
-    pub fn new(alloc: Global, id: StreamId) -> WholeStream
-        ensures { all_of result ≡ begun id 0 }
-    {
-        WholeStream {
-            id,
-            first: 0,
-            bytes: Vec::new(alloc),
-        }
-    }
 }
 
 impl Stream for WholeStream {
@@ -41,6 +28,17 @@ impl Stream for WholeStream {
     ghost room = { spare };
 
     ghost gives_up = { λ stream count. 0 };
+
+    ghost keeps = { λ stream. stream.kept.value };
+
+    fn begin(alloc: Global, id: StreamId, kept: usize) -> Result<WholeStream, AllocError> {
+        Ok(WholeStream {
+            id,
+            first: 0,
+            bytes: Vec::new(alloc),
+            kept: Snapshot::of(&kept),
+        })
+    }
 
     fn id(&self) -> StreamId {
         self.id

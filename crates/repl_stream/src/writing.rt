@@ -12,6 +12,7 @@ impl<T: Stream> Replica<T> {
     /// the two calls.
     pub fn reserve(&mut self, count: usize) -> Result<(), AppendFault>
         ensures stream { self.new.stream ≡ self.old.stream }
+        ensures keeps { self.new.keeps ≡ self.old.keeps }
         ensures room { OnOk result (count ≤ self.new.room) }
         ensures fits { OnOk result (received self.new.stream + count < 2 ^ 64) }
         ensures fault { IfErr result (λ fault. IsRefusedAt fault (received self.old.stream + count)) }
@@ -27,7 +28,8 @@ impl<T: Stream> Replica<T> {
     pub fn append(&mut self, bytes: &[u8])
         requires room { length bytes.now ≤ self.old.room }
         requires fits { received self.old.stream + length bytes.now < 2 ^ 64 }
-        ensures { Writes bytes.now self.old.stream self.new.stream }
+        ensures writes { Writes self.old.keeps bytes.now self.old.stream self.new.stream }
+        ensures keeps { self.new.keeps ≡ self.old.keeps }
     {
         self.stream.append(bytes);
         self.offset += bytes.len() as u64;

@@ -1,2 +1,1 @@
 pub mod Questions
-pub mod SlotStates

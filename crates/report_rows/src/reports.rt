@@ -3,8 +3,7 @@ ghost use Rattle.std.specs.Prelude.{◌≡◌, ◌∷◌, ◌<◌, ◌^◌, [], 
 ghost use Rattle.report_rows.specs.Questions.{IsReport, is_question};
 ghost use Rattle.resp_values.specs.Reply.{array_of};
 ghost use Rattle.slot_state.specs.State.{seen};
-ghost use Rattle.report_rows.specs.SlotStates.{state_other};
-ghost use Rattle.node_step.specs.Reports.{state_drained, state_number, state_word, count_reply, id_of, id_reply, keys_reply, master_reply, run_reply, slots_reply, state_reply};
+ghost use Rattle.node_step.specs.Reports.{state_drained, state_number, state_word, state_node, count_reply, id_of, id_reply, keys_reply, master_reply, owner_reply, run_reply, slots_reply, state_reply};
 
 use byte_string::ByteString;
 use cluster_config::{Config, NodeConfig};
@@ -86,10 +85,7 @@ fn slot_state<S: SlotParts + SlotKeys, T: Stream>(
     let owner = node.table.owner(slot);
     let state = node.moves.state(slot, owner, node.number);
     let word = Reply::Bulk(state_word(&state));
-    let about = match state_node(&state, owner, node.number) {
-        Some(number) => id(node, number)?,
-        None => Reply::Null,
-    };
+    let about = id_about(node, &state, slot)?;
     let number = Reply::Integer(state_number(&state) as i64);
     let last = Reply::Integer(node.moves.last_move(slot).get() as i64);
     let count = count(node, slot);
@@ -112,15 +108,31 @@ fn state_word(state: &SlotState<&Move>) -> ByteString
     }
 }
 
-// The node that this is about: the owner, or the other node of a move.
-fn state_node(state: &SlotState<&Move>, owner: Option<NodeNo>, node: NodeNo) -> Option<NodeNo>
-    ensures { result ≡ state_other (seen state.now) owner node }
+// The id of the node that a slot's state is about, if there is one: the owner, or the other node of a move.
+fn id_about<S: SlotParts + SlotKeys, T: Stream>(
+    node: &NodeParts<S, T>,
+    state: &SlotState<&Move>,
+    slot: Slot,
+) -> Result<Reply, AllocError>
+    ensures { IfOk result (λ reply. reply ≡ state_node node.now slot (seen state.now)) }
 {
     match state {
-        SlotState::Owned => Some(node),
-        SlotState::Foreign => owner,
-        SlotState::Moving(Move::Leaves { to, .. }) => Some(*to),
-        SlotState::Moving(Move::Comes { from, .. }) => Some(*from),
+        SlotState::Owned => id(node, node.number),
+        SlotState::Foreign => id_of_owner(node, node.table.owner(slot)),
+        SlotState::Moving(Move::Leaves { to, .. }) => id(node, *to),
+        SlotState::Moving(Move::Comes { from, .. }) => id(node, *from),
+    }
+}
+
+fn id_of_owner<S: SlotParts + SlotKeys, T: Stream>(
+    node: &NodeParts<S, T>,
+    owner: Option<NodeNo>,
+) -> Result<Reply, AllocError>
+    ensures { IfOk result (λ reply. reply ≡ owner_reply node.now.config owner) }
+{
+    match owner {
+        Some(number) => id(node, number),
+        None => Ok(Reply::Null),
     }
 }
 

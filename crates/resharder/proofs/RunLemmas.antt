@@ -26,14 +26,14 @@ told_comes came.NotConnected to words Finds waits = tt
 told_comes (came.Reply reply) to words Finds waits = tt
 told_comes came.BadReply to words Finds waits = tt
 told_comes (came.Broken handed) to words Finds waits = tt
-told_comes came.NoMemory to words Finds waits = tt
+told_comes (came.NoMemory handed) to words Finds waits = tt
 told_comes (came.Call call) to words (Works work) waits = tt
 told_comes came.Connected to words (Works work) waits = tt
 told_comes came.NotConnected to words (Works work) waits = tt
 told_comes (came.Reply reply) to words (Works work) waits = tt
 told_comes came.BadReply to words (Works work) waits = tt
 told_comes (came.Broken handed) to words (Works work) waits = tt
-told_comes came.NoMemory to words (Works work) waits = tt
+told_comes (came.NoMemory handed) to words (Works work) waits = tt
 told_comes came to words (Prints nodes slot) waits = absurd waits
 told_comes came to words Over waits = absurd waits
 

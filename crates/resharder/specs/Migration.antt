@@ -4,7 +4,7 @@ use Rattle.std.specs.Prelude.{ℕ, Bool, ◌&&◌, nat_le, List, [], ◌∷◌, 
 use Rattle.std.specs.List.{list_all}
 use Rattle.redirection.specs.Address.{Place}
 use Rattle.resp_values.specs.Request.{request_spelling}
-use Rattle.resp_values.specs.declared.words.TheConstants.{MOST_WORDS, MOST_WORD_BYTES, MOST_REQUEST_BYTES}
+use Rattle.resp_values.specs.Limits.{most_words, most_word_bytes, most_request_bytes}
 use Rattle.resharder.specs.Orders.{migrate_words}
 
 -- keys, and the node to which they are to be moved
@@ -15,9 +15,9 @@ pub record MigratedKeys : Type 0 where
 -- the words keep the limits of a request
 abbrev pub keep_limits : List (List ℕ) → Bool
 keep_limits words =
-    nat_le (length words) MOST_WORDS
-    && list_all (λ word. nat_le (length word) MOST_WORD_BYTES) words
-    && nat_le (length (request_spelling words)) MOST_REQUEST_BYTES
+    nat_le (length words) most_words
+    && list_all (λ word. nat_le (length word) most_word_bytes) words
+    && nat_le (length (request_spelling words)) most_request_bytes
 
 -- the fronts of a list, the longest first
 abbrev pub fronts : {X : Type 0} → List X → List (List X)

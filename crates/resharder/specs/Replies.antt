@@ -8,7 +8,7 @@ use Rattle.std.specs.Cmp.Lexicographic.{slice_cmp}
 use Rattle.std.specs.Str.{bytes_eq}
 use Rattle.resp_values.specs.declared.array.Element.{Element}
 use Rattle.resp_values.specs.declared.array.Element.TheVariants as element
-use Rattle.resp_values.specs.declared.words.TheConstants.{MOST_WORD_BYTES}
+use Rattle.resp_values.specs.Limits.{most_word_bytes}
 use Rattle.resp_values.specs.declared.reply.Reply.{Reply}
 use Rattle.resp_values.specs.declared.reply.Reply.TheVariants.{Simple, Error, Array}
 use Rattle.command_table.specs.ErrorLine.{error_text}
@@ -103,7 +103,7 @@ next_number last = positive (last + 1)
 
 -- a key: a word of a request can be that long
 abbrev pub is_key : List ℕ → Bool
-is_key key = nat_le (length key) MOST_WORD_BYTES
+is_key key = nat_le (length key) most_word_bytes
 
 abbrev pub key_of : Element → Option (List ℕ)
 key_of (element.Bulk key) = if is_key key then Some key else None

@@ -21,7 +21,7 @@ use Rattle.resharder.specs.declared.moved_slot.MovedSlot.{MovedSlot}
 -- what the run is told of the last deed: the reply, or that memory was refused, and else that no reply came
 abbrev pub told_of : Came → Event
 told_of (came.Reply reply) = happened.Reply reply
-told_of came.NoMemory = happened.NoMemory
+told_of (came.NoMemory handed) = happened.NoMemory
 told_of (came.Call words) = happened.NotReached
 told_of came.Connected = happened.NotReached
 told_of came.NotConnected = happened.NotReached

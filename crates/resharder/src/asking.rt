@@ -23,7 +23,7 @@ fn told_of(event: Came) -> Event
 {
     match event {
         Came::Reply(reply) => Event::Reply(reply),
-        Came::NoMemory => Event::NoMemory,
+        Came::NoMemory { .. } => Event::NoMemory,
         Came::Call(_)
         | Came::Connected
         | Came::NotConnected

@@ -10,6 +10,10 @@ inner_of counting = counting.inner
 abbrev pub failures_of : {D : Type 0} → Counting D → ℕ
 failures_of counting = counting.failures
 
+-- the reader or writer as the call that failed last left it
+abbrev pub failed_of : {D : Type 0} → Counting D → D
+failed_of counting = counting.failed.value
+
 -- the same count with another reader or writer
 abbrev pub with_inner : {D : Type 0} → Counting D → D → Counting D
 with_inner counting inner = record counting { inner = inner }

@@ -1,6 +1,7 @@
 pub mod Counting
 pub mod Header
 pub mod Law
+pub mod Limits
 pub mod Parts
 pub mod Progress
 pub mod Reader

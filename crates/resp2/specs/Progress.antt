@@ -2,7 +2,7 @@
 use Rattle.std.specs.Prelude.{◌≡◌, ◌≤◌, ◌+◌, ℕ, Bool, true, false, List, [], ◌∷◌, ◌++◌, length, All, IfSome, IfNone, Option, None, Some, Result, Ok, Err}
 use Rattle.resp2.specs.declared.fault.Fault.{Fault}
 use Rattle.resp2.specs.declared.fault.Fault.TheVariants.{Memory}
-use Rattle.resp_values.specs.declared.words.TheConstants.{MOST_WORDS, MOST_WORD_BYTES, MOST_REQUEST_BYTES}
+use Rattle.resp_values.specs.Limits.{most_words, most_word_bytes, most_request_bytes}
 use Rattle.resp2.specs.declared.words.Partial.{Partial}
 use Rattle.resp2.specs.declared.reader.Progress.{Progress}
 use Rattle.resp2.specs.declared.reader.Progress.TheVariants.{Between, Reading, Broken}
@@ -75,12 +75,12 @@ fault_of (Broken fault _) = Some fault
 
 -- a length that was read keeps the limit
 abbrev pub HasLen : Option ℕ → Type 0
-HasLen len = IfSome len (λ number. number ≤ MOST_WORD_BYTES)
+HasLen len = IfSome len (λ number. number ≤ most_word_bytes)
 
 -- what was read of a request keeps the limits
 pub record IsPartial (partial : Partial) : Type 0 where
-  pub few : length partial.words.items + partial.left ≤ MOST_WORDS
-  pub short : All (λ word. length word ≤ MOST_WORD_BYTES) partial.words.items
+  pub few : length partial.words.items + partial.left ≤ most_words
+  pub short : All (λ word. length word ≤ most_word_bytes) partial.words.items
   pub sized : HasLen partial.len
   pub idle : partial.left ≡ 0 → partial.len ≡ None
 
@@ -99,7 +99,7 @@ IsWhole (Broken _ _) = ⊥
 -- so many bytes of what is pending were consumed: one more than a request may have, at most
 pub record IsCounted (consumed : ℕ) (progress : Progress) (input : List ℕ) : Type 0 where
   pub counted : consumed + length input ≡ length (pending_of progress input)
-  pub few : consumed ≤ MOST_REQUEST_BYTES + 1
+  pub few : consumed ≤ most_request_bytes + 1
 
 -- that is known until a bad byte is found
 abbrev pub IsCountedOrBroken : ℕ → Progress → List ℕ → Type 0

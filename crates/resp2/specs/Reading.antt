@@ -2,7 +2,7 @@
 -- no public clause speaks of it.
 use Rattle.std.specs.Prelude.{◌+◌, ◌-◌, ◌*◌, ◌==◌, nat_lt, ◌||◌, if◌then◌else◌, zero, suc, ℕ, List, [], ◌∷◌, ◌++◌, length, take, drop, decimal}
 use Rattle.resp2.specs.declared.fault.Fault.{Fault}
-use Rattle.resp_values.specs.declared.words.TheConstants.{MOST_WORDS, MOST_WORD_BYTES, MOST_REQUEST_BYTES}
+use Rattle.resp_values.specs.Limits.{most_words, most_word_bytes, most_request_bytes}
 use Rattle.resp2.specs.declared.fault.Fault.TheVariants.{Protocol, TooLong}
 
 -- ---- spellings with what follows them
@@ -98,14 +98,14 @@ request_at most limit bytes = and_then (header_at 42 TooLong 0 most bytes) (word
 
 -- a request, however many bytes it has
 abbrev pub reading_words : List ℕ → Seen (List (List ℕ))
-reading_words bytes = request_at MOST_WORDS MOST_WORD_BYTES bytes
+reading_words bytes = request_at most_words most_word_bytes bytes
 
 -- the bytes that are not too many for one request, and the one that is
 abbrev pub within_size : List ℕ → List ℕ
-within_size bytes = take MOST_REQUEST_BYTES bytes
+within_size bytes = take most_request_bytes bytes
 
 abbrev pub one_past_size : List ℕ → List ℕ
-one_past_size bytes = take (suc MOST_REQUEST_BYTES) bytes
+one_past_size bytes = take (suc most_request_bytes) bytes
 
 -- the first byte that is too many is so, where it isn't worse
 abbrev pub too_many : Seen (List (List ℕ)) → Seen (List (List ℕ))
@@ -115,9 +115,9 @@ too_many (Found words rest) = Bad TooLong
 
 -- a request of which so many bytes decide this
 abbrev pub sized : List ℕ → Seen (List (List ℕ)) → Seen (List (List ℕ))
-sized bytes Wants = if nat_lt MOST_REQUEST_BYTES (length bytes) then too_many (reading_words (one_past_size bytes)) else Wants
+sized bytes Wants = if nat_lt most_request_bytes (length bytes) then too_many (reading_words (one_past_size bytes)) else Wants
 sized bytes (Bad fault) = Bad fault
-sized bytes (Found words rest) = Found words (rest ++ drop MOST_REQUEST_BYTES bytes)
+sized bytes (Found words rest) = Found words (rest ++ drop most_request_bytes bytes)
 
 -- a request within all limits
 abbrev pub reading : List ℕ → Seen (List (List ℕ))

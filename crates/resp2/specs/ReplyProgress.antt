@@ -14,7 +14,7 @@ use Rattle.resp2.specs.declared.fault.Fault.TheVariants.{Protocol, TooLong, Memo
 use Rattle.resp2.specs.declared.leaf.Begun.{Begun}
 use Rattle.resp2.specs.declared.leaf.Integer.{Integer}
 use Rattle.resp_values.specs.declared.reply.Reply.{Reply}
-use Rattle.resp2.specs.declared.reply_reader.TheConstants.{MOST_DEPTH, MOST_COUNT}
+use Rattle.resp2.specs.Limits.{most_depth, most_count}
 
 -- ---- what a step answers
 
@@ -55,7 +55,7 @@ element_front begun input = word_front begun.len input
 
 -- a length keeps the limit, and the bytes that were looked at are the mark and a text
 pub record IsBegun (begun : Begun) (input : List ℕ) : Type 0 where
-  pub short : IfSome begun.len (λ len. len ≤ MOST_COUNT)
+  pub short : IfSome begun.len (λ len. len ≤ most_count)
   pub within : begun.scanned ≤ length input
   pub text : IsTrue (is_one_line (drop 1 (take begun.scanned input)))
 
@@ -79,11 +79,11 @@ rest_in depth (n ∷ ns) bytes =
 
 -- those of this array and of the arrays around it
 abbrev pub to_come : ℕ → List ℕ → List ℕ → Seen (List Element)
-to_come left outer bytes = rest_in (MOST_DEPTH - 1 - length outer) (left ∷ backwards outer) bytes
+to_come left outer bytes = rest_in (most_depth - 1 - length outer) (left ∷ backwards outer) bytes
 
 -- the reply of which these elements were taken
 abbrev pub reading_on : List Element → ℕ → List ℕ → List ℕ → Seen (List Element)
-reading_on [] left outer bytes = reply_at MOST_DEPTH bytes
+reading_on [] left outer bytes = reply_at most_depth bytes
 reading_on (element ∷ elements) left outer bytes = as_found (λ others. (element ∷ elements) ++ others) (to_come left outer bytes)
 
 -- what was taken, and what is left
@@ -102,10 +102,10 @@ HasHeader (_ ∷ elements) = ⊥
 
 -- arrays don't nest too deep, and what is to come of them decides the reply
 pub record ArePart (elements : List Element) (left : ℕ) (outer : List ℕ) : Type 0 where
-  pub shallow : length outer < MOST_DEPTH
+  pub shallow : length outer < most_depth
   pub idle : elements ≡ [] → outer ≡ []
   pub header : HasHeader elements
-  pub goes_on : (bytes : List ℕ) → reply_at MOST_DEPTH (array_front elements bytes) ≡ reading_on elements left outer bytes
+  pub goes_on : (bytes : List ℕ) → reply_at most_depth (array_front elements bytes) ≡ reading_on elements left outer bytes
 
 abbrev pub IsArrayPart : ArrayPart → Type 0
 IsArrayPart part = ArePart part.elements.items part.left part.outer.items

@@ -10,7 +10,7 @@ use Rattle.resp_values.specs.declared.array.Element.TheVariants.{Simple, Error, 
 use Rattle.resp2.specs.declared.fault.Fault.{Fault}
 use Rattle.resp2.specs.declared.fault.Fault.TheVariants.{Protocol, TooLong, Memory}
 use Rattle.resp_values.specs.declared.reply.Reply.{Reply}
-use Rattle.resp2.specs.declared.reply_reader.TheConstants.{MOST_DEPTH, MOST_COUNT}
+use Rattle.resp2.specs.Limits.{most_depth, most_count}
 
 -- ---- which replies
 
@@ -24,14 +24,14 @@ abbrev pub ElementKeepsLimits : Element → Type 0
 ElementKeepsLimits (Simple text) = IsTrue (is_one_line text)
 ElementKeepsLimits (Error text) = IsTrue (is_one_line text)
 ElementKeepsLimits (Integer number) = Is64Bits number
-ElementKeepsLimits (Bulk bytes) = length bytes ≤ MOST_COUNT
+ElementKeepsLimits (Bulk bytes) = length bytes ≤ most_count
 ElementKeepsLimits Null = Unit {0}
-ElementKeepsLimits (Array len) = len ≤ MOST_COUNT
+ElementKeepsLimits (Array len) = len ≤ most_count
 
 -- so does each element of the reply, and arrays don't nest too deep. That limit is ours too
 pub record ReplyKeepsLimits (reply : Reply) : Type 0 where
   pub whole : IsTrue (is_reply reply)
-  pub shallow : depth_of (elements_of reply) ≤ MOST_DEPTH
+  pub shallow : depth_of (elements_of reply) ≤ most_depth
   pub each : All ElementKeepsLimits (elements_of reply)
 
 -- ---- beginnings

@@ -2,7 +2,7 @@
 use Rattle.std.specs.Prelude.{◌≡◌, ◌≢◌, ◌<◌, ◌≤◌, ◌+◌, ◌^◌, ℕ, List, [], ◌∷◌, ◌++◌, length, decimal, All, ◌⊎◌}
 use Rattle.resp2.specs.declared.fault.Fault.{Fault}
 use Rattle.resp2.specs.declared.fault.Fault.TheVariants.{Protocol, TooLong, Memory}
-use Rattle.resp_values.specs.declared.words.TheConstants.{MOST_WORDS, MOST_WORD_BYTES, MOST_REQUEST_BYTES}
+use Rattle.resp_values.specs.Limits.{most_words, most_word_bytes, most_request_bytes}
 use Rattle.resp_values.specs.Request.{header_spelling, bulks_spelling, request_spelling, WordsKeepLimits, KeepsLimits}
 
 -- what a client sends: requests, one after another
@@ -34,7 +34,7 @@ pub record IsBeginning (bytes : List ℕ) : Type 0 where
 pub record CountPasses (bytes : List ℕ) : Type 0 where
   pub requests : List (List (List ℕ))
   pub count : ℕ
-  pub above : MOST_WORDS < count
+  pub above : most_words < count
   pub spelled : bytes ≡ stream_spelling requests ++ 42 ∷ decimal count
 
 -- in the digit at which the length of a word passes its limit
@@ -44,7 +44,7 @@ pub record LengthPasses (bytes : List ℕ) : Type 0 where
   pub words : List (List ℕ)
   pub number : ℕ
   pub wanted : length words < count
-  pub above : MOST_WORD_BYTES < number
+  pub above : most_word_bytes < number
   pub spelled : bytes ≡ stream_spelling requests ++ header_spelling 42 count ++ bulks_spelling words ++ 36 ∷ decimal number
 
 -- in the first byte that is too many for one request
@@ -54,7 +54,7 @@ pub record SizePasses (bytes : List ℕ) : Type 0 where
   pub front : List ℕ
   pub rest : List ℕ
   pub one : front ++ rest ≡ request_spelling words
-  pub above : length front ≡ MOST_REQUEST_BYTES + 1
+  pub above : length front ≡ most_request_bytes + 1
   pub spelled : bytes ≡ stream_spelling requests ++ front
 
 abbrev pub PassesLimit : List ℕ → Type 0
@@ -83,6 +83,6 @@ pub record IsUnfinished (bytes : List ℕ) : Type 0 where
   pub words : List (List ℕ)
   pub rest : List ℕ
   pub each : WordsKeepLimits words
-  pub so_far : length bytes ≤ MOST_REQUEST_BYTES
+  pub so_far : length bytes ≤ most_request_bytes
   pub wanted : 0 < length rest
   pub spelled : bytes ++ rest ≡ request_spelling words

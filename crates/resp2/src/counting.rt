@@ -4,20 +4,24 @@ ghost use Rattle.std.specs.Borrow.{sem, follows};
 ghost use Rattle.std.specs.Io.{ReadsAtMost, WritesAtMost};
 ghost use Rattle.std.specs.Io.KnownBytes.{Appends, Keeps, ReadConsumes, WriteAppends};
 ghost use Rattle.resp2.specs.contracts.counting.Counting.{the_row};
-ghost use Rattle.resp2.specs.Counting.{inner_of, failures_of, with_inner, HasRisen};
+ghost use Rattle.resp2.specs.Counting.{inner_of, failures_of, failed_of, with_inner, HasRisen};
 ghost use Rattle.resp2.specs.Writing.{AppendsBeginning};
 
 use crate::whole::write_whole;
 use std::io;
 use std::io::{Read, Write};
+use std::snapshot::Snapshot;
 
 /// A reader or writer, with a count of its calls that failed.
 ///
-/// An error that a caller dropped on the way has still been counted.
-#[derive(Debug, Drop)]
+/// An error that a caller dropped on the way has still been counted. Clauses see, too, how the call that failed last left the
+/// reader or writer: so they can say that nothing was written since.
+#[derive(Drop)]
 pub struct Counting<D> {
     pub(crate) inner: D,
     pub(crate) failures: u64,
+    // For clauses alone. Where none has failed it is the reader or writer as it was at first.
+    pub(crate) failed: Snapshot<D>,
 }
 
 impl<D> Counting<D> {
@@ -26,7 +30,12 @@ impl<D> Counting<D> {
         ensures inner { inner_of result ≡ inner }
         ensures none { failures_of result ≡ 0 }
     {
-        Counting { inner, failures: 0 }
+        let failed = Snapshot::of(&inner);
+        Counting {
+            inner,
+            failures: 0,
+            failed,
+        }
     }
 
     /// How many calls failed, up to `u64::MAX`.
@@ -52,6 +61,21 @@ impl<D> Counting<D> {
         &mut self.inner
     }
 
+    /// The outcome of a call as it is; an error has been counted.
+    pub(crate) fn counted<T>(&mut self, outcome: io::Result<T>) -> io::Result<T>
+        ensures same { result ≡ outcome }
+        ensures inner { inner_of self.new ≡ inner_of self.old }
+        ensures ok { OnOk result (self.new ≡ self.old) }
+        ensures err { OnErr result (HasRisen (failures_of self.old) (failures_of self.new)) }
+        ensures left { OnErr result (failed_of self.new ≡ inner_of self.new) }
+    {
+        if outcome.is_err() {
+            self.failures = self.failures.saturating_add(1);
+            self.failed = Snapshot::of(&self.inner);
+        }
+        outcome
+    }
+
     /// The reader or writer, without the count.
     pub fn into_inner(self) -> D
         ensures { result ≡ inner_of self }
@@ -69,9 +93,10 @@ impl<R: Read> Read for Counting<R> {
             (R.remaining (inner_of self.new)) result buf.new }
         ensures ok { OnOk result (failures_of self.new ≡ failures_of self.old) }
         ensures err { OnErr result (HasRisen (failures_of self.old) (failures_of self.new)) }
+        ensures left { OnErr result (failed_of self.new ≡ inner_of self.new) }
     {
         let outcome = self.inner.read(buf);
-        counted(outcome, &mut self.failures)
+        self.counted(outcome)
     }
 }
 
@@ -84,9 +109,10 @@ impl<W: Write> Write for Counting<W> {
             (W.contents (inner_of self.new)) result buf.now }
         ensures ok { OnOk result (failures_of self.new ≡ failures_of self.old) }
         ensures err { OnErr result (HasRisen (failures_of self.old) (failures_of self.new)) }
+        ensures left { OnErr result (failed_of self.new ≡ inner_of self.new) }
     {
         let outcome = self.inner.write(buf);
-        counted(outcome, &mut self.failures)
+        self.counted(outcome)
     }
 
     fn flush(&mut self) -> io::Result<()>
@@ -94,9 +120,10 @@ impl<W: Write> Write for Counting<W> {
             (W.contents (inner_of self.new)) }
         ensures ok { OnOk result (failures_of self.new ≡ failures_of self.old) }
         ensures err { OnErr result (HasRisen (failures_of self.old) (failures_of self.new)) }
+        ensures left { OnErr result (failed_of self.new ≡ inner_of self.new) }
     {
         let outcome = self.inner.flush();
-        counted(outcome, &mut self.failures)
+        self.counted(outcome)
     }
 
     fn write_all(&mut self, buf: &[u8]) -> io::Result<()>
@@ -106,20 +133,9 @@ impl<W: Write> Write for Counting<W> {
             (W.contents (inner_of self.new)) buf.now) }
         ensures ok { OnOk result (failures_of self.new ≡ failures_of self.old) }
         ensures err { OnErr result (HasRisen (failures_of self.old) (failures_of self.new)) }
+        ensures left { OnErr result (failed_of self.new ≡ inner_of self.new) }
     {
         let outcome = write_whole(buf, &mut self.inner);
-        counted(outcome, &mut self.failures)
+        self.counted(outcome)
     }
-}
-
-/// The outcome as it is; an error has been counted.
-pub(crate) fn counted<T>(outcome: io::Result<T>, failures: &mut u64) -> io::Result<T>
-    ensures same { result ≡ outcome }
-    ensures ok { OnOk result (failures.new ≡ failures.old) }
-    ensures err { OnErr result (HasRisen failures.old failures.new) }
-{
-    if outcome.is_err() {
-        *failures = failures.saturating_add(1);
-    }
-    outcome
 }

@@ -29,5 +29,5 @@ pub use resp_values::{
     Array, Element, Line, MOST_REQUEST_BYTES, MOST_WORD_BYTES, MOST_WORDS, Reply, Words,
     array_determines_replies, array_is_one_deeper, arrays_are_of_replies,
 };
-pub use sending::write_words;
+pub use sending::{send_words, write_words};
 pub use writing::{append_reply, send_reply, write_reply};

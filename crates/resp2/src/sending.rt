@@ -1,10 +1,12 @@
 //! Requests as bytes on a connection, as a client sends them.
-ghost use Rattle.std.specs.Prelude.{OnOk, OnErr};
+ghost use Rattle.std.specs.Prelude.{◌≡◌, OnOk, OnErr};
 ghost use Rattle.std.specs.List.{flat_map};
 ghost use Rattle.std.specs.Io.KnownBytes.{Appends};
 ghost use Rattle.resp_values.specs.Request.{bulk_spelling, request_spelling};
+ghost use Rattle.resp2.specs.Counting.{inner_of, failures_of, failed_of, HasRisen};
 ghost use Rattle.resp2.specs.Writing.{AppendsBeginning};
 
+use crate::counting::Counting;
 use crate::parts::{Parts, bulk};
 use crate::writing::write_parts;
 use byte_string::ByteString;
@@ -31,6 +33,20 @@ pub fn write_words<W: Write>(words: &Words, out: &mut W) -> io::Result<()>
         out,
     )?;
     write_bulks(words, out)
+}
+
+/// Writes the request where failures are counted: an error is one that was counted.
+pub fn send_words<W: Write>(words: &Words, out: &mut Counting<W>) -> io::Result<()>
+    ensures written { OnOk result
+        (Appends (W.contents (inner_of out.old)) (W.contents (inner_of out.new)) (request_spelling words.now)) }
+    ensures begun { OnErr result
+        (AppendsBeginning (W.contents (inner_of out.old)) (W.contents (inner_of out.new)) (request_spelling words.now)) }
+    ensures ok { OnOk result (failures_of out.new ≡ failures_of out.old) }
+    ensures err { OnErr result (HasRisen (failures_of out.old) (failures_of out.new)) }
+    ensures left { OnErr result (failed_of out.new ≡ inner_of out.new) }
+{
+    let outcome = write_words(words, &mut out.inner);
+    out.counted(outcome)
 }
 
 fn write_bulks<W: Write>(words: &[ByteString], out: &mut W) -> io::Result<()>

@@ -2,12 +2,12 @@
 ghost use Rattle.std.specs.Prelude.{◌≡◌, ◌++◌, OnOk, OnErr};
 ghost use Rattle.std.specs.List.{flat_map};
 ghost use Rattle.std.specs.Io.KnownBytes.{Appends};
-ghost use Rattle.resp2.specs.Counting.{inner_of, failures_of, HasRisen};
+ghost use Rattle.resp2.specs.Counting.{inner_of, failures_of, failed_of, HasRisen};
 ghost use Rattle.resp_values.specs.Reply.{element_spelling, reply_spelling};
 ghost use Rattle.resp2.specs.Writing.{AppendsBeginning};
 ghost use Rattle.resp2.specs.Parts.{parts_spelling};
 
-use crate::counting::{Counting, counted};
+use crate::counting::Counting;
 use crate::parts::{Parts, Pieces, parts_of, pieces_of};
 use crate::whole::write_whole;
 use itoa::Buffer;
@@ -42,9 +42,10 @@ pub fn send_reply<W: Write>(reply: &Reply, out: &mut Counting<W>) -> io::Result<
         (AppendsBeginning (W.contents (inner_of out.old)) (W.contents (inner_of out.new)) (reply_spelling reply.now)) }
     ensures ok { OnOk result (failures_of out.new ≡ failures_of out.old) }
     ensures err { OnErr result (HasRisen (failures_of out.old) (failures_of out.new)) }
+    ensures left { OnErr result (failed_of out.new ≡ inner_of out.new) }
 {
     let outcome = write_reply(reply, &mut out.inner);
-    counted(outcome, &mut out.failures)
+    out.counted(outcome)
 }
 
 /// Appends the reply to `out`, or nothing where memory is refused.

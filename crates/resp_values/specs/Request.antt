@@ -1,6 +1,6 @@
 -- Requests as a client sends them (RESP protocol, "Sending commands to a Redis server": an array of bulk strings).
 use Rattle.std.specs.Prelude.{◌<◌, ◌≤◌, ℕ, List, [], ◌∷◌, ◌++◌, length, decimal, All}
-use Rattle.resp_values.specs.declared.words.TheConstants.{MOST_WORDS, MOST_WORD_BYTES, MOST_REQUEST_BYTES}
+use Rattle.resp_values.specs.Limits.{most_words, most_word_bytes, most_request_bytes}
 
 -- the end of a line
 abbrev pub crlf : List ℕ
@@ -27,13 +27,13 @@ request_spelling words = header_spelling 42 (length words) ++ bulks_spelling wor
 
 -- there are not too many words, and none is too long
 pub record WordsKeepLimits (words : List (List ℕ)) : Type 0 where
-  pub few : length words ≤ MOST_WORDS
-  pub short : All (λ word. length word ≤ MOST_WORD_BYTES) words
+  pub few : length words ≤ most_words
+  pub short : All (λ word. length word ≤ most_word_bytes) words
 
 -- and their request doesn't have too many bytes
 pub record KeepsLimits (words : List (List ℕ)) : Type 0 where
   pub each : WordsKeepLimits words
-  pub all : length (request_spelling words) ≤ MOST_REQUEST_BYTES
+  pub all : length (request_spelling words) ≤ most_request_bytes
 
 -- the words of a request that a server replies to
 pub record IsRequest (words : List (List ℕ)) : Type 0 where

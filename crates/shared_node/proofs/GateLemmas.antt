@@ -1,8 +1,10 @@
 -- What a gate answers.
-use Rattle.std.proofs.Common.{◌≡◌, ◌⊎◌, ◌<◌, ◌≤◌, ◌^◌, ℕ, List, IfErr, IfOk, Option, Some, None, inl, inr, length, subst}
-use Rattle.std.specs.Prelude.{IfSome, Result, Ok, Err}
+use Rattle.std.proofs.Common.{◌≡◌, ◌⊎◌, ◌<◌, ◌≤◌, ◌^◌, ◌++◌, ◌∷◌, [], ℕ, List, IfErr, IfOk, Option, Some, None, true, true≢false, inl, inr, length, subst, sym}
+use Rattle.std.specs.Prelude.{IfSome, Result, Ok, Err, is_some}
 use Rattle.cluster_config.specs.Config.{ClusterConfig}
 use Rattle.connections.specs.declared.conn.Conn.{Conn}
+use Rattle.node_gate.specs.Asks.{Asked}
+use Rattle.node_gate.specs.Asks.Asked.{waiting}
 use Rattle.node_step.specs.State.{NodeState, first_state}
 use Rattle.node_step.specs.declared.event.Event.{Event}
 use Rattle.node_cell.specs.Journal.{CellView, EnteredView, Enters, IsGiven, IsHistory, IsReachable, IsReason, IsRefused}
@@ -67,3 +69,9 @@ may_give_if_taken config own node journal state conn (Some reply) same is_node h
       reachable = reachable config own node journal state same is_node history;
       given = given;
     }
+
+-- a reply that came at last is noted behind what was asked before the wait
+pub noted_at_last : (conn : Conn) (result : Option Reply) (begun old new : List Asked) → is_some result ≡ true → old ≡ begun
+    → IfSome result (λ reply. new ≡ old ++ waiting conn (Some reply) ∷ []) → new ≡ begun ++ waiting conn result ∷ []
+noted_at_last conn None begun old new came same noted = absurd (true≢false (sym came))
+noted_at_last conn (Some reply) begun old new came same noted = subst (λ (asks : List Asked). new ≡ asks ++ waiting conn (Some reply) ∷ []) same noted

@@ -105,11 +105,8 @@ impl<'n, C: HoldsCell + Drop, R: Wait> Gate<'n, C, R> {
             Some(locked) => locked,
             None => self.node.lock(&self.rt),
         };
-        let found = locked.take_reply(conn);
+        let found = locked.take_reply(&mut self.asks, conn);
         self.held = Some(locked);
-        if found.is_some() {
-            self.asks.note_wait(conn, &found);
-        }
         found
     }
 
@@ -161,9 +158,7 @@ impl<'n, C: HoldsCell + Drop, R: Wait> NodeGate for Gate<'n, C, R> {
     fn wait(&mut self, conn: Conn) -> Option<Reply> {
         let cell = self.take_or_lock();
         self.tell();
-        let reply = wait_at(&self.rt, self.node, cell, conn);
-        self.asks.note_wait(conn, &reply);
-        reply
+        wait_at(&self.rt, self.node, cell, &mut self.asks, conn)
     }
 
     fn release(&mut self) {
@@ -172,21 +167,27 @@ impl<'n, C: HoldsCell + Drop, R: Wait> NodeGate for Gate<'n, C, R> {
     }
 }
 
-// Waits at the node until it keeps a reply for the connection, or none will come any more.
+// Waits at the node until it keeps a reply for the connection, or none will come any more, and notes which.
 fn wait_at<'n, C: HoldsCell + Drop, R: Wait>(
     rt: &R,
     node: &SharedNode<C>,
     mut cell: MutexGuard<'n, C>,
+    asks: &mut Asks<C::Cluster>,
     conn: Conn,
 ) -> Option<Reply>
-    ensures { IfSome result (λ reply. MayGive C.Cluster.config conn reply) }
+    ensures asked { asks.new ≡ asks.old ++ waiting conn result ∷ [] }
+    ensures given { IfSome result (λ reply. MayGive C.Cluster.config conn reply) }
 {
     for _ in rt.forever() {
-        let reply = cell.take_reply(conn);
-        if reply.is_some() || node.is_closed() {
+        let reply = cell.take_reply(asks, conn);
+        if reply.is_some() {
             return reply;
+        }
+        if node.is_closed() {
+            break;
         }
         cell = node.wait_for_replies(rt, cell);
     }
+    asks.note_none(conn);
     None
 }

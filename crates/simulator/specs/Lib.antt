@@ -1,6 +1,7 @@
 pub mod Escaping
 pub mod Forms
 pub mod Lines
+pub mod Playing
 pub mod Printing
 pub mod Script
 pub mod Simulation

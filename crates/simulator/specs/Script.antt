@@ -3,7 +3,7 @@ use Rattle.std.specs.Prelude.{◌≡◌, ◌+◌, ◌++◌, ◌∷◌, ◌&&◌,
 use Rattle.std.specs.List.{list_all}
 use Rattle.command_table.specs.Numbers.{count_of, positive_of}
 use Rattle.resp_values.specs.Request.{request_spelling}
-use Rattle.resp_values.specs.declared.words.TheConstants.{MOST_WORDS, MOST_WORD_BYTES, MOST_REQUEST_BYTES}
+use Rattle.resp_values.specs.Limits.{most_words, most_word_bytes, most_request_bytes}
 use Rattle.world.specs.declared.step.Step.{Step}
 use Rattle.world.specs.declared.step.Step.TheVariants.{Call, Carry, Return, Cut, Late, Admin, Tick, Stop, Deliver}
 use Rattle.simulator.specs.Forms.{form_of}
@@ -16,9 +16,9 @@ use Rattle.simulator.specs.declared.form.StepForm.TheVariants as form
 -- the words keep the limits of a request
 abbrev pub is_request : List (List ℕ) → Bool
 is_request request =
-    nat_lt 0 (length request) && nat_le (length request) MOST_WORDS
-    && list_all (λ word. nat_le (length word) MOST_WORD_BYTES) request
-    && nat_le (length (request_spelling request)) MOST_REQUEST_BYTES
+    nat_lt 0 (length request) && nat_le (length request) most_words
+    && list_all (λ word. nat_le (length word) most_word_bytes) request
+    && nat_le (length (request_spelling request)) most_request_bytes
 
 abbrev pub request_of : List (List ℕ) → Option (List (List ℕ))
 request_of request = if is_request request then Some request else None

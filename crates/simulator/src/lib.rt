@@ -4,12 +4,13 @@
 mod escaping;
 mod fault;
 mod form;
+mod incoming;
 mod lines;
 mod printing;
 mod script;
 mod simulation;
 
-pub use fault::ScriptFault;
+pub use fault::{ScriptFault, SimulationFault};
 pub use form::{FORMS, StepForm, StepRow};
 pub use printing::{print_outputs, print_reply};
 pub use script::read_script;

@@ -126,7 +126,7 @@ turn_leads client call happened.NotConnected may bounded = tt
 turn_leads client call (happened.Reply reply) may bounded = answered_leads call.stage client call reply refl bounded
 turn_leads client call happened.BadReply may bounded = tt
 turn_leads client call (happened.Broken handed) may bounded = tt
-turn_leads client call happened.NoMemory may bounded = tt
+turn_leads client call (happened.NoMemory handed) may bounded = tt
 
 -- ---- steps
 

@@ -9,7 +9,7 @@ use Rattle.resp_values.specs.declared.reply.Reply.{Reply}
 use Rattle.resp_values.specs.declared.reply.Reply.TheVariants.{Simple, Error, Integer, Bulk, Null, Array}
 use Rattle.redirection.specs.Address.{Place}
 use Rattle.smart_client.specs.Calls.{AreWithin, ClientView, Deed, IsCallOf, IsDone, IsRefusal, IsRun, IsWithin, WiresMove, is_begun, is_refusing, moments_of, pool_behind, wires_closed_if}
-use Rattle.smart_client.specs.Causes.{AreSettled, EndsSettled, FaultsHaveCauses, HasCause, IsCutBefore, IsLost, IsSettled, MissedLast, SentLast}
+use Rattle.smart_client.specs.Causes.{AreSettled, EndsSettled, FaultsHaveCauses, HasCause, HasNoEffect, IsCutBefore, IsLost, IsSettled, MissedLast, SentLast}
 use Rattle.smart_client.specs.ErrorKind.{kind_of}
 use Rattle.smart_client.specs.Pool.{Pool, closed, is_lost, place_in, pool_after, with_new}
 use Rattle.smart_client.specs.State.{ClientState}
@@ -44,7 +44,7 @@ is_false so = cc
 -- the command is open behind it, once it was sent
 abbrev IsOpen : Event → Type 0
 IsOpen (happened.Broken handed) = handed ≡ true
-IsOpen happened.NoMemory = ⊤
+IsOpen (happened.NoMemory handed) = handed ≡ true
 IsOpen _ = ⊥
 
 -- it comes before a byte of the command went out
@@ -64,7 +64,7 @@ Fits stage event (Ok reply) = ⊤
 Fits stage event (Err fault.Lost) = (stage ≡ Sent) × IsOpen event
 Fits stage event (Err fault.TooManyRedirects) = IsRefusal event
 Fits stage event (Err fault.StillTryAgain) = IsRefusal event
-Fits stage event (Err fault.Memory) = stage ≡ Sent → IsRefusal event
+Fits stage event (Err fault.Memory) = stage ≡ Sent → HasNoEffect event
 Fits stage event (Err fault.NotConnected) = IsCut stage event
 Fits stage event (Err fault.BadReply) = IsAnswer event
 Fits stage event (Err fault.NotData) = ⊥
@@ -76,11 +76,12 @@ broken_fits Asking handed = refl
 broken_fits Sent true = (refl, refl)
 broken_fits Sent false = refl
 
-short_fits : (stage : Stage) → Fits stage happened.NoMemory (Err (without_memory stage))
-short_fits Connecting = λ is. cc
-short_fits Introducing = λ is. cc
-short_fits Asking = λ is. cc
-short_fits Sent = (refl, tt)
+short_fits : (stage : Stage) (handed : Bool) → Fits stage (happened.NoMemory handed) (Err (without_memory stage handed))
+short_fits Connecting handed = λ is. cc
+short_fits Introducing handed = λ is. cc
+short_fits Asking handed = λ is. cc
+short_fits Sent true = (refl, refl)
+short_fits Sent false = λ is. inr refl
 
 turn_fits : (client : ClientState) (call : Call) (event : Event) → MayComeTo call.stage event → EndsIn (Fits call.stage event) (turn client call event)
 turn_fits client call (happened.Call words) may = absurd may
@@ -89,7 +90,7 @@ turn_fits client call happened.NotConnected may = tt
 turn_fits client call (happened.Reply reply) may = answered_so (Fits call.stage (happened.Reply reply)) reply tt tt (λ refusal. refusal) (λ refusal. refusal) call.stage client call
 turn_fits client call happened.BadReply may = tt
 turn_fits client call (happened.Broken handed) may = broken_fits call.stage handed
-turn_fits client call happened.NoMemory may = short_fits call.stage
+turn_fits client call (happened.NoMemory handed) may = short_fits call.stage handed
 
 -- memory is taken behind a reply to the command where that refuses it
 taken_by : (kind : ErrorKind) (client : ClientState) (call : Call) (text : List ℕ) → IsTrue (takes_memory (failed kind client call text)) → is_refusing kind
@@ -113,7 +114,7 @@ taken client call happened.NotConnected may takes is = absurd may
 taken client call (happened.Reply reply) may takes is = taken_behind reply client call (subst (λ (stage : Stage). IsTrue (takes_memory (answered stage client call reply))) is takes)
 taken client call happened.BadReply may takes is = absurd (is_false takes)
 taken client call (happened.Broken handed) may takes is = absurd (is_false takes)
-taken client call happened.NoMemory may takes is = absurd (is_false takes)
+taken client call (happened.NoMemory handed) may takes is = absurd (is_false takes)
 
 fits : (old new : ClientState) (call : Call) (event : Event) (answer : Answer) (close : Bool) → old.call ≡ Some call → MayComeTo call.stage event → Steps old event (Done answer close) new
     → Fits call.stage event answer × (close ≡ closes answer)
@@ -127,7 +128,7 @@ fits old new call event answer close is may steps =
         (given (Fits call.stage event) (turn (record old { call = None }) call event) old new answer close ends made, shuts (Fits call.stage event) (turn (record old { call = None }) call event) old new answer close ends made)
     go (inr refused) = (
       subst (Fits call.stage event) (sym (same_answer answer (Err fault.Memory) close _ refused.1.1))
-          (λ (sent : call.stage ≡ Sent). taken (record old { call = None }) call event (subst (λ (stage : Stage). MayComeTo stage event) sent may) refused.0 sent),
+          (λ (sent : call.stage ≡ Sent). inl (taken (record old { call = None }) call event (subst (λ (stage : Stage). MayComeTo stage event) sent may) refused.0 sent)),
       same_close answer (Err fault.Memory) close refused.1.1,
     )
 
@@ -154,7 +155,7 @@ goes_on old new call event action is steps =
     go (happened.Reply reply) (inl follows) = inr tt
     go happened.BadReply (inl follows) = inl (is_done _ follows)
     go (happened.Broken handed) (inl follows) = inl (is_done _ follows)
-    go happened.NoMemory (inl follows) = inl (is_done _ follows)
+    go (happened.NoMemory handed) (inl follows) = inl (is_done _ follows)
 
 -- a connection is in use
 abbrev IsUsed : Pool → Type 0
@@ -174,7 +175,7 @@ used_behind action (happened.Call words) pool old new on moves = absurd on
 used_behind action happened.NotConnected pool old new on moves = absurd on
 used_behind action happened.BadReply pool old new on moves = absurd on
 used_behind action (happened.Broken handed) pool old new on moves = absurd on
-used_behind action happened.NoMemory pool old new on moves = absurd on
+used_behind action (happened.NoMemory handed) pool old new on moves = absurd on
 used_behind (Connect address) happened.Connected pool old new on moves = turned_used (place_in pool.addresses address == length pool.addresses) address pool
 used_behind (Connect address) (happened.Reply reply) pool old new on moves = absurd moves
 used_behind (Send words) happened.Connected pool old new on moves = sent_used words happened.Connected pool.used old new on moves
@@ -203,7 +204,7 @@ keeps action (happened.Call words) pool old new on moves = absurd on
 keeps action happened.NotConnected pool old new on moves = absurd on
 keeps action happened.BadReply pool old new on moves = absurd on
 keeps action (happened.Broken handed) pool old new on moves = absurd on
-keeps action happened.NoMemory pool old new on moves = absurd on
+keeps action (happened.NoMemory handed) pool old new on moves = absurd on
 keeps (Connect address) happened.Connected pool old new on moves = joined_keeps (place_in pool.addresses address == length pool.addresses) address old new moves
 keeps (Connect address) (happened.Reply reply) pool old new on moves = absurd moves
 keeps (Send words) happened.Connected pool old new on moves = sent_keeps words happened.Connected pool.used old new refl moves
@@ -261,12 +262,12 @@ ends_at command limit client new deed answer close pool old reached (under call 
 
 -- a sending that isn't the last deed was refused
 is_settled : (command : List (List ℕ)) (limit : ℕ) (client after : ClientState) (deed : Deed) (action : Action) → is_refused command ≡ false → IsAt command limit client deed.action → IsWithin deed.event
-    → MayCome client.call deed.event → Steps client deed.event action after → ¬ IsDone action → deed.action ≡ Send command → IsRefusal deed.event
+    → MayCome client.call deed.event → Steps client deed.event action after → ¬ IsDone action → deed.action ≡ Send command → HasNoEffect deed.event
 is_settled command limit client after deed action plain (past none) within may steps goes sends = absurd (none_within deed.event (subst (λ (c : Option Call). MayCome c deed.event) none may) within)
 is_settled command limit client after deed action plain (under call is same of bounded asked) within may steps goes sends =
     elim (behind client after call deed.event action is (sends_it call.stage deed.action command plain asked sends) may steps) [
       | inl done ↦ absurd (goes done)
-      | inr refusal ↦ refusal
+      | inr refusal ↦ inl refusal
     ]
 
 -- a deed behind which the call goes on
@@ -314,13 +315,14 @@ abbrev outcome_in : Event → Outcome
 outcome_in (happened.Reply reply) = outcome.Reply reply
 outcome_in happened.BadReply = outcome.BadReply
 outcome_in (happened.Broken handed) = outcome.Broken handed
-outcome_in _ = outcome.NoMemory
+outcome_in (happened.NoMemory handed) = outcome.NoMemory handed
+outcome_in _ = outcome.NoMemory false
 
 back : (came : Outcome) → outcome_in (event_of came) ≡ came
 back (outcome.Reply reply) = refl
 back outcome.BadReply = refl
 back (outcome.Broken handed) = refl
-back outcome.NoMemory = refl
+back (outcome.NoMemory handed) = refl
 
 same_outcome : (came other : Outcome) → event_of came ≡ event_of other → came ≡ other
 same_outcome came other same = sym (back came) ∙ ap outcome_in same ∙ back other
@@ -391,7 +393,7 @@ module _ (command : List (List ℕ)) (old new : ClientView) (answer : Answer) (c
             ∙ ap (λ (others : List Channel). others ++ uses.after ∷ []) end.keeps.closed;
       }
 
-  settled_so : (end.last.action ≡ Send command → IsRefusal end.last.event) → EndsSettled command old new
+  settled_so : (end.last.action ≡ Send command → HasNoEffect end.last.event) → EndsSettled command old new
   settled_so refused = (deeds, done, subst (AreSettled command) (sym end.is) (All-push (IsSettled command) end.front end.last end.settled refused))
 
   -- a sending is awaited where no connection is
@@ -404,7 +406,8 @@ module _ (command : List (List ℕ)) (old new : ClientView) (answer : Answer) (c
   lost : (event : Event) → close ≡ true → end.last.event ≡ event → end.last.action ≡ Send command → IsOpen event → IsLost command old new
   lost (happened.Broken true) shut comes is left = inl (sent_last command (outcome.Broken true) (λ kept. shut) is comes)
   lost (happened.Broken false) shut comes is left = cc
-  lost happened.NoMemory shut comes is left = inr (sent_last command outcome.NoMemory (λ kept. shut) is comes)
+  lost (happened.NoMemory true) shut comes is left = inr (sent_last command (outcome.NoMemory true) (λ kept. shut) is comes)
+  lost (happened.NoMemory false) shut comes is left = cc
   lost (happened.Call words) shut comes is left = absurd left
   lost happened.Connected shut comes is left = absurd left
   lost happened.NotConnected shut comes is left = absurd left
@@ -443,7 +446,7 @@ module _ (command : List (List ℕ)) (old new : ClientView) (answer : Answer) (c
   cut happened.Connected comes may is = absurd is
   cut (happened.Reply reply) comes may is = absurd is
   cut happened.BadReply comes may is = absurd is
-  cut happened.NoMemory comes may is = absurd is
+  cut (happened.NoMemory handed) comes may is = absurd is
 
   bad : (event : Event) → close ≡ true → end.last.event ≡ event → IsAnswer event → HasCause fault.BadReply command old new
   bad (happened.Reply reply) shut comes is =
@@ -456,12 +459,12 @@ module _ (command : List (List ℕ)) (old new : ClientView) (answer : Answer) (c
   bad happened.Connected shut comes is = absurd is
   bad happened.NotConnected shut comes is = absurd is
   bad (happened.Broken handed) shut comes is = absurd is
-  bad happened.NoMemory shut comes is = absurd is
+  bad (happened.NoMemory handed) shut comes is = absurd is
 
   caused : (given : ClientFault) → Fits end.stage end.last.event (Err given) → close ≡ closes (Err given) → HasCause given command old new
   caused fault.Lost is shut = lost end.last.event shut refl (subst (λ (stage : Stage). IsFor stage end.last.action command) is.0 end.asked) is.1
-  caused fault.TooManyRedirects is shut = settled_so (λ _. is)
-  caused fault.StillTryAgain is shut = settled_so (λ _. is)
+  caused fault.TooManyRedirects is shut = settled_so (λ _. inl is)
+  caused fault.StillTryAgain is shut = settled_so (λ _. inl is)
   caused fault.Memory is shut = settled_so (λ sends. is (sends_it end.stage end.last.action command plain end.asked sends))
   caused fault.NotConnected is shut = cut end.last.event refl end.may is
   caused fault.BadReply is shut = bad end.last.event shut refl is

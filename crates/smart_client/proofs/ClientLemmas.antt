@@ -66,7 +66,7 @@ is_within (Connect address) event may = within_stage Connecting event may
     within_stage stage (happened.Reply reply) comes = tt
     within_stage stage happened.BadReply comes = tt
     within_stage stage (happened.Broken handed) comes = tt
-    within_stage stage happened.NoMemory comes = tt
+    within_stage stage (happened.NoMemory handed) comes = tt
 is_within (Send words) event may = within_sent event may
   where
     within_sent : (e : Event) → MayComeTo Sent e → IsWithin e
@@ -76,7 +76,7 @@ is_within (Send words) event may = within_sent event may
     within_sent (happened.Reply reply) comes = tt
     within_sent happened.BadReply comes = tt
     within_sent (happened.Broken handed) comes = tt
-    within_sent happened.NoMemory comes = tt
+    within_sent (happened.NoMemory handed) comes = tt
 is_within (Done answer close) event may = absurd may
 
 comes_to : (stage : Stage) (event : Event) → stage ≢ Connecting → MayComeTo Sent event → MayComeTo stage event

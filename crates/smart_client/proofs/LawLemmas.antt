@@ -78,7 +78,7 @@ behind_turn client old new call (happened.Reply reply) action is may follows = b
     by_reply (Array array) made = inl (ends_done _ old new action made)
 behind_turn client old new call happened.BadReply action is may follows = inl (ends_done _ old new action follows)
 behind_turn client old new call (happened.Broken handed) action is may follows = inl (ends_done _ old new action follows)
-behind_turn client old new call happened.NoMemory action is may follows = inl (ends_done _ old new action follows)
+behind_turn client old new call (happened.NoMemory handed) action is may follows = inl (ends_done _ old new action follows)
 
 pub behind : (old new : ClientState) (call : Call) (event : Event) (action : Action) → old.call ≡ Some call → call.stage ≡ Sent → MayCome old.call event → Steps old event action new → IsDone action ⊎ IsRefusal event
 behind old new call event action under is may steps =
@@ -105,7 +105,7 @@ none_within happened.NotConnected may within = may
 none_within (happened.Reply reply) may within = may
 none_within happened.BadReply may within = may
 none_within (happened.Broken handed) may within = may
-none_within happened.NoMemory may within = may
+none_within (happened.NoMemory handed) may within = may
 
 -- a step within the call
 pub stays : (words : List (List ℕ)) (limit : ℕ) (old new : ClientState) (event : Event) (wanted action : Action) → IsAt words limit old wanted → IsWithin event → MayCome old.call event → Steps old event action new → IsAt words limit new action

@@ -57,7 +57,7 @@ module _ (end : Channel â†’ Place) (made : (address : Place) (fresh : Channel) â
   leads_on (Connect address) (happened.Reply reply) pool old new lead moves = absurd moves
   leads_on (Connect address) happened.BadReply pool old new lead moves = absurd moves
   leads_on (Connect address) (happened.Broken handed) pool old new lead moves = absurd moves
-  leads_on (Connect address) happened.NoMemory pool old new lead moves = same_lead old new pool.addresses lead moves
+  leads_on (Connect address) (happened.NoMemory handed) pool old new lead moves = same_lead old new pool.addresses lead moves
   leads_on (Send words) event pool old new lead moves = used_on words event pool.addresses pool.used old new lead moves
   leads_on (Done answer close) event pool old new lead moves = absurd moves
 

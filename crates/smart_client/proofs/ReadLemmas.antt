@@ -27,7 +27,7 @@ turn_so client call happened.NotConnected = tt
 turn_so client call (happened.Reply reply) = answered_so (IsGiven (happened.Reply reply)) reply refl tt (λ _. tt) (λ _. tt) call.stage client call
 turn_so client call happened.BadReply = tt
 turn_so client call (happened.Broken handed) = tt
-turn_so client call happened.NoMemory = tt
+turn_so client call (happened.NoMemory handed) = tt
 
 next_so : (under : Option Call) (client : ClientState) (event : Event) → EndsIn (IsGiven event) (next under client event)
 next_so (Some call) client event = turn_so (record client { call = None }) call event
@@ -37,7 +37,7 @@ next_so None client happened.NotConnected = tt
 next_so None client (happened.Reply reply) = tt
 next_so None client happened.BadReply = tt
 next_so None client (happened.Broken handed) = tt
-next_so None client happened.NoMemory = tt
+next_so None client (happened.NoMemory handed) = tt
 
 gave : (old new : ClientState) (event : Event) (reply : Reply) (close : Bool) → Steps old event (Done (Ok reply) close) new → event ≡ happened.Reply reply
 gave old new event reply close (inl made) = given (IsGiven event) (next old.call old event) old new (Ok reply) close (next_so old.call old event) made

@@ -67,7 +67,7 @@ waits_begun client new event action none may steps =
     go (happened.Reply reply) may steps = absurd may
     go happened.BadReply may steps = absurd may
     go (happened.Broken handed) may steps = absurd may
-    go happened.NoMemory may steps = absurd may
+    go (happened.NoMemory handed) may steps = absurd may
 
 -- ---- where a call is under way
 

@@ -14,7 +14,7 @@ use Rattle.smart_client.specs.declared.action.Event.TheVariants as happened
 use Rattle.smart_client.specs.declared.call.Call.{Call}
 use Rattle.smart_client.specs.declared.call.Stage.{Stage}
 use Rattle.smart_client.specs.declared.call.Stage.TheVariants.{Connecting, Introducing, Asking, Sent}
-use Rattle.smart_client.specs.declared.client_core.TheConstants.{MOST_REDIRECTIONS}
+use Rattle.smart_client.specs.Limits.{most_redirections}
 use Rattle.smart_client.specs.declared.error_kind.ErrorKind.{ErrorKind}
 use Rattle.smart_client.specs.declared.error_kind.ErrorKind.TheVariants.{Redirection, TryAgain}
 
@@ -36,7 +36,7 @@ rank Sent = 0
 
 -- so many events may still come before the one that ends the call, at most
 abbrev pub left_of : ℕ → Call → ℕ
-left_of limit call = rank call.stage + 4 * ((MOST_REDIRECTIONS - call.redirections) + (limit - call.repeats))
+left_of limit call = rank call.stage + 4 * ((most_redirections - call.redirections) + (limit - call.repeats))
 
 -- each event brings a call nearer to its end
 abbrev pub Nears : ℕ → Option Call → Option Call → Type 0

@@ -8,15 +8,20 @@ use Rattle.smart_client.specs.Calls.{Calls, ClientView, Deed, IsRefusal, WiresMo
 use Rattle.smart_client.specs.Wires.{Channel, Wires, event_of}
 use Rattle.smart_client.specs.Words.{asking_words, is_refused, numbered_words}
 use Rattle.smart_client.specs.declared.action.Action.TheVariants.{Connect, Send}
+use Rattle.smart_client.specs.declared.action.Event.{Event}
 use Rattle.smart_client.specs.declared.action.Event.TheVariants as happened
 use Rattle.smart_client.specs.declared.fault.ClientFault.{ClientFault}
 use Rattle.smart_client.specs.declared.fault.ClientFault.TheVariants as fault
 
 -- ---- what was done
 
--- where the deed sent the command, it was answered by MOVED, ASK or TRYAGAIN: no node executed it then, and none still may
+-- MOVED, ASK or TRYAGAIN came, or memory was refused before any of it went out: no node executed it then, and none still may
+abbrev pub HasNoEffect : Event → Type 0
+HasNoEffect event = IsRefusal event ⊎ (event ≡ happened.NoMemory false)
+
+-- where the deed sent the command, that had no effect
 abbrev pub IsSettled : List (List ℕ) → Deed → Type 0
-IsSettled command deed = deed.action ≡ Send command → IsRefusal deed.event
+IsSettled command deed = deed.action ≡ Send command → HasNoEffect deed.event
 
 -- each of them is so
 abbrev pub AreSettled : List (List ℕ) → List Deed → Type 0
@@ -56,10 +61,10 @@ pub record MissedLast (command : List (List ℕ)) (old new : ClientView) : Type 
 abbrev pub IsInFront : List (List ℕ) → Type 0
 IsInFront words = (words ≡ numbered_words) ⊎ ((number : ℕ) × (words ≡ asking_words number))
 
--- the command was sent last: a byte of it went out, and then the writer or the reader failed, or the reader was at its end; or memory was
--- refused
+-- the command was sent last: a byte of it went out, and then the writer or the reader failed, or the reader was at its end; or all of it
+-- went out, and memory was refused
 abbrev pub IsLost : List (List ℕ) → ClientView → ClientView → Type 0
-IsLost command old new = SentLast command command (Broken true) old new ⊎ SentLast command command NoMemory old new
+IsLost command old new = SentLast command command (Broken true) old new ⊎ SentLast command command (NoMemory true) old new
 
 -- the node was not reached; or the writer failed before a byte of the command went out; or the connection failed or ended over what stands
 -- in front of the command
@@ -73,7 +78,7 @@ abbrev pub HasCome : Outcome → Type 0
 HasCome (Reply reply) = ⊤
 HasCome BadReply = ⊤
 HasCome (Broken handed) = ⊥
-HasCome NoMemory = ⊥
+HasCome (NoMemory handed) = ⊥
 
 -- the words are no command about data, and nothing was done
 pub record IsNotData (command : List (List ℕ)) (old new : ClientView) : Type 0 where

@@ -1,3 +1,4 @@
+pub mod Limits
 pub mod Step
 pub mod State
 pub mod Words

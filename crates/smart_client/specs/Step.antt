@@ -20,7 +20,7 @@ use Rattle.smart_client.specs.declared.action.Event.TheVariants as happened
 use Rattle.smart_client.specs.declared.call.Call.{Call}
 use Rattle.smart_client.specs.declared.call.Stage.{Stage}
 use Rattle.smart_client.specs.declared.call.Stage.TheVariants.{Connecting, Introducing, Asking, Sent}
-use Rattle.smart_client.specs.declared.client_core.TheConstants.{MOST_ADDRESSES, MOST_REDIRECTIONS}
+use Rattle.smart_client.specs.Limits.{most_addresses, most_redirections}
 use Rattle.smart_client.specs.declared.error_kind.ErrorKind.{ErrorKind}
 use Rattle.smart_client.specs.declared.error_kind.ErrorKind.TheVariants.{Redirection as Redirects, TryAgain, LastLine}
 use Rattle.smart_client.specs.declared.fault.ClientFault.{ClientFault}
@@ -82,7 +82,7 @@ with_address peers address =
 
 -- there is no room for it
 abbrev pub is_beyond : List Peer → Place → Bool
-is_beyond peers address = place_of peers address == MOST_ADDRESSES
+is_beyond peers address = place_of peers address == most_addresses
 
 -- ---- how a call goes on
 
@@ -164,7 +164,7 @@ redirected client call (Some (Ask slot to number)) = asked_at client call to num
 -- the error that answers the command
 abbrev pub failed : ErrorKind → ClientState → Call → List ℕ → Turn
 failed Redirects client call text =
-    if call.redirections == MOST_REDIRECTIONS then Ends (Err TooManyRedirects) else Reads text (redirected client call)
+    if call.redirections == most_redirections then Ends (Err TooManyRedirects) else Reads text (redirected client call)
 failed TryAgain client call text = again client call
 failed _ client call text = Ends (Ok (Error text))
 
@@ -185,10 +185,10 @@ abbrev pub broken : Stage → Bool → ClientFault
 broken Sent true = Lost
 broken _ _ = NotConnected
 
--- memory was refused
-abbrev pub without_memory : Stage → ClientFault
-without_memory Sent = Lost
-without_memory _ = Memory
+-- memory was refused: the command was handed over before, or it was not
+abbrev pub without_memory : Stage → Bool → ClientFault
+without_memory Sent true = Lost
+without_memory _ _ = Memory
 
 -- what a call makes of an event
 abbrev pub turn : ClientState → Call → Event → Turn
@@ -198,7 +198,7 @@ turn client call happened.NotConnected = Ends (Err NotConnected)
 turn client call (happened.Reply reply) = answered call.stage client call reply
 turn client call happened.BadReply = Ends (Err BadReply)
 turn client call (happened.Broken handed) = Ends (Err (broken call.stage handed))
-turn client call happened.NoMemory = Ends (Err (without_memory call.stage))
+turn client call (happened.NoMemory handed) = Ends (Err (without_memory call.stage handed))
 
 -- a call begins at the owner of the first key's slot
 abbrev pub begun : ClientState → List (List ℕ) → Turn
@@ -250,7 +250,7 @@ abbrev pub MayComeTo : Stage → Event → Type 0
 MayComeTo stage (happened.Call words) = ⊥
 MayComeTo Connecting happened.Connected = ⊤
 MayComeTo Connecting happened.NotConnected = ⊤
-MayComeTo Connecting happened.NoMemory = ⊤
+MayComeTo Connecting (happened.NoMemory handed) = ⊤
 MayComeTo Connecting _ = ⊥
 MayComeTo stage happened.Connected = ⊥
 MayComeTo stage happened.NotConnected = ⊥

@@ -6,14 +6,14 @@ use Rattle.smart_client.specs.Step.{Tells, Turn, takes_memory}
 use Rattle.smart_client.specs.Step.Turn.{Goes, Ends, Reads}
 use Rattle.smart_client.specs.declared.action.Action.{Action}
 use Rattle.smart_client.specs.declared.call.Call.{Call}
-use Rattle.smart_client.specs.declared.client_core.TheConstants.{MOST_REDIRECTIONS}
+use Rattle.smart_client.specs.Limits.{most_redirections}
 use Rattle.smart_client.specs.declared.ended.Ended.{Ended}
 use Rattle.smart_client.specs.declared.fault.ClientFault.TheVariants.{Memory}
 
 -- the call goes to a node that is known, and its counts are within their limits
 pub record IsCall (client : ClientState) (call : Call) : Type 0 where
   pub known : call.to < length client.peers
-  pub redirections : call.redirections ≤ MOST_REDIRECTIONS
+  pub redirections : call.redirections ≤ most_redirections
   pub repeats : call.repeats ≤ client.limit
 
 -- a node is known to begin with, each slot has its place, and owners are known

@@ -36,7 +36,7 @@ abbrev pub event_of : Outcome → Event
 event_of (outcome.Reply reply) = happened.Reply reply
 event_of outcome.BadReply = happened.BadReply
 event_of (outcome.Broken handed) = happened.Broken handed
-event_of outcome.NoMemory = happened.NoMemory
+event_of (outcome.NoMemory handed) = happened.NoMemory handed
 
 -- a request was sent, and this came of it
 pub record Brings (words : List (List ℕ)) (old : Channel) (event : Event) (new : Channel) : Type 0 where
@@ -101,7 +101,7 @@ abbrev pub Moves : Action → Event → Pool → Wires → Wires → Type 0
 Moves (Connect address) happened.Connected pool old new =
     MatchBool (place_in pool.addresses address == length pool.addresses) (Joins address old new) (new ≡ old)
 Moves (Connect address) happened.NotConnected pool old new = (new ≡ record old { failures = new.failures }) × HasFailed old.failures new.failures
-Moves (Connect address) happened.NoMemory pool old new = new ≡ old
+Moves (Connect address) (happened.NoMemory handed) pool old new = new ≡ old
 Moves (Connect address) event pool old new = ⊥
 Moves (Send words) event pool old new = Uses words event pool.used old new
 Moves (Done answer close) event pool old new = ⊥

@@ -23,7 +23,10 @@ pub enum Event {
         handed: bool,
     },
     /// Memory was refused for what the last action wants.
-    NoMemory,
+    NoMemory {
+        /// What was to be sent was handed to the connection before, all of it.
+        handed: bool,
+    },
 }
 
 /// What a client's core wants done.

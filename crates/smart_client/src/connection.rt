@@ -79,6 +79,6 @@ fn event_of(outcome: Outcome) -> Event
         Outcome::Reply(reply) => Event::Reply(reply),
         Outcome::BadReply => Event::BadReply,
         Outcome::Broken { handed } => Event::Broken { handed },
-        Outcome::NoMemory => Event::NoMemory,
+        Outcome::NoMemory { handed } => Event::NoMemory { handed },
     }
 }

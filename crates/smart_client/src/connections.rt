@@ -86,7 +86,7 @@ impl<C: Connect + Drop> Connections<C> {
         match self.open(address) {
             Ok(()) => Event::Connected,
             Err(ConnectFault::NotReached) => Event::NotConnected,
-            Err(ConnectFault::Memory) => Event::NoMemory,
+            Err(ConnectFault::Memory) => Event::NoMemory { handed: false },
         }
     }
 

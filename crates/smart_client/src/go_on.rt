@@ -28,7 +28,7 @@ impl ClientCore {
             Event::Reply(reply) => self.answered(call, reply),
             Event::BadReply => Err(ClientFault::BadReply.into()),
             Event::Broken { handed } => Err(broken(call.stage, handed).into()),
-            Event::NoMemory => Err(without_memory(call.stage).into()),
+            Event::NoMemory { handed } => Err(without_memory(call.stage, handed).into()),
             Event::Call(_) => unreachable!(),
         }
     }
@@ -238,12 +238,12 @@ fn broken(stage: Stage, handed: bool) -> ClientFault
     }
 }
 
-// Memory was refused.
-fn without_memory(stage: Stage) -> ClientFault
-    ensures { result ≡ without_memory stage }
+// Memory was refused: the command was handed over before, or it was not.
+fn without_memory(stage: Stage, handed: bool) -> ClientFault
+    ensures { result ≡ without_memory stage handed }
 {
     match stage {
-        Stage::Sent => ClientFault::Lost,
+        Stage::Sent if handed => ClientFault::Lost,
         _ => ClientFault::Memory,
     }
 }

@@ -56,10 +56,10 @@ first_stream id = record { held = begun id 0; offset = 0; partial = []; former =
 abbrev pub written : ℕ → List ℕ → StreamView → StreamView
 written dropped bytes stream = record stream { held = with_appended dropped bytes stream.held; offset = stream.offset + length bytes }
 
--- the same, with some number of bytes in front that are kept no longer
-pub record Writes (bytes : List ℕ) (old new : StreamView) : Type 0 where
+-- the same, with some number of bytes in front that are kept no longer; the last ones are, as many as are to be kept
+pub record Writes (kept : ℕ) (bytes : List ℕ) (old new : StreamView) : Type 0 where
   pub dropped : ℕ
-  pub within : dropped ≤ length old.held.bytes + length bytes
+  pub within : dropped ≤ length old.held.bytes + length bytes - kept
   pub stream : new ≡ written dropped bytes old
 
 -- a replica that becomes a master drops the begun write and goes on from its offset under an id of its own. The former id

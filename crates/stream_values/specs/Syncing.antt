@@ -5,7 +5,6 @@ use Rattle.stream_values.specs.Piece.{PieceView}
 use Rattle.stream_values.specs.Stream.{Held, StreamView, end_of, is_same}
 use Rattle.stream_values.specs.declared.answer.SyncAnswer.{SyncAnswer}
 use Rattle.stream_values.specs.declared.answer.SyncAnswer.TheVariants.{UpToDate, Piece, Snapshot}
-use Rattle.stream_values.specs.declared.answer.TheConstants.{MOST_PIECE_BYTES}
 use Rattle.stream_values.specs.declared.stream_id.Base.{Base}
 use Rattle.stream_values.specs.declared.sync.Sync.{Sync}
 
@@ -27,7 +26,7 @@ abbrev pub piece_from : StreamView → ℕ → PieceView
 piece_from stream place = record {
   stream = stream.held.id;
   from = place;
-  bytes = take MOST_PIECE_BYTES (drop (place - stream.held.first) stream.held.bytes);
+  bytes = take 65536 (drop (place - stream.held.first) stream.held.bytes);
   base = stream.former;
 }
 

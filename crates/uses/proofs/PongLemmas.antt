@@ -1,6 +1,6 @@
 -- What a conversation with the node of PONGs writes.
 use Rattle.std.proofs.Common.{◌≡◌, ℕ, List, [], ◌∷◌, ◌++◌, length, sym, ap, subst, ◌∙◌, append_assoc, append-nil, inl, inr, refl, ◌⊎◌}
-use Rattle.std.specs.Prelude.{Some, All, Ok, Err, Result, map}
+use Rattle.std.specs.Prelude.{Option, Some, All, Ok, Err, Result, map}
 use Rattle.std.specs.List.{AllByRecursion, flat_map}
 use Rattle.std.proofs.lemmas.List.Elements.{All-from_recursion, All-head, All-tail}
 use Rattle.resp2.specs.Law.{IsStream, NoUnfinishedIsWhole, StreamIsReadInOneWay}
@@ -22,7 +22,7 @@ use Rattle.listener.specs.declared.requests.Rest.{Rest}
 use Rattle.listener.specs.declared.requests.Rest.TheVariants.{Unfinished, BadByte}
 use Rattle.listener.specs.declared.fault.ConnFault.{ConnFault}
 use Rattle.listener.specs.Conversation.{ComesBy, Converses, EndsUnopened, Exchange, Serves, Tells, asked_for, awaited, line_of, replies_bytes}
-use Rattle.listener.specs.Streams.{Change, IsAllowed, Stream}
+use Rattle.listener.specs.Streams.{Change, IsAllowed, Stream, change}
 use Rattle.uses.proofs.RequestLemmas.{all_keep_limits}
 use Rattle.uses.specs.Pongs.{pong, pongs, pong_answer, outputs_for, AreAnsweredExactly, EndsInTime, EndsBadly}
 
@@ -79,12 +79,12 @@ still_bad fault rest more bad =
       first = bad.first;
     }
 
-abbrev known : ℕ → ℕ → List ℕ → List ℕ → Change Stream
-known before after old new = record { old = record { bytes = Some old; failures = before }; new = record { bytes = Some new; failures = after } }
+abbrev holding : List ℕ → ℕ → Option (List ℕ) → Stream
+holding bytes failures at_failure = record { bytes = Some bytes; failures = failures; at_failure = at_failure }
 
-module _ (none_whole : NoUnfinishedIsWhole) (one_way : StreamIsReadInOneWay) (asked : Change (List Asked)) (input left output : List ℕ) (r r' : ℕ) where
+module _ (none_whole : NoUnfinishedIsWhole) (one_way : StreamIsReadInOneWay) (asked : Change (List Asked)) (input left output : List ℕ) (r r' : ℕ) (f f' : Option (List ℕ)) where
   abbrev ConversesOn : Rest → List ℕ → Type 0
-  ConversesOn rest replies = Converses allowed asked (known r r' input left) (Ok rest) replies
+  ConversesOn rest replies = Converses allowed asked (change (holding input r f) (holding left r' f')) (Ok rest) replies
 
   spelled : (rest : Rest) (replies : List ℕ) (c : ConversesOn rest replies)
       → input ≡ stream_spelling c.talk.requests ++ (c.talk.tail.rest ++ left)
@@ -152,15 +152,15 @@ module _ (none_whole : NoUnfinishedIsWhole) (one_way : StreamIsReadInOneWay) (as
         written = written BadByte replies c wrote;
       }
 
-  by_end : (ended : Result Rest ConnFault) (replies : List ℕ) (w w' : ℕ)
-      → Converses allowed asked (known r r' input left) ended replies ⊎ EndsUnopened allowed asked (known r r' input left) ended replies
-      → Tells (Ok tt) ended (known w w' [] output) (replies ++ line_of ended) → AreAnsweredExactly input output
-  by_end (Ok rest) replies w w' (inl c) tells = answered rest replies c tells.1.appends
-  by_end (Ok rest) replies w w' (inr unopened) tells = absurd (let e : Ok rest ≡ Err unopened.fault = unopened.failed in cc)
-  by_end (Err fault) replies w w' talked tells = absurd (let e : Ok tt ≡ Err fault = tells.0 in cc)
+  by_end : (ended : Result Rest ConnFault) (replies : List ℕ) (w w' : ℕ) (g g' : Option (List ℕ))
+      → Converses allowed asked (change (holding input r f) (holding left r' f')) ended replies ⊎ EndsUnopened allowed asked (change (holding input r f) (holding left r' f')) ended replies
+      → Tells (Ok tt) ended (change (holding [] w g) (holding output w' g')) (replies ++ line_of ended) → AreAnsweredExactly input output
+  by_end (Ok rest) replies w w' g g' (inl c) tells = answered rest replies c tells.1.appends
+  by_end (Ok rest) replies w w' g g' (inr unopened) tells = absurd (let e : Ok rest ≡ Err unopened.fault = unopened.failed in cc)
+  by_end (Err fault) replies w w' g g' talked tells = absurd (let e : Ok tt ≡ Err fault = tells.0 in cc)
 
 -- what a served client reads
-pub are_answered_exactly : (input left output : List ℕ) (asked : Change (List Asked)) (r r' w w' : ℕ) → NoUnfinishedIsWhole → StreamIsReadInOneWay
-    → Serves allowed asked (known r r' input left) (known w w' [] output) (Ok tt) → AreAnsweredExactly input output
-are_answered_exactly input left output asked r r' w w' none_whole one_way serves =
-    by_end none_whole one_way asked input left output r r' serves.ended serves.replies w w' serves.talked serves.told
+pub are_answered_exactly : (input left output : List ℕ) (asked : Change (List Asked)) (r r' w w' : ℕ) (f f' g g' : Option (List ℕ)) → NoUnfinishedIsWhole → StreamIsReadInOneWay
+    → Serves allowed asked (change (holding input r f) (holding left r' f')) (change (holding [] w g) (holding output w' g')) (Ok tt) → AreAnsweredExactly input output
+are_answered_exactly input left output asked r r' w w' f f' g g' none_whole one_way serves =
+    by_end none_whole one_way asked input left output r r' f f' serves.ended serves.replies w w' g g' serves.talked serves.told

@@ -16,7 +16,6 @@ use Rattle.world.specs.declared.client.Late.{Late}
 use Rattle.world.specs.declared.client.Link.{Link}
 use Rattle.world.specs.declared.client.Traffic.{Traffic}
 use Rattle.world.specs.declared.client.Traffic.TheVariants.{Quiet, Asked, Answered}
-use Rattle.world.specs.declared.client.TheConstants.{MOST_REPEATS}
 use Rattle.world.specs.declared.output.Output.{Output}
 use Rattle.world.specs.declared.output.Output.TheVariants as output
 
@@ -42,7 +41,7 @@ place_at (Some node) = record { host = node.host; port = node.port }
 abbrev pub new_client : ClusterConfig → ℕ → ClientView
 new_client config number = record {
   number = number;
-  core = first_client (place_at (slice_get config.nodes 0)) MOST_REPEATS;
+  core = first_client (place_at (slice_get config.nodes 0)) 16;
   pool = replicate (length config.nodes) None;
   traffic = Quiet;
   late = [];

@@ -34,4 +34,4 @@ returns-in_ok-wait-in-Hear-clause-answered g c out =
 pub returns-in_ok-wait-in-Hear-clause-shorter : goal.returns-in_ok-wait-in-Hear-clause-shorter
 returns-in_ok-wait-in-Hear-clause-shorter g c =
     rw c.wait.ensures.same.1
-    (parks_shorter _ _ _ _ (rw c.in-Hear.is at c.in_ok-answer.ensures.turns (room_is_here _ c.requires.room) (record { bytes = None; failures = 0 })))
+    (parks_shorter _ _ _ _ (rw c.in-Hear.is at c.in_ok-answer.ensures.turns (room_is_here _ c.requires.room) (record { bytes = None; failures = 0; at_failure = None })))

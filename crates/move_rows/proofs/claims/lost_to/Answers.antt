@@ -17,7 +17,7 @@ returns g c =
     let by_claim : List (Option SlotEntry) → List ℕ = λ table. changed table (merged table c.args.claim.now c.args.from) in
     let mine = λ (slot : ℕ). is_owner (owner_at node.table slot) node.number in
     let table : c.node.inside.table ≡ node.table = ap (λ (state : NodeState). state.table) c.node.view_is in
-    let whole : length node.table ≡ 16384 = ap (length {A = Option SlotEntry}) (sym table) ∙ c.node.invariant in
+    let whole : length node.table ≡ 16384 = ap (length {A = Option SlotEntry}) (sym table) ∙ c.node.invariant.0 in
     let past : length items ≤ c.loop-slot.slot-index = omega arith in
     let all : items ≡ by_claim node.table = c.deref-slot-items.ensures.value ∙ c.in_ok-changes.ensures ∙ ap by_claim table in
     let so_far : lost ≡ filter mine (take c.loop-slot.slot-index items) = c.loop-slot.invariant in

@@ -10,4 +10,4 @@ returns-in_err-flush-clause-err g c =
 pub returns-in_err-send_held-clause-err : goal.returns-in_err-send_held-clause-err
 returns-in_err-send_held-clause-err g c =
     let p = err_from_is_err_and c.from_residual-in_err-send_held.result c.from_residual-in_err-send_held.ensures.1 in
-    rw p.1 (fails_behind _ _ _ _ _ c.in_ok-flush.ensures.ok c.in_err-send_held.ensures.err.begun c.in_err-send_held.ensures.err.risen)
+    rw p.1 (fails_behind _ _ _ _ _ c.in_ok-flush.ensures.ok c.in_err-send_held.ensures.err)

@@ -1,9 +1,9 @@
-use Rattle.std.proofs.Common.{sym, subst}
+use Rattle.std.proofs.Common.{sym, subst, ◌∙◌}
 use Rattle.node_parts.proofs.HalfLemmas.{both_halves}
 use Rattle.node_parts.proofs.parts.NodeParts.change_and_write.Goals as goal
 use Rattle.node_parts.specs.Becomes.{CanBeMade}
 use Rattle.node_parts.specs.Making.{GoesOn, IsMade}
-use Rattle.node_step.specs.State.{NodeState}
+use Rattle.node_step.specs.State.{NodeState, kept_in}
 
 pub returns-clause-ok : goal.returns-clause-ok
 returns-clause-ok g c =
@@ -13,4 +13,5 @@ returns-clause-ok g c =
     subst (λ (node : NodeState). IsMade node plan change bytes c.finish.new.self) c.self.view_is
     (both_halves _ c.finish.new.self plan _ c.begin.new.moves c.write.new.stream.stream change bytes
     (subst (λ (node : NodeState). CanBeMade node plan change) (sym c.self.view_is) c.requires) c.in_ok-begin.ensures.begun
-    (subst (λ stream. GoesOn bytes stream c.write.new.stream.stream) c.in_ok-make_room.ensures.stream c.write.ensures) c.finish.ensures)
+    (subst (λ stream. GoesOn (kept_in c.self.inside.config) bytes stream c.write.new.stream.stream) c.in_ok-make_room.ensures.stream
+    (subst (λ kept. GoesOn kept bytes c.make_room.new.stream.stream c.write.new.stream.stream) (c.make_room.ensures.keeps ∙ c.self.invariant.1) c.write.ensures.goes_on)) c.finish.ensures)

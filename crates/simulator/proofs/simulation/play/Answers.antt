@@ -2,7 +2,7 @@ use Rattle.std.proofs.Common.{◌≡◌, rules}
 use Rattle.std.specs.List.{flat_map}
 use Rattle.simulator.proofs.Simulated.{simulated}
 use Rattle.simulator.specs.Printing.{printed}
-use Rattle.simulator.proofs.simulation.simulate.Goals as goal
+use Rattle.simulator.proofs.simulation.play.Goals as goal
 
 pub returns : goal.returns
 returns c =
