@@ -1,0 +1,3 @@
+module rclustertest
+
+go 1.19
