@@ -36,7 +36,7 @@ class Cluster:
         self.addresses = [line.split()[2] for line in lines if line.startswith("node ")]
         if len(self.addresses) != len(lines):
             self.end()
-            raise RuntimeError(f"the cluster isn't served: {lines[0]}")
+            raise RuntimeError(f"the cluster isn't served, as standard error says: {lines[0]}")
         return self
 
     def start(self, port):
@@ -56,7 +56,7 @@ class Cluster:
     def __exit__(self, error, *_rest):
         verdict = "audit ok" if error or not self.ticks else self.verdict()
         self.end()
-        assert verdict.startswith("audit ok"), verdict
+        assert verdict.startswith("audit ok"), verdict or "the program ended without a verdict"
 
     def verdict(self):
         """The last line, once the ticks are over: `audit ok` with the number of steps, or a fault."""
