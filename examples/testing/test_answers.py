@@ -66,7 +66,7 @@ def test_clusterdown():
 
 
 def test_failover():
-    with Cluster("--stop", "2@20", replicas=1, ticks=60) as cluster:
+    with Cluster("--stop", "2@20", replicas=1, ticks=100) as cluster:
         assert ask(cluster.addresses[2], "SET foo bar") == ["+OK"]
         wait_until(lambda: fails(cluster.addresses[2], "GET foo"))
         wait_until(lambda: ask(cluster.addresses[0], "GET foo") == [f"-MOVED {SLOT} {cluster.addresses[5]}"])
