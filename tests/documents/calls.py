@@ -2,8 +2,6 @@
 type. A method is compared with all methods of its name, and what no crate here has is passed over.
 """
 
-import collections
-import os
 import re
 
 import texts
@@ -123,8 +121,8 @@ def inside(text, at):
     result, depth, begin = [], 0, at + 1
     for place in range(at, closing(text, at) + 1):
         letter = text[place]
-        is_angle = letter == ">" and text[place - 1] in "-="
-        depth += (letter in "([{<") - (letter in ")]}>" and not is_angle)
+        is_arrow = letter == ">" and text[place - 1] in "-="
+        depth += (letter in "([{<") - (letter in ")]}>" and not is_arrow)
         if depth == 1 and letter == "," or depth == 0:
             result.append(text[begin:place].strip())
             begin = place + 1
