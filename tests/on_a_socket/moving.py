@@ -18,7 +18,7 @@ SOURCE, TARGET = 2, 1
 # How many clients count while the slot moves, and how often it moves.
 COUNTERS, MOVES = 4, 12
 # How many seconds a node may take to learn what another one tells it.
-PATIENCE = 5
+PATIENCE = 20
 NOT_ACKNOWLEDGED = b"-IOERR copy not acknowledged\r\n"
 NOT_DRAINED = b"-ERR slot is not drained\r\n"
 

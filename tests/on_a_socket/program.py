@@ -13,8 +13,8 @@ PATH = os.path.abspath(os.path.join(os.path.dirname(os.path.abspath(__file__)), 
 LOOPS = 0
 # The line that says that clients with a thread each wait for each other.
 CROWD = re.compile(rb"rcluster: [0-9.]+ node [0-9]+: its clients wait for each other, [^\n]*\n")
-# How long the program may take to begin or to end, in seconds.
-PATIENCE = 20
+# How long the program may take to begin or to end, in seconds: on a slow host a run that moves 2,000 slots takes longer than 20.
+PATIENCE = 180
 # Held while a process begins, and while a port is probed: a process that begins has the probe open until it runs its program, and
 # so that port is taken for a moment.
 BEGINNING = threading.Lock()
