@@ -21,7 +21,7 @@ from run import measure
 
 ROUNDS, KEYS = 3, 100_000
 # To each master: by how many connections and threads, requests in a pipeline, and how many SETs.
-CONNECTIONS, THREADS, PIPELINE, COUNT = 50, 2, 16, 300_000
+CONNECTIONS, THREADS, PIPELINE, COUNT = 50, 2, 16, 1_500_000
 SIZES = (64, 1000)
 # A tag of each third of the slots.
 TAGS = ("b", "c", "a")

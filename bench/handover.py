@@ -127,6 +127,8 @@ class Handover:
             results = [told.get(timeout=PATIENCE) for _ in players]
         writers = [it for kind, some in results if kind == "written" for it in some]
         requests = [it for kind, some in results if kind == "watched" for it in some]
+        if refused := {it.refused for it in writers if it.refused is not None}:
+            raise SystemExit(f"writers were told {refused}")
         self.took = min(it.first_at[replica] for it in writers if replica in it.first_at) - begun
         self.wait = max(it.longest_since(begun) for it in writers)
         self.rate = sum(it.count_before(begun) for it in writers) / BEFORE
@@ -163,11 +165,13 @@ class Writer:
         self.port, self.request = port, load.encode(b"SET", b"{%s}%d" % (KEYS[MASTER].encode(), name), b"x" * 16) * PIPELINE
         # When each node served it first, and when each of its pipelines was served, wholly or in part, with the number of its writes.
         self.first_at, self.served = {}, []
+        # What it was told that no client of a handover has to expect. It writes nothing then.
+        self.refused = None
 
     def write_until(self, ended):
         with contextlib.ExitStack() as stack:
             clients = {}
-            while not ended.is_set():
+            while self.refused is None and not ended.is_set():
                 if self.port not in clients:
                     client = stack.enter_context(connect(self.port))
                     clients[self.port] = client, stack.enter_context(client.makefile("rb"))
@@ -188,7 +192,7 @@ class Writer:
         elif refused.startswith(b"-TRYAGAIN "):
             time.sleep(0.001)
         else:
-            raise SystemExit(f"a writer is told {refused}")
+            self.refused = refused
 
     def longest_since(self, begun):
         """The longest time between two pipelines that were served, of which the second one was so since then."""
