@@ -1,15 +1,16 @@
 #!/usr/bin/env python3
 """Draws what a script of `rcluster simulate` does: the requests, replies and messages between its clients and nodes.
 
-usage: examples/draw.py [--config FILE] SCRIPT PRINTED [NODE ..] > picture.svg
+usage: examples/draw.py [--config FILE] [--program PROGRAM] SCRIPT [NODE ..] > picture.svg
 
-SCRIPT is the script, PRINTED a file with what `rcluster simulate` printed of it, and FILE the cluster's configuration, by default
-examples/six_nodes.json. Each client and each node has a lane, and time goes downwards, a row for each line of the script. What never
-arrives is dashed and ends in a cross. With numbers of nodes behind the files only these nodes are drawn.
+FILE is the cluster's configuration, by default examples/six_nodes.json, and PROGRAM plays the script, by default the one that was built last.
+Each client and each node has a lane, and time goes downwards, a row for each line of the script. What never arrives is dashed and ends in a
+cross. With numbers of nodes behind the script only these nodes are drawn.
 """
 
 import argparse
 import os
+import subprocess
 import sys
 from xml.sax.saxutils import escape
 
@@ -30,8 +31,8 @@ STYLE = """text { font: 12px sans-serif; paint-order: stroke; stroke: white; str
 class Picture:
     """The lanes of a play, and what is drawn on them."""
 
-    def __init__(self, play, script, nodes):
-        self.play, self.script = play, script
+    def __init__(self, play, nodes):
+        self.script = play.script
         arrows = [arrow for arrow in play.arrows if is_drawn(arrow.begin, nodes) and is_drawn(arrow.end, nodes)]
         notes = [note for note in play.notes if is_drawn(note.lane, nodes)]
         found = {lane for arrow in arrows for lane in (arrow.begin, arrow.end)} | {note.lane for note in notes}
@@ -106,21 +107,21 @@ def head_of(kind):
     return f'<marker id="{kind}" markerWidth="9" markerHeight="8" refX="8" refY="4" orient="auto">{shape}</marker>'
 
 
-def draw(config, script, printed, nodes=()):
-    """The picture of a script, as the text of an SVG file."""
-    return Picture(following.follow(config, script, printed), following.lines_of(script), nodes).text()
+def draw(play, nodes=()):
+    """The picture of a script that was followed, as the text of an SVG file."""
+    return Picture(play, nodes).text()
 
 
 def main():
     parser = argparse.ArgumentParser(description=__doc__, formatter_class=argparse.RawDescriptionHelpFormatter)
     parser.add_argument("--config", default=os.path.join(HERE, "six_nodes.json"))
+    parser.add_argument("--program", default=os.path.join(os.path.dirname(HERE), "rcluster"))
     parser.add_argument("script")
-    parser.add_argument("printed")
     parser.add_argument("node", type=int, nargs="*")
     words = parser.parse_args()
     try:
-        sys.stdout.write(draw(words.config, words.script, words.printed, words.node))
-    except (OSError, following.Differs) as error:
+        sys.stdout.write(draw(following.follow(words.program, words.config, words.script), words.node))
+    except (OSError, subprocess.TimeoutExpired, following.Refused, following.Differs) as error:
         sys.exit(str(error))
 
 

@@ -1,37 +1,41 @@
 """What a script of `rcluster simulate` does, step by step: which request, reply or message goes where, and in which step it arrives.
 
-The program prints what comes out of a step. Where a client's request goes isn't printed, so it is followed here by what nodes and
-clients do with the owners and moves of slots. Each answer that was printed has to come just where a call ends by this; where it
-doesn't, `Differs` says so.
+The program prints what comes out of the steps, but not where a step ends, and not where a client's request goes. So the script is played
+with questions among its steps. Behind each step a client that the script doesn't have calls CLUSTER, and is told at once that it may not.
+Before a request reaches its node all nodes are asked who has its slot, what they do with it, and which of its keys they have. None of that
+changes what else is printed. Where a client goes then follows from what it is told; if it goes elsewhere, `Differs` says in which line.
 """
 
 from __future__ import annotations
 
 import binascii
+import itertools
 import json
+import os
+import re
+import subprocess
 from dataclasses import dataclass, field
 
+# A cluster of one node, which has all slots.
+ONE_NODE = os.path.join(os.path.dirname(os.path.abspath(__file__)), "one_node.json")
 SLOTS = 16384
-# The bodies of the messages that a step may send, by what happens at the node.
-SENT_BY = {
-    "Copy": {"Ack", "Piece"}, "Ack": {"Drained", "Piece"}, "Drained": set(), "Claim": {"Piece"}, "Report": set(),
-    "Sync": {"Piece", "Snapshot"}, "Piece": set(), "Snapshot": set(), "Request": {"Grant"}, "Grant": {"Claim"}, "Pause": {"Paused"}, "Paused": set(),
-    "tick": {"Copy", "Drained"}, "request": {"Drained", "Piece"},
-}
-# What each tick tells others behind that. Of these messages only those are drawn that arrive. And what it may ask behind them.
+# What each tick tells others. Of these messages only those are drawn that arrive.
 SIGNS_OF_LIFE = {"Claim", "Report", "Sync"}
-ASKED_BY_TICK = {"Pause", "Paused", "Request"}
-SENT_BY_ORDER = {"IMPORTING": set(), "MIGRATING": {"Drained"}, "NODE": {"Claim"}, "MIGRATE": {"Copy"}, "FAILOVER": {"Pause"}}
-# The commands on keys: those that leave their keys there, those that remove them, and those that change nothing.
-WRITING = {"SET", "SETNX", "MSET", "GETSET", "APPEND", "INCR", "DECR", "INCRBY", "HSET", "HSETNX", "HINCRBY"}
-REMOVING = {"DEL", "GETDEL"}
-READING = {"GET", "MGET", "STRLEN", "EXISTS", "TYPE", "HGET", "HMGET", "HLEN", "HEXISTS", "HSTRLEN", "HKEYS", "HVALS", "HGETALL", "HDEL"}
-# How often a call begins again for TRYAGAIN.
-MOST_REPEATS = 16
+# The commands without keys, those whose words are all keys, and those of which each second word is one. Of every other one it is the first.
+KEYLESS, ALL_KEYS, IN_PAIRS = {"PING", "ECHO"}, {"DEL", "EXISTS", "MGET"}, {"MSET"}
+# How a node answers words that are no command. A client looks for no key in them.
+NO_COMMAND = ("-ERR unknown command", "-ERR wrong number of arguments", "-ERR syntax error")
+NOTHING = ["none"]
+# How many keys of a slot are asked for, and how long the program may take, in seconds.
+MOST_KEYS, PATIENCE = 1_000_000, 60
+
+
+class Refused(Exception):
+    """The program doesn't play the script."""
 
 
 class Differs(Exception):
-    """What was printed isn't what this script is known to do."""
+    """A client does something else than it is known to do."""
 
 
 @dataclass
@@ -45,8 +49,6 @@ class Arrow:
     sent_in: int
     # None where it never arrived.
     came_in: int | None = None
-    # Of a message its body, and the key or the claim that it carries.
-    content: tuple = ()
 
 
 @dataclass
@@ -59,78 +61,23 @@ class Note:
 
 
 @dataclass
-class Move:
-    """A slot that leaves to another node, or comes from one."""
+class Slot:
+    """What a node knows of a slot: what it does with it, with which other node and in which move, who owns it, and its keys."""
 
-    leaves: bool
-    other: int
-    # The key that was copied and not acknowledged yet.
-    frozen: str | None = None
+    word: str
+    other: int | None
+    number: int
+    owner: int | None
+    keys: list
 
 
 @dataclass
-class Node:
-    """What a node knows that decides where a request is executed. The epoch of a slot stands beside its owner."""
+class Reply:
+    """What a node tells a client to do: its text, the node that it names, and the number of the move. It is empty where the answer tells it."""
 
-    number: int
-    owners: list
-    keys: set = field(default_factory=set)
-    moves: dict = field(default_factory=dict)
-    # How many orders wait for an acknowledgement.
-    waiting: int = 0
-    epoch: int = 1
-    # The node whose replica it is, if it is one, and whether it hands its slots over.
-    master: int | None = None
-    hands_over: bool = False
-    is_up: bool = True
-
-    def decision(self, keys, is_asking):
-        """What becomes of a command on these keys: `None` where it is executed here, or the beginning of the error."""
-        if not keys:
-            return None
-        slot = slot_of(keys[0])
-        if any(slot_of(key) != slot for key in keys):
-            return "CROSSSLOT"
-        owner, move = self.owners[slot][1], self.moves.get(slot)
-        if owner != self.number:
-            comes = move is not None and not move.leaves and is_asking
-            return None if comes else "CLUSTERDOWN" if owner is None else f"MOVED {owner}"
-        if move is None:
-            return "TRYAGAIN" if self.hands_over else None
-        if move.frozen in keys:
-            return "TRYAGAIN"
-        there = [key in self.keys for key in keys]
-        return None if all(there) else "TRYAGAIN" if any(there) else f"ASK {move.other}"
-
-    def execute(self, words):
-        name = words[0].upper()
-        if name in REMOVING:
-            self.keys.difference_update(keys_of(words))
-        elif name in WRITING:
-            self.keys.update(keys_of(words))
-
-    def take_slot(self, slot):
-        """An import has ended: the slot is this node's, in an epoch above all that are known."""
-        self.epoch = max(self.epoch, *(epoch for epoch, _ in self.owners)) + 1
-        self.owners[slot] = (self.epoch, self.number)
-        self.moves.pop(slot, None)
-
-    def take_place(self, epoch):
-        """It is elected: the slots of its master are its own."""
-        self.epoch = epoch
-        self.owners = [(epoch, self.number) if owner == self.master else (since, owner) for since, owner in self.owners]
-        self.master = None
-
-    def claim(self):
-        return {slot: entry for slot, entry in enumerate(self.owners) if entry[1] == self.number}
-
-    def take_claim(self, claim):
-        for slot, entry in claim.items():
-            if entry > self.owners[slot]:
-                self.owners[slot] = entry
-                self.moves.pop(slot, None)
-                self.keys -= {key for key in self.keys if slot_of(key) == slot}
-                self.epoch = max(self.epoch, entry[0])
+    text: str = ""
+    to: int | None = None
+    number: int | None = None
 
 
 @dataclass
@@ -141,140 +88,166 @@ class Client:
     kept: set = field(default_factory=set)
     words: list | None = None
     to: int = 0
-    is_asking: bool = False
-    repeats: int = 0
+    # The number of the move for which it was sent there.
+    asking: int | None = None
     request: Arrow | None = None
     reply: Arrow | None = None
+    told: Reply | None = None
     late: list = field(default_factory=list)
+
+
+class Simulator:
+    """Plays steps in one cluster."""
+
+    def __init__(self, program, config):
+        self.program, self.config = program, config
+
+    def play(self, script, steps=None):
+        """The lines that are printed of a file. The steps are what it gets on standard input."""
+        words = [self.program, "simulate", "--config", self.config, "--script", script]
+        text = None if steps is None else "".join(step + "\n" for step in steps)
+        done = subprocess.run(words, input=text, capture_output=True, encoding="ascii", timeout=PATIENCE, check=False)
+        if done.returncode:
+            raise Refused(done.stderr.strip() or done.stdout.strip())
+        return done.stdout.split("\n")[:-1]
+
+    def play_in_parts(self, parts):
+        """The lines that are printed of each part, which is a list of steps."""
+        used = {step.split(" ")[1] for part in parts for step in part}
+        mark = next(number for number in itertools.count(1) if str(number) not in used)
+        steps = [step for part in parts for step in (*part, f"call {mark} CLUSTER")]
+        printed = [[]]
+        for line in self.play("/dev/stdin", steps):
+            if line == f"fault {mark} C7":
+                printed.append([])
+            else:
+                printed[-1].append(line)
+        return printed[:-1]
 
 
 class Play:
     """A script that is followed to its end."""
 
-    def __init__(self, config, script, printed):
+    def __init__(self, simulator, script):
+        # If this is refused, the program says what is wrong with the script or the cluster.
+        printed = simulator.play(script)
+        with open(simulator.config, encoding="utf-8") as file:
+            config = json.load(file)
         self.ids = [node["id"] for node in config["nodes"]]
-        owners = owners_at_first(config)
-        masters = [self.ids.index(node["replica_of"]) if "replica_of" in node else None for node in config["nodes"]]
-        self.nodes = [Node(number, list(owners), master=master) for number, master in enumerate(masters)]
         self.ports = {(node["host"], str(node["port"])): number for number, node in enumerate(config["nodes"])}
+        self.script = lines_of(script)
+        # Of each row what is printed, and of each row with a question what each node answers.
+        self.printed = simulator.play_in_parts([[line] for line in self.script])
+        if printed != [line for lines in self.printed for line in lines]:
+            raise Differs("the questions change what is printed")
+        self.commands = commands_among(simulator.program, self.script)
+        self.slots = self.ask_all(simulator)
         self.clients, self.messages, self.arrows, self.notes = {}, {}, [], []
-        self.printed, self.at = printed, 0
-        for self.row, line in enumerate(script):
-            name, *words = line.split(" ")
-            getattr(self, f"play_{name}")(int(words[0]), words[1:])
-        self.rows = len(script)
-        if self.at < len(printed):
-            raise Differs(f"line {self.at + 1} of what was printed belongs to no step: {printed[self.at]}")
+        # The nodes that stopped, those that hand over, and the keys of each node's last copy of a slot, with the number of its move.
+        self.stopped, self.handing, self.copied = set(), set(), {}
+        for self.row, line in enumerate(self.script):
+            name, number, *words = line.split(" ")
+            if self.printed[self.row] != NOTHING:
+                getattr(self, f"play_{name}")(int(number), words)
+                for promoted in self.told("promoted"):
+                    self.note(int(promoted.split(" ")[0]), "is promoted")
+        self.rows = len(self.script)
 
-    # ---- what was printed
+    # ---- questions
 
-    def next_of(self, *words):
-        """The rest of the next line, if it begins with these words; it is then taken."""
-        begin = " ".join(words)
-        if self.at < len(self.printed) and (self.printed[self.at] + " ").startswith(begin + " "):
-            self.at += 1
-            return self.printed[self.at - 1][len(begin) + 1:]
-        return None
+    def ask_all(self, simulator):
+        """Of each row in which a request reaches a node or keys are copied: what each node knows of their slot."""
+        slots, stopped, calls = {}, set(), {}
+        for row, line in enumerate(self.script):
+            name, number, *words = line.split(" ")
+            if self.printed[row] == NOTHING:
+                continue
+            if name == "stop":
+                stopped.add(int(number))
+            if name == "call":
+                calls[int(number)] = words
+            keys = self.keys_of(calls[int(number)]) if name == "carry" else migrated(words) if name == "admin" else []
+            if keys:
+                slots[row] = slot_of(keys[0]), [node for node in range(len(self.ids)) if node not in stopped]
+        parts = []
+        for row, line in enumerate(self.script):
+            parts += [questions(*slots[row])] if row in slots else []
+            parts.append([line])
+        answers = iter(simulator.play_in_parts(parts))
+        found = {}
+        for row in range(len(self.script)):
+            if row in slots:
+                found[row] = self.read_slots(*slots[row], next(answers))
+            if next(answers) != self.printed[row]:
+                raise Differs(f"line {row + 1} of the script: the questions change what is printed")
+        return found
 
-    def nothing(self):
-        """The step has nothing to do."""
-        if self.next_of("none") is None:
-            raise Differs(f"line {self.row + 1} of the script has nothing to do, and no `none` was printed there")
+    def read_slots(self, slot, nodes, answers):
+        """What the nodes answered to the questions about the slot."""
+        found = {}
+        for at, node in enumerate(nodes):
+            owners, state, keys = (elements(answer.split(" ", 2)[2]) for answer in answers[3 * at:3 * at + 3])
+            ranges = [(int(owners[it][1:]), int(owners[it + 1][1:]), owners[it + 7]) for it in range(2, len(owners), 9)]
+            owner = next((self.ids.index(who) for first, last, who in ranges if first <= slot <= last), None)
+            # The id of the other node is a bulk string, or a nil where there is none.
+            has_other = state[3] != "$-1"
+            other, number = (self.ids.index(state[4]), state[5]) if has_other else (None, state[4])
+            found[node] = Slot(state[2], other, int(number[1:]), owner, keys[2::2])
+        return found
 
-    def is_up(self, number):
-        return number < len(self.nodes) and self.nodes[number].is_up
+    def keys_of(self, words):
+        """The keys of a command. Words that are none have no keys."""
+        name = words[0].upper()
+        if " ".join(words) not in self.commands or name in KEYLESS:
+            return []
+        return words[1:] if name in ALL_KEYS else words[1::2] if name in IN_PAIRS else words[1:2]
+
+    # ---- what is printed of a step
+
+    def told(self, *words):
+        """Of each line that begins with these words the rest."""
+        begin = " ".join(map(str, words)) + " "
+        return [line[len(begin):] for line in self.printed[self.row] if line.startswith(begin)]
+
+    def answer(self, name):
+        """How a call of the client ends in this step: the reply or the fault, and whether it is a reply. Or None where none ends."""
+        replies, faults = self.told("answer", name), self.told("fault", name)
+        return (shorter(replies[0]), True) if replies else (faults[0], False) if faults else None
+
+    def differs(self, what):
+        return Differs(f"line {self.row + 1} of the script: {what}")
 
     # ---- nodes
 
     def play_admin(self, number, words):
-        order = words[0].upper()
-        if not self.is_up(number) or order not in ("CLUSTER", "MIGRATE"):
-            return self.nothing()
-        node = self.nodes[number]
-        if order == "CLUSTER" and len(words) > 1:
-            order = words[3 if len(words) > 3 else 1].upper()
-        reply = self.next_of("admin", str(number))
-        self.note(number, f"{self.shown(words)}: {shorter(reply) if reply else 'waits'}")
-        if reply is None:
-            self.park(node, order, words)
-        elif reply.startswith("+OK") and order in SENT_BY_ORDER:
-            self.obey(node, order, words)
-        self.send(number, SENT_BY_ORDER.get(order, set()))
-
-    def obey(self, node, order, words):
-        """A node was told of a move of a slot."""
-        if order in ("MIGRATE", "FAILOVER"):
-            return
-        slot, other = int(words[2]), self.ids.index(words[4])
-        if order == "NODE" and other == node.number and slot in node.moves:
-            node.take_slot(slot)
-        elif order != "NODE" and slot not in node.moves:
-            node.moves[slot] = Move(order == "MIGRATING", other)
-
-    def park(self, node, order, words):
-        """A MIGRATE waits for its acknowledgement. Every other order is answered at once."""
-        if order != "MIGRATE":
-            raise Differs(f"line {self.row + 1} of the script is an order to node {node.number}, and no reply was printed there")
-        node.waiting += 1
-        node.moves[slot_of(words[3])].frozen = words[3]
+        replies = self.told("admin", number)
+        self.note(number, f"{self.shown(words)}: {shorter(replies[0]) if replies else 'waits'}")
+        if any(line.endswith(" Copy") for line in self.told("sent")):
+            keys, slot = migrated(words), self.slots[self.row][number]
+            self.copied[number, slot_of(keys[0])] = slot.number, {*keys} & {*slot.keys}
+        self.send()
 
     def play_tick(self, number, _words):
-        if not self.is_up(number):
-            return self.nothing()
         self.note(number, "a tick")
         self.release(number)
-        self.send(number, SENT_BY["tick"])
-        self.send(number, SIGNS_OF_LIFE, are_drawn=False)
-        self.send(number, ASKED_BY_TICK)
+        self.send(but=SIGNS_OF_LIFE)
 
     def play_stop(self, number, _words):
-        if not self.is_up(number):
-            return self.nothing()
         self.note(number, "stops")
-        self.nodes[number].is_up = False
-        for name in sorted(self.clients):
-            client = self.clients[name]
-            client.late = [(arrow, words) for arrow, words in client.late if arrow.end != ("node", number)]
-            if client.words is not None and client.to == number:
-                self.end_call(name, client)
+        self.stopped.add(number)
+        for name, client in sorted(self.clients.items()):
+            client.late = [arrow for arrow in client.late if arrow.end != ("node", number)]
             client.kept.discard(number)
+            if client.words is not None and client.to == number:
+                self.lose_reply(client)
+                self.end_call(name, client)
 
     def play_deliver(self, name, _words):
-        message = self.messages.get(name)
-        if message is None or not self.is_up(message.end[1]):
-            return self.nothing()
+        message = self.messages[name]
         number = message.end[1]
         self.arrive(message)
-        body, content = message.content
-        if body == "Copy" and message.begin[1] == self.source_of(number, content):
-            self.nodes[number].keys.add(content)
-        elif body == "Ack":
-            self.acknowledge(self.nodes[number], content)
-        elif body == "Claim":
-            self.nodes[number].take_claim(content)
-        elif body == "Grant":
-            self.promote(number)
         self.release(number)
-        self.send(number, SENT_BY[body], content)
-        if self.next_of("promoted", str(number)) is not None:
-            self.note(number, "is promoted")
-
-    def promote(self, number):
-        """A vote elects the node where its claims are printed, and behind them that it is promoted."""
-        behind = next((line for line in self.printed[self.at:] if not line.startswith("sent ")), "")
-        if behind.startswith(f"promoted {number} "):
-            self.nodes[number].take_place(int(behind.split(" ")[2]))
-
-    def source_of(self, number, key):
-        """From which node the slot of the key comes to this one, if it does."""
-        move = self.nodes[number].moves.get(slot_of(key))
-        return move.other if move and not move.leaves else None
-
-    def acknowledge(self, node, key):
-        move = node.moves.get(slot_of(key))
-        if move and move.frozen == key:
-            move.frozen = None
-            node.keys.discard(key)
+        self.send()
 
     def arrive(self, message):
         """A message arrives; where it comes again it has an arrow more."""
@@ -287,142 +260,132 @@ class Play:
 
     def release(self, number):
         """Replies to orders that waited."""
-        while self.nodes[number].waiting and (reply := self.next_of("admin", str(number))) is not None:
-            self.nodes[number].waiting -= 1
+        for reply in self.told("admin", number):
             self.note(number, f"MIGRATE: {shorter(reply)}")
 
-    def send(self, number, bodies, key=None, are_drawn=True):
-        """The messages that the step sends."""
-        while self.at < len(self.printed):
-            parts = self.printed[self.at].split(" ")
-            if parts[0] != "sent" or parts[2] != str(number) or parts[4] not in bodies:
-                return
-            self.at += 1
-            name, to, body = int(parts[1]), int(parts[3]), parts[4]
-            arrow = Arrow("message", body, ("node", number), ("node", to), self.row)
-            arrow.content = (body, self.content_of(number, body, to, key))
-            self.nodes[number].hands_over |= body == "Paused"
-            self.messages[name] = arrow
-            if are_drawn:
+    def send(self, but=()):
+        """The messages that the step sends, of which some are drawn only where they arrive."""
+        for line in self.told("sent"):
+            name, number, to, body = line.split(" ")
+            arrow = Arrow("message", body, ("node", int(number)), ("node", int(to)), self.row)
+            self.messages[int(name)] = arrow
+            if body == "Paused":
+                self.handing.add(int(number))
+            if body not in but:
                 self.arrows.append(arrow)
-
-    def content_of(self, number, body, to, key):
-        node = self.nodes[number]
-        if body == "Claim":
-            return node.claim()
-        if body == "Copy":
-            return next(move.frozen for move in node.moves.values() if move.leaves and move.other == to and move.frozen)
-        return key
 
     # ---- clients
 
     def play_call(self, name, words):
         client = self.clients.setdefault(name, Client())
-        if client.words is not None:
-            return self.nothing()
-        if words[0].upper() in ("CLUSTER", "MIGRATE", "ASKING"):
+        client.words = words
+        if self.answer(name):
             self.end_call(name, client)
-            return
-        client.words, client.repeats = words, 0
-        self.begin(name, client)
-
-    def begin(self, name, client):
-        """Goes to the owner of the slot, as far as the client knows it."""
-        keys = keys_of(client.words)
-        self.go_to(name, client, client.owners.get(slot_of(keys[0]), 0) if keys else 0, False)
-
-    def go_to(self, name, client, node, is_asking):
-        client.to, client.is_asking = node, is_asking
-        if not self.nodes[node].is_up:
-            self.end_call(name, client)
-        elif node not in client.kept:
-            self.ask(name, client, "CLUSTER NUMBERED")
         else:
-            self.ask(name, client, "ASKING" if is_asking else " ".join(client.words))
+            self.begin(client, name)
 
-    def ask(self, name, client, text):
+    def begin(self, client, name):
+        """Goes to the owner of the slot, as far as the client knows it."""
+        keys = self.keys_of(client.words)
+        self.go_to(client, name, client.owners.get(slot_of(keys[0]), 0) if keys else 0, None)
+
+    def go_to(self, client, name, node, asking):
+        client.to, client.asking = node, asking
+        if node in self.stopped:
+            raise self.differs(f"client {name} calls node {node}, which has stopped")
+        self.ask(client, name, "CLUSTER NUMBERED" if node not in client.kept else " ".join(client.words) if asking is None else "ASKING")
+
+    def ask(self, client, name, text):
         client.request = Arrow("request", text, ("client", name), ("node", client.to), self.row)
         self.arrows.append(client.request)
 
     def play_carry(self, name, _words):
-        client = self.clients.get(name)
-        if client is None or client.request is None or not self.is_up(client.to):
-            return self.nothing()
+        client = self.clients[name]
+        if client.request is None:
+            raise self.differs(f"nothing of client {name} is known to be under way")
         request, client.request = client.request, None
         request.came_in = self.row
-        text = self.reply_to(client.to, request.text, client.words, client.is_asking)
-        client.reply = Arrow("reply", text, ("node", client.to), ("client", name), self.row)
+        client.told = Reply("OK") if request.text in ("CLUSTER NUMBERED", "ASKING") else self.decision(client)
+        client.reply = Arrow("reply", client.told.text, ("node", client.to), ("client", name), self.row)
         self.arrows.append(client.reply)
-        self.send(client.to, SENT_BY["request"])
+        self.send()
 
-    def reply_to(self, number, text, words, is_asking):
-        """What a node answers, or an empty text where the printed answer will tell it."""
-        if text in ("CLUSTER NUMBERED", "ASKING"):
-            return "OK"
-        node = self.nodes[number]
-        error = node.decision(keys_of(words), is_asking)
-        if error is None:
-            node.execute(words)
-        return error or ""
+    def decision(self, client):
+        """What the node makes of the client's command: by its slot, the slot's move and its keys, as crates/redirect has it."""
+        keys = self.keys_of(client.words)
+        if not keys:
+            return Reply()
+        slot = self.slots[self.row][client.to]
+        if len({*map(slot_of, keys)}) > 1:
+            return Reply("CROSSSLOT")
+        there = [key in slot.keys for key in keys]
+        if slot.word == "importing" and client.asking == slot.number:
+            return Reply("TRYAGAIN" if len({*keys}) > 1 and not all(there) else "")
+        if slot.owner is None:
+            return Reply("CLUSTERDOWN")
+        if slot.word in ("importing", "foreign"):
+            return Reply(f"MOVED {slot.owner}", slot.owner)
+        if slot.word == "owned":
+            return Reply("TRYAGAIN" if client.to in self.handing else "")
+        number, copied = self.copied.get((client.to, slot_of(keys[0])), (None, ()))
+        if number == slot.number and any(key in copied and key in slot.keys for key in keys):
+            return Reply("TRYAGAIN")
+        if all(there) or any(there):
+            return Reply("" if all(there) else "TRYAGAIN")
+        return Reply(f"ASK {slot.other}", slot.other, slot.number)
 
     def play_return(self, name, _words):
-        client = self.clients.get(name)
-        if client is None or client.reply is None:
-            return self.nothing()
-        reply, client.reply = client.reply, None
+        client = self.clients[name]
+        if client.reply is None:
+            raise self.differs(f"no reply to client {name} is known to be under way")
+        reply, client.reply, told = client.reply, None, client.told
         reply.came_in = self.row
-        if reply.text == "OK":
-            self.go_on(name, client)
-        elif reply.text.startswith("MOVED "):
-            node = int(reply.text.split(" ")[1])
-            client.owners[slot_of(keys_of(client.words)[0])] = node
-            self.go_to(name, client, node, False)
-        elif reply.text.startswith("ASK "):
-            self.go_to(name, client, int(reply.text.split(" ")[1]), True)
-        elif reply.text == "TRYAGAIN" and client.repeats < MOST_REPEATS:
-            client.repeats += 1
-            self.begin(name, client)
-        else:
-            reply.text = self.end_call(name, client)
-
-    def go_on(self, name, client):
-        """Behind the +OK of CLUSTER NUMBERED or ASKING."""
-        if client.to not in client.kept:
+        ended = self.answer(name)
+        if ended:
+            if ended[1] and (told.text == "OK" or told.to is not None):
+                raise self.differs(f"client {name} is answered, and {told.text} was to come")
+            reply.text = ended[0] if ended[1] else told.text
+            self.end_call(name, client)
+        elif told.text == "OK":
             client.kept.add(client.to)
-            self.go_to(name, client, client.to, client.is_asking)
+            is_introduced = self.arrow_before(reply).text == "CLUSTER NUMBERED"
+            self.ask(client, name, "ASKING" if is_introduced and client.asking is not None else " ".join(client.words))
+        elif told.text == "TRYAGAIN":
+            self.begin(client, name)
+        elif told.to is not None:
+            if told.number is None:
+                client.owners[slot_of(self.keys_of(client.words)[0])] = told.to
+            self.go_to(client, name, told.to, told.number)
         else:
-            self.ask(name, client, " ".join(client.words))
+            raise self.differs(f"the call of client {name} goes on, and nothing is known by which it does")
+
+    def arrow_before(self, reply):
+        """The request that the reply answers."""
+        return next(arrow for arrow in reversed(self.arrows) if arrow.kind == "request" and arrow.begin == reply.end and arrow.came_in == reply.sent_in)
 
     def play_cut(self, name, _words):
-        client = self.clients.get(name)
-        if client is None or client.words is None:
-            return self.nothing()
+        client = self.clients[name]
         if client.request is not None:
-            client.late.append((client.request, client.words))
-        elif client.reply is not None and not client.reply.text:
-            client.reply.text = "the answer"
+            client.late.append(client.request)
+        self.lose_reply(client)
         client.kept.discard(client.to)
         self.end_call(name, client)
 
+    def lose_reply(self, client):
+        if client.reply is not None and not client.reply.text:
+            client.reply.text = "the answer"
+
     def play_late(self, name, _words):
-        client = self.clients.get(name)
-        if client is None or not client.late or not self.is_up(client.late[0][0].end[1]):
-            return self.nothing()
-        request, words = client.late.pop(0)
-        request.came_in = self.row
-        number = request.end[1]
-        self.reply_to(number, request.text, words, False)
-        self.send(number, SENT_BY["request"])
+        self.clients[name].late.pop(0).came_in = self.row
+        self.send()
 
     def end_call(self, name, client):
-        """The call is over. Returns what the client was told, as short as it goes."""
-        client.words = client.request = client.reply = None
-        for kind in ("answer", "fault"):
-            told = self.next_of(kind, str(name))
-            if told is not None:
-                self.notes.append(Note(("client", name), self.row, shorter(told) if kind == "answer" else told))
-                return shorter(told)
-        raise Differs(f"line {self.row + 1} of the script ends a call of client {name}, and no answer was printed there")
+        """The call is over, and the client is told how."""
+        client.words = client.request = client.reply = client.told = None
+        ended = self.answer(name)
+        if ended is None:
+            raise self.differs(f"a call of client {name} isn't over, though it can't go on")
+        self.notes.append(Note(("client", name), self.row, ended[0]))
 
     # ---- words
 
@@ -432,18 +395,34 @@ class Play:
     def shown(self, words):
         """The words with the ids and ports of nodes as their numbers."""
         shown = [f"node {self.ids.index(word)}" if word in self.ids else word for word in words]
-        if shown[0].upper() == "MIGRATE" and tuple(shown[1:3]) in self.ports:
-            return f"MIGRATE {shown[3]} to node {self.ports[tuple(shown[1:3])]}"
+        if migrated(words) and tuple(words[1:3]) in self.ports:
+            return f"MIGRATE {' '.join(migrated(words))} to node {self.ports[tuple(words[1:3])]}"
         return " ".join(shown[1:] if shown[0].upper() == "CLUSTER" else shown)
 
 
-def owners_at_first(config):
-    """The owner of each slot with its epoch."""
-    owners = [(0, None)] * SLOTS
-    for number, node in enumerate(config["nodes"]):
-        for first, last in node.get("slots", []):
-            owners[first:last + 1] = [(1, number)] * (last + 1 - first)
-    return owners
+def questions(slot, nodes):
+    """The steps that ask these nodes about the slot."""
+    words = ("SLOTS", f"SLOTSTATE {slot}", f"GETKEYSINSLOT {slot} {MOST_KEYS}")
+    return [f"admin {node} CLUSTER {it}" for node in nodes for it in words]
+
+
+def commands_among(program, steps):
+    """Those words of calls that are a command: one node that has all slots is asked each of them."""
+    calls = sorted({step.split(" ", 2)[2] for step in steps if step.startswith("call ")})
+    parts = [[f"call {client} {words}", *[f"carry {client}", f"return {client}"] * 2] for client, words in enumerate(calls, 1)]
+    return {words for words, lines in zip(calls, Simulator(program, ONE_NODE).play_in_parts(parts)) if is_command(lines)}
+
+
+def is_command(lines):
+    replies = [line.split(" ", 2)[2] for line in lines if line.startswith("answer ")]
+    return bool(replies) and not replies[0].startswith(NO_COMMAND)
+
+
+def migrated(words):
+    """The keys that an order names, if it is a MIGRATE."""
+    if words[0].upper() != "MIGRATE":
+        return []
+    return words[7:] if len(words) > 7 else words[3:4]
 
 
 def slot_of(key):
@@ -452,13 +431,9 @@ def slot_of(key):
     return binascii.crc_hqx((tag or key).encode(), 0) % SLOTS
 
 
-def keys_of(words):
-    name = words[0].upper()
-    if name not in WRITING | REMOVING | READING:
-        return []
-    if name in ("DEL", "EXISTS", "MGET"):
-        return words[1:]
-    return words[1::2] if name == "MSET" else words[1:2]
+def elements(reply):
+    """The lines of a reply that was printed on one line."""
+    return re.sub(r"\\(\\|r|n)", lambda it: {"\\": "\\", "r": "\r", "n": "\n"}[it[1]], reply).split("\r\n")[:-1]
 
 
 def shorter(reply):
@@ -471,11 +446,8 @@ def shorter(reply):
     return parts[0][1:] if reply.startswith(("+", "-", ":")) else "(array)" if reply.startswith("*") else parts[0]
 
 
-def follow(config_path, script_path, printed_path):
-    with open(config_path, encoding="utf-8") as file:
-        config = json.load(file)
-    script, printed = lines_of(script_path), lines_of(printed_path)
-    return Play(config, script, printed)
+def follow(program, config, script):
+    return Play(Simulator(program, config), script)
 
 
 def lines_of(path):
