@@ -31,6 +31,7 @@ SCRIPTS = [
     ("tests/on_a_socket/run", "rcluster"),
     ("tests/on_a_socket/run", "rcluster", "--loops", "2"),
     ("tests/fixtures/run", "rcluster"),
+    ("tests/starting/run", "rcluster"),
     ("tests/documents/run", None),
 ]
 # Where the kit's report of the last run is kept whole, with the processor's seconds of each crate behind it.
