@@ -346,10 +346,11 @@ class Play:
                 raise self.differs(f"client {name} is answered, and {told.text} was to come")
             reply.text = ended[0] if ended[1] else told.text
             self.end_call(name, client)
-        elif told.text == "OK":
+        elif told.text == "OK" and client.to not in client.kept:
             client.kept.add(client.to)
-            is_introduced = self.arrow_before(reply).text == "CLUSTER NUMBERED"
-            self.ask(client, name, "ASKING" if is_introduced and client.asking is not None else " ".join(client.words))
+            self.go_to(client, name, client.to, client.asking)
+        elif told.text == "OK":
+            self.ask(client, name, " ".join(client.words))
         elif told.text == "TRYAGAIN":
             self.begin(client, name)
         elif told.to is not None:
@@ -358,10 +359,6 @@ class Play:
             self.go_to(client, name, told.to, told.number)
         else:
             raise self.differs(f"the call of client {name} goes on, and nothing is known by which it does")
-
-    def arrow_before(self, reply):
-        """The request that the reply answers."""
-        return next(arrow for arrow in reversed(self.arrows) if arrow.kind == "request" and arrow.begin == reply.end and arrow.came_in == reply.sent_in)
 
     def play_cut(self, name, _words):
         client = self.clients[name]
@@ -452,4 +449,4 @@ def follow(program, config, script):
 
 def lines_of(path):
     with open(path, encoding="ascii") as file:
-        return file.read().split("\n")[:-1]
+        return file.read().splitlines()
