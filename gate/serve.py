@@ -22,8 +22,6 @@ EXAMPLE = os.path.join(ROOT, "examples", "six_nodes.json")
 FLAGS = {"--check", "--journal", "--log"}
 # With one of these the words say which cluster is served, or `rcluster` says what is missing beside it.
 SOURCES = {"--config", "--masters", "--replicas", "--port", "--backlog"}
-# The options whose value may be a file.
-FILES = {"--config", "--network"}
 LOOPS = "2"
 # How long the kit's own way without proofs serves at most.
 SECONDS = "3600"
@@ -112,10 +110,10 @@ def serve_slowly(words, failed):
 
 
 def lent_files(words):
-    """The kit's words by which the program gets the files that the words name, and the words with the names that it finds them by."""
+    """The kit's words by which the program gets the file that the words name, and the words with the name that it finds it by."""
     lent, words = [], list(words)
     for at in range(1, len(words)):
-        if words[at - 1] in FILES and os.path.isfile(words[at]):
+        if words[at - 1] == "--config" and os.path.isfile(words[at]):
             name = f"file{at}"
             lent += ["--data", f"{name}={os.path.abspath(words[at])}"]
             words[at] = name

@@ -1,7 +1,9 @@
-"""The scripts that are played: the cases of the text files beside this file, and the scripts in examples/."""
+"""The scripts that are played: the cases of the text files beside this file, and the scripts in examples/; and how a script is played."""
 
 import os
 import re
+import subprocess
+import tempfile
 
 HERE = os.path.dirname(os.path.abspath(__file__))
 EXAMPLES = os.path.join(os.path.dirname(os.path.dirname(HERE)), "examples")
@@ -9,6 +11,10 @@ SIX_NODES = os.path.join(EXAMPLES, "six_nodes.json")
 THREE_NODES = os.path.join(EXAMPLES, "three_nodes.json")
 # The examples that are played in the cluster with replicas.
 WITH_REPLICAS = ("move_a_slot", "hand_over")
+# How long a script may take, in seconds.
+PATIENCE = 60
+# The name of the script in the folder where it is played.
+SCRIPT = "steps.script"
 
 
 def cases():
@@ -31,6 +37,16 @@ def examples():
         path = os.path.join(EXAMPLES, name)
         cluster = cluster_of(path, SIX_NODES if name in WITH_REPLICAS else THREE_NODES)
         yield name, cluster, read(f"{path}.script"), read(f"{path}.out"), 0, None
+
+
+def play(program, cluster, script):
+    """The status, the output and the standard error."""
+    with tempfile.TemporaryDirectory() as folder:
+        with open(os.path.join(folder, SCRIPT), "w", encoding="ascii", newline="") as file:
+            file.write(script)
+        words = [program, "simulate", "--config", os.path.abspath(cluster), "--script", SCRIPT]
+        done = subprocess.run(words, cwd=folder, capture_output=True, timeout=PATIENCE, check=False)
+    return done.returncode, done.stdout.decode("latin-1"), done.stderr.decode("latin-1")
 
 
 def cluster_of(path, other):
