@@ -29,9 +29,7 @@ def run(*words, text=None, files=()):
     with tempfile.TemporaryDirectory() as folder:
         if text is not None:
             write(folder, text)
-        for name in files:
-            with open(os.path.join(folder, name), "wb") as file:
-                file.write(files[name])
+        write_all(folder, files)
         with BEGINNING:
             begun = subprocess.Popen([PATH, *words], cwd=folder, stdout=subprocess.PIPE, stderr=subprocess.PIPE)
         with begun:
@@ -47,6 +45,12 @@ def write(folder, text):
         file.write(text)
 
 
+def write_all(folder, files):
+    for name in files:
+        with open(os.path.join(folder, name), "wb") as file:
+            file.write(files[name])
+
+
 def loops():
     """The words that say who serves the clients."""
     return ("--loops", str(LOOPS)) if LOOPS else ()
@@ -55,14 +59,15 @@ def loops():
 class Server:
     """The program that serves a cluster. It is killed at the end of the block where it hasn't ended."""
 
-    def __init__(self, cluster, *options, source=None):
-        """The words in `source` tell the cluster where it isn't told by a file."""
-        self.cluster, self.options, self.source = cluster, options, source
+    def __init__(self, cluster, *options, source=None, files=()):
+        """The words in `source` tell the cluster where it isn't told by a file. The folder has these other files with their bytes."""
+        self.cluster, self.options, self.source, self.files = cluster, options, source, files
 
     def __enter__(self):
         self.folder = tempfile.TemporaryDirectory()
         if not self.source:
             write(self.folder.name, json.dumps(self.cluster))
+        write_all(self.folder.name, self.files)
         self.errors = tempfile.TemporaryFile()
         self.begun = time.monotonic()
         with BEGINNING:

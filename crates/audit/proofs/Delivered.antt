@@ -9,6 +9,7 @@ use Rattle.atomic_table.specs.Seated.{TableId}
 use Rattle.bus.specs.declared.message.Message.{Message}
 use Rattle.cluster_config.specs.Config.{ClusterConfig}
 use Rattle.links.specs.Ends.{AllArrived, AreWired, EndView, end_at, no_end}
+use Rattle.links.specs.Giving.{plain}
 use Rattle.links.specs.Ports.{PortView}
 use Rattle.links.specs.Stations.{IsStation, StationView, all_sent, all_taken, end_of, for_node, port_at, port_of, sent_by, taken_by}
 use Rattle.node_cell.specs.Journal.{no_cluster}
@@ -86,10 +87,10 @@ module _ (links : ℕ → ℕ → TableId) (config : ClusterConfig) (stations : 
   row_at : (place : ℕ) → place < count → get_or all_ends place [] ≡ ends_of (at place)
   row_at place within = get_or-map ends_of stations place no_station [] (inside place within)
 
-  the_end : (node other : ℕ) (none : EndView Message) → node < count → other < count → end_at all_ends node other none ≡ end_of (port_at (at node).ports other (port_of none))
+  the_end : (node other : ℕ) (none : EndView Message) → node < count → other < count → end_at all_ends node other none ≡ end_of (port_at (at node).ports other (port_of (plain none)))
   the_end node other none here there =
       ap (λ (row : List (EndView Message)). get_or row other none) (row_at node here)
-      ∙ get_or-map end_of (at node).ports other (port_of none) none (subst (λ (n : ℕ). other < n) (sym (ports_at node here)) there)
+      ∙ get_or-map end_of (at node).ports other (port_of (plain none)) none (subst (λ (n : ℕ). other < n) (sym (ports_at node here)) there)
 
   counted : length all_ends ≡ count
   counted = length-map stations ends_of ∙ order.1
@@ -104,8 +105,8 @@ module _ (links : ℕ → ℕ → TableId) (config : ClusterConfig) (stations : 
     linked = λ node other none nothing inner outer.
         let here = below node inner in
         let there = below other outer in
-        let own = (is_at node here).are_ports other (port_of none) (subst (λ (n : ℕ). other < n) (sym (ports_at node here)) there) in
-        let theirs = (is_at other there).are_ports node (port_of nothing) (subst (λ (n : ℕ). node < n) (sym (ports_at other there)) here) in
+        let own = (is_at node here).are_ports other (port_of (plain none)) (subst (λ (n : ℕ). other < n) (sym (ports_at node here)) there) in
+        let theirs = (is_at other there).are_ports node (port_of (plain nothing)) (subst (λ (n : ℕ). node < n) (sym (ports_at other there)) here) in
         ap (λ (end : EndView Message). end.to) (the_end node other none here there) ∙ own.to ∙ ap (λ (n : ℕ). links n other) (node_at node here)
         ∙ sym (ap (λ (end : EndView Message). end.from) (the_end other node nothing there here) ∙ theirs.from ∙ ap (λ (n : ℕ). links node n) (node_at other there));
   }
@@ -124,13 +125,13 @@ module _ (links : ℕ → ℕ → TableId) (config : ClusterConfig) (stations : 
       let sender = at_port.0 in
       let there : sender < count = subst (λ (n : ℕ). sender < n) (ports_at node here) at_port.1 in
       let came = arrived sender node no_end no_end (subst (λ (n : ℕ). sender < n) (sym counted) there) (subst (λ (n : ℕ). node < n) (sym counted) here) in
-      let port = port_at (at sender).ports node (port_of no_end) in
+      let port = port_at (at sender).ports node (port_of (plain no_end)) in
       let received : Contains (end_at all_ends node sender no_end).received message =
-      subst (λ (end : EndView Message). Contains end.received message) (sym (the_end node sender no_end here there)) (at_port.2 (port_of no_end)) in
+      subst (λ (end : EndView Message). Contains end.received message) (sym (the_end node sender no_end here there)) (at_port.2 (port_of (plain no_end))) in
       let sent : Contains port.sent message =
       subst (λ (end : EndView Message). Contains end.sent message) (the_end sender node no_end there here)
       (subst (λ (all : List Message). Contains all message) (sym came.1) (Contains-append_left (end_at all_ends node sender no_end).received came.0 message received)) in
-      let own = (is_at sender there).are_ports node (port_of no_end) (subst (λ (n : ℕ). node < n) (sym (ports_at sender there)) here) in
+      let own = (is_at sender there).are_ports node (port_of (plain no_end)) (subst (λ (n : ℕ). node < n) (sym (ports_at sender there)) here) in
       let coming = (at sender).unsorted ++ (at sender).cell.outbox in
       let of_journal : Contains (for_node node (all_sent (at sender).cell.journal)) message =
       subst (λ (all : List Message). Contains all message) own.in_order (Contains-append_left port.sent (port.waiting ++ for_node node coming) message sent) in

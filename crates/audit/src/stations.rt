@@ -13,13 +13,12 @@ use crate::order::{Taken, take_apart};
 use crate::part::Part;
 use crate::whole_run::WorldRun;
 use cluster_config::Config;
-use links::{NodeEnds, Station, Web, compare_all};
+use links::{NodeEnds, PortEnd, Station, Web, compare_all};
 use node_cell::{Deployment, Journal, Posted};
 use std::alloc::{AllocError, Global};
-use std::sync::Wait;
 use tickets::{Table, close};
 
-impl<K: Deployment, W: Web, R: Wait + Drop> OfNode for Station<K, W, Journal, R> {
+impl<K: Deployment, W: Web, E: PortEnd<Carried = Posted<K>>> OfNode for Station<K, W, Journal, E> {
     ghost node = { λ station. station.cell.node };
 
     fn node_number(&self) -> usize {
@@ -32,10 +31,10 @@ impl<K: Deployment, W: Web, R: Wait + Drop> OfNode for Station<K, W, Journal, R>
 ///
 /// What a node took it received over a link, so its sender had sent it: nothing is looked for in the journals, and they are never told to
 /// hold a message that nobody sent. `Stranger` comes only where the stations aren't those of each node once.
-pub fn gather_stations<K: Deployment, W: Web, R: Wait + Drop>(
+pub fn gather_stations<K: Deployment, W: Web, E: PortEnd<Carried = Posted<K>>>(
     alloc: Global,
     table: &Table,
-    stations: Vec<Station<K, W, Journal, R>>,
+    stations: Vec<Station<K, W, Journal, E>>,
 ) -> Result<WorldRun, AuditFault>
     requires table { id_of table.now ≡ K.table }
     requires seats { K.seats ≡ length K.config.nodes }
@@ -54,11 +53,11 @@ pub fn gather_stations<K: Deployment, W: Web, R: Wait + Drop>(
 }
 
 // The run that the nodes made, by their stations in the order of the nodes.
-fn gather_in_order<K: Deployment, W: Web, R: Wait + Drop>(
+fn gather_in_order<K: Deployment, W: Web, E: PortEnd<Carried = Posted<K>>>(
     alloc: Global,
     table: &Table,
     config: Config,
-    stations: Vec<Station<K, W, Journal, R>>,
+    stations: Vec<Station<K, W, Journal, E>>,
 ) -> Result<WorldRun, AuditFault>
     requires table { id_of table.now ≡ K.table }
     requires seats { K.seats ≡ length K.config.nodes }
@@ -77,10 +76,10 @@ fn gather_in_order<K: Deployment, W: Web, R: Wait + Drop>(
 }
 
 // What is left of each station: the part of its node, and its ends of the links.
-fn finish_all<K: Deployment, W: Web, R: Wait + Drop>(
+fn finish_all<K: Deployment, W: Web, E: PortEnd<Carried = Posted<K>>>(
     alloc: Global,
-    stations: Vec<Station<K, W, Journal, R>>,
-) -> Result<(Vec<Part<K>>, Vec<NodeEnds<Posted<K>, R>>), AllocError>
+    stations: Vec<Station<K, W, Journal, E>>,
+) -> Result<(Vec<Part<K>>, Vec<NodeEnds<Posted<K>, E::Handle>>), AllocError>
     ensures parts { IfOk result (λ left. left.0.items ≡ parts_of (cells_of stations.items)) }
     ensures ends { IfOk result (λ left. left.1.items ≡ map ends_of stations.items) }
     ensures stations { IfOk result (λ _. All (IsStation W.links) stations.items) }
@@ -93,11 +92,11 @@ fn finish_all<K: Deployment, W: Web, R: Wait + Drop>(
 }
 
 // Puts what is left of each station behind each other, into lists that have nothing yet.
-fn finish_each<K: Deployment, W: Web, R: Wait + Drop>(
+fn finish_each<K: Deployment, W: Web, E: PortEnd<Carried = Posted<K>>>(
     alloc: Global,
-    stations: Vec<Station<K, W, Journal, R>>,
+    stations: Vec<Station<K, W, Journal, E>>,
     parts: &mut Vec<Part<K>>,
-    all_ends: &mut Vec<NodeEnds<Posted<K>, R>>,
+    all_ends: &mut Vec<NodeEnds<Posted<K>, E::Handle>>,
 ) -> Result<(), AllocError>
     requires no_part { parts.old.items ≡ [] }
     requires no_end { all_ends.old.items ≡ [] }

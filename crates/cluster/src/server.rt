@@ -7,7 +7,7 @@ ghost use Rattle.tickets.specs.Tickets.{IsFresh};
 use crate::clock::Timing;
 use crate::threads::start_all;
 use cluster_config::Config;
-use links::{NodeEnds, Station, Web};
+use links::{PortEnd, PortEnds, Station, Web};
 use node_cell::{Admission, Deployment, HoldsCell, Log, NodeCell, Posted};
 use shared_cluster::{
     Clients, HasLinks, Node, NodeStop, Runtime, SharedCluster, Shortage, Stop, Witness, most_ticks,
@@ -15,7 +15,7 @@ use shared_cluster::{
 use slot_table::NodeNo;
 use std::alloc::{AllocError, Global};
 use std::net::TcpListener;
-use std::sync::{Arc, Wait};
+use std::sync::Arc;
 use std::thread::JoinHandle;
 use std::time::Duration;
 use tickets::Seat;
@@ -47,18 +47,18 @@ impl From<AllocError> for ServeFault {
     }
 }
 
-/// Where a node of the cluster `K` is served. The first place is that of the first node, and so on.
-pub struct Place<K: Deployment, R: Wait> {
+/// Where a node is served, which has ends of the kind `E`. The first place is that of the first node, and so on.
+pub struct Place<E: PortEnd> {
     /// Its seat at the tickets.
     pub seat: Seat,
     /// Its ends of the links to all nodes.
-    pub ends: NodeEnds<Posted<K>, R>,
+    pub ends: PortEnds<E>,
     /// Where its clients connect.
     pub listener: TcpListener,
 }
 
 // It does what the derive would. Written out it is one call wherever a place is let go.
-impl<K: Deployment, R: Wait + Drop> Drop for Place<K, R> {
+impl<E: PortEnd> Drop for Place<E> {
     fn drop(self) {
         let Place {
             seat: _,
@@ -68,9 +68,9 @@ impl<K: Deployment, R: Wait + Drop> Drop for Place<K, R> {
     }
 }
 
-impl<K: Deployment, R: Wait + Drop> Place<K, R> {
+impl<E: PortEnd> Place<E> {
     // What is there.
-    fn into_parts(self) -> (Seat, NodeEnds<Posted<K>, R>, TcpListener)
+    fn into_parts(self) -> (Seat, PortEnds<E>, TcpListener)
         ensures seat { result.0 ≡ self.seat }
         ensures ends { result.1 ≡ self.ends }
     {
@@ -108,17 +108,18 @@ pub fn serve_nodes<
     K: Deployment + Send + Sync + 'static,
     W: Web + Send + 'static,
     L: Log + Drop + Send + 'static,
-    R: Runtime,
+    E: PortEnd<Carried = Posted<K>> + Send + 'static,
 >(
-    rt: R,
+    rt: E::Handle,
     alloc: Global,
     config: &Config,
-    places: Vec<Place<K, R>>,
+    places: Vec<Place<E>>,
     course: Course,
     witness: &Arc<Witness, Global>,
-) -> Result<Vec<Station<K, W, L, R>>, ServeFault>
+) -> Result<Vec<Station<K, W, L, E>>, ServeFault>
 where
     L::Record: Send + 'static,
+    E::Handle: Runtime,
     requires cluster { config.now ≡ K.config }
     requires places { length places.items ≡ length config.now.nodes }
     requires seats { All (λ place. IsFresh K.table K.seats place.seat) places.items }
@@ -127,7 +128,7 @@ where
     ensures nodes { IfOk result (λ stations. map (λ station. station.cell.node) stations.items ≡ range_with_len 0 (length config.now.nodes)) }
 {
     let admission = Arc::new(alloc, Admission::<K>::new(config)).map_err(AllocError::from)?;
-    let nodes = nodes_at::<K, W, L, R>(alloc, config, places)?;
+    let nodes = nodes_at::<K, W, L, E>(alloc, config, places)?;
     let times = Times {
         interval: Duration::from_millis(u64::from(config.tick_ms())),
         course,
@@ -244,11 +245,11 @@ fn end_all<C: HasLinks<R> + Drop, R: Runtime>(
 }
 
 // The nodes as they begin.
-fn nodes_at<K: Deployment, W: Web, L: Log + Drop, R: Runtime>(
+fn nodes_at<K: Deployment, W: Web, L: Log + Drop, E: PortEnd<Carried = Posted<K>>>(
     alloc: Global,
     config: &Config,
-    places: Vec<Place<K, R>>,
-) -> Result<Vec<Node<Station<K, W, L, R>>>, AllocError>
+    places: Vec<Place<E>>,
+) -> Result<Vec<Node<Station<K, W, L, E>>>, AllocError>
     requires cluster { config.now ≡ K.config }
     requires places { length places.items ≡ length config.now.nodes }
     requires seats { All (λ place. IsFresh K.table K.seats place.seat) places.items }
@@ -261,11 +262,11 @@ fn nodes_at<K: Deployment, W: Web, L: Log + Drop, R: Runtime>(
 }
 
 // Adds a node for each place, in order, to none.
-fn add_nodes<K: Deployment, W: Web, L: Log + Drop, R: Runtime>(
+fn add_nodes<K: Deployment, W: Web, L: Log + Drop, E: PortEnd<Carried = Posted<K>>>(
     alloc: Global,
     config: &Config,
-    places: Vec<Place<K, R>>,
-    nodes: &mut Vec<Node<Station<K, W, L, R>>>,
+    places: Vec<Place<E>>,
+    nodes: &mut Vec<Node<Station<K, W, L, E>>>,
 ) -> Result<(), AllocError>
     requires cluster { config.now ≡ K.config }
     requires places { length places.items ≡ length config.now.nodes }
@@ -281,11 +282,11 @@ fn add_nodes<K: Deployment, W: Web, L: Log + Drop, R: Runtime>(
 }
 
 // Adds the node of the next number.
-fn add_node<K: Deployment, W: Web, L: Log + Drop, R: Runtime>(
+fn add_node<K: Deployment, W: Web, L: Log + Drop, E: PortEnd<Carried = Posted<K>>>(
     alloc: Global,
     config: &Config,
-    place: Place<K, R>,
-    nodes: &mut Vec<Node<Station<K, W, L, R>>>,
+    place: Place<E>,
+    nodes: &mut Vec<Node<Station<K, W, L, E>>>,
 ) -> Result<(), AllocError>
     requires cluster { config.now ≡ K.config }
     requires number { vec_len nodes.old < length config.now.nodes }
@@ -297,12 +298,12 @@ fn add_node<K: Deployment, W: Web, L: Log + Drop, R: Runtime>(
     nodes.push(node).map_err(AllocError::from)
 }
 
-fn node_at<K: Deployment, W: Web, L: Log + Drop, R: Runtime>(
+fn node_at<K: Deployment, W: Web, L: Log + Drop, E: PortEnd<Carried = Posted<K>>>(
     alloc: Global,
     config: &Config,
     number: usize,
-    place: Place<K, R>,
-) -> Result<Node<Station<K, W, L, R>>, AllocError>
+    place: Place<E>,
+) -> Result<Node<Station<K, W, L, E>>, AllocError>
     requires cluster { config.now ≡ K.config }
     requires number { number < length config.now.nodes }
     requires seat { IsFresh K.table K.seats place.seat }
@@ -311,32 +312,32 @@ fn node_at<K: Deployment, W: Web, L: Log + Drop, R: Runtime>(
     let _at_most_16 = config.nodes();
     let number = NodeNo::new(number as u8).unwrap();
     let (seat, ends, listener) = place.into_parts();
-    let station = station_at::<K, W, L, R>(alloc, config, number, seat, ends)?;
+    let station = station_at::<K, W, L, E>(alloc, config, number, seat, ends)?;
     Ok(Node::new(station, listener))
 }
 
 // A station of the node of that number, as it begins.
-fn station_at<K: Deployment, W: Web, L: Log + Drop, R: Runtime>(
+fn station_at<K: Deployment, W: Web, L: Log + Drop, E: PortEnd<Carried = Posted<K>>>(
     alloc: Global,
     config: &Config,
     number: NodeNo,
     seat: Seat,
-    ends: NodeEnds<Posted<K>, R>,
-) -> Result<Station<K, W, L, R>, AllocError>
+    ends: PortEnds<E>,
+) -> Result<Station<K, W, L, E>, AllocError>
     requires cluster { config.now ≡ K.config }
     requires number { number < length config.now.nodes }
     requires seat { IsFresh K.table K.seats seat }
     requires links { AreEndsOf W.links number (length config.now.nodes) ends }
 {
     let cell = NodeCell::<K, L>::new(alloc, config, number, seat)?;
-    Station::<K, W, L, R>::new(alloc, cell, ends.into_vec())
+    Station::<K, W, L, E>::new(alloc, cell, ends)
 }
 
 // The stations of nodes that nobody serves any more, in the order of the nodes' numbers.
-fn stations_of<K: Deployment, W: Web, L: Log + Drop, R: Runtime>(
+fn stations_of<K: Deployment, W: Web, L: Log + Drop, E: PortEnd<Carried = Posted<K>>>(
     alloc: Global,
-    nodes: Vec<Node<Station<K, W, L, R>>>,
-) -> Result<Vec<Station<K, W, L, R>>, ServeFault>
+    nodes: Vec<Node<Station<K, W, L, E>>>,
+) -> Result<Vec<Station<K, W, L, E>>, ServeFault>
     ensures count { IfOk result (λ stations. vec_len stations ≡ vec_len nodes) }
     ensures nodes { IfOk result (λ stations. map (λ station. station.cell.node) stations.items ≡ range_with_len 0 (vec_len nodes)) }
 {
@@ -346,9 +347,9 @@ fn stations_of<K: Deployment, W: Web, L: Log + Drop, R: Runtime>(
 }
 
 // Adds the station of each node, in order, to none.
-fn add_stations<K: Deployment, W: Web, L: Log + Drop, R: Runtime>(
-    nodes: Vec<Node<Station<K, W, L, R>>>,
-    stations: &mut Vec<Station<K, W, L, R>>,
+fn add_stations<K: Deployment, W: Web, L: Log + Drop, E: PortEnd<Carried = Posted<K>>>(
+    nodes: Vec<Node<Station<K, W, L, E>>>,
+    stations: &mut Vec<Station<K, W, L, E>>,
 ) -> Result<(), ServeFault>
     requires none { stations.old.items ≡ [] }
     ensures count { OnOk result (vec_len stations.new ≡ vec_len nodes) }
@@ -361,9 +362,9 @@ fn add_stations<K: Deployment, W: Web, L: Log + Drop, R: Runtime>(
 }
 
 // Adds the station of the node, which is to have the next number.
-fn add_station<K: Deployment, W: Web, L: Log + Drop, R: Runtime>(
-    node: Node<Station<K, W, L, R>>,
-    stations: &mut Vec<Station<K, W, L, R>>,
+fn add_station<K: Deployment, W: Web, L: Log + Drop, E: PortEnd<Carried = Posted<K>>>(
+    node: Node<Station<K, W, L, E>>,
+    stations: &mut Vec<Station<K, W, L, E>>,
 ) -> Result<(), ServeFault>
     ensures count { OnOk result (vec_len stations.new ≡ vec_len stations.old + 1) }
     ensures nodes { OnOk result (map (λ station. station.cell.node) stations.new.items ≡ map (λ station. station.cell.node) stations.old.items ++ vec_len stations.old ∷ []) }
@@ -374,10 +375,10 @@ fn add_station<K: Deployment, W: Web, L: Log + Drop, R: Runtime>(
 }
 
 // The station of a node, which is to have that number.
-fn station_of<K: Deployment, W: Web, L: Log + Drop, R: Runtime>(
-    node: Node<Station<K, W, L, R>>,
+fn station_of<K: Deployment, W: Web, L: Log + Drop, E: PortEnd<Carried = Posted<K>>>(
+    node: Node<Station<K, W, L, E>>,
     number: usize,
-) -> Result<Station<K, W, L, R>, ServeFault>
+) -> Result<Station<K, W, L, E>, ServeFault>
     ensures { IfOk result (λ station. station.cell.node ≡ number) }
 {
     // No type says which node a lock has.

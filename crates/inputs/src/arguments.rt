@@ -52,6 +52,9 @@ pub struct Service<'a> {
     pub stops: Vec<&'a str>,
     /// How many threads of each node serve its clients in turn, or None where each client has a thread of its own.
     pub loops: Option<u64>,
+    /// What becomes of the messages between its nodes: the path of a file that says it, or numbers from which it is made up. None is that
+    /// each comes once and in order.
+    pub network: Option<&'a str>,
     /// Whether each node keeps its journal in memory.
     pub records_journal: bool,
     /// Whether standard error is told what no client is.
@@ -142,6 +145,7 @@ fn arg_of<'a>(alloc: Global, argument: &Argument) -> Result<Arg<'a>, AllocError>
         Kind::Text => Ok(option_of(alloc, argument).required(true)),
         // That one of both is there is looked at behind the parse, which would ask for both.
         Kind::TextOr(other) => option_of(alloc, argument).conflicts_with(*other),
+        Kind::MaybeText => Ok(option_of(alloc, argument)),
         Kind::Texts => Ok(option_of(alloc, argument).action(ArgAction::Append)),
         Kind::Number { least, most } => Ok(number_of(alloc, argument, *least, *most)),
         Kind::NumberBeside {
@@ -207,6 +211,7 @@ fn serve_call<'a>(alloc: Global, serve: Option<&ArgMatches<'a>>) -> Result<Call<
             ticks: serve.get_one::<u64>("ticks"),
             stops: texts(alloc, serve, "stop")?,
             loops: serve.get_one::<u64>("loops"),
+            network: serve.get_str("network"),
             records_journal: serve.get_flag("journal"),
             is_logged: serve.get_flag("log"),
         })),
@@ -217,6 +222,7 @@ fn serve_call<'a>(alloc: Global, serve: Option<&ArgMatches<'a>>) -> Result<Call<
             ticks: None,
             stops: Vec::new(alloc),
             loops: None,
+            network: None,
             records_journal: false,
             is_logged: false,
         })),

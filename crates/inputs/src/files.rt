@@ -14,7 +14,7 @@ use std::{fs, io};
 /// The cluster that the file describes.
 pub fn read_cluster<R: Files + AllocGlobal>(rt: &R, path: &str) -> Result<Config, InputFailure> {
     let alloc = rt.alloc();
-    let text = read(rt, path)?;
+    let text = read_file(rt, path)?;
     match read_config(alloc, text.as_slice()) {
         Ok(config) => Ok(config),
         Err(fault) => {
@@ -47,7 +47,8 @@ pub fn no_step(alloc: Global, path: &str, number: u64, text: &[u8]) -> InputFail
     InputFailure::new(InputFault::Script(number), detail)
 }
 
-fn read<R: Files + AllocGlobal>(rt: &R, path: &str) -> Result<Vec<u8>, InputFailure> {
+/// All bytes of a file.
+pub fn read_file<R: Files + AllocGlobal>(rt: &R, path: &str) -> Result<Vec<u8>, InputFailure> {
     match fs::read(rt, path) {
         Ok(text) => Ok(text),
         Err(error) => Err(unreadable(rt.alloc(), path, &error)),

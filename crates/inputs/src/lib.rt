@@ -11,7 +11,7 @@ mod verbs;
 
 pub use arguments::{Call, Failover, Resharding, Service, read_call};
 pub use failure::{InputFailure, InputFault};
-pub use files::{no_step, open_script, read_cluster, unreadable};
+pub use files::{no_step, open_script, read_cluster, read_file, unreadable};
 pub use masters::Masters;
 pub use source::{NO_SOURCE_TEXT, Source, cluster_of};
 pub use steps::script_help;

@@ -60,6 +60,8 @@ pub enum Kind {
     Text,
     /// A text, beside which the option of this name can't be. One of both has to be there.
     TextOr(&'static str),
+    /// A text. The option may be missing.
+    MaybeText,
     /// A text. The option may be there several times, or not at all.
     Texts,
     /// A number from `least` to `most`.
@@ -95,6 +97,7 @@ pub static VERBS: [Verb; 5] = [
             TICKS,
             STOP,
             LOOPS,
+            NETWORK,
             JOURNAL,
             LOG,
         ],
@@ -221,6 +224,13 @@ const LOOPS: Argument = Argument {
     },
 };
 
+const NETWORK: Argument = Argument {
+    name: "network",
+    value_name: "FILE",
+    help: "Loses, repeats and holds back messages between the nodes, as the file says, or made up from numbers: seed=N,lose=5%,repeat=5%,hold=5%",
+    kind: Kind::MaybeText,
+};
+
 const JOURNAL: Argument = Argument {
     name: "journal",
     value_name: "",
@@ -231,7 +241,7 @@ const JOURNAL: Argument = Argument {
 const LOG: Argument = Argument {
     name: "log",
     value_name: "",
-    help: "Tells on standard error of each client that can't be served, and why, of each slot that arrives at a node or leaves it, of each master that hands over, and of each node that is promoted, behind the seconds since the beginning",
+    help: "Tells on standard error of each client that can't be served, and why, of each slot that arrives at a node or leaves it, of each master that hands over, of each node that is promoted, and of what --network does, behind the seconds since the beginning",
     kind: Kind::Flag,
 };
 

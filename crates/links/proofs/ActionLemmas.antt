@@ -5,18 +5,22 @@ use Rattle.std.proofs.Math.Seq.{map-set_same}
 use Rattle.std.proofs.lemmas.List.{get_or_default, set-get_or}
 use Rattle.atomic_table.specs.Seated.{TableId}
 use Rattle.bus.specs.declared.message.Message.{Message}
-use Rattle.links.specs.Ports.{HasMore, PortView, with_received}
-use Rattle.links.specs.Stations.{Arrives, IsStation, Loses, OnlySends, Receives, SendsNothing, StationView, port_at, said_of}
+use Rattle.links.specs.Ports.{HasGiven, HasMore, PortView}
+use Rattle.links.specs.Stations.{Arrives, IsGiven, IsStation, Loses, OnlySends, Receives, SendsNothing, StationView, port_at, said_of}
 use Rattle.links.specs.declared.not_taken.NotTaken.{NotTaken}
 use Rattle.links.proofs.StationLemmas.{with_one_sorted}
 use Rattle.node_cell.specs.Journal.{CellView, EnteredView, Enters, IsNotTaken}
 use Rattle.node_cell.specs.declared.delivery.DeliveryFault.{DeliveryFault}
 use Rattle.node_step.specs.declared.event.Event.TheVariants.{Deliver}
 
--- one port is another now, which received the same
+-- one port is another now, which received and gave the same
 pub only_sends_at : (old : StationView) (to : ℕ) (none port : PortView) (unsorted : List Message) → port.received ≡ (port_at old.ports to none).received
-    → OnlySends old (record old { ports = set old.ports to port; unsorted = unsorted })
-only_sends_at old to none port unsorted same = record { cell = refl; received = map-set_same (λ (port : PortView). port.received) old.ports to port none same }
+    → port.given ≡ (port_at old.ports to none).given → OnlySends old (record old { ports = set old.ports to port; unsorted = unsorted })
+only_sends_at old to none port unsorted same given = record {
+  cell = refl;
+  received = map-set_same (λ (port : PortView). port.received) old.ports to port none same;
+  given = map-set_same (λ (port : PortView). port.given) old.ports to port none given;
+}
 
 pub sends_nothing_at : (old : StationView) (to : ℕ) (none port : PortView) (unsorted : List Message) → port.sent ≡ (port_at old.ports to none).sent
     → SendsNothing old (record old { ports = set old.ports to port; unsorted = unsorted })
@@ -26,6 +30,7 @@ pub then_only_sends : (first second third : StationView) → OnlySends first sec
 then_only_sends first second third once again = record {
   cell = again.cell ∙ ap (λ (cell : CellView). record cell { outbox = third.cell.outbox }) once.cell;
   received = again.received ∙ once.received;
+  given = again.given ∙ once.given;
 }
 
 -- ---- the first message of a step comes to its port, or there is no memory for it
@@ -53,21 +58,26 @@ module _ {A B : Type 0} (station : StationView) (to : ℕ) (none port : PortView
   sorted_or_not links first rest (Err refused) is within unsorted for_this more same =
       rw (same.1) (subst (λ (ports : List PortView). IsStation links (record station { ports = ports })) (sym (ap (λ (port : PortView). set station.ports to port) same.0 ∙ set-get_or station.ports to none)) is)
 
--- ---- a message was received
+-- ---- a message was given
 
-pub loses_so : (old : StationView) (from : ℕ) (there port : PortView) (message : Message) → from < length old.ports → there ≡ port_at old.ports from there
-    → port ≡ with_received there message → Loses old from message (record old { ports = set old.ports from port })
-loses_so old from there port message within is received = record {
-  ports = λ none. ap (λ (port : PortView). set old.ports from port) (received ∙ ap (λ (port : PortView). with_received port message) (is ∙ get_or_default old.ports from there none within));
-  rest = refl;
+given_so : (old : List PortView) (from : ℕ) (there port : PortView) (message : Message) → from < length old → there ≡ port_at old from there → HasGiven there message port
+    → IsGiven old from message (set old from port)
+given_so old from there port message within is gives = record {
+  port = port;
+  gives = λ none. subst (λ (there : PortView). HasGiven there message port) (is ∙ get_or_default old from there none within) gives;
+  ports = refl;
 }
 
+pub loses_so : (old : StationView) (from : ℕ) (there port : PortView) (message : Message) → from < length old.ports → there ≡ port_at old.ports from there
+    → HasGiven there message port → Loses old from message (record old { ports = set old.ports from port })
+loses_so old from there port message within is gives = record { given = given_so old.ports from there port message within is gives; rest = refl }
+
 pub receives_so : (old : StationView) (from : ℕ) (there port : PortView) (message : Message) (delivered : Result EnteredView DeliveryFault) (cell : CellView) → from < length old.ports
-    → there ≡ port_at old.ports from there → port ≡ with_received there message → IfOk delivered (λ entered. Enters old.cell (Deliver message) entered cell)
+    → there ≡ port_at old.ports from there → HasGiven there message port → IfOk delivered (λ entered. Enters old.cell (Deliver message) entered cell)
     → IfErr delivered (λ fault. IsNotTaken old.cell (Deliver message) fault cell)
     → Receives old from message delivered (record old { cell = cell; ports = set old.ports from port })
-receives_so old from there port message delivered cell within is received ok err = record {
-  ports = λ none. ap (λ (port : PortView). set old.ports from port) (received ∙ ap (λ (port : PortView). with_received port message) (is ∙ get_or_default old.ports from there none within));
+receives_so old from there port message delivered cell within is gives ok err = record {
+  given = given_so old.ports from there port message within is gives;
   unsorted = refl;
   ok = ok;
   err = err;

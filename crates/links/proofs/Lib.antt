@@ -8,3 +8,6 @@ pub mod NamingLemmas
 pub mod RuleLemmas
 pub mod StationLemmas
 pub mod TogetherLemmas
+pub mod HeldLemmas
+pub mod ShimLemmas
+pub mod PortLemmas

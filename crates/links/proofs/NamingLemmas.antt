@@ -2,7 +2,8 @@
 use Rattle.std.proofs.Common.{◌+◌, ◌<◌, ℕ, suc, List, [], ◌∷◌, length, get_or, sym, subst, ap, arith}
 use Rattle.atomic_table.specs.Seated.{TableId}
 use Rattle.std.proofs.lemmas.List.{get_or_default}
-use Rattle.links.specs.Ends.{AreEndsOf, AreLinked, AreLinkedFrom, EndView, links_by, no_end}
+use Rattle.std.specs.Prelude.{All}
+use Rattle.links.specs.Ends.{AreEndsOf, AreLinked, AreLinkedFrom, EndView, IsUnused, links_by, no_end}
 
 from_each : {T : Type 0} (links : ℕ → ℕ → TableId) (count number : ℕ) (ends : List (List (EndView T))) → ((node : ℕ) → node < length ends → AreEndsOf links (number + node) count (get_or ends node []))
     → AreLinkedFrom links count number ends
@@ -29,3 +30,11 @@ pub named_by : {T : Type 0} (count : ℕ) (ends : List (List (EndView T))) → A
 named_by count ends are = from_each (links_by ends) count 0 ends (λ node within.
     subst (λ (place : ℕ). AreEndsOf (links_by ends) place count (get_or ends node [])) (omega arith)
     (own_ends count ends are node (subst (λ (n : ℕ). node < n) are.nodes within)))
+
+-- no end was used
+pub all_unused : {T : Type 0} (count : ℕ) (ends : List (List (EndView T))) → AreLinked count ends → All (λ (row : List (EndView T)). All IsUnused row) ends
+all_unused {T} count ends are node row inside other none below =
+    let here : node < count = subst (λ (n : ℕ). node < n) are.nodes inside in
+    let same = get_or_default ends node row [] inside in
+    let there : other < count = subst (λ (n : ℕ). other < n) (are.others node here) (subst (λ (row : List (EndView T)). other < length row) same below) in
+    subst (λ (row : List (EndView T)). IsUnused (get_or row other none)) (sym same) (are.unused node other none here there)

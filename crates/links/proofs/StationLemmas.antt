@@ -5,11 +5,12 @@ use Rattle.std.specs.List.{flat_map}
 use Rattle.std.proofs.lemmas.Bool.{cases_Bool, eqb-true, eq-eqb}
 use Rattle.std.proofs.lemmas.Grind.{flat_map-append}
 use Rattle.std.proofs.lemmas.List.{get_or-map, get_or-set_other, get_or-set_same, length-map, length-set}
-use Rattle.std.proofs.lemmas.List.Elements.{Contains-append_cases, Contains-append_left, Contains-append_right, Contains-push, Contains-push_cases, at_from_Contains, filter-append}
+use Rattle.std.proofs.lemmas.List.Elements.{Contains-append_cases, Contains-append_left, Contains-append_right, Contains-push_cases, at_from_Contains, filter-append}
 use Rattle.atomic_table.specs.Seated.{TableId}
 use Rattle.bus.specs.declared.message.Message.{Message}
 use Rattle.cluster_config.specs.Config.{ClusterConfig}
-use Rattle.links.specs.Ports.{HasMore, HasSent, PortView, with_received}
+use Rattle.links.specs.Giving.{GivingView}
+use Rattle.links.specs.Ports.{HasGiven, HasGivenNone, HasMore, HasSent, PortView}
 use Rattle.links.specs.Ends.{AreEndsOf, EndView}
 use Rattle.links.specs.Stations.{IsPort, IsStation, StationView, all_sent, all_taken, end_of, for_node, port_at, port_of, sent_by, taken_by, taken_in}
 use Rattle.node_cell.specs.Journal.{CellView, EnteredView, Enters, IsNotTaken, IsRefused, IsTooEarly}
@@ -145,20 +146,36 @@ with_port links station place port none unsorted is within own more others = rec
   received = λ message there. keeps_received station.ports place port none message within (more message) (is.received message there);
 }
 
--- a message is received
-pub with_one_received : (links : ℕ → ℕ → TableId) (station : StationView) (from : ℕ) (none : PortView) (message : Message) → IsStation links station → from < length station.ports
-    → IsStation links (record station { ports = set station.ports from (with_received (port_at station.ports from none) message) })
-with_one_received links station from none message is within =
+-- messages are received
+with_received : (links : ℕ → ℕ → TableId) (station : StationView) (from : ℕ) (none port : PortView) (more given : List Message) → IsStation links station → from < length station.ports
+    → port ≡ record (port_at station.ports from none) { received = (port_at station.ports from none).received ++ more; given = given }
+    → IsStation links (record station { ports = set station.ports from port })
+with_received links station from none port more given is within received =
     let was = is.are_ports from none within in
     let old = port_at station.ports from none in
-    with_port links station from (with_received old message) none station.unsorted is within
-    (record { to = was.to; from = was.from; in_order = was.in_order })
-    (λ other there. Contains-append_left old.received (message ∷ []) other there)
+    with_port links station from port none station.unsorted is within
+    (record {
+      to = ap (λ (port : PortView). port.to) received ∙ was.to;
+      from = ap (λ (port : PortView). port.from) received ∙ was.from;
+      in_order = ap (λ (port : PortView). port.sent ++ (port.waiting ++ for_node from (station.unsorted ++ station.cell.outbox))) received ∙ was.in_order;
+    })
+    (λ other there. subst (λ (all : List Message). Contains all other) (sym (ap (λ (port : PortView). port.received) received)) (Contains-append_left old.received more other there))
     (λ other apart. refl)
 
-pub is_received : (ports : List PortView) (from : ℕ) (port : PortView) (message : Message) → from < length ports
-    → Contains (all_received (set ports from (with_received port message))) message
-is_received ports from port message within = received_there ports from (with_received port message) message within (Contains-push port.received message)
+pub with_given : (links : ℕ → ℕ → TableId) (station : StationView) (from : ℕ) (none port : PortView) (message : Message) → IsStation links station → from < length station.ports
+    → HasGiven (port_at station.ports from none) message port → IsStation links (record station { ports = set station.ports from port })
+with_given links station from none port message is within gives =
+    with_received links station from none port gives.more ((port_at station.ports from none).given ++ message ∷ []) is within gives.is
+
+pub with_none_given : (links : ℕ → ℕ → TableId) (station : StationView) (from : ℕ) (none port : PortView) → IsStation links station → from < length station.ports
+    → HasGivenNone (port_at station.ports from none) port → IsStation links (record station { ports = set station.ports from port })
+with_none_given links station from none port is within gives = with_received links station from none port gives.more (port_at station.ports from none).given is within gives.is
+
+-- what was given was received
+is_received : (ports : List PortView) (from : ℕ) (old port : PortView) (message : Message) → from < length ports → HasGiven old message port
+    → Contains (all_received (set ports from port)) message
+is_received ports from old port message within gives =
+    received_there ports from port message within (subst (λ (all : List Message). Contains all message) (sym (ap (λ (port : PortView). port.received) gives.is)) gives.came)
 
 -- messages are sent
 pub with_sent : (links : ℕ → ℕ → TableId) (station : StationView) (to : ℕ) (none port : PortView) → IsStation links station → to < length station.ports
@@ -278,41 +295,46 @@ not_taken : (links : ℕ → ℕ → TableId) (station : StationView) (event : E
 not_taken links station event (Refused fault) after is refused = with_refusal links station event fault after is refused
 not_taken links station event Early after is too_early = early links station event after is too_early
 
--- a message was received, and delivered
-pub after_delivery : (links : ℕ → ℕ → TableId) (station : StationView) (from : ℕ) (none : PortView) (message : Message) (result : Result EnteredView DeliveryFault) (after : CellView)
-    → IsStation links station → from < length station.ports → IfOk result (λ entered. Enters station.cell (Deliver message) entered after)
-    → IfErr result (λ fault. IsNotTaken station.cell (Deliver message) fault after)
-    → IsStation links (record station { cell = after; ports = set station.ports from (with_received (port_at station.ports from none) message) })
-after_delivery links station from none message (Ok entered) after is within made refused =
-    with_step links (record station { ports = set station.ports from (with_received (port_at station.ports from none) message) }) (Deliver message) entered after
-    (with_one_received links station from none message is within) made (λ other there. one_of_one other there)
+-- a message was given, and delivered
+pub after_delivery : (links : ℕ → ℕ → TableId) (station : StationView) (from : ℕ) (none port : PortView) (message : Message) (result : Result EnteredView DeliveryFault) (after : CellView)
+    → IsStation links station → from < length station.ports → HasGiven (port_at station.ports from none) message port
+    → IfOk result (λ entered. Enters station.cell (Deliver message) entered after) → IfErr result (λ fault. IsNotTaken station.cell (Deliver message) fault after)
+    → IsStation links (record station { cell = after; ports = set station.ports from port })
+after_delivery links station from none port message (Ok entered) after is within gives made refused =
+    with_step links (record station { ports = set station.ports from port }) (Deliver message) entered after
+    (with_given links station from none port message is within gives) made (λ other there. one_of_one other there)
   where
-    one_of_one : (other : Message) → Contains (message ∷ []) other → Contains (all_received (set station.ports from (with_received (port_at station.ports from none) message))) other
+    one_of_one : (other : Message) → Contains (message ∷ []) other → Contains (all_received (set station.ports from port)) other
     one_of_one other there = elim (Contains-push_cases [] message other there) [
       | inl nothing ↦ absurd (nowhere other nothing)
-      | inr same ↦ subst (λ (one : Message). Contains (all_received (set station.ports from (with_received (port_at station.ports from none) message))) one) same
-          (is_received station.ports from (port_at station.ports from none) message within)
+      | inr same ↦ subst (λ (one : Message). Contains (all_received (set station.ports from port)) one) same
+          (is_received station.ports from (port_at station.ports from none) port message within gives)
     ]
-after_delivery links station from none message (Err fault) after is within made refused =
-    not_taken links (record station { ports = set station.ports from (with_received (port_at station.ports from none) message) }) (Deliver message) fault after
-    (with_one_received links station from none message is within) refused
+after_delivery links station from none port message (Err fault) after is within gives made refused =
+    not_taken links (record station { ports = set station.ports from port }) (Deliver message) fault after (with_given links station from none port message is within gives) refused
 
 -- ---- how a station begins
 
+abbrev pub end_in : GivingView Message → EndView Message
+end_in giving = giving.end
+
 -- nothing was done yet, and no end was used
-pub begins_so : (links : ℕ → ℕ → TableId) (cell : CellView) (ends : List (EndView Message)) (ports : List PortView) (unsorted : List Message) → cell.journal ≡ [] → cell.outbox ≡ []
-    → AreEndsOf links cell.node (length cell.config.nodes) ends → ports ≡ map port_of ends → unsorted ≡ [] → IsStation links (record { cell = cell; ports = ports; unsorted = unsorted })
+pub begins_so : (links : ℕ → ℕ → TableId) (cell : CellView) (ends : List (GivingView Message)) (ports : List PortView) (unsorted : List Message) → cell.journal ≡ [] → cell.outbox ≡ []
+    → AreEndsOf links cell.node (length cell.config.nodes) (map end_in ends) → ports ≡ map port_of ends → unsorted ≡ [] → IsStation links (record { cell = cell; ports = ports; unsorted = unsorted })
 begins_so links cell ends ports unsorted journal outbox are ports_are none = rw (ports_are, none) (record {
-  count = length-map ends port_of ∙ are.whole;
+  count = length-map ends port_of ∙ sym (length-map ends end_in) ∙ are.whole;
   are_ports = λ other nothing within.
       let inside : other < length ends = subst (λ (count : ℕ). other < count) (length-map ends port_of) within in
-      let end = slice_index_or ends other (end_of nothing) in
-      let is = are.are_ends other (end_of nothing) (subst (λ (count : ℕ). other < count) are.whole inside) in
-      let at : port_at (map port_of ends) other nothing ≡ port_of end = get_or-map port_of ends other (end_of nothing) nothing inside in
+      let no_end : GivingView Message = record { end = end_of nothing; given = [] } in
+      let end : EndView Message = (slice_index_or ends other no_end).end in
+      let is = are.are_ends other (end_of nothing) (subst (λ (count : ℕ). other < count) (sym (length-map ends end_in) ∙ are.whole) inside) in
+      let end_is : slice_index_or (map end_in ends) other (end_of nothing) ≡ end = get_or-map end_in ends other no_end (end_of nothing) inside in
+      let at : port_at (map port_of ends) other nothing ≡ port_of (slice_index_or ends other no_end) = get_or-map port_of ends other no_end nothing inside in
       subst (IsPort links cell.node other ([] ++ cell.outbox) cell.journal) (sym at) (record {
-        to = is.to;
-        from = is.from;
-        in_order = ap (λ (sent : List Message). sent ++ ([] ++ for_node other ([] ++ cell.outbox))) is.unused.sent ∙ ap (λ (coming : List Message). for_node other coming) outbox
+        to = ap (λ (end : EndView Message). end.to) (sym end_is) ∙ is.to;
+        from = ap (λ (end : EndView Message). end.from) (sym end_is) ∙ is.from;
+        in_order = ap (λ (sent : List Message). sent ++ ([] ++ for_node other ([] ++ cell.outbox))) (ap (λ (end : EndView Message). end.sent) (sym end_is) ∙ is.unused.sent)
+            ∙ ap (λ (coming : List Message). for_node other coming) outbox
             ∙ ap (λ (journal : List Entry). for_node other (all_sent journal)) (sym journal);
       });
   received = λ message there. absurd (nowhere message (subst (λ (journal : List Entry). Contains (all_taken journal) message) journal there));

@@ -1,5 +1,5 @@
 -- A node's end of its link with another node, with the messages that found no room there yet (ours).
-use Rattle.std.specs.Prelude.{◌≡◌, ◌++◌, ◌∷◌, ◌⊎◌, List, []}
+use Rattle.std.specs.Prelude.{◌≡◌, ◌++◌, ◌∷◌, ◌⊎◌, Contains, List, []}
 use Rattle.atomic_table.specs.Seated.{TableId}
 use Rattle.bus.specs.declared.message.Message.{Message}
 use Rattle.links.specs.Halves.{WasFull}
@@ -9,11 +9,19 @@ pub record PortView : Type 0 where
   pub from : TableId
   pub sent : List Message
   pub received : List Message
+  pub given : List Message
   pub waiting : List Message
 
--- one more message was received
-abbrev pub with_received : PortView → Message → PortView
-with_received port message = record port { received = port.received ++ message ∷ [] }
+-- messages were received, and this one was given, which was received now or before
+pub record HasGiven (old : PortView) (message : Message) (new : PortView) : Type 0 where
+  pub more : List Message
+  pub is : new ≡ record old { received = old.received ++ more; given = old.given ++ message ∷ [] }
+  pub came : Contains (old.received ++ more) message
+
+-- messages may have been received, and none was given
+pub record HasGivenNone (old new : PortView) : Type 0 where
+  pub more : List Message
+  pub is : new ≡ record old { received = old.received ++ more }
 
 -- the first of the messages waits behind the others, if there is one
 abbrev pub HasMore : PortView → List Message → PortView → List Message → Type 0

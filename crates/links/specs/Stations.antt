@@ -4,7 +4,8 @@ use Rattle.std.specs.List.{filter, flat_map}
 use Rattle.atomic_table.specs.Seated.{TableId}
 use Rattle.bus.specs.declared.message.Message.{Message}
 use Rattle.links.specs.Ends.{EndView}
-use Rattle.links.specs.Ports.{PortView, with_received}
+use Rattle.links.specs.Giving.{GivingView}
+use Rattle.links.specs.Ports.{HasGiven, HasGivenNone, PortView}
 use Rattle.links.specs.Syncs.{is_sync}
 use Rattle.links.specs.declared.not_taken.NotTaken.{NotTaken}
 use Rattle.links.specs.declared.not_taken.NotTaken.TheVariants.{Refused, Needless}
@@ -67,32 +68,45 @@ pub record IsStation (links : ℕ → ℕ → TableId) (station : StationView) :
       → IsPort links station.cell.node other (station.unsorted ++ station.cell.outbox) station.cell.journal (port_at station.ports other none)
   pub received : (message : Message) → Contains (all_taken station.cell.journal) message → Contains (flat_map (λ (port : PortView). port.received) station.ports) message
 
--- the end of a port, and the port at an unused end
+-- the end of a port, and the port at an end where nothing waits
 abbrev pub end_of : PortView → EndView Message
 end_of port = record { to = port.to; from = port.from; sent = port.sent; received = port.received }
 
-abbrev pub port_of : EndView Message → PortView
-port_of end = record { to = end.to; from = end.from; sent = end.sent; received = end.received; waiting = [] }
+abbrev pub port_of : GivingView Message → PortView
+port_of giving = record { to = giving.end.to; from = giving.end.from; sent = giving.end.sent; received = giving.end.received; given = giving.given; waiting = [] }
 
 -- ---- what it does
 
--- messages were sent, or put where they wait for that: the rest of the cell is as before, and nothing was received
+-- messages were sent, or put where they wait for that: the rest of the cell is as before, and nothing was received or given
 pub record OnlySends (old new : StationView) : Type 0 where
   pub cell : new.cell ≡ record old.cell { outbox = new.cell.outbox }
   pub received : map (λ (port : PortView). port.received) new.ports ≡ map (λ (port : PortView). port.received) old.ports
+  pub given : map (λ (port : PortView). port.given) new.ports ≡ map (λ (port : PortView). port.given) old.ports
 
 -- nothing was sent at any port
 abbrev pub SendsNothing : StationView → StationView → Type 0
 SendsNothing old new = map (λ (port : PortView). port.sent) new.ports ≡ map (λ (port : PortView). port.sent) old.ports
 
--- a message was received from the node, and delivered to nobody
+-- the port for the node gave the message
+pub record IsGiven (old : List PortView) (from : ℕ) (message : Message) (new : List PortView) : Type 0 where
+  pub port : PortView
+  pub gives : (none : PortView) → HasGiven (port_at old from none) message port
+  pub ports : new ≡ slice_set old from port
+
+-- the port for the node gave none, and may have received some that it holds or loses
+pub record GivesNone (old : StationView) (from : ℕ) (new : StationView) : Type 0 where
+  pub port : PortView
+  pub gives : (none : PortView) → HasGivenNone (port_at old.ports from none) port
+  pub rest : new ≡ record old { ports = slice_set old.ports from port }
+
+-- a message came from the node, and was delivered to nobody
 pub record Loses (old : StationView) (from : ℕ) (message : Message) (new : StationView) : Type 0 where
-  pub ports : (none : PortView) → new.ports ≡ slice_set old.ports from (with_received (port_at old.ports from none) message)
+  pub given : IsGiven old.ports from message new.ports
   pub rest : new ≡ record old { ports = new.ports }
 
--- a message was received from the node, and delivered to the cell
+-- a message came from the node, and was delivered to the cell
 pub record Receives (old : StationView) (from : ℕ) (message : Message) (delivered : Result EnteredView DeliveryFault) (new : StationView) : Type 0 where
-  pub ports : (none : PortView) → new.ports ≡ slice_set old.ports from (with_received (port_at old.ports from none) message)
+  pub given : IsGiven old.ports from message new.ports
   pub unsorted : new.unsorted ≡ old.unsorted
   pub ok : IfOk delivered (λ entered. Enters old.cell (Deliver message) entered new.cell)
   pub err : IfErr delivered (λ fault. IsNotTaken old.cell (Deliver message) fault new.cell)

@@ -3,21 +3,23 @@ ghost use Rattle.std.specs.Prelude.{◌≡◌, ◌++◌, ◌∷◌, ◌⊎◌, [
 ghost use Rattle.links.specs.Halves.{WasFull};
 ghost use Rattle.links.specs.Pace.{are_many};
 ghost use Rattle.links.specs.Syncs.{is_sync};
-ghost use Rattle.links.specs.Ports.{HasMore, HasSent, HasSentOne, with_received};
+ghost use Rattle.links.specs.Ports.{HasGiven, HasGivenNone, HasMore, HasSent, HasSentOne};
+ghost use Rattle.links.specs.Stations.{end_of, port_of};
 
+use crate::acts::Act;
 use crate::end::LinkEnd;
 use crate::pace::are_many;
+use crate::port_end::PortEnd;
 use crate::sync_filter::{Progress, SyncFilter};
 use bus::Body;
 use node_cell::{Deployment, Posted, Sending};
 use std::alloc::{AllocError, Global};
 use std::collections::VecDeque;
 use std::marker::Model;
-use std::sync::Wait;
 
 /// A node's end of its link with another node, and its messages for that node that found no room on the link yet.
-pub(crate) struct Port<K: Deployment, R: Wait> {
-    end: LinkEnd<Posted<K>, R>,
+pub(crate) struct Port<K: Deployment, E: PortEnd<Carried = Posted<K>>> {
+    end: E,
     waiting: VecDeque<Posted<K>>,
     // How many messages were sent.
     sent: u64,
@@ -25,15 +27,15 @@ pub(crate) struct Port<K: Deployment, R: Wait> {
     filter: SyncFilter,
 }
 
-impl<K: Deployment, R: Wait> Model for Port<K, R> {
+impl<K: Deployment, E: PortEnd<Carried = Posted<K>>> Model for Port<K, E> {
     ghost use Rattle.links.specs.Ports.{PortView};
 
     ghost Value = { PortView };
 
-    ghost view = { λ port. record { to = port.end.to; from = port.end.from; sent = port.end.sent; received = port.end.received; waiting = port.waiting.items } };
+    ghost view = { λ port. let giving = E.giving port.end in record { to = giving.end.to; from = giving.end.from; sent = giving.end.sent; received = giving.end.received; given = giving.given; waiting = port.waiting.items } };
 }
 
-impl<K: Deployment, R: Wait + Drop> Drop for Port<K, R> {
+impl<K: Deployment, E: PortEnd<Carried = Posted<K>>> Drop for Port<K, E> {
     fn drop(self) {
         let Port {
             end: _,
@@ -44,10 +46,10 @@ impl<K: Deployment, R: Wait + Drop> Drop for Port<K, R> {
     }
 }
 
-impl<K: Deployment, R: Wait + Drop> Port<K, R> {
+impl<K: Deployment, E: PortEnd<Carried = Posted<K>>> Port<K, E> {
     /// The port at this end. Nothing waits there.
-    pub(crate) fn new(alloc: Global, end: LinkEnd<Posted<K>, R>) -> Port<K, R>
-        ensures { result ≡ record { to = end.to; from = end.from; sent = end.sent; received = end.received; waiting = [] } }
+    pub(crate) fn new(alloc: Global, end: E) -> Port<K, E>
+        ensures { result ≡ port_of (E.giving end) }
     {
         Port {
             end,
@@ -97,7 +99,7 @@ impl<K: Deployment, R: Wait + Drop> Port<K, R> {
         let Some(posted) = self.waiting.pop_front() else {
             return false;
         };
-        match self.end.send(posted) {
+        match self.end.post(posted) {
             Ok(()) => {
                 self.sent = self.sent.saturating_add(1);
                 true
@@ -111,12 +113,13 @@ impl<K: Deployment, R: Wait + Drop> Port<K, R> {
         }
     }
 
-    /// The next message from the other node, if one has come.
+    /// The next message from the other node, if there is one to be given.
     pub(crate) fn try_receive(&mut self) -> Option<Posted<K>>
-        ensures received { IfSome result (λ posted. self.new ≡ with_received self.old posted) }
-        ensures none { IfNone result (self.new ≡ self.old) }
+        ensures given { IfSome result (λ posted. HasGiven self.old posted self.new) }
+        ensures none { IfNone result (HasGivenNone self.old self.new) }
     {
-        self.end.try_receive()
+        let posted = self.end.receive()?;
+        Some(posted)
     }
 
     /// Whether the message, which came from the other node, is a sync that needs no answer.
@@ -156,6 +159,13 @@ impl<K: Deployment, R: Wait + Drop> Port<K, R> {
         self.end.is_half_full()
     }
 
+    /// The next act that a bad network did to a message from the other node and that wasn't told yet.
+    pub(crate) fn tell_act(&mut self) -> Option<Act>
+        ensures { self.new ≡ self.old }
+    {
+        self.end.tell_act()
+    }
+
     /// Whether more messages wait than should.
     pub(crate) fn is_behind(&self) -> bool
         ensures { result ≡ are_many self.now.waiting }
@@ -164,8 +174,8 @@ impl<K: Deployment, R: Wait + Drop> Port<K, R> {
     }
 
     /// The end.
-    pub(crate) fn into_end(self) -> LinkEnd<Posted<K>, R>
-        ensures { result ≡ record { to = self.to; from = self.from; sent = self.sent; received = self.received } }
+    pub(crate) fn into_end(self) -> LinkEnd<Posted<K>, E::Handle>
+        ensures { result ≡ end_of self }
     {
         let Port {
             end,
@@ -173,6 +183,6 @@ impl<K: Deployment, R: Wait + Drop> Port<K, R> {
             sent: _,
             filter: _,
         } = self;
-        end
+        end.into_end()
     }
 }

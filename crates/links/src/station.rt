@@ -6,11 +6,14 @@ ghost use Rattle.links.specs.Ends.{AreEndsOf};
 ghost use Rattle.links.specs.Halves.{WasFull};
 ghost use Rattle.links.specs.Pace.{are_many};
 ghost use Rattle.links.specs.Ports.{PortView};
-ghost use Rattle.links.specs.Stations.{Arrives, IsStation, Loses, OnlySends, SendsNothing, end_of, port_at, port_of, said_of};
+ghost use Rattle.links.specs.Stations.{Arrives, GivesNone, IsStation, Loses, OnlySends, SendsNothing, end_of, port_at, port_of, said_of};
 
+use crate::acts::Act;
 use crate::end::LinkEnd;
 use crate::not_taken::NotTaken;
 use crate::port::Port;
+use crate::port_end::PortEnd;
+use crate::port_ends::PortEnds;
 use crate::web::Web;
 use cluster_config::Config;
 use node_cell::{
@@ -21,22 +24,23 @@ use resp_values::Reply;
 use slot_table::NodeNo;
 use std::alloc::{AllocError, Global};
 use std::marker::{Model, PhantomData};
-use std::sync::Wait;
 
 /// A node of the cluster `K`, whose journal is an `L`, with its ends of the links `W` to all nodes.
 ///
 /// What its steps send goes over these links alone, in order, and it takes no message but those that it receives there. Its type keeps
 /// that, so that it is known of each station behind a lock. One thread receives and sends; others may ask the node meanwhile.
-pub struct Station<K: Deployment, W: Web, L: Log, R: Wait> {
+///
+/// Its ends are plain ones, or have a bad network in front of them ([`PortEnd`]).
+pub struct Station<K: Deployment, W: Web, L: Log, E: PortEnd<Carried = Posted<K>>> {
     cell: NodeCell<K, L>,
     // By the number of the node at the other end.
-    ports: Vec<Port<K, R>>,
+    ports: Vec<Port<K, E>>,
     // The messages of a step that are not at their ports yet, since memory was refused.
     unsorted: Sending<K>,
     web: PhantomData<W>,
 }
 
-impl<K: Deployment, W: Web, L: Log, R: Wait> Model for Station<K, W, L, R> {
+impl<K: Deployment, W: Web, L: Log, E: PortEnd<Carried = Posted<K>>> Model for Station<K, W, L, E> {
     ghost use Rattle.node_step.specs.CodedState.{coded_state};
     ghost use Rattle.std.specs.Coded.{codes};
     ghost use Rattle.links.specs.Stations.{IsStation, StationView};
@@ -50,7 +54,8 @@ impl<K: Deployment, W: Web, L: Log, R: Wait> Model for Station<K, W, L, R> {
     ghost invariant = { λ station. IsStation W.links (record { cell = station.cell; ports = station.ports.items; unsorted = station.unsorted }) };
 }
 
-impl<K: Deployment, W: Web, L: Log + Drop, R: Wait + Drop> Drop for Station<K, W, L, R> {
+impl<K: Deployment, W: Web, L: Log + Drop, E: PortEnd<Carried = Posted<K>>> Drop
+    for Station<K, W, L, E> {
     fn drop(self) {
         let Station {
             cell: _,
@@ -61,19 +66,19 @@ impl<K: Deployment, W: Web, L: Log + Drop, R: Wait + Drop> Drop for Station<K, W
     }
 }
 
-impl<K: Deployment, W: Web, L: Log + Drop, R: Wait + Drop> Station<K, W, L, R> {
+impl<K: Deployment, W: Web, L: Log + Drop, E: PortEnd<Carried = Posted<K>>> Station<K, W, L, E> {
     /// The node of this cell, which has done nothing yet, with an unused end of its link with each node.
     pub fn new(
         alloc: Global,
         cell: NodeCell<K, L>,
-        ends: Vec<LinkEnd<Posted<K>, R>>,
-    ) -> Result<Station<K, W, L, R>, AllocError>
+        ends: PortEnds<E>,
+    ) -> Result<Station<K, W, L, E>, AllocError>
         requires journal { cell.journal ≡ [] }
         requires outbox { cell.outbox ≡ [] }
-        requires ends { AreEndsOf W.links cell.node (length cell.config.nodes) ends.items }
+        requires ends { AreEndsOf W.links cell.node (length cell.config.nodes) ends }
         ensures { IfOk result (λ station. station.cell ≡ cell) }
     {
-        let ports = ports_at(alloc, ends)?;
+        let ports = ports_at(alloc, ends.into_vec())?;
         Ok(Station {
             cell,
             ports,
@@ -101,7 +106,7 @@ impl<K: Deployment, W: Web, L: Log + Drop, R: Wait + Drop> Station<K, W, L, R> {
     /// no answer is lost instead, as any message may be.
     pub fn receive(&mut self, from: usize) -> Option<Result<Entered<K>, NotTaken>>
         ensures some { IfSome result (λ received. (message : Message) × Arrives self.old from message received self.new) }
-        ensures none { IfNone result (self.new ≡ self.old) }
+        ensures none { IfNone result ((self.new ≡ self.old) ⊎ GivesNone self.old from self.new) }
     {
         let port = self.ports.get_mut(from)?;
         let posted = port.try_receive()?;
@@ -116,9 +121,10 @@ impl<K: Deployment, W: Web, L: Log + Drop, R: Wait + Drop> Station<K, W, L, R> {
     /// it may on any network.
     pub fn lose(&mut self, from: usize) -> Option<Posted<K>>
         ensures some { IfSome result (λ posted. Loses self.old from posted self.new) }
-        ensures none { IfNone result (self.new ≡ self.old) }
+        ensures none { IfNone result ((self.new ≡ self.old) ⊎ GivesNone self.old from self.new) }
     {
-        let posted = self.ports.get_mut(from)?.try_receive()?;
+        let port = self.ports.get_mut(from)?;
+        let posted = port.try_receive()?;
         Some(posted)
     }
 
@@ -128,6 +134,16 @@ impl<K: Deployment, W: Web, L: Log + Drop, R: Wait + Drop> Station<K, W, L, R> {
         ensures { self.new ≡ self.old }
     {
         from < self.ports.len() && self.ports[from].is_half_full()
+    }
+
+    /// The next act that a bad network did to a message from the node with that number and that wasn't told yet, for a log.
+    pub fn tell_act(&mut self, from: usize) -> Option<Act>
+        ensures { self.new ≡ self.old }
+    {
+        if from >= self.ports.len() {
+            return None;
+        }
+        self.ports[from].tell_act()
     }
 
     /// Whether more messages wait for a link of the node than should, or more bytes of streams: then whoever has it make more does well
@@ -140,7 +156,7 @@ impl<K: Deployment, W: Web, L: Log + Drop, R: Wait + Drop> Station<K, W, L, R> {
 
     /// Sends as many of the messages for the node with that number as the link to it has room for, and says whether there was one. The
     /// others wait. It fails where there is no memory to put them where they wait.
-    pub fn send_out(&mut self, rt: &R, to: usize) -> Result<bool, AllocError>
+    pub fn send_out(&mut self, rt: &E::Handle, to: usize) -> Result<bool, AllocError>
         ensures sends { OnlySends self.old self.new }
         ensures none { IfOk result (λ has_sent. has_sent ≡ false → SendsNothing self.old self.new) }
         ensures sorted { IfOk result (λ _. (self.new.unsorted ≡ []) × (self.new.cell.outbox ≡ [])) }
@@ -163,7 +179,7 @@ impl<K: Deployment, W: Web, L: Log + Drop, R: Wait + Drop> Station<K, W, L, R> {
     }
 
     // Puts the messages that were sent where they wait for their links.
-    fn sort(&mut self, rt: &R) -> Result<(), AllocError>
+    fn sort(&mut self, rt: &E::Handle) -> Result<(), AllocError>
         ensures sends { OnlySends self.old self.new }
         ensures unsent { SendsNothing self.old self.new }
         ensures sorted { OnOk result ((self.new.unsorted ≡ []) × (self.new.cell.outbox ≡ [])) }
@@ -226,7 +242,7 @@ impl<K: Deployment, W: Web, L: Log + Drop, R: Wait + Drop> Station<K, W, L, R> {
     pub fn finish(
         self,
         alloc: Global,
-    ) -> Result<(NodeCell<K, L>, Vec<LinkEnd<Posted<K>, R>>), AllocError>
+    ) -> Result<(NodeCell<K, L>, Vec<LinkEnd<Posted<K>, E::Handle>>), AllocError>
         ensures cell { IfOk result (λ parts. parts.0 ≡ self.cell) }
         ensures cluster { self.cell.config ≡ K.config }
         ensures ends { IfOk result (λ parts. parts.1.items ≡ map end_of self.ports) }
@@ -256,11 +272,11 @@ fn said_of<K: Deployment>(
 }
 
 // Ports at these ends.
-fn ports_at<K: Deployment, R: Wait + Drop>(
+fn ports_at<K: Deployment, E: PortEnd<Carried = Posted<K>>>(
     alloc: Global,
-    ends: Vec<LinkEnd<Posted<K>, R>>,
-) -> Result<Vec<Port<K, R>>, AllocError>
-    ensures { IfOk result (λ ports. ports.items ≡ map port_of ends.items) }
+    ends: Vec<E>,
+) -> Result<Vec<Port<K, E>>, AllocError>
+    ensures { IfOk result (λ ports. ports.items ≡ map (λ end. port_of (E.giving end)) ends.items) }
 {
     let mut ports = Vec::with_capacity(alloc, ends.len())?;
     for end in ends {
@@ -270,10 +286,10 @@ fn ports_at<K: Deployment, R: Wait + Drop>(
 }
 
 // The ends of these ports.
-fn ends_of<K: Deployment, R: Wait + Drop>(
+fn ends_of<K: Deployment, E: PortEnd<Carried = Posted<K>>>(
     alloc: Global,
-    ports: Vec<Port<K, R>>,
-) -> Result<Vec<LinkEnd<Posted<K>, R>>, AllocError>
+    ports: Vec<Port<K, E>>,
+) -> Result<Vec<LinkEnd<Posted<K>, E::Handle>>, AllocError>
     ensures { IfOk result (λ ends. ends.items ≡ map end_of ports.items) }
 {
     let mut ends = Vec::with_capacity(alloc, ports.len())?;
@@ -283,7 +299,8 @@ fn ends_of<K: Deployment, R: Wait + Drop>(
     Ok(ends)
 }
 
-impl<K: Deployment, W: Web, L: Log + Drop, R: Wait + Drop> HoldsCell for Station<K, W, L, R> {
+impl<K: Deployment, W: Web, L: Log + Drop, E: PortEnd<Carried = Posted<K>>> HoldsCell
+    for Station<K, W, L, E> {
     type Cluster = K;
 
     ghost cell = { λ station. station.cell };

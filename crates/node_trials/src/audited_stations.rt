@@ -10,7 +10,7 @@ use crate::nodes::cell_of;
 use anyhow::{Context, Result};
 use audit::{AuditFault, gather_stations};
 use cluster_config::Config;
-use links::{NodeEnds, Station, Web, link_all};
+use links::{LinkEnd, PortEnd, PortEnds, Station, Web, link_ports};
 use node_cell::{Admission, Asks, Deployment, Journal, Posted};
 use std::alloc::{AllocError, Global};
 use std::marker::Brand;
@@ -47,18 +47,28 @@ fn said_at<K: Deployment, R: AllocGlobal + Wait + Copy + Drop>(
     requires first { IsFresh K.table K.seats first }
     requires second { IsFresh K.table K.seats second }
 {
-    let ends = link_all::<Posted<K>, R>(rt.alloc(), rt, 2)?;
-    said_linked::<K, Brand, R>(rt, config, table, first, second, ends, given)
+    let ends = link_ports::<Posted<K>, R>(rt.alloc(), rt, 2)?;
+    said_linked::<K, Brand, LinkEnd<Posted<K>, R>>(
+        &rt,
+        rt.alloc(),
+        config,
+        table,
+        first,
+        second,
+        ends,
+        given,
+    )
 }
 
 // What the audit says, where the nodes have these ends of the links.
-fn said_linked<K: Deployment, W: Web, R: AllocGlobal + Wait + Copy + Drop>(
-    rt: R,
+fn said_linked<K: Deployment, W: Web, E: PortEnd<Carried = Posted<K>>>(
+    rt: &E::Handle,
+    alloc: Global,
     config: &Config,
     table: &Table,
     first: Seat,
     second: Seat,
-    ends: Vec<NodeEnds<Posted<K>, R>>,
+    ends: Vec<PortEnds<E>>,
     given: Given,
 ) -> Result<Result<u64, AuditFault>>
     requires cluster { config.now ≡ K.config }
@@ -69,10 +79,9 @@ fn said_linked<K: Deployment, W: Web, R: AllocGlobal + Wait + Copy + Drop>(
     requires ends { length ends.items ≡ 2 }
     requires linked { AreLinkedFrom W.links 2 0 ends.items }
 {
-    let alloc = rt.alloc();
-    let mut stations = both_stations::<K, W, R>(alloc, config, first, second, ends)?;
+    let mut stations = both_stations::<K, W, E>(alloc, config, first, second, ends)?;
     move_a_key(
-        &rt,
+        rt,
         alloc,
         &mut Admission::new(config).begin(),
         &mut stations,
@@ -83,13 +92,13 @@ fn said_linked<K: Deployment, W: Web, R: AllocGlobal + Wait + Copy + Drop>(
 }
 
 /// The stations of both nodes as they begin.
-pub fn both_stations<K: Deployment, W: Web, R: Wait + Drop>(
+pub fn both_stations<K: Deployment, W: Web, E: PortEnd<Carried = Posted<K>>>(
     alloc: Global,
     config: &Config,
     first: Seat,
     second: Seat,
-    mut ends: Vec<NodeEnds<Posted<K>, R>>,
-) -> Result<Both<Station<K, W, Journal, R>>, AllocError>
+    mut ends: Vec<PortEnds<E>>,
+) -> Result<Both<Station<K, W, Journal, E>>, AllocError>
     requires cluster { config.now ≡ K.config }
     requires two { length config.now.nodes ≡ 2 }
     requires first { IsFresh K.table K.seats first }
@@ -99,18 +108,18 @@ pub fn both_stations<K: Deployment, W: Web, R: Wait + Drop>(
 {
     let second_ends = ends.pop().unwrap();
     let first_ends = ends.pop().unwrap();
-    stations_at::<K, W, R>(alloc, config, first, first_ends, second, second_ends)
+    stations_at::<K, W, E>(alloc, config, first, first_ends, second, second_ends)
 }
 
 // The stations at these ends.
-fn stations_at<K: Deployment, W: Web, R: Wait + Drop>(
+fn stations_at<K: Deployment, W: Web, E: PortEnd<Carried = Posted<K>>>(
     alloc: Global,
     config: &Config,
     first: Seat,
-    first_ends: NodeEnds<Posted<K>, R>,
+    first_ends: PortEnds<E>,
     second: Seat,
-    second_ends: NodeEnds<Posted<K>, R>,
-) -> Result<Both<Station<K, W, Journal, R>>, AllocError>
+    second_ends: PortEnds<E>,
+) -> Result<Both<Station<K, W, Journal, E>>, AllocError>
     requires cluster { config.now ≡ K.config }
     requires two { length config.now.nodes ≡ 2 }
     requires first { IsFresh K.table K.seats first }
@@ -118,7 +127,7 @@ fn stations_at<K: Deployment, W: Web, R: Wait + Drop>(
     requires first_ends { AreEndsOf W.links 0 2 first_ends }
     requires second_ends { AreEndsOf W.links 1 2 second_ends }
 {
-    let first = station_at::<K, W, R>(alloc, config, 0, first, first_ends)?;
+    let first = station_at::<K, W, E>(alloc, config, 0, first, first_ends)?;
     match station_at(alloc, config, 1, second, second_ends) {
         Ok(second) => Ok(Both { first, second }),
         Err(refused) => {
@@ -129,13 +138,13 @@ fn stations_at<K: Deployment, W: Web, R: Wait + Drop>(
 }
 
 // A node as it begins.
-fn station_at<K: Deployment, W: Web, R: Wait + Drop>(
+fn station_at<K: Deployment, W: Web, E: PortEnd<Carried = Posted<K>>>(
     alloc: Global,
     config: &Config,
     number: u8,
     seat: Seat,
-    ends: NodeEnds<Posted<K>, R>,
-) -> Result<Station<K, W, Journal, R>, AllocError>
+    ends: PortEnds<E>,
+) -> Result<Station<K, W, Journal, E>, AllocError>
     requires number { number < 2 }
     requires two { length config.now.nodes ≡ 2 }
     requires cluster { config.now ≡ K.config }
@@ -143,15 +152,15 @@ fn station_at<K: Deployment, W: Web, R: Wait + Drop>(
     requires ends { AreEndsOf W.links number 2 ends }
 {
     let cell = cell_of(alloc, config, number, seat)?;
-    Station::new(alloc, cell, ends.into_vec())
+    Station::new(alloc, cell, ends)
 }
 
 // A key moves from the first node to the second, by the steps that cells make for it.
-fn move_a_key<K: Deployment, W: Web, R: Wait + Drop>(
-    rt: &R,
+fn move_a_key<K: Deployment, W: Web, E: PortEnd<Carried = Posted<K>>>(
+    rt: &E::Handle,
     alloc: Global,
     asks: &mut Asks<K>,
-    stations: &mut Both<Station<K, W, Journal, R>>,
+    stations: &mut Both<Station<K, W, Journal, E>>,
 ) -> Result<()> {
     stations.begin_move(alloc, asks)?;
     carry(rt, &mut stations.first, &mut stations.second)?;
@@ -159,10 +168,10 @@ fn move_a_key<K: Deployment, W: Web, R: Wait + Drop>(
 }
 
 // Sends what one node has for the other, which takes the first message that comes.
-fn carry<K: Deployment, W: Web, R: Wait + Drop>(
-    rt: &R,
-    from: &mut Station<K, W, Journal, R>,
-    to: &mut Station<K, W, Journal, R>,
+fn carry<K: Deployment, W: Web, E: PortEnd<Carried = Posted<K>>>(
+    rt: &E::Handle,
+    from: &mut Station<K, W, Journal, E>,
+    to: &mut Station<K, W, Journal, E>,
 ) -> Result<()> {
     let _has_sent = from.send_out(rt, to.number().index())?;
     let delivered = to.receive(from.number().index());

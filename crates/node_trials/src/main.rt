@@ -6,8 +6,10 @@ mod acts;
 mod audited_cells;
 mod audited_stations;
 mod audits;
+mod bad_networks;
 mod callers;
 mod calls;
+mod carrying;
 mod cells;
 mod clusters;
 mod conversation;
@@ -33,6 +35,7 @@ mod playing;
 mod race;
 mod refused;
 mod replay;
+mod reused;
 mod rows;
 mod runtime;
 mod seats;
@@ -77,11 +80,13 @@ enum Trial {
     Streams,
     Audit,
     Copies,
+    Networks,
+    Reused,
     Pace,
 }
 
 // The words of the trials, in the order in which they are played.
-const TRIALS: [(&str, Trial); 19] = [
+const TRIALS: [(&str, Trial); 21] = [
     ("refused", Trial::Refused),
     ("moves", Trial::Moves),
     ("following", Trial::Following),
@@ -101,6 +106,8 @@ const TRIALS: [(&str, Trial); 19] = [
     ("streams", Trial::Streams),
     ("audit", Trial::Audit),
     ("copies", Trial::Copies),
+    ("networks", Trial::Networks),
+    ("reused", Trial::Reused),
 ];
 
 // It measures, and is played by its word alone.
@@ -182,6 +189,8 @@ fn try_out<R: Runtime>(rt: R, trial: Trial) -> Result<()> {
         Trial::Streams => streams::try_out(&rt),
         Trial::Audit => audits::try_out(rt),
         Trial::Copies => playing::try_out(rt),
+        Trial::Networks => bad_networks::try_out(rt),
+        Trial::Reused => reused::try_out(rt),
         Trial::Pace => pace::measure(&rt),
     }
 }

@@ -12,7 +12,7 @@ use crate::telling::say;
 use anyhow::Result;
 use cluster_config::Config;
 use key_slot::Slot;
-use links::{NodeEnds, NotTaken, Station, Web, link_all};
+use links::{LinkEnd, NotTaken, PortEnd, PortEnds, Station, Web, link_ports};
 use node_cell::{Admission, Asks, Deployment, HoldsCell, Journal, Posted};
 use node_core::Event;
 use std::alloc::Global;
@@ -79,17 +79,18 @@ fn seen_at<K: Deployment, R: AllocGlobal + Wait + Copy + Drop>(
     requires first { IsFresh K.table K.seats first }
     requires second { IsFresh K.table K.seats second }
 {
-    let ends = link_all::<Posted<K>, R>(rt.alloc(), rt, 2)?;
-    seen_linked::<K, Brand, R>(rt, config, first, second, ends)
+    let ends = link_ports::<Posted<K>, R>(rt.alloc(), rt, 2)?;
+    seen_linked::<K, Brand, LinkEnd<Posted<K>, R>>(&rt, rt.alloc(), config, first, second, ends)
 }
 
 // What is seen where the nodes have these ends of the links.
-fn seen_linked<K: Deployment, W: Web, R: AllocGlobal + Wait + Copy + Drop>(
-    rt: R,
+fn seen_linked<K: Deployment, W: Web, E: PortEnd<Carried = Posted<K>>>(
+    rt: &E::Handle,
+    alloc: Global,
     config: &Config,
     first: Seat,
     second: Seat,
-    ends: Vec<NodeEnds<Posted<K>, R>>,
+    ends: Vec<PortEnds<E>>,
 ) -> Result<Seen>
     requires cluster { config.now ≡ K.config }
     requires two { length config.now.nodes ≡ 2 }
@@ -98,16 +99,15 @@ fn seen_linked<K: Deployment, W: Web, R: AllocGlobal + Wait + Copy + Drop>(
     requires ends { length ends.items ≡ 2 }
     requires linked { AreLinkedFrom W.links 2 0 ends.items }
 {
-    let alloc = rt.alloc();
-    let mut nodes = both_stations::<K, W, R>(alloc, config, first, second, ends)?;
-    see(&rt, alloc, &mut Admission::new(config).begin(), &mut nodes)
+    let mut nodes = both_stations::<K, W, E>(alloc, config, first, second, ends)?;
+    see(rt, alloc, &mut Admission::new(config).begin(), &mut nodes)
 }
 
-fn see<K: Deployment, W: Web, R: Wait + Drop>(
-    rt: &R,
+fn see<K: Deployment, W: Web, E: PortEnd<Carried = Posted<K>>>(
+    rt: &E::Handle,
     alloc: Global,
     asks: &mut Asks<K>,
-    nodes: &mut Both<Station<K, W, Journal, R>>,
+    nodes: &mut Both<Station<K, W, Journal, E>>,
 ) -> Result<Seen> {
     step(asks, &mut nodes.first, Event::Open)?;
     for _ in 0..WRITES {
@@ -125,11 +125,11 @@ fn see<K: Deployment, W: Web, R: Wait + Drop>(
 }
 
 // The master executes the words, and sends what comes of them.
-fn write<K: Deployment, W: Web, R: Wait + Drop>(
-    rt: &R,
+fn write<K: Deployment, W: Web, E: PortEnd<Carried = Posted<K>>>(
+    rt: &E::Handle,
     alloc: Global,
     asks: &mut Asks<K>,
-    nodes: &mut Both<Station<K, W, Journal, R>>,
+    nodes: &mut Both<Station<K, W, Journal, E>>,
     words: &str,
 ) -> Result<()> {
     let event = Event::Request(conn_of(0), words_of(alloc, words)?);
@@ -139,10 +139,10 @@ fn write<K: Deployment, W: Web, R: Wait + Drop>(
 }
 
 // After how many syncs the replica has two keys. It gives up after ten.
-fn syncs_until_two<K: Deployment, W: Web, R: Wait + Drop>(
-    rt: &R,
+fn syncs_until_two<K: Deployment, W: Web, E: PortEnd<Carried = Posted<K>>>(
+    rt: &E::Handle,
     asks: &mut Asks<K>,
-    nodes: &mut Both<Station<K, W, Journal, R>>,
+    nodes: &mut Both<Station<K, W, Journal, E>>,
 ) -> Result<u64> {
     for syncs in 0..10 {
         if keys_at(&nodes.second) == 2 {
@@ -155,10 +155,10 @@ fn syncs_until_two<K: Deployment, W: Web, R: Wait + Drop>(
 }
 
 // A tick passes at the replica, whose master takes what it tells. It gives whether the sync was delivered there.
-fn is_heard<K: Deployment, W: Web, R: Wait + Drop>(
-    rt: &R,
+fn is_heard<K: Deployment, W: Web, E: PortEnd<Carried = Posted<K>>>(
+    rt: &E::Handle,
     asks: &mut Asks<K>,
-    nodes: &mut Both<Station<K, W, Journal, R>>,
+    nodes: &mut Both<Station<K, W, Journal, E>>,
 ) -> Result<bool> {
     step(asks, &mut nodes.second, Event::Tick)?;
     let _has_sent = nodes.second.send_out(rt, 0)?;
@@ -175,8 +175,8 @@ struct Taken {
 }
 
 // The node takes all messages that came from the other one.
-fn take_all<K: Deployment, W: Web, R: Wait + Drop>(
-    node: &mut Station<K, W, Journal, R>,
+fn take_all<K: Deployment, W: Web, E: PortEnd<Carried = Posted<K>>>(
+    node: &mut Station<K, W, Journal, E>,
     from: usize,
 ) -> Taken {
     let mut taken = Taken {
@@ -194,8 +194,8 @@ fn take_all<K: Deployment, W: Web, R: Wait + Drop>(
 }
 
 // Whether the next message is needless, if one has come.
-fn take_next<K: Deployment, W: Web, R: Wait + Drop>(
-    node: &mut Station<K, W, Journal, R>,
+fn take_next<K: Deployment, W: Web, E: PortEnd<Carried = Posted<K>>>(
+    node: &mut Station<K, W, Journal, E>,
     from: usize,
 ) -> Option<bool> {
     let received = node.receive(from)?;

@@ -1,10 +1,11 @@
 //! `rcluster serve --log`: a line on standard error for each thing that happens to a cluster and that no client is told, for each slot that
-//! arrives at a node or leaves it, for each master that hands its slots over and the replica that notes it, and for each node that is
-//! promoted. Without a log there is only the advice for whoever runs the cluster.
+//! arrives at a node or leaves it, for each master that hands its slots over and the replica that notes it, for each node that is
+//! promoted, and for each message that a bad network loses, repeats or holds. Without a log there is only the advice for whoever runs the cluster.
 
 use crate::failure::Failure;
 use crate::fault::ProgramFault;
 use cluster::{Heard, Hearing, Incident, Shortage, Witness};
+use links::Act;
 use std::alloc::{AllocError, Global};
 use std::rt::Clock;
 use std::sync::{Arc, Wait};
@@ -136,12 +137,25 @@ impl fmt::Display for Line {
                 "node {node}: promoted in place of node {master}{}, epoch: {epoch}, bytes of its stream: {offset}",
                 how(is_planned)
             ),
+            Incident::ActDone { node, from, act } => {
+                write!(f, "node {node}: a message of node {from} ")?;
+                write_act(f, act)
+            }
             Incident::ClientsCrowd { node } => write!(
                 f,
                 "node {node}: its clients wait for each other, because each has a thread of its own; with --loops N it has N threads, which serve all clients in turn"
             ),
             Incident::Missed(count) => write!(f, "lines that are missing before this one: {count}"),
         }
+    }
+}
+
+fn write_act<W: fmt::Write>(f: &mut fmt::Formatter<W>, act: Act) -> fmt::Result {
+    match act {
+        Act::Pass => write!(f, "comes"),
+        Act::Lose => write!(f, "is lost"),
+        Act::Repeat(more) => write!(f, "comes, and once more so many times: {more}"),
+        Act::Hold(further) => write!(f, "is held until so many others have come: {further}"),
     }
 }
 

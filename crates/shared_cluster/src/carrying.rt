@@ -351,7 +351,9 @@ fn receive_from<C: HasLinks<R> + Drop, R: Clock + Wait>(
     called: &mut Called,
 ) -> bool {
     changes.look(&*cell);
-    if !cell.take_from(number) {
+    let has_taken = cell.take_from(number);
+    changes.tell_acts(rt, cell, number);
+    if !has_taken {
         return false;
     }
     changes.tell(rt, &*cell);

@@ -1,12 +1,17 @@
 //! What messages of other nodes change in a node.
 
+use crate::linked::HasLinks;
 use crate::witness::{Incident, Witness};
 use key_slot::Slot;
+use links::Act;
 use node_cell::HoldsCell;
 use slot_state::Move;
 use std::alloc::Global;
 use std::rt::Clock;
 use std::sync::Wait;
+
+// So many acts are told at once. Where there are more, they are told with the next message.
+const MOST_ACTS: u32 = 1024;
 
 /// Has the witness see each slot that leaves the node of that number, that the node hands its slots over, that it noted what its master
 /// hands over, and that it is promoted. Where nobody listens it looks at nothing but that.
@@ -102,6 +107,27 @@ impl<'w> Changes<'w> {
         }
         if !self.before.is_promoted {
             self.tell_of_promotion(rt, cell);
+        }
+    }
+
+    /// Has the witness see what a bad network did to messages of that other node, where it didn't let them pass.
+    pub(crate) fn tell_acts<C: HasLinks<R>, R: Clock + Wait>(
+        &self,
+        rt: &R,
+        cell: &mut C,
+        from: usize,
+    ) {
+        if !self.witness.is_heard() {
+            return;
+        }
+        for _ in 0..MOST_ACTS {
+            let Some(act) = cell.tell_act(from) else {
+                return;
+            };
+            if act != Act::Pass {
+                let node = self.node;
+                self.witness.see(rt, Incident::ActDone { node, from, act });
+            }
         }
     }
 

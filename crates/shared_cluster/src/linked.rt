@@ -1,7 +1,7 @@
 //! What has a node's cell and its links with all nodes.
 
-use links::{Station, Web};
-use node_cell::{Deployment, HoldsCell, Log};
+use links::{Act, PortEnd, Station, Web};
+use node_cell::{Deployment, HoldsCell, Log, Posted};
 use std::alloc::AllocError;
 use std::sync::Wait;
 
@@ -17,6 +17,9 @@ pub trait HasLinks<R: Wait>: HoldsCell {
     /// Whether the link from that node is half full.
     fn is_half_full(&mut self, from: usize) -> bool;
 
+    /// The next act that a bad network did to a message from that node and that wasn't told yet.
+    fn tell_act(&mut self, from: usize) -> Option<Act>;
+
     /// Whether messages wait for their links in too great numbers.
     fn is_behind(&self) -> bool;
 
@@ -24,7 +27,8 @@ pub trait HasLinks<R: Wait>: HoldsCell {
     fn send_out(&mut self, rt: &R, to: usize) -> Result<bool, AllocError>;
 }
 
-impl<K: Deployment, W: Web, L: Log + Drop, R: Wait + Drop> HasLinks<R> for Station<K, W, L, R> {
+impl<K: Deployment, W: Web, L: Log + Drop, E: PortEnd<Carried = Posted<K>>> HasLinks<E::Handle>
+    for Station<K, W, L, E> {
     fn take_from(&mut self, from: usize) -> bool {
         self.receive(from).is_some()
     }
@@ -37,11 +41,15 @@ impl<K: Deployment, W: Web, L: Log + Drop, R: Wait + Drop> HasLinks<R> for Stati
         Station::is_half_full(self, from)
     }
 
+    fn tell_act(&mut self, from: usize) -> Option<Act> {
+        Station::tell_act(self, from)
+    }
+
     fn is_behind(&self) -> bool {
         Station::is_behind(self)
     }
 
-    fn send_out(&mut self, rt: &R, to: usize) -> Result<bool, AllocError> {
+    fn send_out(&mut self, rt: &E::Handle, to: usize) -> Result<bool, AllocError> {
         Station::send_out(self, rt, to)
     }
 }

@@ -1,5 +1,6 @@
 //! What happens to a cluster, for somebody who listens: what no client is told, which slots come and go, who hands over, and who is promoted.
 
+use links::Act;
 use std::alloc::{AllocError, Global};
 use std::collections::VecDeque;
 use std::rt::Clock;
@@ -74,6 +75,12 @@ pub enum Incident {
         epoch: u64,
         offset: u64,
         is_planned: bool,
+    },
+    /// A bad network did this to a message that the node received `from` another one.
+    ActDone {
+        node: usize,
+        from: usize,
+        act: Act,
     },
     /// The node's clients have waited for each other for some time.
     ClientsCrowd {

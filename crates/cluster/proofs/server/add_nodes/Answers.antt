@@ -5,7 +5,7 @@ use Rattle.cluster.proofs.PlaceLemmas.{first_linked, others_linked, others_too}
 use Rattle.cluster.proofs.server.add_nodes.Goals as goal
 
 pub add_node-requires-clause-links : goal.add_node-requires-clause-links
-add_node-requires-clause-links g c _ _ =
+add_node-requires-clause-links g c =
     let split : into_iter_items c.loop-place.place-iterator ≡ c.in-Some.place ∷ into_iter_items c.next.new.self = search rules in
     first_linked (λ place. place.ends) g.W.Web.links _ _ _ _ _ c.in-Some.place split (search rules) c.loop-place.invariant.linked
 

@@ -14,7 +14,7 @@ returns-then-to-len-clause-sends g c =
     let inside : StationView = record { cell = c.self.inside.cell; ports = c.self.inside.ports.items; unsorted = c.self.inside.unsorted } in
     let sent = subst (λ (port : PortView). HasSent port c.send_all.new.self) c.index_mut.ensures.value c.send_all.ensures.sent in
     subst (λ (old : StationView). OnlySends old (record inside { ports = set inside.ports c.args.to c.send_all.new.self })) c.self.view_is
-    (only_sends_at inside c.args.to c.index_mut.result.now c.send_all.new.self inside.unsorted (ap (λ (port : PortView). port.received) sent.rest))
+    (only_sends_at inside c.args.to c.index_mut.result.now c.send_all.new.self inside.unsorted (ap (λ (port : PortView). port.received) sent.rest) (ap (λ (port : PortView). port.given) sent.rest))
 
 pub returns-then-to-len-clause-none : goal.returns-then-to-len-clause-none
 returns-then-to-len-clause-none g c none =

@@ -17,9 +17,10 @@ pub returns-then-to-len-clause-sends : goal.returns-then-to-len-clause-sends
 returns-then-to-len-clause-sends g c =
     let inside : StationView = record { cell = c.self.inside.cell; ports = c.self.inside.ports.items; unsorted = c.self.inside.unsorted } in
     let at = c.index_mut.result.now in
+    let same = the_same_there inside c.index-to.result at c.take_from.new.self c.take_from.new.sending c.take_from.result (search rules) (search rules) in
     subst (λ (old : StationView). OnlySends old (record inside { ports = set inside.ports c.index-to.result c.take_from.new.self; unsorted = c.take_from.new.sending })) c.self.view_is
     (only_sends_at inside c.index-to.result at c.take_from.new.self c.take_from.new.sending
-    (ap (λ (port : PortView). port.received) (the_same_there inside c.index-to.result at c.take_from.new.self c.take_from.new.sending c.take_from.result (search rules) (search rules))))
+    (ap (λ (port : PortView). port.received) same) (ap (λ (port : PortView). port.given) same))
 
 pub returns-then-to-len-clause-unsent : goal.returns-then-to-len-clause-unsent
 returns-then-to-len-clause-unsent g c =
