@@ -8,6 +8,7 @@ Both nodes are served by one process, and nobody else asks them but these client
 and its acknowledgement. The report goes to the output, and to FILE.
 """
 
+import binascii
 import contextlib
 import itertools
 import multiprocessing
@@ -130,12 +131,7 @@ def tags_of(slots):
 
 
 def slot_of(key):
-    crc = 0
-    for byte in key:
-        crc ^= byte << 8
-        for _ in range(8):
-            crc = (crc << 1 ^ 0x1021) & 0xFFFF if crc & 0x8000 else crc << 1
-    return crc & 16383
+    return binascii.crc_hqx(key, 0) % 16384
 
 
 def start(server, turn, first, last=None):

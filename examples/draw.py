@@ -2,10 +2,14 @@
 """Draws what a script of `rcluster simulate` does: the requests, replies and messages between its clients and nodes.
 
 usage: examples/draw.py [--config FILE] [--program PROGRAM] SCRIPT [NODE ..] > picture.svg
+       examples/draw.py --record FIRST LAST RECORD [NODE ..] > picture.svg
 
 FILE is the cluster's configuration, by default examples/six_nodes.json, and PROGRAM plays the script, by default the one that was built last.
 Each client and each node has a lane, and time goes downwards, a row for each line of the script. What never arrives is dashed and ends in a
 cross. With numbers of nodes behind the script only these nodes are drawn.
+
+RECORD is what `rcluster serve --record` wrote of a run. Its steps with the tickets from FIRST to LAST are drawn, a row for each, but for those in
+which only signs of life come and go. Each connection of a node has a lane.
 """
 
 import argparse
@@ -17,6 +21,7 @@ from xml.sax.saxutils import escape
 sys.dont_write_bytecode = True
 
 import following
+import recorded
 
 HERE = os.path.dirname(os.path.abspath(__file__))
 # In pixels: the height of a row, what stands above the first one, and between two lanes; the room on both sides.
@@ -112,15 +117,22 @@ def draw(play, nodes=()):
     return Picture(play, nodes).text()
 
 
+def play_of(words):
+    if words.record:
+        return recorded.Recording(words.script, *words.record)
+    return following.follow(words.program, words.config, words.script)
+
+
 def main():
     parser = argparse.ArgumentParser(description=__doc__, formatter_class=argparse.RawDescriptionHelpFormatter)
     parser.add_argument("--config", default=os.path.join(HERE, "six_nodes.json"))
     parser.add_argument("--program", default=os.path.join(os.path.dirname(HERE), "rcluster"))
+    parser.add_argument("--record", type=int, nargs=2, metavar=("FIRST", "LAST"))
     parser.add_argument("script")
     parser.add_argument("node", type=int, nargs="*")
     words = parser.parse_args()
     try:
-        sys.stdout.write(draw(following.follow(words.program, words.config, words.script), words.node))
+        sys.stdout.write(draw(play_of(words), words.node))
     except (OSError, subprocess.TimeoutExpired, following.Refused, following.Differs) as error:
         sys.exit(str(error))
 

@@ -19,7 +19,7 @@ from sources import PROGRAM, ROOT, folder_of, is_built, program_of, unproved_pro
 
 EXAMPLE = os.path.join(ROOT, "examples", "six_nodes.json")
 # Of the options of `rcluster serve` those that take no value: behind each other one stands its value, and no FILE.
-FLAGS = {"--check", "--journal", "--log"}
+FLAGS = {"--check", "--journal", "--log", "--orders"}
 # With one of these the words say which cluster is served, or `rcluster` says what is missing beside it.
 SOURCES = {"--config", "--masters", "--replicas", "--port", "--backlog"}
 LOOPS = "2"

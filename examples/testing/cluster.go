@@ -3,7 +3,9 @@ package rclustertest
 
 import (
 	"bufio"
-	"math/rand"
+	"fmt"
+	"io"
+	"net"
 	"os"
 	"os/exec"
 	"strconv"
@@ -12,32 +14,27 @@ import (
 	"time"
 )
 
+// patience is how long the end of a node may take.
+const patience = 30 * time.Second
+
 // Cluster is the program that serves, and the addresses of its nodes, each as "127.0.0.1:7000".
 type Cluster struct {
 	Addresses []string
 	program   *exec.Cmd
+	orders    io.Writer
 	output    *bufio.Reader
 }
 
 // Start serves so many masters with so many replicas each, until the test ends. The options are those of `rcluster serve`.
 func Start(t *testing.T, masters, replicas int, options ...string) *Cluster {
 	t.Helper()
-	ports := rand.New(rand.NewSource(time.Now().UnixNano()))
-	for attempt := 0; attempt < 20; attempt++ {
-		// Below the ports that the system gives to clients. Where somebody listens at one of them the program ends with F2.
-		port := 10000 + ports.Intn(20000)
-		words := []string{"serve", "--masters", strconv.Itoa(masters), "--replicas", strconv.Itoa(replicas), "--port", strconv.Itoa(port)}
-		cluster, fault := serve(append(words, options...), masters*(1+replicas))
-		if fault == "" {
-			t.Cleanup(cluster.end)
-			return cluster
-		}
-		if fault != "fault F2" {
-			t.Fatalf("the cluster isn't served: %s", fault)
-		}
+	words := []string{"serve", "--masters", strconv.Itoa(masters), "--replicas", strconv.Itoa(replicas), "--port", "0", "--orders"}
+	cluster, fault := serve(append(words, options...), masters*(1+replicas))
+	if fault != "" {
+		t.Fatalf("the cluster isn't served: %s", fault)
 	}
-	t.Fatal("no free ports")
-	return nil
+	t.Cleanup(cluster.end)
+	return cluster
 }
 
 // serve waits for the line of each node, as `node 0 127.0.0.1:7000`, and returns another line in place of one as the fault.
@@ -48,6 +45,10 @@ func serve(words []string, nodes int) (*Cluster, string) {
 	}
 	program := exec.Command(path, words...)
 	program.Stderr = os.Stderr
+	orders, err := program.StdinPipe()
+	if err != nil {
+		return nil, err.Error()
+	}
 	output, err := program.StdoutPipe()
 	if err != nil {
 		return nil, err.Error()
@@ -55,7 +56,7 @@ func serve(words []string, nodes int) (*Cluster, string) {
 	if err := program.Start(); err != nil {
 		return nil, err.Error()
 	}
-	cluster := &Cluster{program: program, output: bufio.NewReader(output)}
+	cluster := &Cluster{program: program, orders: orders, output: bufio.NewReader(output)}
 	for len(cluster.Addresses) < nodes {
 		line := cluster.line()
 		if !strings.HasPrefix(line, "node ") {
@@ -65,6 +66,22 @@ func serve(words []string, nodes int) (*Cluster, string) {
 		cluster.Addresses = append(cluster.Addresses, strings.Fields(line)[2])
 	}
 	return cluster, ""
+}
+
+// Stop stops the node of that number, as if it were gone, and waits until nobody can connect to it. It isn't started again.
+func (cluster *Cluster) Stop(t *testing.T, node int) {
+	t.Helper()
+	fmt.Fprintf(cluster.orders, "stop %d\n", node)
+	for last := time.Now().Add(patience); ; time.Sleep(20 * time.Millisecond) {
+		client, err := net.DialTimeout("tcp", cluster.Addresses[node], patience)
+		if err != nil {
+			return
+		}
+		client.Close()
+		if time.Now().After(last) {
+			t.Fatalf("node %d isn't stopped", node)
+		}
+	}
 }
 
 // Verdict waits until the ticks of `--ticks` are over, and returns what the audit says: "audit ok" with the number of steps, or a fault.

@@ -15,8 +15,9 @@ func TestMoved(t *testing.T) {
 }
 
 func TestFailover(t *testing.T) {
-	cluster := Start(t, 3, 1, "--stop", "2@20", "--ticks", "100")
+	cluster := Start(t, 3, 1, "--ticks", "100")
 	expect(t, ask(t, cluster.Addresses[2], "SET foo bar"), "+OK")
+	cluster.Stop(t, 2)
 	moved := "-MOVED 12182 " + cluster.Addresses[5]
 	for last := time.Now().Add(30 * time.Second); ask(t, cluster.Addresses[0], "GET foo") != moved; {
 		if time.Now().After(last) {

@@ -18,7 +18,7 @@ PATIENCE = 30
 
 class Cluster:
     """The options are those of `rcluster serve`. With ticks the block ends once they are over, and fails if the audit does. A config is
-    what a file holds (docs/CONFIG.md), without ports.
+    what a file holds (docs/CONFIG.md), without ports. `stop` stops a node while the others are served on.
     """
 
     def __init__(self, *options, masters=3, replicas=0, ticks=None, config=None):
@@ -27,8 +27,8 @@ class Cluster:
 
     def __enter__(self):
         for _ in range(20):
-            # Below the ports that the system gives to clients. Where somebody listens at one of them the program ends with F2.
-            lines = self.start(random.randrange(10000, 32000))
+            lines = self.start()
+            # Somebody listens at a port of the file.
             if lines[0] != "fault F2\n":
                 break
             self.end()
@@ -36,21 +36,24 @@ class Cluster:
         self.addresses = [line.split()[2] for line in lines if line.startswith("node ")]
         if len(self.addresses) != len(lines):
             self.end()
-            raise RuntimeError(f"the cluster isn't served, as standard error says: {lines[0]}")
+            raise RuntimeError(f"the cluster isn't served, as standard error says above: {lines[0] or 'the program ended'}")
         return self
 
-    def start(self, port):
-        """The lines that are printed once all nodes listen, at this port and the next ones."""
+    def start(self):
+        """The lines that are printed once all nodes listen."""
         with tempfile.NamedTemporaryFile("w", suffix=".json") as file:
             if self.config:
+                # Below the ports that the system gives to clients.
+                port = random.randrange(10000, 32000)
                 nodes = [{**node, "port": port + number} for number, node in enumerate(self.config["nodes"])]
                 json.dump({**self.config, "nodes": nodes}, file)
                 file.flush()
                 source, count = ["--config", file.name], len(nodes)
             else:
-                source = ["--masters", str(self.masters), "--replicas", str(self.replicas), "--port", str(port)]
+                source = ["--masters", str(self.masters), "--replicas", str(self.replicas), "--port", "0"]
                 count = self.masters * (1 + self.replicas)
-            self.process = subprocess.Popen([PROGRAM, "serve", *source, *self.options], stdout=subprocess.PIPE, text=True)
+            words = [PROGRAM, "serve", *source, "--orders", *self.options]
+            self.process = subprocess.Popen(words, stdin=subprocess.PIPE, stdout=subprocess.PIPE, text=True)
             return [self.process.stdout.readline() for _ in range(count)]
 
     def __exit__(self, error, *_rest):
@@ -66,11 +69,18 @@ class Cluster:
     def end(self):
         self.process.kill()
         self.process.wait()
+        self.process.stdin.close()
         self.process.stdout.close()
 
-    def run(self, verb, *words):
-        """What another verb of the program prints, as `run("failover", "--node", "5")`."""
-        words = [PROGRAM, verb, "--addr", self.addresses[0], *words]
+    def stop(self, node):
+        """Stops the node of that number, as if it were gone. It isn't started again."""
+        self.process.stdin.write(f"stop {node}\n")
+        self.process.stdin.flush()
+        wait_until(lambda: refuses(self.addresses[node]))
+
+    def run(self, verb, *words, at=0):
+        """What another verb of the program prints that begins at a node, as `run("failover", "--node", "5", at=5)`."""
+        words = [PROGRAM, verb, "--addr", self.addresses[at], *words]
         return subprocess.run(words, stdout=subprocess.PIPE, text=True, timeout=PATIENCE, check=True).stdout
 
 
@@ -90,6 +100,17 @@ def ask(address, *commands):
 def connect(address):
     host, port = address.split(":")
     return socket.create_connection((host, int(port)), timeout=PATIENCE)
+
+
+def refuses(address):
+    """Whether nobody listens there."""
+    try:
+        connect(address).close()
+    except ConnectionRefusedError:
+        return True
+    except OSError:
+        pass
+    return False
 
 
 def reply_of(replies):

@@ -37,11 +37,11 @@ def test_tryagain_while_keys_are_at_two_nodes(cluster):
 
 
 def test_tryagain_while_a_key_is_being_moved():
-    with Cluster("--stop", "1@20") as cluster:
+    with Cluster() as cluster:
         assert ask(cluster.addresses[2], "SET foo bar") == ["+OK"]
         begin_to_move(cluster)
-        wait_until(lambda: fails(cluster.addresses[1], "PING"))
-        # Node 1 is gone, so it never says that it has the key.
+        # Node 1 never says that it has the key.
+        cluster.stop(1)
         target = cluster.addresses[1].replace(":", " ")
         assert ask(cluster.addresses[2], f"MIGRATE {target} foo 0 10") == ["-IOERR copy not acknowledged"]
         assert ask(cluster.addresses[2], "GET foo") == ["-TRYAGAIN Key is being moved"]
@@ -49,8 +49,9 @@ def test_tryagain_while_a_key_is_being_moved():
 
 def test_tryagain_while_a_master_hands_over():
     # Two of the three voters are gone, so the replica isn't elected.
-    with Cluster("--stop", "0@20", "--stop", "1@20", replicas=1) as cluster:
-        wait_until(lambda: all(fails(cluster.addresses[node], "PING") for node in (0, 1)))
+    with Cluster(replicas=1) as cluster:
+        for node in (0, 1):
+            cluster.stop(node)
         assert ask(cluster.addresses[5], "CLUSTER FAILOVER") == ["+OK"]
         wait_until(lambda: ask(cluster.addresses[2], "GET foo") == ["-TRYAGAIN Node is handing over"])
 
@@ -66,16 +67,16 @@ def test_clusterdown():
 
 
 def test_failover():
-    with Cluster("--stop", "2@20", replicas=1, ticks=100) as cluster:
+    with Cluster(replicas=1, ticks=100) as cluster:
         assert ask(cluster.addresses[2], "SET foo bar") == ["+OK"]
-        wait_until(lambda: fails(cluster.addresses[2], "GET foo"))
+        cluster.stop(2)
         wait_until(lambda: ask(cluster.addresses[0], "GET foo") == [f"-MOVED {SLOT} {cluster.addresses[5]}"])
         assert ask(cluster.addresses[5], "GET foo") == ["bar"]
 
 
 def test_planned_handover(cluster):
     assert ask(cluster.addresses[2], "SET foo bar") == ["+OK"]
-    cluster.run("failover", "--node", "5")
+    cluster.run("failover", "--node", "5", at=5)
     assert ask(cluster.addresses[2], "GET foo") == [f"-MOVED {SLOT} {cluster.addresses[5]}"]
     assert ask(cluster.addresses[5], "GET foo") == ["bar"]
 

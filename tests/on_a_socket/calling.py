@@ -33,6 +33,7 @@ def play_words(judge):
     for what, words in [
         ("no address", ["cli", "GET", "foo"]),
         ("no words", ["cli", "--addr", "127.0.0.1:7000"]),
+        ("words beside --stdin", ["cli", "--addr", "127.0.0.1:7000", "--stdin", "GET", "foo"]),
         ("too many tries", ["cli", "--addr", "127.0.0.1:7000", "--try", "1000001", "GET", "foo"]),
     ]:
         status, output, error = program.run(*words)

@@ -18,6 +18,7 @@ from clusters import ports_of, replica_of
 from descriptors import COMING, limit, outcome, served_in_time, told_at
 from memory import limited
 from moving import SLOT, SOURCE, TARGET, in_time
+from ordering import STATUS
 from program import PATIENCE, Server
 from refusals import free_row
 from resharding import reshard_patiently
@@ -97,10 +98,10 @@ def judge_lines(judge, what, server, refused, reason):
 
 
 def lines_in_time(server, count):
-    """What is on standard error, once there are so many lines, or else what it is when the patience has ended."""
+    """What is on standard error beside how the nodes are, once there are so many lines, or else what it is when the patience has ended."""
     last = time.monotonic() + PATIENCE
     while True:
-        lines = os.pread(server.errors.fileno(), 1 << 20, 0).splitlines(True)
+        lines = [it for it in os.pread(server.errors.fileno(), 1 << 20, 0).splitlines(True) if not STATUS.fullmatch(it)]
         if len(lines) >= count or time.monotonic() > last:
             return lines
         time.sleep(0.01)

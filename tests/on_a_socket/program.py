@@ -22,19 +22,23 @@ BEGINNING = threading.Lock()
 FILE = "cluster.json"
 
 
-def run(*words, text=None, files=()):
+def run(*words, text=None, files=(), given=b"", given_file=None):
     """The status, the output and the standard error of the program with these words, in a folder whose `cluster.json` has that text,
-    and that has these files with their bytes.
+    and that has these files with their bytes. Standard input gives these bytes, or is that file.
     """
     with tempfile.TemporaryDirectory() as folder:
         if text is not None:
             write(folder, text)
         write_all(folder, files)
+        file = None if given_file is None else os.open(given_file, os.O_RDONLY)
         with BEGINNING:
-            begun = subprocess.Popen([PATH, *words], cwd=folder, stdout=subprocess.PIPE, stderr=subprocess.PIPE)
+            stdin = subprocess.PIPE if file is None else file
+            begun = subprocess.Popen([PATH, *words], cwd=folder, stdin=stdin, stdout=subprocess.PIPE, stderr=subprocess.PIPE)
+        if file is not None:
+            os.close(file)
         with begun:
             try:
-                output, errors = begun.communicate(timeout=PATIENCE)
+                output, errors = begun.communicate(given if file is None else None, timeout=PATIENCE)
             finally:
                 begun.kill()
     return begun.returncode, output, errors
@@ -59,9 +63,9 @@ def loops():
 class Server:
     """The program that serves a cluster. It is killed at the end of the block where it hasn't ended."""
 
-    def __init__(self, cluster, *options, source=None, files=()):
+    def __init__(self, cluster, *options, source=None, files=(), stdin=subprocess.DEVNULL):
         """The words in `source` tell the cluster where it isn't told by a file. The folder has these other files with their bytes."""
-        self.cluster, self.options, self.source, self.files = cluster, options, source, files
+        self.cluster, self.options, self.source, self.files, self.stdin = cluster, options, source, files, stdin
 
     def __enter__(self):
         self.folder = tempfile.TemporaryDirectory()
@@ -73,7 +77,7 @@ class Server:
         with BEGINNING:
             self.process = subprocess.Popen(
                 [PATH, "serve", *(self.source or ("--config", FILE)), *loops(), *self.options],
-                cwd=self.folder.name, stdin=subprocess.DEVNULL, stdout=subprocess.PIPE, stderr=self.errors,
+                cwd=self.folder.name, stdin=self.stdin, stdout=subprocess.PIPE, stderr=self.errors,
             )
         # A line for each node. Where one is missing, the row that compares them says so, and this says why.
         patience = threading.Timer(PATIENCE, self.process.kill)

@@ -246,7 +246,7 @@ def faulty_words():
     yield (*SERVE, "--port", "7000"), "cannot be used with '--port <P>'"
     for count in ("0", "17", "x"):
         yield ("serve", "--masters", count), f"invalid value '{count}' for '--masters <M>'"
-    for port in ("0", "65536"):
+    for port in ("x", "65536"):
         yield ("serve", "--masters", "1", "--port", port), f"invalid value '{port}' for '--port <P>'"
     for count, replicas, port in (("3", "0", "65534"), ("3", "1", "65531"), ("1", "15", "65521")):
         yield ("serve", "--masters", count, "--replicas", replicas, "--port", port), "the last one is above 65535"
@@ -290,4 +290,4 @@ def play_words(judge):
         judge.equal(f"{verb} --help: status", status, 0)
         judge.equal(f"{verb} --help: codes that it doesn't tell", [it for it in (*codes, "F4") if f"  {it}  " not in listed], [])
         judge.within(f"{verb} --help tells the statuses", "Exit status:\n  0  ", output.decode())
-        judge.within(f"{verb} --help tells of wrong words", "\n  2  an argument is wrong or missing\n", output.decode())
+        judge.within(f"{verb} --help tells of wrong words", "\n  2  an argument is wrong or missing", output.decode())

@@ -89,14 +89,16 @@ def play_words(judge):
         judge.true(f"{what}: a sentence on standard error", error.startswith(b"error: "), repr(error))
     for address in NO_ADDRESSES:
         judge.equal(f"the address {address!r}", program.run("reshard", "--addr", address, *whole[3:]), (2, b"", no_address(address)))
-    for slots in ("", "7", "7-", "8-7", "0-16384", "07-8", "7-x", "7-8-9", "7 - 8", "+7-8"):
-        said = f"error: \"{slots}\" is no range: --slots takes A-B, two slots from 0 to 16383, A not above B\n\nFor more information, try '--help'.\n"
+    for slots in ("", "07", "16384", "7 ", "x", "7-", "8-7", "0-16384", "07-8", "7-x", "7-8-9", "7 - 8", "+7-8"):
+        said = f"error: \"{slots}\" is no slot and no range: --slots takes a slot from 0 to 16383, or A-B, two of them, A not above B\n\nFor more information, try '--help'.\n"
         judge.equal(f"slots {slots!r}", program.run(*words_of(7000, slots)), (2, b"", said.encode()))
     port = clusters.free_ports(1)[0]
     told = b"rcluster: 127.0.0.1:%d can't be reached: Connection refused (os error 111) (V2)\n" % port
     judge.equal("no node is there", program.run(*words_of(port)), (1, b"fault V2\n", told))
-    told = b'rcluster: "you" is no id of a node: an id is 40 lowercase hexadecimal digits, as CLUSTER SLOTS lists them (V2)\n'
-    judge.equal("an id that no node can have", program.run(*words_of(port, source="you")), (1, b"fault V2\n", told))
+    for text in ("you", "16", "01", "f", "0" * 39, "A" * 40):
+        told = f'rcluster: "{text}" is no id of a node: an id is 40 lowercase hexadecimal digits, as CLUSTER SLOTS lists them; a number from 0 to 15 stands for one, too (V2)\n'
+        for option in ("source", "target"):
+            judge.equal(f"{text!r} is no {option}", program.run(*words_of(port, **{option: text})), (1, b"fault V2\n", told.encode()))
 
 
 # ---- nodes of the test's own
@@ -180,6 +182,8 @@ def play_requests(judge):
 
     asks("a key is moved", (0, line(1)), lambda ports: READS + takes(b"1") + [LISTS_KEYS, migrates(ports, b"foo"), LISTS_KEYS] + ends(b"1"),
          [OK], [FOREIGN, OK, OK], [OWNED, OK, keys(b"foo"), OK, keys(), OK])
+    asks("masters by their numbers, and one slot", (0, line(1)), lambda ports: READS + takes(b"1") + [LISTS_KEYS, migrates(ports, b"foo"), LISTS_KEYS] + ends(b"1"),
+         [OK], [FOREIGN, OK, OK], [OWNED, OK, keys(b"foo"), OK, keys(), OK], slots=f"{SLOT}", source=f"{SOURCE}", target=f"{TARGET}")
     many = [b"foo%d" % it for it in range(16)]
     asks("keys are moved at once", (0, line(16)), lambda ports: READS + takes(b"1") + [LISTS_KEYS, migrates(ports, *many), LISTS_KEYS] + ends(b"1"),
          [OK], [FOREIGN, OK, OK], [OWNED, OK, keys(*many), OK, keys(), OK])
@@ -250,6 +254,8 @@ def play_replies(judge):
           said='slot 12182: {2} answered "TRYAGAIN Key is being moved" to MIGRATE 127.0.0.1 {port} "" 0 100 KEYS foo .. more often than --limit allows')
     stops("an id that isn't listed: said", b"V2", [], [], [], target="f" * 40,
           said=f"no master with slots has the id {'f' * 40}, and one without slots isn't listed; {{0}} lists {node_id(0)}, {node_id(1)}, {node_id(2)}")
+    stops("a number that isn't listed: said", b"V2", [], [], [], target="15",
+          said=f"no master with slots has the id {'f':0>40}, and one without slots isn't listed; {{0}} lists {node_id(0)}, {node_id(1)}, {node_id(2)}")
     stops("the connection ends: said", b"V2", [], [FOREIGN], [OWNED],
           said="slot 12182: the connection to {1} failed")
     stops("a reply that is none: said", b"V2", [], [b"?\r\n"], [OWNED],
@@ -359,11 +365,12 @@ def play_a_cluster(judge):
         judge.equal("what was done then", done(error), (1, 0, 1))
         judge.equal("so it is from every other master on", reshard_patiently(ports[0], source=0), (0, line(0)))
         judge.equal("a slot that was there all the time", reshard_patiently(ports[0], "6000-6000"), (0, line(0, 6000, 0)))
-        status, output, error = program.run(*words_of(ports[0], source=TARGET, target=TARGET, limit=MOST_REPETITIONS))
-        judge.equal("it comes from its own master", (status, output), (0, line(0)))
-        said, end, rest = error.partition(b"\n")
-        judge.equal("that both are one is said", said + end, b"rcluster: --from and --to are the same master, so no slot was to be moved\n")
-        judge.equal("and what was done", done(rest), (0, 0, 1))
+        for source in (TARGET, f"{TARGET}"):
+            status, output, error = program.run(*words_of(ports[0], source=source, target=TARGET, limit=MOST_REPETITIONS))
+            judge.equal("it comes from its own master", (status, output), (0, line(0)))
+            said, end, rest = error.partition(b"\n")
+            judge.equal("that both are one is said", said + end, b"rcluster: --from and --to are the same master, so no slot was to be moved\n")
+            judge.equal("and what was done", done(rest), (0, 0, 1))
         judge.equal("it is moved back", reshard_patiently(ports[0], source=TARGET, target=SOURCE), (0, line(len(values) + 3, move=2)))
         compare(judge, "where they came from", ports[SOURCE], values)
         judge.equal("a replica can't be the target", reshard_patiently(ports[0], target=4), (1, b"fault V2\n"))

@@ -7,8 +7,10 @@ use std::alloc::AllocError;
 /// Why a tool stops.
 #[derive(Clone, Copy)]
 pub enum ToolFault {
-    /// Memory was refused. Of a call nothing was sent yet.
+    /// Memory was refused. Of a call whose reply isn't printed yet nothing was sent.
     Memory,
+    /// Standard input can't be read.
+    Input,
     /// The output can't be written.
     Output,
     /// A call got no reply to its command.

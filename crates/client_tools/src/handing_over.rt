@@ -3,6 +3,7 @@
 use crate::failure::ToolFailure;
 use crate::finding::find;
 use crate::moving::look_for_moves;
+use crate::node_names::id_text;
 use crate::output::write;
 use crate::patience::Patience;
 use crate::patient::end_wait;
@@ -20,16 +21,12 @@ use crate::watched::{Seen, Watched};
 use byte_string::ByteString;
 use bytes::Bytes;
 use cluster_config::NodeId;
-use command_table::count_in;
 use redirection::Address;
 use smart_client::{Connections, Network};
 use std::alloc::{AllocError, Global};
 use std::cell::RefCell;
 use std::fmt;
 use std::time::{Duration, Instant};
-
-// A cluster has so many nodes at most, which are counted from 0.
-const MOST_NODES: u64 = 16;
 
 /// The replica that is to take the place of its master, the node that the run begins with, and for how long it waits.
 #[derive(Drop)]
@@ -61,17 +58,10 @@ impl Handover {
     }
 }
 
-// The id that the text is. A number stands for the id that a cluster without a file gives to the node of that number.
+// The id that the text stands for.
 fn id_in(alloc: Global, text: &str) -> Result<Option<NodeId>, AllocError> {
-    match count_in(text.as_bytes()) {
-        Some(number) if number < MOST_NODES => id_of(alloc, number),
-        _ => Ok(NodeId::new(Bytes::copy_from_slice(alloc, text.as_bytes())?)),
-    }
-}
-
-fn id_of(alloc: Global, number: u64) -> Result<Option<NodeId>, AllocError> {
-    let text = format!(in alloc; "{number:040x}")?;
-    Ok(NodeId::new(Bytes::copy_from_slice(alloc, text.as_bytes())?))
+    let id = Bytes::copy_from_slice(alloc, id_text(text).as_bytes())?;
+    Ok(NodeId::new(id))
 }
 
 // A sentence for a text that names no node.

@@ -16,19 +16,12 @@ pub(crate) struct Patient<'a, R: Drop, N: Network + Drop> {
     rt: R,
     network: N,
     seen: &'a RefCell<Seen>,
-    // How many refusals came one after another.
-    refusals: u64,
 }
 
 impl<'a, R: Drop, N: Network + Drop> Patient<'a, R, N> {
-    /// The same way, on which nothing was refused yet.
+    /// The same way, with as many refusals as were seen.
     pub(crate) fn new(rt: R, network: N, seen: &'a RefCell<Seen>) -> Patient<'a, R, N> {
-        Patient {
-            rt,
-            network,
-            seen,
-            refusals: 0,
-        }
+        Patient { rt, network, seen }
     }
 }
 
@@ -40,13 +33,15 @@ impl<R: Eprint + Clock + Drop, N: Network + Drop> Network for Patient<'_, R, N> 
     ghost wires = { λ patient. N.wires patient.network };
 
     fn perform(&mut self, action: Action) -> Event {
-        if self.refusals > 0 && matches!(&action, Action::Connect(_)) {
+        let refusals = refusals_in(self.seen);
+        if refusals > 0 && matches!(&action, Action::Connect(_)) {
             tell_wait(&self.rt, self.seen);
-            pause(&self.rt, self.refusals);
+            pause(&self.rt, refusals);
         }
         let event = self.network.perform(action);
-        self.refusals = refusals_after(self.refusals, &event);
-        if self.refusals == 0 {
+        let refusals = refusals_after(refusals, &event);
+        note_refusals(self.seen, refusals);
+        if refusals == 0 {
             end_wait(&self.rt, self.seen);
         }
         event
@@ -61,6 +56,25 @@ impl<R: Eprint + Clock + Drop, N: Network + Drop> Network for Patient<'_, R, N> 
 pub(crate) fn end_wait<R: Clock>(rt: &R, seen: &RefCell<Seen>) {
     if let Ok(mut seen) = seen.try_borrow_mut() {
         seen.waiting.end(rt);
+    }
+}
+
+/// Another command begins, of which nothing was refused yet.
+pub(crate) fn forget_refusals(seen: &RefCell<Seen>) {
+    note_refusals(seen, 0);
+}
+
+fn note_refusals(seen: &RefCell<Seen>, refusals: u64) {
+    if let Ok(mut seen) = seen.try_borrow_mut() {
+        seen.refusals = refusals;
+    }
+}
+
+// Where that can't be seen now, it is none.
+fn refusals_in(seen: &RefCell<Seen>) -> u64 {
+    match seen.try_borrow() {
+        Ok(seen) => seen.refusals,
+        Err(_) => 0,
     }
 }
 

@@ -1,6 +1,7 @@
 //! `rcluster reshard`: slots that move from one master to another.
 
 use crate::failure::{ToolFailure, ToolFault};
+use crate::node_names::id_text;
 use crate::output::write;
 use crate::patient::Patient;
 use crate::progress::{Progress, Terminals};
@@ -32,7 +33,8 @@ pub struct Move<'a> {
 }
 
 impl<'a> Move<'a> {
-    /// The move that these texts are, or a sentence that says what is wrong with them. Each text may be an id.
+    /// The move that these texts are, or a sentence that says what is wrong with them. Each master is told by its id or by its number, and a
+    /// text that is neither is taken for an id.
     pub fn read(
         alloc: Global,
         address: &str,
@@ -48,8 +50,8 @@ impl<'a> Move<'a> {
         };
         Ok(Ok(Move {
             start,
-            from,
-            to,
+            from: id_text(from),
+            to: id_text(to),
             slots,
         }))
     }
@@ -229,24 +231,24 @@ fn id_in(alloc: Global, text: &str) -> Result<NodeId, ToolFailure> {
         None => Err(ToolFailure::new(
             ToolFault::Reshard(ReshardFault::NotListed),
             format!(in alloc;
-                "\"{}\" is no id of a node: an id is 40 lowercase hexadecimal digits, as CLUSTER SLOTS lists them",
+                "\"{}\" is no id of a node: an id is 40 lowercase hexadecimal digits, as CLUSTER SLOTS lists them; a number from 0 to 15 stands for one, too",
                 Shown(text.as_bytes())
             ),
         )),
     }
 }
 
-// A sentence for a text that is no range of slots.
+// A sentence for a text that is no slot and no range of slots.
 fn no_range(alloc: Global, text: &str) -> Result<String, AllocError> {
     format!(in alloc;
-        "\"{}\" is no range: --slots takes A-B, two slots from 0 to 16383, A not above B",
+        "\"{}\" is no slot and no range: --slots takes a slot from 0 to 16383, or A-B, two of them, A not above B",
         Shown(text.as_bytes())
     )
 }
 
-// The slots `first-last`.
+// The slots `first-last`, or one slot.
 fn range_in(text: &str) -> Option<SlotRange> {
-    let (first, last) = text.split_once('-')?;
+    let (first, last) = text.split_once('-').unwrap_or((text, text));
     let first = slot_in(first)?;
     let last = slot_in(last)?;
     if first.get() > last.get() {

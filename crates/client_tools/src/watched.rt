@@ -36,6 +36,8 @@ pub(crate) struct Seen {
     pub(crate) has_lost_target: bool,
     /// How long the run has waited for the same.
     pub(crate) waiting: Waiting,
+    /// How many refusals came one after another.
+    pub(crate) refusals: u64,
     // Whether CLUSTER SLOTS was asked last.
     lists_masters: bool,
     // Whether the last reply was that keys which were to be moved aren't acknowledged by the target.
@@ -56,6 +58,7 @@ impl Drop for Seen {
             target: _target,
             has_lost_target: _has_lost_target,
             waiting: _waiting,
+            refusals: _refusals,
             lists_masters: _lists_masters,
             lacks_acknowledgement: _lacks_acknowledgement,
         } = self;
@@ -76,6 +79,7 @@ impl Seen {
             target: String::new(alloc),
             has_lost_target: false,
             waiting,
+            refusals: 0,
             lists_masters: false,
             lacks_acknowledgement: false,
         })

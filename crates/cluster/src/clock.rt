@@ -3,7 +3,7 @@
 use crate::crowd::Crowd;
 use node_cell::{Asks, HoldsCell, NodeGate};
 use node_step::Event;
-use shared_cluster::{Incident, Node, SharedCluster, Stop};
+use shared_cluster::{Incident, Node, Orders, SharedCluster, Stop};
 use shared_node::Gate;
 use std::net::Shutdown;
 use std::rt::Clock;
@@ -30,6 +30,7 @@ pub(crate) struct Timing {
 pub(crate) fn pass_time<C: HoldsCell + Drop, R: Clock + Wait + Copy + Drop>(
     rt: R,
     cluster: &SharedCluster<C>,
+    orders: &Orders,
     number: usize,
     asks: Asks<C::Cluster>,
     timing: Timing,
@@ -47,10 +48,14 @@ pub(crate) fn pass_time<C: HoldsCell + Drop, R: Clock + Wait + Copy + Drop>(
     let mut gate = Gate::new(rt, &node.shared, asks);
     let mut crowd = Crowd::watched(has_threads, interval);
     let mut rest = interval;
+    let mut made = 0u64;
     for _ in 0..own.min(most) {
         stop.sleep(&rt, rest);
         if stop.has_ended() {
             return;
+        }
+        if orders.has_stop(number) {
+            break;
         }
         // Behind a tick that took long, because others had the node or its processor, these have the node for as long once more.
         rest = interval.max(time_of_tick(&rt, &mut gate));
@@ -58,26 +63,38 @@ pub(crate) fn pass_time<C: HoldsCell + Drop, R: Clock + Wait + Copy + Drop>(
             let node = number;
             cluster.witness().see(&rt, Incident::ClientsCrowd { node });
         }
+        made = made.saturating_add(1);
     }
-    if own < most {
+    if made < most {
         stop_node(&rt, cluster, number, node);
-        wait_for(&rt, stop, interval, most - own);
+        wait_for(&rt, stop, interval, most.saturating_sub(made));
     }
 }
 
 // Stops the node of that number, while the others are served on: it takes and sends no message any more, its connections are shut
 // down, and whoever connects to it is refused.
-fn stop_node<C: HoldsCell + Drop, R: Wait>(
+fn stop_node<C: HoldsCell + Drop, R: Clock + Wait>(
     rt: &R,
     cluster: &SharedCluster<C>,
     number: usize,
     node: &Node<C>,
 ) {
-    let clients = &cluster.clients;
-    let stop = &cluster.stop;
     // The node is closed first: the thread that accepts looks for that as its socket is shut down.
     node.shared.close(rt);
-    clients.shut_down_at(rt, number);
+    cluster.clients.shut_down_at(rt, number);
+    close_listener(rt, cluster, node);
+    cluster
+        .witness()
+        .see(rt, Incident::Stopped { node: number });
+}
+
+// Has whoever connects to the node refused, unless the cluster ends first.
+fn close_listener<C: HoldsCell + Drop, R: Wait>(
+    rt: &R,
+    cluster: &SharedCluster<C>,
+    node: &Node<C>,
+) {
+    let stop = &cluster.stop;
     for _ in rt.forever() {
         if stop.has_ended() {
             return;
@@ -89,7 +106,7 @@ fn stop_node<C: HoldsCell + Drop, R: Wait>(
                 return;
             }
             // No descriptor is left, so one that is kept back is given for it.
-            Err(_) if clients.spares.give_one(rt) => {}
+            Err(_) if cluster.clients.spares.give_one(rt) => {}
             Err(_) => stop.sleep(rt, Duration::from_millis(PAUSE)),
         }
     }

@@ -7,8 +7,12 @@ mod crowd;
 mod loops;
 mod one_client;
 mod server;
+mod telling;
 mod threads;
 
-pub use server::{Course, Place, ServeFault, serve_nodes};
-pub use shared_cluster::{Heard, Hearing, Incident, NodeStop, Runtime, Shortage, Witness};
+pub use server::{Course, Overseer, Place, ServeFault, serve_nodes};
+pub use shared_cluster::{
+    Heard, Hearing, Incident, NodeStatus, NodeStop, Orders, Runtime, Shortage, Witness,
+};
 pub use shared_node::{Gate, SharedNode};
+pub use telling::Telling;

@@ -5,12 +5,14 @@ ghost use Rattle.links.specs.Ends.{AreEndsOf, AreLinkedFrom};
 ghost use Rattle.tickets.specs.Tickets.{IsFresh};
 
 use crate::clock::Timing;
+use crate::telling::Telling;
 use crate::threads::start_all;
 use cluster_config::Config;
 use links::{PortEnd, PortEnds, Station, Web};
 use node_cell::{Admission, Deployment, HoldsCell, Log, NodeCell, Posted};
 use shared_cluster::{
-    Clients, HasLinks, Node, NodeStop, Runtime, SharedCluster, Shortage, Stop, Witness, most_ticks,
+    Clients, HasLinks, Node, NodeStop, Orders, Runtime, SharedCluster, Shortage, Stop, Witness,
+    most_ticks,
 };
 use slot_table::NodeNo;
 use std::alloc::{AllocError, Global};
@@ -92,18 +94,29 @@ pub struct Course<'a> {
     pub stops: &'a [NodeStop],
     /// How many threads of each node serve all of its clients in turn, or None where each client has a thread of its own.
     pub loops: Option<usize>,
+    /// When it is told how its nodes are.
+    pub telling: Telling,
+}
+
+/// What whoever runs a cluster sees of it, and orders.
+#[derive(Drop)]
+pub struct Overseer {
+    /// It sees which clients can't be served, which thread can't be started, and what else happens.
+    pub witness: Arc<Witness, Global>,
+    /// What is ordered meanwhile.
+    pub orders: Arc<Orders, Global>,
 }
 
 /// Serves the nodes of the cluster, each at its place, with an `L` as its journal and the links `W` between them, as long as the course
 /// says. It returns the stations, in the order of the nodes' numbers, once all threads are
-/// done with them. The witness sees which clients can't be served, and which thread can't be started.
+/// done with them. The overseer sees which clients can't be served, and which thread can't be started.
 ///
-/// A node that has a stop is stopped meanwhile: from then on it makes no tick, takes no message and sends none, its
+/// A node that has a stop, by the course or by an order, is stopped meanwhile: from then on it makes no tick, takes no message and sends none, its
 /// connections are shut down, and whoever connects to it is refused. Steps that its clients asked for before, and those that close their
 /// connections, may come behind that.
 ///
 /// Each node has a thread that accepts clients, one that lets its time pass and one that carries its messages, and those that serve
-/// its clients.
+/// its clients. One more thread tells how the nodes are, where that is wanted.
 pub fn serve_nodes<
     K: Deployment + Send + Sync + 'static,
     W: Web + Send + 'static,
@@ -115,7 +128,7 @@ pub fn serve_nodes<
     config: &Config,
     places: Vec<Place<E>>,
     course: Course,
-    witness: &Arc<Witness, Global>,
+    overseer: &Overseer,
 ) -> Result<Vec<Station<K, W, L, E>>, ServeFault>
 where
     L::Record: Send + 'static,
@@ -133,7 +146,7 @@ where
         interval: Duration::from_millis(u64::from(config.tick_ms())),
         course,
     };
-    let nodes = run_all(rt, alloc, nodes, &admission, times, witness)?;
+    let nodes = run_all(rt, alloc, nodes, &admission, times, overseer)?;
     stations_of(alloc, nodes)
 }
 
@@ -160,6 +173,16 @@ impl Times<'_> {
         }
     }
 
+    /// How long a tick takes.
+    pub(crate) fn tick(&self) -> Duration {
+        self.interval
+    }
+
+    /// When it is told how the nodes are.
+    pub(crate) fn telling(&self) -> Telling {
+        self.course.telling
+    }
+
     /// How many threads of a node serve its clients in turn.
     pub(crate) fn loops(&self) -> usize {
         self.course.loops.unwrap_or(0)
@@ -173,15 +196,15 @@ fn run_all<C: HasLinks<R> + Drop + Send + 'static, R: Runtime>(
     nodes: Vec<Node<C>>,
     admission: &Arc<Admission<C::Cluster>, Global>,
     times: Times,
-    witness: &Arc<Witness, Global>,
+    overseer: &Overseer,
 ) -> Result<Vec<Node<C>>, ServeFault>
 where
     C::Cluster: Send + Sync + 'static,
     ensures { IfOk result (λ after. vec_len after ≡ vec_len nodes) }
 {
     let count = nodes.len();
-    let cluster = share(alloc, nodes, witness)?;
-    run(rt, alloc, &cluster, admission, times)?;
+    let cluster = share(alloc, nodes, overseer)?;
+    run(rt, alloc, &cluster, &overseer.orders, admission, times)?;
     match Arc::into_inner(cluster) {
         Some(cluster) if cluster.nodes.len() == count => Ok(cluster.nodes),
         _ => Err(ServeFault::Thread),
@@ -192,9 +215,9 @@ where
 fn share<C: HoldsCell + Drop>(
     alloc: Global,
     nodes: Vec<Node<C>>,
-    witness: &Arc<Witness, Global>,
+    overseer: &Overseer,
 ) -> Result<Arc<SharedCluster<C>, Global>, AllocError> {
-    let clients = Clients::new(alloc, nodes.len(), witness)?;
+    let clients = Clients::new(alloc, nodes.len(), &overseer.witness)?;
     let clients = Arc::new(alloc, clients).map_err(AllocError::from)?;
     let cluster = SharedCluster {
         nodes,
@@ -208,6 +231,7 @@ fn run<C: HasLinks<R> + Drop + Send + 'static, R: Runtime>(
     rt: R,
     alloc: Global,
     cluster: &Arc<SharedCluster<C>, Global>,
+    orders: &Arc<Orders, Global>,
     admission: &Arc<Admission<C::Cluster>, Global>,
     times: Times,
 ) -> Result<(), ServeFault>
@@ -216,7 +240,7 @@ where
 {
     // Without those that serve clients in turn, a node has three threads.
     let mut threads = Vec::with_capacity(alloc, cluster.nodes.len().saturating_mul(3))?;
-    let started = start_all(rt, alloc, cluster, admission, times, &mut threads);
+    let started = start_all(rt, alloc, cluster, orders, admission, times, &mut threads);
     match started {
         Ok(()) => cluster.stop.wait(&rt),
         Err(_) => cluster.stop.end(),

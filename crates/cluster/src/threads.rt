@@ -4,9 +4,10 @@ use crate::accepting::accept_clients;
 use crate::clock::{Timing, pass_time};
 use crate::loops::start_loops;
 use crate::server::{ServeFault, Times};
+use crate::telling::{Telling, tell_status};
 use client_turns::Desk;
 use node_cell::{Admission, Asks};
-use shared_cluster::{HasLinks, Incident, Runtime, SharedCluster, Shortage, carry};
+use shared_cluster::{HasLinks, Incident, Orders, Runtime, SharedCluster, Shortage, carry};
 use std::alloc::{AllocError, Global};
 use std::sync::Arc;
 use std::thread;
@@ -17,6 +18,7 @@ pub(crate) fn start_all<C: HasLinks<R> + Drop + Send + 'static, R: Runtime>(
     rt: R,
     alloc: Global,
     cluster: &Arc<SharedCluster<C>, Global>,
+    orders: &Arc<Orders, Global>,
     admission: &Arc<Admission<C::Cluster>, Global>,
     times: Times,
     threads: &mut Vec<JoinHandle<()>>,
@@ -25,9 +27,17 @@ where
     C::Cluster: Send + Sync + 'static,
 {
     for number in 0..cluster.nodes.len() {
-        start_node(rt, alloc, cluster, admission, number, times, threads)?;
+        start_node(
+            rt, alloc, cluster, orders, admission, number, times, threads,
+        )?;
     }
-    Ok(())
+    match times.telling() {
+        Telling::Never => Ok(()),
+        Telling::WhenAsked | Telling::Every(_) => Ok(add(
+            start_telling(rt, cluster, orders, times),
+            threads,
+        )?),
+    }
 }
 
 // Starts the threads of the node of that number. The witness sees which one isn't started.
@@ -35,6 +45,7 @@ fn start_node<C: HasLinks<R> + Drop + Send + 'static, R: Runtime>(
     rt: R,
     alloc: Global,
     cluster: &Arc<SharedCluster<C>, Global>,
+    orders: &Arc<Orders, Global>,
     admission: &Arc<Admission<C::Cluster>, Global>,
     number: usize,
     times: Times,
@@ -43,7 +54,9 @@ fn start_node<C: HasLinks<R> + Drop + Send + 'static, R: Runtime>(
 where
     C::Cluster: Send + Sync + 'static,
 {
-    let started = start_each(rt, alloc, cluster, admission, number, times, threads);
+    let started = start_each(
+        rt, alloc, cluster, orders, admission, number, times, threads,
+    );
     if let Err(shortage) = started {
         let node = number;
         let unstarted = Incident::ThreadNotStarted { node, shortage };
@@ -57,6 +70,7 @@ fn start_each<C: HasLinks<R> + Drop + Send + 'static, R: Runtime>(
     rt: R,
     alloc: Global,
     cluster: &Arc<SharedCluster<C>, Global>,
+    orders: &Arc<Orders, Global>,
     admission: &Arc<Admission<C::Cluster>, Global>,
     number: usize,
     times: Times,
@@ -66,7 +80,10 @@ where
     C::Cluster: Send + Sync + 'static,
 {
     let timing = times.of(number);
-    add(start_clock(rt, cluster, admission, number, timing), threads)?;
+    add(
+        start_clock(rt, cluster, orders, admission, number, timing),
+        threads,
+    )?;
     let desks = start_loops(
         rt,
         alloc,
@@ -83,6 +100,25 @@ where
     add(start_carrying(rt, alloc, cluster, number), threads)
 }
 
+// Starts the thread that tells how the nodes are.
+fn start_telling<C: HasLinks<R> + Drop + Send + 'static, R: Runtime>(
+    rt: R,
+    cluster: &Arc<SharedCluster<C>, Global>,
+    orders: &Arc<Orders, Global>,
+    times: Times,
+) -> Result<JoinHandle<()>, Shortage>
+where
+    C::Cluster: Send + Sync + 'static,
+{
+    let cluster = Arc::try_clone(cluster)?;
+    let orders = Arc::try_clone(orders)?;
+    let (tick, telling) = (times.tick(), times.telling());
+    let started = thread::spawn(&rt, move || {
+        tell_status(&rt, &*cluster, &*orders, tick, telling);
+    });
+    started.map_err(|_| Shortage::Thread)
+}
+
 /// Adds a thread to those that are to be joined, if it was started.
 pub(crate) fn add(
     started: Result<JoinHandle<()>, Shortage>,
@@ -96,6 +132,7 @@ pub(crate) fn add(
 fn start_clock<C: HasLinks<R> + Drop + Send + 'static, R: Runtime>(
     rt: R,
     cluster: &Arc<SharedCluster<C>, Global>,
+    orders: &Arc<Orders, Global>,
     admission: &Arc<Admission<C::Cluster>, Global>,
     number: usize,
     timing: Timing,
@@ -104,9 +141,10 @@ where
     C::Cluster: Send + Sync + 'static,
 {
     let cluster = Arc::try_clone(cluster)?;
+    let orders = Arc::try_clone(orders)?;
     let admission = Arc::try_clone(admission)?;
     let started = thread::spawn(&rt, move || {
-        pass_time(rt, &*cluster, number, admission.begin(), timing);
+        pass_time(rt, &*cluster, &*orders, number, admission.begin(), timing);
         cluster.stop.end();
     });
     started.map_err(|_| Shortage::Thread)

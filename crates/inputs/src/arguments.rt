@@ -7,6 +7,7 @@ use crate::verbs::{
 };
 use clap::builder::ValueParser;
 use clap::{Arg, ArgAction, ArgMatches, Command, Error};
+use client_tools::Style;
 use std::alloc::{AllocError, Global};
 
 // Of the program.
@@ -17,13 +18,15 @@ const VERSION: &str = "0.1.0";
 pub enum Call<'a> {
     /// To serve a cluster.
     Serve(Service<'a>),
-    /// To have a cluster execute one command.
+    /// To have a cluster execute commands.
     Cli {
         /// The address of the node to begin with.
         address: &'a str,
         /// How often the call may begin again for TRYAGAIN.
         tries: u64,
-        /// The words of the command.
+        /// How replies are printed.
+        style: Style,
+        /// The words of the command. Without words commands are read from standard input.
         words: Vec<&'a str>,
     },
     /// To move slots from one master to another.
@@ -55,10 +58,18 @@ pub struct Service<'a> {
     /// What becomes of the messages between its nodes: the path of a file that says it, or numbers from which it is made up. None is that
     /// each comes once and in order.
     pub network: Option<&'a str>,
+    /// The host at which all nodes listen, or None where each listens at its own.
+    pub host: Option<&'a str>,
     /// Whether each node keeps its journal in memory.
     pub records_journal: bool,
+    /// The path of the file to which it is written what the nodes did, or None where it is written nowhere.
+    pub record: Option<&'a str>,
     /// Whether standard error is told what no client is.
     pub is_logged: bool,
+    /// After how many ticks each it is told how the nodes are, or None where nobody wants to know.
+    pub status_ticks: Option<u64>,
+    /// Whether orders are read from standard input.
+    pub takes_orders: bool,
 }
 
 /// Slots that are to be moved, as the words say it.
@@ -66,11 +77,11 @@ pub struct Service<'a> {
 pub struct Resharding<'a> {
     /// The address of the node that is asked who the masters are.
     pub address: &'a str,
-    /// The id of the master that the slots leave.
+    /// The master that the slots leave, as its id or its number.
     pub from: &'a str,
-    /// The id of the master that they come to.
+    /// The master that they come to, in the same way.
     pub to: &'a str,
-    /// The slots, as the first and the last one.
+    /// The slots, as the first and the last one, or as one alone.
     pub slots: &'a str,
     /// How often a node may be asked the same again.
     pub limit: u64,
@@ -146,6 +157,7 @@ fn arg_of<'a>(alloc: Global, argument: &Argument) -> Result<Arg<'a>, AllocError>
         // That one of both is there is looked at behind the parse, which would ask for both.
         Kind::TextOr(other) => option_of(alloc, argument).conflicts_with(*other),
         Kind::MaybeText => Ok(option_of(alloc, argument)),
+        Kind::TextBeside(other) => option_of(alloc, argument).requires_arg(*other),
         Kind::Texts => Ok(option_of(alloc, argument).action(ArgAction::Append)),
         Kind::Number { least, most } => Ok(number_of(alloc, argument, *least, *most)),
         Kind::NumberBeside {
@@ -162,14 +174,13 @@ fn arg_of<'a>(alloc: Global, argument: &Argument) -> Result<Arg<'a>, AllocError>
                 .help(argument.help)
                 .action(ArgAction::SetTrue),
         ),
-        Kind::Words => Ok(
-            Arg::new(alloc, argument.name)
-                .value_name(argument.value_name)
-                .help(argument.help)
-                .required(true)
-                .num_args(1..)
-                .action(ArgAction::Append),
-        ),
+        Kind::WordsOr(flag) => Arg::new(alloc, argument.name)
+            .value_name(argument.value_name)
+            .help(argument.help)
+            .num_args(1..)
+            .action(ArgAction::Append)
+            .conflicts_with(*flag)?
+            .required_unless_present(*flag),
     }
 }
 
@@ -212,8 +223,12 @@ fn serve_call<'a>(alloc: Global, serve: Option<&ArgMatches<'a>>) -> Result<Call<
             stops: texts(alloc, serve, "stop")?,
             loops: serve.get_one::<u64>("loops"),
             network: serve.get_str("network"),
+            host: serve.get_str("listen"),
             records_journal: serve.get_flag("journal"),
+            record: serve.get_str("record"),
             is_logged: serve.get_flag("log"),
+            status_ticks: serve.get_one::<u64>("status"),
+            takes_orders: serve.get_flag("orders"),
         })),
         // The command line has a verb, and it is none of the others.
         None => Ok(Call::Serve(Service {
@@ -223,8 +238,12 @@ fn serve_call<'a>(alloc: Global, serve: Option<&ArgMatches<'a>>) -> Result<Call<
             stops: Vec::new(alloc),
             loops: None,
             network: None,
+            host: None,
             records_journal: false,
+            record: None,
             is_logged: false,
+            status_ticks: None,
+            takes_orders: false,
         })),
     }
 }
@@ -253,8 +272,17 @@ fn cli_call<'a>(alloc: Global, cli: &ArgMatches<'a>) -> Result<Call<'a>, AllocEr
     Ok(Call::Cli {
         address: text(cli, "addr"),
         tries: cli.get_one::<u64>("try").unwrap_or(FEW_TRIES),
+        style: style_of(cli),
         words: texts(alloc, cli, "words")?,
     })
+}
+
+fn style_of(cli: &ArgMatches) -> Style {
+    if cli.get_flag("text") {
+        Style::Text
+    } else {
+        Style::Bytes
+    }
 }
 
 fn reshard_call<'a>(reshard: &ArgMatches<'a>) -> Call<'a> {

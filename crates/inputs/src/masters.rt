@@ -2,6 +2,7 @@
 ghost use Rattle.std.specs.Prelude.{◌≤◌};
 
 use crate::failure::{InputFailure, InputFault};
+use crate::verbs::FIRST_PORT;
 use cluster_config::{Config, read_config};
 use config_report::report;
 use std::alloc::{AllocError, Global};
@@ -26,13 +27,33 @@ pub struct Masters {
     pub count: u64,
     /// How many replicas each of them has.
     pub replicas: u64,
-    /// The port of the first node, from which those of the others rise.
+    /// The port of the first node, from which those of the others rise, or 0 where each is to get a free one.
     pub first_port: u64,
     /// How many bytes of its stream a node keeps, or None where nothing is said of it.
     pub backlog: Option<u64>,
 }
 
 impl Masters {
+    /// How many free ports are wanted for the nodes.
+    pub fn free_ports(&self) -> usize {
+        if self.first_port > 0 || wrong_number(self).is_some() {
+            return 0;
+        }
+        self.nodes() as usize
+    }
+
+    // The port of the node of that number. Where free ports are wanted and none was found, it is one from which the numbers can be checked.
+    fn port(&self, number: u64, free_ports: &[u16]) -> u64 {
+        if let Some(port) = free_ports.get(number as usize) {
+            return u64::from(*port);
+        }
+        let first = match self.first_port {
+            0 => FIRST_PORT,
+            port => port,
+        };
+        first.saturating_add(number)
+    }
+
     fn nodes(&self) -> u64 {
         self.count.saturating_mul(self.replicas.saturating_add(1))
     }
@@ -47,15 +68,16 @@ impl Masters {
 }
 
 /// The cluster of these masters, or a sentence that says what is wrong with their numbers. First come the masters, then the replicas
-/// of the first master, and so on.
+/// of the first master, and so on. Where free ports are wanted, these are their ports.
 pub fn cluster_of_masters(
     alloc: Global,
     masters: &Masters,
+    free_ports: &[u16],
 ) -> Result<Result<Config, &'static str>, InputFailure> {
     if let Some(wrong) = wrong_number(masters) {
         return Ok(Err(wrong));
     }
-    let text = text_of(alloc, masters)?;
+    let text = text_of(alloc, masters, free_ports)?;
     match read_config(alloc, text.as_bytes()) {
         Ok(config) => Ok(Ok(config)),
         Err(fault) => {
@@ -79,9 +101,9 @@ fn wrong_number(masters: &Masters) -> Option<&'static str> {
 }
 
 // The cluster as a configuration spells it.
-fn text_of(alloc: Global, masters: &Masters) -> Result<String, AllocError> {
+fn text_of(alloc: Global, masters: &Masters, free_ports: &[u16]) -> Result<String, AllocError> {
     let mut text = String::new(alloc);
-    match write_cluster(&mut text, masters) {
+    match write_cluster(&mut text, masters, free_ports) {
         Ok(()) => Ok(text),
         Err(refused) => {
             drop(text);
@@ -90,13 +112,17 @@ fn text_of(alloc: Global, masters: &Masters) -> Result<String, AllocError> {
     }
 }
 
-fn write_cluster(text: &mut String, masters: &Masters) -> Result<(), AllocError> {
+fn write_cluster(
+    text: &mut String,
+    masters: &Masters,
+    free_ports: &[u16],
+) -> Result<(), AllocError> {
     write!(text, "{{\"tick_ms\":100,\"node_timeout\":20,")?;
     if let Some(backlog) = masters.backlog() {
         write!(text, "\"backlog\":{backlog},")?;
     }
     write!(text, "\"nodes\":[")?;
-    write_nodes(text, masters)?;
+    write_nodes(text, masters, free_ports)?;
     write!(text, "],\"voters\":[")?;
     for number in 0..masters.count {
         write!(text, "{}\"{number:040x}\"", comma(number))?;
@@ -105,9 +131,9 @@ fn write_cluster(text: &mut String, masters: &Masters) -> Result<(), AllocError>
     Ok(())
 }
 
-fn write_nodes(text: &mut String, masters: &Masters) -> Result<(), AllocError> {
+fn write_nodes(text: &mut String, masters: &Masters, free_ports: &[u16]) -> Result<(), AllocError> {
     for number in 0..masters.nodes() {
-        let port = masters.first_port.saturating_add(number);
+        let port = masters.port(number, free_ports);
         write!(
             text,
             "{}{{\"id\":\"{number:040x}\",\"host\":\"127.0.0.1\",\"port\":{port},",

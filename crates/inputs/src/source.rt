@@ -18,13 +18,25 @@ pub enum Source<'a> {
     Masters(Masters),
 }
 
-/// The cluster, or a sentence that says what is wrong with the numbers on the command line.
+impl Source<'_> {
+    /// How many free ports are wanted for its nodes.
+    pub fn free_ports(&self) -> usize {
+        match self {
+            Source::File(_) => 0,
+            Source::Masters(masters) => masters.free_ports(),
+        }
+    }
+}
+
+/// The cluster, or a sentence that says what is wrong with the numbers on the command line. The free ports are those that were found where
+/// some are wanted.
 pub fn cluster_of<R: Files + AllocGlobal>(
     rt: &R,
     source: Source,
+    free_ports: &[u16],
 ) -> Result<Result<Config, &'static str>, InputFailure> {
     match source {
         Source::File(path) => Ok(Ok(read_cluster(rt, path)?)),
-        Source::Masters(masters) => cluster_of_masters(rt.alloc(), &masters),
+        Source::Masters(masters) => cluster_of_masters(rt.alloc(), &masters, free_ports),
     }
 }

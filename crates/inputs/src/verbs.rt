@@ -62,6 +62,8 @@ pub enum Kind {
     TextOr(&'static str),
     /// A text. The option may be missing.
     MaybeText,
+    /// The same, beside the option of this name alone.
+    TextBeside(&'static str),
     /// A text. The option may be there several times, or not at all.
     Texts,
     /// A number from `least` to `most`.
@@ -78,8 +80,8 @@ pub enum Kind {
     },
     /// Nothing: it is there or not.
     Flag,
-    /// One word or more, with no name in front.
-    Words,
+    /// One word or more, with no name in front, or in place of them the flag of this name.
+    WordsOr(&'static str),
 }
 
 /// The verbs, in the order of the help.
@@ -92,6 +94,7 @@ pub static VERBS: [Verb; 5] = [
             MASTERS,
             REPLICAS,
             PORT,
+            LISTEN,
             BACKLOG,
             CHECK,
             TICKS,
@@ -99,7 +102,10 @@ pub static VERBS: [Verb; 5] = [
             LOOPS,
             NETWORK,
             JOURNAL,
+            RECORD,
             LOG,
+            STATUS,
+            ORDERS,
         ],
         after: After::Text(AFTER_SERVE),
     },
@@ -111,8 +117,8 @@ pub static VERBS: [Verb; 5] = [
     },
     Verb {
         name: "cli",
-        about: "Has the node of a command's keys execute the command, and prints the reply",
-        arguments: &[ADDRESS, TRIES, WORDS],
+        about: "Has the node of a command's keys execute the command, and prints the reply; with --stdin, does so for each line of standard input",
+        arguments: &[ADDRESS, TRIES, TEXT, STDIN, WORDS],
         after: After::Text(AFTER_CLI),
     },
     Verb {
@@ -168,13 +174,20 @@ const REPLICAS: Argument = Argument {
 const PORT: Argument = Argument {
     name: "port",
     value_name: "P",
-    help: "The port of the first of these masters, from which those of the other masters and of the replicas rise; 7000 if missing",
+    help: "The port of the first of these masters, from which those of the other masters and of the replicas rise; 7000 if missing. With 0 each node gets a port that is free, and its line says which",
     kind: Kind::NumberBeside {
         one: "masters",
         other: "config",
-        least: 1,
+        least: 0,
         most: LAST_PORT,
     },
+};
+
+const LISTEN: Argument = Argument {
+    name: "listen",
+    value_name: "HOST",
+    help: "The host at which all nodes listen, as 0.0.0.0 in a container, while they tell clients the hosts of the configuration; if missing, each listens at its own",
+    kind: Kind::MaybeText,
 };
 
 const BACKLOG: Argument = Argument {
@@ -238,10 +251,34 @@ const JOURNAL: Argument = Argument {
     kind: Kind::Flag,
 };
 
+const RECORD: Argument = Argument {
+    name: "record",
+    value_name: "FILE",
+    help: "Writes to the file what the nodes did until the end of --ticks: a line a step, with the reason for each reply",
+    kind: Kind::TextBeside("ticks"),
+};
+
 const LOG: Argument = Argument {
     name: "log",
     value_name: "",
-    help: "Tells on standard error of each client that can't be served, and why, of each slot that arrives at a node or leaves it, of each master that hands over, of each node that is promoted, and of what --network does, behind the seconds since the beginning",
+    help: "Tells on standard error how the nodes are at the beginning, of each client that can't be served, and why, of each slot that arrives at a node or leaves it, of each master that hands over, of each node that is promoted or stopped, and of what --network does, behind the seconds since the beginning",
+    kind: Kind::Flag,
+};
+
+const STATUS: Argument = Argument {
+    name: "status",
+    value_name: "N",
+    help: "Tells on standard error how each node is, after each N ticks, 1 to 1000000: whom it copies, its slots, keys and clients, the bytes of its stream of writes, and how many of them a replica lacks",
+    kind: Kind::Number {
+        least: 1,
+        most: MOST_TICKS,
+    },
+};
+
+const ORDERS: Argument = Argument {
+    name: "orders",
+    value_name: "",
+    help: "Reads orders from standard input, one a line: `stop N` stops node N, as if it were gone, and `status` has standard error told how the nodes are; they are followed at the next tick, and the end of the input changes nothing",
     kind: Kind::Flag,
 };
 
@@ -269,31 +306,45 @@ const TRIES: Argument = Argument {
     },
 };
 
+const TEXT: Argument = Argument {
+    name: "text",
+    value_name: "",
+    help: "Prints replies as redis-cli prints them on a terminal, as (integer) 3 or \"foo\"; if missing, each is printed as its bytes, on one line",
+    kind: Kind::Flag,
+};
+
+const STDIN: Argument = Argument {
+    name: "stdin",
+    value_name: "",
+    help: "Reads commands from standard input, one a line, with quotes as redis-cli reads them",
+    kind: Kind::Flag,
+};
+
 const WORDS: Argument = Argument {
     name: "words",
     value_name: "WORDS",
     help: "The command; words that begin with - stand behind --",
-    kind: Kind::Words,
+    kind: Kind::WordsOr("stdin"),
 };
 
 const FROM: Argument = Argument {
     name: "from",
-    value_name: "ID",
-    help: "The master that the slots leave",
+    value_name: "ID|NUMBER",
+    help: "The master that the slots leave: its id, or a number from 0 to 15, which stands for the id that has it in hexadecimal digits behind zeros",
     kind: Kind::Text,
 };
 
 const TO: Argument = Argument {
     name: "to",
-    value_name: "ID",
-    help: "The master that they come to",
+    value_name: "ID|NUMBER",
+    help: "The master that they come to, in the same way",
     kind: Kind::Text,
 };
 
 const SLOTS: Argument = Argument {
     name: "slots",
     value_name: "A-B",
-    help: "The slots from A to B, each from 0 to 16383",
+    help: "The slots from A to B, each from 0 to 16383; or one slot alone, as 5",
     kind: Kind::Text,
 };
 
@@ -374,19 +425,22 @@ F3        memory was refused\n  \
 F4        the output can't be written, and so this code isn't either";
 
 const AFTER_CLI: &str = "\
+Words of a line are parted by blanks. In double quotes \\n \\r \\t \\b \\a \\\" \\\\ and \\xHH are one byte, in single quotes \\' is.\n\
+A line is read once the one before it is answered. An empty line is passed over.\n\n\
 Exit status:\n  \
-0  there is a reply, which may be an error reply\n  \
-1  a fault, whose code is printed as `fault C5`\n  \
-2  an argument is wrong or missing\n\n\
+0  there is a reply to each command, which may be an error reply\n  \
+1  a fault, whose code is printed as `fault C5`; of the lines of standard input, those before it were answered\n  \
+2  an argument is wrong or missing, or a line of standard input is no command; those before it were answered\n\n\
 Codes:\n  \
+F1  standard input can't be read\n  \
 C1  the connection failed: whether the command was executed is unknown\n  \
 C2  the command was redirected too often, and was not executed\n  \
 C3  the nodes answered TRYAGAIN too often, and the command was not executed\n  \
 C4  memory was refused, and the command was not executed\n  \
 C5  a node can't be reached, and the command was not executed\n  \
-C6  a node answered as none does: whether the command was executed is unknown\n  \
+C6  a node answered as none does; standard error says whether the command was not executed, or whether that is unknown\n  \
 C7  CLUSTER, MIGRATE and ASKING are not sent\n  \
-F3  memory was refused before anything was sent\n  \
+F3  memory was refused before anything of the command was sent\n  \
 F4  the output can't be written, and so this code isn't either";
 
 const AFTER_RESHARD: &str = "\

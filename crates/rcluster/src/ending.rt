@@ -34,8 +34,11 @@ pub fn explain(rt: &(impl Print + Eprint), error: &Error) -> io::Result<ExitCode
     if error.kind() == ErrorKind::OutOfMemory {
         return fail(rt, ProgramFault::Memory);
     }
-    error.print(rt)?;
-    Ok(ExitCode::from(error.exit_code() as u8))
+    let status = error.exit_code() as u8;
+    if error.print(rt).is_err() && status == 0 {
+        return fail(rt, ProgramFault::Output);
+    }
+    Ok(ExitCode::from(status))
 }
 
 /// The end where the words of the command line can't be had.

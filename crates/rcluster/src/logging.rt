@@ -1,10 +1,11 @@
 //! `rcluster serve --log`: a line on standard error for each thing that happens to a cluster and that no client is told, for each slot that
 //! arrives at a node or leaves it, for each master that hands its slots over and the replica that notes it, for each node that is
-//! promoted, and for each message that a bad network loses, repeats or holds. Without a log there is only the advice for whoever runs the cluster.
+//! promoted or stopped, and for each message that a bad network loses, repeats or holds; and how the nodes are, at the beginning and when somebody
+//! asks. Without a log there are only the answers to orders, where these are taken, and the advice for whoever runs the cluster.
 
 use crate::failure::Failure;
 use crate::fault::ProgramFault;
-use cluster::{Heard, Hearing, Incident, Shortage, Witness};
+use cluster::{Heard, Hearing, Incident, NodeStatus, Shortage, Witness};
 use links::Act;
 use std::alloc::{AllocError, Global};
 use std::rt::Clock;
@@ -145,6 +146,8 @@ impl fmt::Display for Line {
                 f,
                 "node {node}: its clients wait for each other, because each has a thread of its own; with --loops N it has N threads, which serve all clients in turn"
             ),
+            Incident::Stopped { node } => write!(f, "node {node}: is stopped"),
+            Incident::Status(status) => write_status(f, status),
             Incident::Missed(count) => write!(f, "lines that are missing before this one: {count}"),
         }
     }
@@ -157,6 +160,26 @@ fn write_act<W: fmt::Write>(f: &mut fmt::Formatter<W>, act: Act) -> fmt::Result 
         Act::Repeat(more) => write!(f, "comes, and once more so many times: {more}"),
         Act::Hold(further) => write!(f, "is held until so many others have come: {further}"),
     }
+}
+
+fn write_status<W: fmt::Write>(f: &mut fmt::Formatter<W>, status: NodeStatus) -> fmt::Result {
+    write!(f, "node {}: ", status.node)?;
+    if status.is_stopped {
+        write!(f, "is stopped, ")?;
+    }
+    match status.master {
+        None => write!(f, "master")?,
+        Some(master) => write!(f, "replica of node {master}")?,
+    }
+    write!(
+        f,
+        ", slots: {}, keys: {}, bytes of the stream: {}",
+        status.slots, status.keys, status.offset
+    )?;
+    if let Some(behind) = status.behind {
+        write!(f, ", bytes that a replica lacks: {behind}")?;
+    }
+    write!(f, ", clients: {}", status.clients)
 }
 
 // How a node was promoted, where that was wanted.

@@ -1,12 +1,13 @@
 //! Who reaches the nodes.
 
 use cluster_config::Config;
-use std::net::Ipv4Addr;
+use std::net::IpAddr;
 
-/// Says of each node whether others than this machine may reach it.
-pub fn warn_of_reach<R: Eprint>(rt: &R, config: &Config) {
+/// Says of each node whether others than this machine may reach it. All nodes listen at that host, or each at its own.
+pub fn warn_of_reach<R: Eprint>(rt: &R, config: &Config, listens_at: Option<&str>) {
     for (number, node) in config.nodes().iter().enumerate() {
-        let host = str::from_utf8(node.host.as_slice()).unwrap_or("");
+        let own = str::from_utf8(node.host.as_slice()).unwrap_or("");
+        let host = listens_at.unwrap_or(own);
         if !is_loopback(host) {
             // Where that can't be told, the cluster is served all the same.
             let _told = eprintln!(rt;
@@ -21,7 +22,7 @@ fn is_loopback(host: &str) -> bool {
     if host == "localhost" {
         return true;
     }
-    match host.parse::<Ipv4Addr>() {
+    match host.parse::<IpAddr>() {
         Ok(address) => address.is_loopback(),
         Err(_) => false,
     }

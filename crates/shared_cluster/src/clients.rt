@@ -103,6 +103,18 @@ impl Clients {
         self.bell.notify_all();
     }
 
+    /// How many connections to the node of that number are open.
+    pub fn count_at<R: Wait>(&self, rt: &R, node: usize) -> usize {
+        let streams = self.streams.lock(rt);
+        let mut count = 0usize;
+        for (_, client) in streams.open.iter() {
+            if client.node == node {
+                count = count.saturating_add(1);
+            }
+        }
+        count
+    }
+
     /// Shuts all connections down for good, so that nobody reads or writes there any more, and waits until each is removed. The
     /// descriptors that were kept back are given up.
     pub fn shut_down<R: Wait>(&self, rt: &R) {

@@ -1,5 +1,6 @@
 //! What happens to a cluster, for somebody who listens: what no client is told, which slots come and go, who hands over, and who is promoted.
 
+use crate::status::NodeStatus;
 use links::Act;
 use std::alloc::{AllocError, Global};
 use std::collections::VecDeque;
@@ -86,14 +87,34 @@ pub enum Incident {
     ClientsCrowd {
         node: usize,
     },
+    /// The node is stopped, and the others are served on.
+    Stopped {
+        node: usize,
+    },
+    /// How a node is, since that was asked or its time has come.
+    Status(NodeStatus),
     /// So many incidents found too many others waiting.
     Missed(u64),
 }
 
 impl Incident {
+    // Whether it is for somebody who wants to hear this.
+    fn is_for(&self, hearing: Hearing) -> bool {
+        match hearing {
+            Hearing::All => true,
+            Hearing::Answers => self.is_advice() || self.is_answer(),
+            Hearing::Advice => self.is_advice(),
+        }
+    }
+
     // Whether it is for whoever runs the cluster, in place of for its log.
     fn is_advice(&self) -> bool {
         matches!(self, Incident::ClientsCrowd { .. })
+    }
+
+    // Whether it answers an order.
+    fn is_answer(&self) -> bool {
+        matches!(self, Incident::Stopped { .. } | Incident::Status(_))
     }
 }
 
@@ -102,6 +123,8 @@ impl Incident {
 pub enum Hearing {
     /// All incidents.
     All,
+    /// What answers orders, and advice.
+    Answers,
     /// What is well to know for whoever runs the cluster, and nothing else.
     Advice,
 }
@@ -167,10 +190,10 @@ impl Witness {
 
     // When the beginning was, if somebody wants to hear this.
     fn begun_for(&self, incident: Incident) -> Option<Instant> {
-        match self.heard? {
-            (Hearing::All, begun) => Some(begun),
-            (Hearing::Advice, begun) if incident.is_advice() => Some(begun),
-            (Hearing::Advice, _) => None,
+        let (hearing, begun) = self.heard?;
+        match incident.is_for(hearing) {
+            true => Some(begun),
+            false => None,
         }
     }
 

@@ -10,7 +10,7 @@ loop-number-preserved g c =
     let is_fresh = λ (seat : Seat). IsFresh g.K.Deployment.table g.K.Deployment.seats seat in
     let popped : c.loop-number.seats.items ≡ c.pop.new.self.items ++ c.unwrap-seat.result ∷ [] = search rules in
     let seats = All-pop is_fresh c.loop-number.seats.items c.pop.new.self.items (Some c.unwrap-seat.result) popped c.loop-number.invariant.fresh in
-    let taken : c.loop-number.all_ends.items ≡ c.unwrap-ends.result ∷ c.pop_front.new.self.items = search rules in
+    let taken : c.loop-number.all_ends.items ≡ c.unwrap-ends.result ∷ c.pop_front-in-loop-number.new.self.items = search rules in
     let pushed : c.push.new.self.items ≡ c.loop-number.places.items ++ record { seat = c.unwrap-seat.result; ends = c.unwrap-ends.result; listener = c.in_ok-listener.listener } ∷ [] = search rules in
     record {
       left = search rules;
