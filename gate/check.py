@@ -31,6 +31,7 @@ SCRIPTS = [
     ("tests/on_a_socket/run", "rcluster"),
     ("tests/on_a_socket/run", "rcluster", "--loops", "2"),
     ("tests/fixtures/run", "rcluster"),
+    ("tests/transcripts/run", "rcluster"),
     ("tests/starting/run", "rcluster"),
     ("tests/documents/run", None),
 ]
