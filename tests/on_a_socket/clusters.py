@@ -27,6 +27,14 @@ def free_ports(count):
     raise OSError("no free ports")
 
 
+def free_row(count):
+    """The first of so many free ports that follow one another."""
+    for port in range(20000, 30000, count):
+        if all(claim(it) for it in range(port, port + count)):
+            return port
+    raise OSError("no free ports")
+
+
 def claim(port):
     """Whether this port is free and was given to nobody, so that it is given out now. Rows that begin at once may come to the same one."""
     with program.BEGINNING, socket.socket() as probe:

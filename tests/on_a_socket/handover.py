@@ -23,9 +23,8 @@ from clusters import node_id, ports_of, replica_of
 from ending import ROWS_AT_ONCE
 from failover import KEYS, MASTERS, SLOTS, judge_audit, setting, slots_of
 from following import keys_at
-from moving import SLOT, SOURCE, TARGET, order, port_in
+from moving import SLOT, SOURCE, TARGET, in_time, order, port_in
 from program import Server
-from refusals import free_row
 from resharding import reshard_patiently
 from wire import OK, PATIENCE, array, bulk, connect, moved, number, playing, slot_of, spelled, talk
 
@@ -169,14 +168,6 @@ def judge_slots(judge, what, cluster, taken):
     wanted = slots_of(cluster, taken)
     for node, port in enumerate(ports_of(cluster)):
         judge.equal(f"{what}: who has which slots, as node {node} says", in_time(port, SLOTS, wanted), wanted)
-
-
-def in_time(port, request, wanted):
-    """What is answered, once it is what is wanted, or else what it is when the patience has ended."""
-    last = time.monotonic() + PATIENCE
-    while (answer := talk(port, request)) != wanted and time.monotonic() < last:
-        time.sleep(0.005)
-    return answer
 
 
 # ---- a chain
@@ -357,7 +348,7 @@ def play_tool(judge):
         judge.equal(f"{what}: a slot of the first master is on the move", talk(ports[0], migrating), OK)
         judge_refused(judge, f"{what}, a node whose master has a slot on the move", ports[3], "3", b"H3")
         judge_slots(judge, f"{what}, refused", cluster, [(2, 5), (1, 4)])
-    port = free_row(6)
+    port = clusters.free_row(6)
     with judge.part(what), Server({"nodes": range(6)}, source=("--masters", "3", "--replicas", "1", "--port", str(port))):
         judge_handed(judge, f"{what}, a number, asked at another node", port, "4", (5462, node_id(1), node_id(4)))
 

@@ -20,7 +20,6 @@ from memory import limited
 from moving import SLOT, SOURCE, TARGET, in_time
 from ordering import STATUS
 from program import PATIENCE, Server
-from refusals import free_row
 from resharding import reshard_patiently
 from wire import NIL, OK, PING, PONG, array, ask, bulk, connect, spelled, talk
 
@@ -80,7 +79,7 @@ def play_threads(judge):
         else:
             judge.least("memory is short: clients that aren't served", len(refused), 1)
         judge_lines(judge, "memory is short", server, refused, NO_THREAD)
-    words = [program.PATH, "serve", "--masters", "16", "--port", str(free_row(16)), "--log"]
+    words = [program.PATH, "serve", "--masters", "16", "--port", str(clusters.free_row(16)), "--log"]
     done = subprocess.run(["sh", "-c", f'ulimit -v {SMALL}; exec "$@"', "sh", *words], capture_output=True, timeout=PATIENCE, check=False)
     judge.equal("too little memory for all nodes: status and code", (done.returncode, done.stdout.splitlines()[16:]), (1, [b"fault F3"]))
     judge.true("too little memory for all nodes: what is told", NOT_STARTED.fullmatch(done.stderr), repr(done.stderr))

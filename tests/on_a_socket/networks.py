@@ -12,7 +12,8 @@ from concurrent.futures import ThreadPoolExecutor
 import clusters
 from clusters import node_id, ports_of
 from ending import ROWS_AT_ONCE, counting_clients, play_ticks
-from failover import NODE_TIMEOUT, in_time, judge_audit
+from failover import NODE_TIMEOUT, judge_audit
+from moving import in_time
 from ordering import STATUS
 from program import PATIENCE, Server, run
 from wire import OK, PING, PONG, ask, connect, number, spelled, talk
@@ -120,6 +121,6 @@ def play_late(judge):
             first.sendall(spelled(b"MIGRATE", b"127.0.0.1", b"%d" % ports[1], b"b", b"0", b"1000"))
         with connect(ports[0]) as second:
             judge.equal("the next connection is answered", ask(second, PING, PONG), PONG)
-            gone = in_time(lambda: talk(ports[0], spelled(b"CLUSTER", b"COUNTKEYSINSLOT", b"3300")), number(0))
+            gone = in_time(ports[0], spelled(b"CLUSTER", b"COUNTKEYSINSLOT", b"3300"), number(0))
             judge.equal("the acknowledgement has come, and the key is deleted", gone, number(0))
             judge.equal("and it is told nothing else", ask(second, PING + PING, PONG * 2), PONG * 2)

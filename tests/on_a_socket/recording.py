@@ -12,10 +12,11 @@ import sys
 
 import clusters
 from clusters import node_id, ports_of
-from failover import NODE_TIMEOUT, in_time
+from failover import NODE_TIMEOUT
+from moving import in_time
 from ordering import order, ordered
 from program import PATIENCE, run
-from wire import NIL, OK, ask, connect, moved, slot_of, spelled, talk
+from wire import NIL, OK, ask, connect, moved, slot_of, spelled
 
 TICK_MS, TICKS, STOPPED = 50, 240, 0
 KEY = b"foo"
@@ -65,7 +66,7 @@ def converse(judge, server, cluster, ports):
     judge.equal("a record: a master hands over", run("failover", "--addr", f"127.0.0.1:{ports[5]}", "--node", node_id(5))[0], 0)
     order(server, b"stop %d" % STOPPED)
     redirected = moved(slot_of(b"b"), ports[3])
-    judge.equal("a record: a replica takes a place", in_time(lambda: talk(ports[1], spelled(b"GET", b"b")), redirected), redirected)
+    judge.equal("a record: a replica takes a place", in_time(ports[1], spelled(b"GET", b"b"), redirected), redirected)
 
 
 def judge_lines(judge, lines):

@@ -84,7 +84,7 @@ def play_masters(judge):
         what = f"{count} masters" if replicas is None else f"{count} masters with {replicas} replicas each"
         nodes = count * (1 + (replicas or 0))
         options = () if replicas is None else ("--replicas", str(replicas))
-        port = free_row(nodes)
+        port = clusters.free_row(nodes)
         with program.Server({"nodes": range(nodes)}, source=("--masters", str(count), *options, "--port", str(port))) as server:
             ports = range(port, port + nodes)
             judge.equal(f"{what}: the lines of the nodes", server.lines, b"".join(b"node %d 127.0.0.1:%d\n" % it for it in enumerate(ports)))
@@ -134,7 +134,7 @@ def play_backlogs(judge):
 
 def addresses(*options):
     """How many bytes of addresses a master that is served with these options takes, beside the stacks of its threads and small blocks."""
-    port = free_row(2)
+    port = clusters.free_row(2)
     # Without this the system's library has addresses for each thread, and for some of them more than for others.
     with mock.patch.dict(os.environ, MALLOC_ARENA_MAX="1"):
         server = program.Server({"nodes": range(2 if "--replicas" in options else 1)}, source=("--masters", "1", "--port", str(port), *options))
@@ -153,14 +153,6 @@ def large_blocks(maps):
         if rights == "rw-p" and not name and first != guard:
             yield behind - first
         guard = behind if rights == "---p" else None
-
-
-def free_row(count):
-    """The first of so many free ports that follow one another."""
-    for port in range(20000, 30000, count):
-        if all(clusters.claim(it) for it in range(port, port + count)):
-            return port
-    raise OSError("no free ports")
 
 
 def play_reach(judge):
