@@ -27,8 +27,8 @@ STOPPED, REPLICA = 2, 5
 KEYS, CLIENTS = 10, 3
 WRONG = (b"stop", b"stop 6", b"stop -1", b"stop one", b"stop 1 2", b"Status", b"help", b"\xff", b"\\")
 STATUS = re.compile(
-    rb"rcluster: (\d+\.\d{3}) node (\d+): (is stopped, )?(master|replica of node \d+), slots: (\d+), keys: (\d+), "
-    rb"bytes of the stream: (\d+)(?:, bytes that a replica lacks: (\d+))?, clients: (\d+)\n"
+    rb"rcluster: (\d+\.\d{3}) node (\d+) \(([^()]+)\): (is stopped, )?(master|replica of node \d+), slots: (\d+), keys: (\d+), "
+    rb"bytes of the stream: (\d+)(?:, bytes that a replica lacks: (\d+))?, clients: (\d+), steps: (\d+)\n"
 )
 
 
@@ -73,13 +73,28 @@ def play_status(judge):
         bytes_of_stream = sum(len(spelled(b"SET", b"{foo}%d" % number, b"x")) for number in range(KEYS))
         judge.equal("a status: what node 0 is", (first.node, first.role, first.slots, first.keys), (0, b"master", 5461, 0))
         judge.equal("a status: the nodes", [it.node for it in last], list(range(6)))
+        judge.equal("a status: the addresses", [it.address for it in last], [b"127.0.0.1:%d" % it for it in ports])
         judge.equal("a status: the roles", [it.role for it in last], [b"master"] * 3 + [b"replica of node %d" % it for it in range(3)])
         judge.equal("a status: the slots", [it.slots for it in last], [5461, 5462, 5461, 0, 0, 0])
         judge.equal("a status: the keys", [it.keys for it in last], [0, 0, KEYS, 0, 0, KEYS])
         judge.equal("a status: the bytes", [it.bytes for it in last], [0, 0, bytes_of_stream, 0, 0, bytes_of_stream])
         judge.equal("a status: the clients", [it.clients for it in last], [0, 0, CLIENTS, 0, 0, 0])
+        judge_steps(judge, server, clients[0])
         order(server, b"stop 5")
         judge.true("a status: a replica that is stopped isn't counted", in_time(lambda: is_gone(status_of(server))), "it is")
+
+
+def judge_steps(judge, server, client):
+    """Each request, tick and message of another node is a step. So a replica makes one for each write of its master, and another node none."""
+    requests = 1000
+    before = status_of(server)[-6:]
+    ask(client, spelled(b"SET", b"{foo}0", b"x") * requests, OK * requests)
+    judge.true("a status: the replica has all bytes once more", in_time(lambda: lacks_nothing(status_of(server))), "it hasn't")
+    made = [after.steps - it.steps for it, after in zip(before, status_of(server)[-6:])]
+    judge.least("a status: the steps of the master", made[2], requests)
+    judge.least("a status: the steps of its replica", made[5], requests)
+    judge.least("a status: the steps of a node that nobody asks", made[0], 1)
+    judge.true("a status: a node that nobody asks makes fewer steps than there are requests", made[0] < requests, made)
 
 
 def play_status_in_time(judge):
@@ -88,7 +103,7 @@ def play_status_in_time(judge):
         judge.equal("a log begins with the status of each node", [int(it[1]) for it in STATUS.findall(errors)], list(range(6)))
     with Server(NODES, "--ticks", "21", "--status", "5", source=SOURCE) as server:
         _status, _output, errors = server.outcome(PATIENCE)
-        times = [float(it) for it, node in re.findall(rb"rcluster: (\d+\.\d{3}) node (\d): master, slots: \d+, ", errors) if node == b"0"]
+        times = [float(it) for it, node in re.findall(rb"rcluster: (\d+\.\d{3}) node (\d) \([^()]+\): master, slots: \d+, ", errors) if node == b"0"]
         judge.within("a status each five ticks: how often in 21 ticks", len(times), (3, 4))
         judge.least("a status each five ticks: seconds before the first", times[0] if times else 0, 0.4)
     for options in (["--status", "0"], ["--status", "1000001"], ["--status"]):
@@ -165,9 +180,9 @@ def errors_of(server):
 
 
 class Status:
-    def __init__(self, time_told, node, stopped, role, slots, keys, count, lacking, clients):
-        self.node, self.is_stopped, self.role, self.slots = int(node), bool(stopped), role, int(slots)
-        self.keys, self.bytes, self.lacking, self.clients = int(keys), int(count), lacking, int(clients)
+    def __init__(self, time_told, node, address, stopped, role, slots, keys, count, lacking, clients, steps):
+        self.node, self.address, self.is_stopped, self.role, self.slots = int(node), address, bool(stopped), role, int(slots)
+        self.keys, self.bytes, self.lacking, self.clients, self.steps = int(keys), int(count), lacking, int(clients), int(steps)
 
 
 def status_of(server):

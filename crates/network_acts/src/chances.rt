@@ -31,12 +31,12 @@ struct Chances {
     acts: u64,
 }
 
-/// Whether the text tells chances, and not the path of a file.
+/// Whether the text tells chances, and not the path of a file: it begins with a seed, or ends with a percentage.
 pub fn is_by_chance(text: &str) -> bool {
-    text.starts_with(SEED)
+    text.starts_with(SEED) || text.ends_with('%')
 }
 
-/// Acts for the links of so many nodes, made up from `seed=N,lose=5%,repeat=5%,hold=5%,acts=N`, of which all but the seed may be missing: then
+/// Acts for the links of so many nodes, made up from `seed=N,lose=5%,repeat=5%,hold=5%,acts=N`. Each part may be missing: then the seed is 0,
 /// nothing is lost, repeated or held, and 10,000 messages of each link have acts. The same text gives the same acts.
 pub fn chance_acts(alloc: Global, text: &str, nodes: usize) -> Result<Vec<Vec<Act>>, ActsFault> {
     let Some(chances) = chances_in(text) else {

@@ -163,7 +163,11 @@ fn write_act<W: fmt::Write>(f: &mut fmt::Formatter<W>, act: Act) -> fmt::Result 
 }
 
 fn write_status<W: fmt::Write>(f: &mut fmt::Formatter<W>, status: NodeStatus) -> fmt::Result {
-    write!(f, "node {}: ", status.node)?;
+    write!(f, "node {}", status.node)?;
+    if let Some(address) = status.address {
+        write!(f, " ({address})")?;
+    }
+    write!(f, ": ")?;
     if status.is_stopped {
         write!(f, "is stopped, ")?;
     }
@@ -179,7 +183,7 @@ fn write_status<W: fmt::Write>(f: &mut fmt::Formatter<W>, status: NodeStatus) ->
     if let Some(behind) = status.behind {
         write!(f, ", bytes that a replica lacks: {behind}")?;
     }
-    write!(f, ", clients: {}", status.clients)
+    write!(f, ", clients: {}, steps: {}", status.clients, status.steps)
 }
 
 // How a node was promoted, where that was wanted.

@@ -16,8 +16,7 @@ pub fn network_of<R: Files + AllocGlobal>(
     nodes: usize,
 ) -> Result<Result<Network, String>, Failure> {
     let alloc = rt.alloc();
-    // Hardly any file has such a name: it is a text that lacks its seed.
-    let read = match is_by_chance(text) || text.ends_with('%') {
+    let read = match is_by_chance(text) {
         true => chance_acts(alloc, text, nodes),
         false => text_acts(alloc, read_file(rt, text)?.as_slice(), nodes),
     };

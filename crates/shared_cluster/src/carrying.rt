@@ -1,7 +1,7 @@
 //! The messages between the nodes.
 
 use crate::changes::Changes;
-use crate::linked::HasLinks;
+use crate::linked::{HasLinks, Taken};
 use crate::node::Node;
 use crate::shared::SharedCluster;
 use node_cell::HoldsCell;
@@ -230,6 +230,7 @@ fn exchange<C: HasLinks<R> + Drop, R: Clock + Wait>(
     let has_sent = cell.has_sent() && send_to_all(rt, cell, count, &mut called).has_sent;
     let taking = receive_from_all(rt, cell, node, count, changes, &mut called);
     let sending = send_to_all(rt, cell, count, &mut called);
+    node.shared.count_steps(taking.steps);
     node.shared
         .note_pace(cell.is_behind(), has_sent || sending.has_sent);
     Round {
@@ -265,6 +266,8 @@ struct Taking {
     // When it began. Without a clock it isn't known.
     begun: Option<Instant>,
     has_received: bool,
+    // How many steps the node has made for them.
+    steps: u64,
     // As many were taken as are taken at once, so more may have come.
     has_more: bool,
 }
@@ -274,14 +277,17 @@ impl Taking {
         Taking {
             begun: Instant::now(rt).ok(),
             has_received: false,
+            steps: 0,
             has_more: false,
         }
     }
 
-    // Notes how many messages of a node were taken.
-    fn note(&mut self, taken: u32) {
-        self.has_received |= taken > 0;
-        self.has_more |= taken == MOST_TAKEN;
+    // Notes a message that was taken.
+    fn note(&mut self, taken: Taken) {
+        self.has_received = true;
+        if taken == Taken::Step {
+            self.steps = self.steps.saturating_add(1);
+        }
     }
 
     // Whether it has taken long. Without a clock it hasn't.
@@ -330,15 +336,14 @@ fn receive_all<C: HasLinks<R> + Drop, R: Clock + Wait>(
 ) -> bool {
     for taken in 0..MOST_TAKEN {
         if taken % MESSAGES_A_READING == MESSAGES_A_READING - 1 && taking.is_long(rt) {
-            taking.note(MOST_TAKEN);
+            taking.has_more = true;
             return false;
         }
-        if !receive_from(rt, cell, number, changes, called) {
-            taking.note(taken);
+        if !receive_from(rt, cell, number, taking, changes, called) {
             return true;
         }
     }
-    taking.note(MOST_TAKEN);
+    taking.has_more = true;
     !taking.is_long(rt)
 }
 
@@ -347,15 +352,17 @@ fn receive_from<C: HasLinks<R> + Drop, R: Clock + Wait>(
     rt: &R,
     cell: &mut C,
     number: usize,
+    taking: &mut Taking,
     changes: &mut Changes<'_>,
     called: &mut Called,
 ) -> bool {
     changes.look(&*cell);
-    let has_taken = cell.take_from(number);
+    let taken = cell.take_from(number);
     changes.tell_acts(rt, cell, number);
-    if !has_taken {
+    if taken == Taken::Nothing {
         return false;
     }
+    taking.note(taken);
     changes.tell(rt, &*cell);
     note_room(cell, number, called);
     true

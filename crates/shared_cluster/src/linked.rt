@@ -5,11 +5,21 @@ use node_cell::{Deployment, HoldsCell, Log, Posted};
 use std::alloc::AllocError;
 use std::sync::Wait;
 
+/// What came of a look at the link from a node.
+#[derive(Clone, Copy, PartialEq, Eq)]
+pub enum Taken {
+    /// No message has come.
+    Nothing,
+    /// A message has come, and the node has made no step for it.
+    NoStep,
+    /// A message has come, and the node has made its step.
+    Step,
+}
+
 /// What has a node's cell and its links with all nodes.
 pub trait HasLinks<R: Wait>: HoldsCell {
-    /// Takes the next message from the node with that number, and says whether there was one. One for which there is no memory is lost,
-    /// as it may be on any network.
-    fn take_from(&mut self, from: usize) -> bool;
+    /// Takes the next message from the node with that number. One for which there is no memory is lost, as it may be on any network.
+    fn take_from(&mut self, from: usize) -> Taken;
 
     /// Takes the next message from that node off its link and loses it, and says whether there was one.
     fn lose_from(&mut self, from: usize) -> bool;
@@ -29,8 +39,12 @@ pub trait HasLinks<R: Wait>: HoldsCell {
 
 impl<K: Deployment, W: Web, L: Log + Drop, E: PortEnd<Carried = Posted<K>>> HasLinks<E::Handle>
     for Station<K, W, L, E> {
-    fn take_from(&mut self, from: usize) -> bool {
-        self.receive(from).is_some()
+    fn take_from(&mut self, from: usize) -> Taken {
+        match self.receive(from) {
+            None => Taken::Nothing,
+            Some(Err(_)) => Taken::NoStep,
+            Some(Ok(_)) => Taken::Step,
+        }
     }
 
     fn lose_from(&mut self, from: usize) -> bool {

@@ -4,7 +4,7 @@ use node_cell::HoldsCell;
 use shared_node::SharedNode;
 use slot_table::NodeNo;
 use std::io;
-use std::net::{Net, TcpListener, TcpStream};
+use std::net::{Net, SocketAddr, TcpListener, TcpStream};
 use std::os::fd::OwnedFd;
 use std::sync::atomic::{AtomicU64, Ordering};
 use std::time::Duration;
@@ -20,6 +20,8 @@ pub struct Node<C: HoldsCell> {
     pub shared: SharedNode<C>,
     /// Where its clients connect.
     pub listener: TcpListener,
+    /// The address of that, if the system tells it.
+    pub address: Option<SocketAddr>,
     // The node whose messages are taken first the next time.
     first_sender: AtomicU64,
 }
@@ -27,9 +29,11 @@ pub struct Node<C: HoldsCell> {
 impl<C: HoldsCell + Drop> Node<C> {
     /// The node with this cell, whose clients connect there.
     pub fn new(cell: C, listener: TcpListener) -> Node<C> {
+        let address = listener.local_addr().ok();
         Node {
             shared: SharedNode::new(cell),
             listener,
+            address,
             first_sender: AtomicU64::new(0),
         }
     }
@@ -50,7 +54,7 @@ impl<C: HoldsCell + Drop> Node<C> {
 
     /// Wakes the thread that accepts clients.
     pub fn wake<R: Net>(&self, rt: &R) {
-        if let Ok(address) = self.listener.local_addr() {
+        if let Some(address) = self.address {
             let _woken = TcpStream::connect_timeout(rt, &address, Duration::from_millis(WAKING));
         }
     }

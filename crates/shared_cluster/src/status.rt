@@ -4,12 +4,15 @@ use crate::shared::SharedCluster;
 use key_slot::Slot;
 use node_cell::HoldsCell;
 use slot_table::NodeNo;
+use std::net::SocketAddr;
 use std::sync::Wait;
 
 /// How a node is. Nodes are named by their numbers.
 #[derive(Clone, Copy, PartialEq, Eq, Debug)]
 pub struct NodeStatus {
     pub node: usize,
+    /// Where its clients connect, if the system tells it.
+    pub address: Option<SocketAddr>,
     /// It is stopped, and this is how it was then.
     pub is_stopped: bool,
     /// Whom it copies, if it is a replica.
@@ -24,6 +27,8 @@ pub struct NodeStatus {
     pub behind: Option<u64>,
     /// How many clients are connected to it.
     pub clients: usize,
+    /// How many steps it has made.
+    pub steps: u64,
 }
 
 /// How the nodes of a cluster are.
@@ -77,6 +82,8 @@ fn look<C: HoldsCell + Drop, R: Wait>(
     drop(cell);
     status.is_stopped = node.shared.is_closed();
     status.clients = clients;
+    status.address = node.address;
+    status.steps = node.shared.all_steps();
     Some(status)
 }
 
@@ -85,6 +92,7 @@ fn status_of<C: HoldsCell>(cell: &C, number: usize) -> NodeStatus {
     let core = cell.core();
     let mut status = NodeStatus {
         node: number,
+        address: None,
         is_stopped: false,
         master: core.own_master().map(|master| master.index()),
         slots: 0,
@@ -92,6 +100,7 @@ fn status_of<C: HoldsCell>(cell: &C, number: usize) -> NodeStatus {
         offset: core.received(),
         behind: None,
         clients: 0,
+        steps: 0,
     };
     for number in 0..Slot::COUNT {
         if let Some(slot) = Slot::new(number as u16) {

@@ -150,6 +150,7 @@ impl<'n, C: HoldsCell + Drop, R: Wait> NodeGate for Gate<'n, C, R> {
     fn step(&mut self, event: Event) -> Result<Entered<C::Cluster>, StepFault> {
         let mut cell = self.take_or_lock();
         let answer = cell.ask(&mut self.asks, event);
+        self.node.count_answer(&answer);
         self.note_left(&cell);
         self.held = Some(cell);
         answer

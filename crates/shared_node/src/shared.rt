@@ -41,6 +41,8 @@ pub struct SharedNode<C: HoldsCell> {
     wakers: OnceLock<Vec<Waker>>,
     // How many steps have left messages since they were last taken from the node.
     steps: AtomicU64,
+    // How many steps the node has made. Whoever has the lock counts them.
+    all_steps: AtomicU64,
     // Those that were taken wait for their links in too great numbers.
     are_many: AtomicBool,
     // None of these was sent as they were last looked at.
@@ -60,6 +62,7 @@ impl<C: HoldsCell + Drop> Drop for SharedNode<C> {
             sent: _,
             wakers: _,
             steps: _,
+            all_steps: _,
             are_many: _,
             are_stuck: _,
             is_closed: _,
@@ -79,6 +82,7 @@ impl<C: HoldsCell + Drop> SharedNode<C> {
             sent: Condvar::new(),
             wakers: OnceLock::new(),
             steps: AtomicU64::new(0),
+            all_steps: AtomicU64::new(0),
             are_many: AtomicBool::new(false),
             are_stuck: AtomicBool::new(false),
             is_closed: AtomicBool::new(false),
@@ -96,6 +100,7 @@ impl<C: HoldsCell + Drop> SharedNode<C> {
             sent: _,
             wakers: _,
             steps: _,
+            all_steps: _,
             are_many: _,
             are_stuck: _,
             is_closed: _,
@@ -170,6 +175,27 @@ impl<C: HoldsCell + Drop> SharedNode<C> {
     /// Whether threads have waited long for the node's lock.
     pub fn is_pressed(&self) -> bool {
         self.pressed.load(Ordering::SeqCst) > 0
+    }
+
+    /// Counts steps that the node has made. Whoever calls this has the node's lock, so nobody else counts meanwhile.
+    #[inline(always)]
+    pub fn count_steps(&self, count: u64) {
+        let steps = self.all_steps.load(Ordering::Relaxed);
+        self.all_steps
+            .store(steps.wrapping_add(count), Ordering::Relaxed);
+    }
+
+    // Counts a step, if this is the answer of one.
+    #[inline(always)]
+    pub(crate) fn count_answer<A, F>(&self, answer: &Result<A, F>) {
+        if answer.is_ok() {
+            self.count_steps(1);
+        }
+    }
+
+    /// How many steps the node has made.
+    pub fn all_steps(&self) -> u64 {
+        self.all_steps.load(Ordering::Relaxed)
     }
 
     /// Tells those who wait what the last step left for them in the cell.
