@@ -40,11 +40,8 @@ pub trait HasLinks<R: Wait>: HoldsCell {
 impl<K: Deployment, W: Web, L: Log + Drop, E: PortEnd<Carried = Posted<K>>> HasLinks<E::Handle>
     for Station<K, W, L, E> {
     fn take_from(&mut self, from: usize) -> Taken {
-        match self.receive(from) {
-            None => Taken::Nothing,
-            Some(Err(_)) => Taken::NoStep,
-            Some(Ok(_)) => Taken::Step,
-        }
+        let received = self.receive(from);
+        kind_of(&received)
     }
 
     fn lose_from(&mut self, from: usize) -> bool {
@@ -65,5 +62,14 @@ impl<K: Deployment, W: Web, L: Log + Drop, E: PortEnd<Carried = Posted<K>>> HasL
 
     fn send_out(&mut self, rt: &E::Handle, to: usize) -> Result<bool, AllocError> {
         Station::send_out(self, rt, to)
+    }
+}
+
+// What was taken off a link, by what the node made of it.
+fn kind_of<A, F>(received: &Option<Result<A, F>>) -> Taken {
+    match received {
+        None => Taken::Nothing,
+        Some(Err(_)) => Taken::NoStep,
+        Some(Ok(_)) => Taken::Step,
     }
 }
