@@ -101,8 +101,8 @@ def pass_crates(words):
             log.flush()
             report.hear(line.rstrip("\n"))
         log.writelines(f"{line}\n" for line in taken.table())
-        # A gate that failed without a count is one failure.
-        return report.passed, max(report.failed, int(gate.wait() != 0))
+        # A gate that failed without a count is one failure. A bad edit shows nothing, so it is one, too.
+        return report.passed, max(report.failed, int(gate.wait() != 0)) + report.bad_edits
 
 
 def run_script(place, script, program, *options):

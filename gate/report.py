@@ -6,6 +6,8 @@ import time
 
 from sources import ROOT, libraries
 
+# The kit passes over an edit that it can't apply or compile.
+BAD_EDIT = ": BAD EDIT: "
 COUNTS = re.compile(r"(\d+) passed, (\d+) failed")
 PROVED = re.compile(r"(\w+) (?:proved$|(is kept:))")
 # A row of the table in docs/GATE.md: a crate, the seconds of its proof, its edits, and their seconds.
@@ -19,7 +21,7 @@ class Report:
 
     def __init__(self, warning=None):
         self.lines = []
-        self.passed, self.failed = 0, 0
+        self.passed, self.failed, self.bad_edits = 0, 0, 0
         self.begun = time.monotonic()
         # What is said before the first failure.
         self.warning = warning
@@ -37,6 +39,7 @@ class Report:
             self.say("\n".join([*self.lines, line]))
             self.lines = []
         elif line.startswith("rt: "):
+            self.bad_edits += BAD_EDIT in line
             self.tell(line[len("rt: "):])
             self.lines = []
         elif self.lines:
