@@ -40,7 +40,7 @@ SOON = 1.5
 
 # Which node is stopped after how many of its ticks, and by how many ticks more or fewer than `node_timeout` its replica may take its place.
 STOPPED, STOP, MORE_TICKS = 2, 20, 5
-TICKS, TICK_MS = 70, 100
+TICKS, TICK_MS = 120, 100
 # How many keys it has, and a key of the first master in another slot than that of `KEYS`.
 COUNT, OTHER_KEY = 100, b"bar"
 

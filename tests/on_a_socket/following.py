@@ -17,9 +17,9 @@ from program import Server
 from resharding import reshard_patiently
 from wire import PATIENCE, connect, playing, reply_of, slot_of, spelled
 
-TICKS, TICK_MS = 80, 50
-# For how many seconds clients write, which is less than half of the time.
-WRITING = 1.5
+TICKS, TICK_MS = 120, 50
+# For how many seconds clients write, and at most, until each client has counted: a busy host may stand still for a second.
+WRITING, MOST_WRITING = 1.5, 4
 MASTERS = 3
 # A tag for each master, and how many keys have it.
 TAGS, KEYS = (b"b", b"c", b"x"), 40
@@ -48,7 +48,7 @@ def write_and_move(judge, ports):
     with playing([*writers, *counters]):
         try:
             nodes = (SOURCE, TARGET)
-            while time.monotonic() < begun + WRITING:
+            while (passed := time.monotonic() - begun) < WRITING or passed < MOST_WRITING and not all(counts):
                 judge.equal("a move of the slot", reshard_patiently(ports[0], source=nodes[0], target=nodes[1])[0], 0)
                 nodes = nodes[::-1]
         finally:
