@@ -11,13 +11,19 @@ FILE, OLD = "file: ", "old: "
 
 def misplaced():
     """Yields each edit that can't be applied, by its path, and why."""
+    for crate, edit in all_edits():
+        for fault in faults_of(edit, crate):
+            yield os.path.relpath(edit, ROOT), fault
+
+
+def all_edits():
+    """Yields the folder of its crate and the path of each edit."""
     crates = os.path.join(ROOT, "crates")
     for crate in sorted(os.listdir(crates)):
         for folder in FOLDERS:
             place = os.path.join(crates, crate, folder)
-            for name in sorted(os.listdir(place) if os.path.isdir(place) else ()):
-                if name.endswith(".edit"):
-                    yield from ((os.path.relpath(os.path.join(place, name), ROOT), it) for it in faults_of(os.path.join(place, name), os.path.join(crates, crate)))
+            names = sorted(os.listdir(place)) if os.path.isdir(place) else []
+            yield from ((os.path.join(crates, crate), os.path.join(place, it)) for it in names if it.endswith(".edit"))
 
 
 def faults_of(edit, crate):
