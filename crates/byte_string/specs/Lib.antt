@@ -1,3 +1,4 @@
+pub mod Block
 pub mod Form
 pub mod Order
 pub mod Short

@@ -8,28 +8,14 @@ ghost use Rattle.std.proofs.Common.{ap};
 ghost use Rattle.byte_string.specs.Form.{IsForm, bytes_of};
 ghost use Rattle.byte_string.specs.declared.short.TheConstants.{MOST_SHORT};
 
+use crate::form::{Form, grown};
 use crate::order::order;
 use crate::short::Short;
-use bytes::Bytes;
 use std::alloc::{AllocError, Global};
 use std::cmp::Ordering;
 use std::fmt;
 use std::hash::{Hash, Hasher};
 use std::marker::Model;
-use std::sync::Arc;
-
-/// From this length on, in bytes, a string shares its bytes with its copies: copying them costs several times what
-/// counting one more owner does.
-pub(crate) const LEAST_SHARED: usize = 4096;
-
-#[derive(Drop)]
-pub(crate) enum Form {
-    Short(Short),
-    // Bytes that copies share.
-    Shared(Arc<Bytes>),
-    // A buffer of the string's own, which may have room behind its bytes.
-    Owned(Box<Vec<u8>>),
-}
 
 /// Any bytes, in 24 bytes of its own.
 ///
@@ -45,21 +31,15 @@ impl Drop for ByteString {
         let ByteString { form } = self;
         match form {
             Form::Short(_) => {}
-            Form::Shared(block) => drop_shared(block),
-            Form::Owned(buffer) => drop_owned(buffer),
+            long => drop_long(long),
         }
     }
 }
 
-// These two are out of line, so that a short string is dropped by a test.
+// It is out of line, so that a short string is dropped by a test.
 #[inline(never)]
-fn drop_shared(block: Arc<Bytes>) {
-    drop(block);
-}
-
-#[inline(never)]
-fn drop_owned(buffer: Box<Vec<u8>>) {
-    drop(buffer);
+fn drop_long(form: Form) {
+    drop(form);
 }
 
 impl Model for ByteString {
@@ -107,10 +87,7 @@ impl ByteString {
     pub fn copy_from_slice(alloc: Global, bytes: &[u8]) -> Result<ByteString, AllocError>
         ensures { IfOk result (λ string. string ≡ bytes.now) }
     {
-        let form = match Short::of(bytes) {
-            Some(short) => Form::Short(short),
-            None => long_copy(alloc, bytes)?,
-        };
+        let form = Form::of(alloc, bytes)?;
         Ok(ByteString { form })
     }
 
@@ -118,11 +95,7 @@ impl ByteString {
     pub fn as_slice(&self) -> &[u8]
         ensures { result.now ≡ self.now }
     {
-        match &self.form {
-            Form::Short(short) => short.as_slice(),
-            Form::Shared(block) => block.as_slice(),
-            Form::Owned(buffer) => buffer.as_slice(),
-        }
+        self.form.as_slice()
     }
 
     /// The number of bytes.
@@ -148,27 +121,12 @@ impl ByteString {
                 Some(short) => Form::Short(short),
                 None => grown(alloc, short.as_slice(), bytes)?,
             },
-            Form::Shared(block) => grown(alloc, block.as_slice(), bytes)?,
             Form::Owned(buffer) => return buffer.extend_from_slice(bytes),
+            other => grown(alloc, other.as_slice(), bytes)?,
         };
         self.form = form;
         Ok(())
     }
-}
-
-// A copy of bytes that are too many to lie in place. Out of line, so that a short copy stays short.
-#[inline(never)]
-fn long_copy(alloc: Global, bytes: &[u8]) -> Result<Form, AllocError>
-    ensures bytes { IfOk result (λ form. bytes_of form ≡ bytes.now) }
-    ensures form { IfOk result (λ form. IsForm form) }
-{
-    if bytes.len() >= LEAST_SHARED {
-        let bytes = Bytes::copy_from_slice(alloc, bytes)?;
-        return Ok(Form::Shared(Arc::new(alloc, bytes)?));
-    }
-    let mut buffer = Vec::with_capacity(alloc, bytes.len())?;
-    buffer.extend_from_slice(bytes)?;
-    Ok(Form::Owned(Box::new(alloc, buffer)?))
 }
 
 // The order where one of two strings is long. Out of line, so that a search among short keys stays short.
@@ -179,28 +137,14 @@ fn long_order(a: &[u8], b: &[u8]) -> Ordering
     order(a, b)
 }
 
-// All bytes in a buffer that has room for as many again.
-fn grown(alloc: Global, first: &[u8], more: &[u8]) -> Result<Form, AllocError>
-    ensures bytes { IfOk result (λ form. bytes_of form ≡ first.now ++ more.now) }
-    ensures form { IfOk result (λ form. IsForm form) }
-{
-    let len = first.len().saturating_add(more.len());
-    let mut buffer = Vec::with_capacity(alloc, len.saturating_mul(2))?;
-    buffer.extend_from_slice(first)?;
-    buffer.extend_from_slice(more)?;
-    Ok(Form::Owned(Box::new(alloc, buffer)?))
-}
-
 impl Clone for ByteString {
     ghost is_clone = { λ string copy. copy ≡ string };
 
+    #[inline(always)]
     fn clone(&self) -> Result<ByteString, AllocError> {
         let form = match &self.form {
             Form::Short(short) => Form::Short(*short),
-            Form::Shared(block) => Form::Shared(block.clone()?),
-            Form::Owned(buffer) => {
-                return ByteString::copy_from_slice(*buffer.allocator(), buffer.as_slice());
-            }
+            long => long.copy()?,
         };
         Ok(ByteString { form })
     }

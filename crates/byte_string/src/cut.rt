@@ -1,7 +1,8 @@
 //! Strings that are cut off the front of input.
 ghost use Rattle.std.specs.Prelude.{◌≡◌, ◌≤◌, length, take, drop, IfOk, OnOk, OnErr};
 
-use crate::byte_string::{ByteString, Form, LEAST_SHARED};
+use crate::byte_string::ByteString;
+use crate::form::{Form, LEAST_SHARED};
 use bytes::{Bytes, BytesMut};
 use std::alloc::AllocError;
 use std::sync::Arc;

@@ -1,8 +1,10 @@
 //! Byte strings, as keys, values and the words of requests are: short ones in place, long ones in a block, which copies of very long ones share.
 #![tactic(auto)]
 
+mod block;
 mod byte_string;
 mod cut;
+mod form;
 mod order;
 mod short;
 

@@ -5,7 +5,7 @@ ghost use Rattle.election.specs.Health.{first_health};
 
 use crate::members::Members;
 use crate::report::Report;
-use crate::rows::{all_older, all_reports_older, all_without};
+use crate::rows::{all_older, all_reports_older, all_without, any_names};
 use slot_table::NodeNo;
 use std::marker::Model;
 
@@ -56,7 +56,9 @@ impl Health {
         ensures { self.new ≡ heard self.old from }
     {
         self.silent[from.index()] = 0;
-        self.reports = all_without(self.reports, from);
+        if any_names(&self.reports, from) {
+            self.reports = all_without(self.reports, from);
+        }
     }
 
     /// A report of that node came, with `true` for each node that it suspects. It is a message of the node too.

@@ -1,4 +1,5 @@
 //! What another node reported.
+ghost use Rattle.std.specs.Bool.{OnTrue};
 ghost use Rattle.std.specs.Prelude.{◌≡◌, Some};
 
 use crate::ages::older;
@@ -44,6 +45,13 @@ impl Report {
             suspects,
             age: self.age,
         }
+    }
+
+    // Whether it doesn't name the node.
+    pub(crate) fn is_without(self, node: NodeNo) -> bool
+        ensures { OnTrue result (without node self ≡ self) }
+    {
+        !self.suspects[node.index()]
     }
 
     // Whether it names the node, and is not too old.

@@ -1,4 +1,5 @@
 //! Rows with a place for each node, changed as a whole.
+ghost use Rattle.std.specs.Bool.{OnFalse, OnTrue};
 ghost use Rattle.std.specs.Prelude.{◌≡◌, map, option_map};
 ghost use Rattle.election.specs.Failing.{older, older_report, without};
 
@@ -32,6 +33,27 @@ fn report_older(report: Option<Report>) -> Option<Report>
     ensures { result ≡ option_map older_report report }
 {
     report.map(|report| report.older())
+}
+
+// Whether a report names the node. Mostly none does.
+pub(crate) fn any_names(reports: &[Option<Report>; 16], node: NodeNo) -> bool
+    ensures { OnFalse result (map (option_map (without node)) reports.now ≡ reports.now) }
+{
+    for at in 0..16 {
+        if !is_without(reports[at], node) {
+            return true;
+        }
+    }
+    false
+}
+
+fn is_without(report: Option<Report>, node: NodeNo) -> bool
+    ensures { OnTrue result (option_map (without node) report ≡ report) }
+{
+    match report {
+        None => true,
+        Some(report) => report.is_without(node),
+    }
 }
 
 // The reports without the name of the node.

@@ -235,9 +235,7 @@ fn claim_with<S: SlotParts + SlotKeys, T: Stream>(
     ensures { IfOk result (λ claim. claim ≡ runs_of (claim_at (slice_set node.now.table slot (Some (record { epoch = epoch; owner = node.now.number }))) node.now.number)) }
 {
     let owner = node.number;
-    let mut table = node.table.clone()?;
-    table.set(slot, Some(SlotEntry { epoch, owner }));
-    table.claim_of(node.alloc, owner)
+    node.table.claim_with(node.alloc, slot, SlotEntry { epoch, owner })
 }
 
 // What an order to import a slot changes.

@@ -24,7 +24,7 @@ pub fn plan_requests<'b, S: Store>(
     ensures { IfOk result (λ rest. IsPlanned (committed (S.contents store.now) plan.old) bytes.now
         (committed (S.contents store.now) plan.new) rest.now) }
 {
-    let mut reader = reader_of(alloc, bytes)?;
+    let mut reader = Reader::fed(alloc, bytes)?;
     let mut rest = bytes;
     'requests: loop {
         let Some(words) = next_request(&mut reader, rest)? else {
@@ -33,17 +33,6 @@ pub fn plan_requests<'b, S: Store>(
         plan_words(alloc, store, plan, &words)?;
         rest = behind(&words, rest);
     }
-}
-
-// A reader of these bytes.
-fn reader_of(alloc: Global, bytes: &[u8]) -> Result<Reader, AllocError>
-    ensures { IfOk result (λ reader. reader ≡ record { pending = bytes.now; fault = None }) }
-{
-    let mut reader = Reader::new(alloc);
-    if reader.feed(bytes).is_err() {
-        return Err(AllocError);
-    }
-    Ok(reader)
 }
 
 // The request in front of the bytes, which are those that the reader holds, or None where no whole one is there.

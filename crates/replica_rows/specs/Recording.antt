@@ -1,12 +1,13 @@
 -- What a step writes, as the parts of a node say it of themselves.
-use Rattle.std.specs.Prelude.{◌≡◌, ◌++◌, ◌∷◌, ◌&&◌, ℕ, Bool, false, not, List, [], if◌then◌else◌}
+use Rattle.std.specs.Prelude.{◌≡◌, ◌++◌, ◌∷◌, ◌&&◌, ℕ, Bool, false, not, List, [], None, filter, slice_index_or, if◌then◌else◌}
+use Rattle.std.specs.List.{range_with_len}
 use Rattle.bus.specs.declared.message.Body.{Body}
 use Rattle.bus.specs.declared.message.Body.TheVariants.{Piece}
 use Rattle.keyspace.specs.Rebuilding.{rebuilding}
 use Rattle.keyspace.specs.declared.value.Value.{Value}
 use Rattle.node_parts.specs.declared.draft.Draft.{Draft}
 use Rattle.node_step.specs.Orders.{to_all}
-use Rattle.node_step.specs.Roles.{replicas_of}
+use Rattle.node_step.specs.Roles.{is_just, replicas_of}
 use Rattle.node_step.specs.State.{NodeState}
 use Rattle.node_step.specs.Streams.{Requests, deletion, is_error, is_executed}
 use Rattle.node_step.specs.declared.response.Response.{Response}
@@ -40,6 +41,10 @@ is_done Parked = false
 -- the bytes as a piece of the node's stream
 abbrev pub piece_of : NodeState → List ℕ → Body
 piece_of node bytes = Piece (record { stream = node.stream.held.id; from = end_of node.stream.held; bytes = bytes; base = node.stream.former })
+
+-- its replicas with lower numbers than that
+abbrev pub replicas_below : NodeState → ℕ → List ℕ
+replicas_below node bound = filter (λ other. is_just (slice_index_or node.masters other None) node.number) (range_with_len 0 bound)
 
 -- one for each replica
 abbrev pub pieces_of : NodeState → List ℕ → List (ℕ × Body)

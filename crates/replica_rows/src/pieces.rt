@@ -1,8 +1,8 @@
 //! What a step writes, as messages to the node's replicas.
-ghost use Rattle.std.specs.Prelude.{◌≡◌, ◌++◌, ◌+◌, ◌<◌, ◌^◌, [], length, IfOk, OnOk};
-ghost use Rattle.std.specs.Bool.{OnFalse};
+ghost use Rattle.std.specs.Prelude.{◌≡◌, ◌++◌, ◌∷◌, ◌+◌, ◌<◌, ◌^◌, [], length, IfNone, IfOk, IfSome, OnOk};
+ghost use Rattle.node_step.specs.Orders.{to_all};
 ghost use Rattle.node_step.specs.Roles.{replicas_of};
-ghost use Rattle.replica_rows.specs.Recording.{piece_of, pieces_of};
+ghost use Rattle.replica_rows.specs.Recording.{piece_of, pieces_of, replicas_below};
 ghost use Rattle.stream_values.specs.Stream.{end_of};
 
 use bus::Body;
@@ -14,8 +14,9 @@ use slot_table::NodeNo;
 use std::alloc::AllocError;
 use stream_values::Piece;
 
-/// Puts a piece for each replica of the node behind these messages, by rising number. All share the bytes, if they are long.
-#[tactic(auto, using(crate::proofs::PieceLemmas::none_sent))]
+/// Puts a piece for each replica of the node behind these messages, by rising number. All share the bytes, if they are long, and the
+/// last one takes them without a copy.
+#[tactic(auto, using(crate::proofs::PieceLemmas::none_sent, crate::proofs::PieceLemmas::last_sent))]
 pub(crate) fn append_pieces<S: SlotParts + SlotKeys, T: Stream>(
     node: &NodeParts<S, T>,
     bytes: &[u8],
@@ -24,54 +25,55 @@ pub(crate) fn append_pieces<S: SlotParts + SlotKeys, T: Stream>(
     requires { end_of node.now.stream.held + length bytes.now < 2 ^ 64 }
     ensures { OnOk result (bodies.new.items ≡ bodies.old.items ++ pieces_of node.now bytes.now) }
 {
-    if !has_replicas(node) {
+    let Some(last) = last_replica(node) else {
         return Ok(());
-    }
+    };
     let bytes = ByteString::copy_from_slice(node.alloc, bytes)?;
-    append_to_all(node, &bytes, bodies)
+    append_below(node, last, &bytes, bodies)?;
+    bodies.push((last, piece_of(node, bytes)))?;
+    Ok(())
 }
 
-// Whether any node copies this one.
-#[tactic(auto, using(node_parts::proofs::ToAll::none_more))]
-fn has_replicas<S: SlotParts + SlotKeys, T: Stream>(node: &NodeParts<S, T>) -> bool
-    ensures { OnFalse result (replicas_of node.now.masters node.now.number ≡ []) }
+// The last node that copies this one.
+fn last_replica<S: SlotParts + SlotKeys, T: Stream>(node: &NodeParts<S, T>) -> Option<NodeNo>
+    ensures none { IfNone result (replicas_of node.now.masters node.now.number ≡ []) }
+    ensures last { IfSome result (λ last. replicas_of node.now.masters node.now.number ≡ replicas_below node.now last ++ last ∷ []) }
 {
+    let mut last = None;
     for place in 0..node.masters().len() {
         let other = NodeNo::new(place as u8).unwrap();
         if node.has_replica(other) {
-            return true;
+            last = Some(other);
         }
     }
-    false
+    last
 }
 
-fn append_to_all<S: SlotParts + SlotKeys, T: Stream>(
+// A piece for each replica below that node.
+fn append_below<S: SlotParts + SlotKeys, T: Stream>(
     node: &NodeParts<S, T>,
+    last: NodeNo,
     bytes: &ByteString,
     bodies: &mut Vec<(NodeNo, Body)>,
 ) -> Result<(), AllocError>
     requires { end_of node.now.stream.held + length bytes.now < 2 ^ 64 }
-    ensures { OnOk result (bodies.new.items ≡ bodies.old.items ++ pieces_of node.now bytes.now) }
+    ensures { OnOk result (bodies.new.items ≡ bodies.old.items ++ to_all (replicas_below node.now last) (piece_of node.now bytes.now)) }
 {
-    for place in 0..node.masters().len() {
+    for place in 0..last.index() {
         let to = NodeNo::new(place as u8).unwrap();
         if node.has_replica(to) {
-            bodies.push((to, piece_of(node, bytes)?))?;
+            bodies.push((to, piece_of(node, bytes.clone()?)))?;
         }
     }
     Ok(())
 }
 
 // The bytes as a piece of the node's stream, behind what is there.
-fn piece_of<S: SlotParts + SlotKeys, T: Stream>(
-    node: &NodeParts<S, T>,
-    bytes: &ByteString,
-) -> Result<Body, AllocError>
-    requires { end_of node.now.stream.held + length bytes.now < 2 ^ 64 }
-    ensures { IfOk result (λ body. body ≡ piece_of node.now bytes.now) }
+fn piece_of<S: SlotParts + SlotKeys, T: Stream>(node: &NodeParts<S, T>, bytes: ByteString) -> Body
+    requires { end_of node.now.stream.held + length bytes < 2 ^ 64 }
+    ensures { result ≡ piece_of node.now bytes }
 {
-    let bytes = bytes.clone()?;
     let stream = &node.stream;
     let piece = Piece::new(stream.id(), stream.received(), bytes, stream.former()).unwrap();
-    Ok(Body::Piece(piece))
+    Body::Piece(piece)
 }

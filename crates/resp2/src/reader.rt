@@ -11,7 +11,7 @@ use crate::fault::Fault;
 use crate::words::{Frame, Partial};
 use bytes::BytesMut;
 use resp_values::{MOST_REQUEST_BYTES, Words};
-use std::alloc::Global;
+use std::alloc::{AllocError, Global};
 use std::marker::Model;
 use std::mem;
 
@@ -79,6 +79,18 @@ impl Reader {
             progress: Progress::Between,
             consumed: 0,
         }
+    }
+
+    /// A reader that was fed these bytes. It has room for no others, so it is the one to take where no more are to come.
+    pub fn fed(alloc: Global, bytes: &[u8]) -> Result<Reader, AllocError>
+        ensures { IfOk result (λ reader. reader ≡ record { pending = bytes.now; fault = None }) }
+    {
+        let input = BytesMut::copy_from_slice(alloc, bytes)?;
+        Ok(Reader {
+            input,
+            progress: Progress::Between,
+            consumed: 0,
+        })
     }
 
     /// Takes the next bytes, all of them or none.

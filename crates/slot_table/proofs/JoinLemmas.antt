@@ -41,7 +41,7 @@ not_above_parts claim known fails =
     }
 
 -- no two claims are above each other
-one_above : (claim other : SlotEntry) → is_above claim (Some other) ≡ true → is_above other (Some claim) ≡ false
+pub one_above : (claim other : SlotEntry) → is_above claim (Some other) ≡ true → is_above other (Some claim) ≡ false
 one_above claim other above =
     elim (cases_Bool (is_above other (Some claim))) [
       | inl back ↦
@@ -61,7 +61,7 @@ none_above claim other first second =
     ap₂ (λ (epoch owner : ℕ). record { epoch = epoch; owner = owner }) epochs owners
 
 -- what isn't above an entry isn't above a claim that is
-still_below : (above below : SlotEntry) (known : Option SlotEntry) → is_above above known ≡ true → is_above below known ≡ false → is_above below (Some above) ≡ false
+pub still_below : (above below : SlotEntry) (known : Option SlotEntry) → is_above above known ≡ true → is_above below known ≡ false → is_above below (Some above) ≡ false
 still_below above below None is fails = absurd (both_ways true fails refl)
 still_below above below (Some known) is fails =
     elim (cases_Bool (is_above below (Some above))) [
@@ -74,11 +74,11 @@ still_below above below (Some known) is fails =
     ]
 
 -- a claim above an entry takes its place
-takes : (known : Option SlotEntry) (claim : SlotEntry) → is_above claim known ≡ true → greater known (Some claim) ≡ Some claim
+pub takes : (known : Option SlotEntry) (claim : SlotEntry) → is_above claim known ≡ true → greater known (Some claim) ≡ Some claim
 takes known claim above = ap (λ (over : Bool). if over then Some claim else known) above
 
 -- a claim that isn't above an entry leaves it
-leaves : (known : Option SlotEntry) (claim : SlotEntry) → is_above claim known ≡ false → greater known (Some claim) ≡ known
+pub leaves : (known : Option SlotEntry) (claim : SlotEntry) → is_above claim known ≡ false → greater known (Some claim) ≡ known
 leaves known claim fails = ap (λ (over : Bool). if over then Some claim else known) fails
 
 -- a claim is no greater than itself
@@ -111,7 +111,7 @@ greater_of_two claim other =
           ]
     ]
 
-greater_order : (known claim next : Option SlotEntry) → greater (greater known claim) next ≡ greater (greater known next) claim
+pub greater_order : (known claim next : Option SlotEntry) → greater (greater known claim) next ≡ greater (greater known next) claim
 greater_order known None next = refl
 greater_order known (Some claim) None = refl
 greater_order known (Some claim) (Some next) =

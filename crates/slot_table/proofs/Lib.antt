@@ -6,3 +6,7 @@ pub mod JoinLemmas
 pub mod SameLemmas
 pub mod RememberedLemmas
 pub mod EpochLemmas
+pub mod CutRunLemmas
+pub mod PartLemmas
+pub mod ClaimLemmas
+pub mod KnownLemmas

@@ -28,7 +28,7 @@ filter_same p q a (suc n) agree =
     ap₂ (λ (b : Bool) (xs : List ℕ). cond b (a ∷ xs) xs) here rest
 
 -- a test that fails on neighbouring numbers keeps none of them
-filter_none : (p : ℕ → Bool) (a n : ℕ) → ((k : ℕ) → a ≤ k → k < a + n → p k ≡ false) → filter p (range_with_len a n) ≡ []
+pub filter_none : (p : ℕ → Bool) (a n : ℕ) → ((k : ℕ) → a ≤ k → k < a + n → p k ≡ false) → filter p (range_with_len a n) ≡ []
 filter_none p a zero fails = refl
 filter_none p a (suc n) fails =
     let here : p a ≡ false = fails a (omega arith) (omega arith) in
@@ -62,7 +62,7 @@ before_range : (range : SlotRange) (slot : ℕ) → slot < range.first → is_in
 before_range range slot before = and_left (nat_le range.first slot) (nat_le slot range.last) (lt-leb range.first slot before)
 
 -- a slot behind the last of the range is not in it
-behind_range : (range : SlotRange) (slot : ℕ) → range.last < slot → is_in range slot ≡ false
+pub behind_range : (range : SlotRange) (slot : ℕ) → range.last < slot → is_in range slot ≡ false
 behind_range range slot behind = and_right (nat_le range.first slot) (nat_le slot range.last) (lt-leb slot range.last behind)
 
 -- a slot from the first to the last is in the range
@@ -78,12 +78,12 @@ not_claimed (run ∷ runs) owner slot last later to =
     ∙ not_claimed runs owner slot last (λ k d lt. later (suc k) d (omega arith)) to
 
 -- a slot of the run is claimed in its epoch
-claimed_here : (run : Run ℕ) (runs : List (Run ℕ)) (owner slot : ℕ) → is_in run.slots slot ≡ true → claimed (run ∷ runs) owner slot ≡ Some (record { epoch = run.value; owner = owner })
+pub claimed_here : (run : Run ℕ) (runs : List (Run ℕ)) (owner slot : ℕ) → is_in run.slots slot ≡ true → claimed (run ∷ runs) owner slot ≡ Some (record { epoch = run.value; owner = owner })
 claimed_here run runs owner slot has =
     ap (λ (has : Bool). if has then Some (record { epoch = run.value; owner = owner }) else claimed runs owner slot) has
 
 -- a slot outside of the run is claimed as the later runs say
-claimed_later : (run : Run ℕ) (runs : List (Run ℕ)) (owner slot : ℕ) → is_in run.slots slot ≡ false → claimed (run ∷ runs) owner slot ≡ claimed runs owner slot
+pub claimed_later : (run : Run ℕ) (runs : List (Run ℕ)) (owner slot : ℕ) → is_in run.slots slot ≡ false → claimed (run ∷ runs) owner slot ≡ claimed runs owner slot
 claimed_later run runs owner slot has =
     ap (λ (has : Bool). if has then Some (record { epoch = run.value; owner = owner }) else claimed runs owner slot) has
 
@@ -100,7 +100,7 @@ abbrev taken_below : List (Option SlotEntry) → List (Run ℕ) → ℕ → ℕ 
 taken_below table claim owner bound = filter (λ slot. is_taken (entry_at table slot) (claimed claim owner slot)) (range_with_len 0 bound)
 
 -- the slots of a run that a claim with this entry takes
-abbrev taken_in : List (Option SlotEntry) → SlotRange → SlotEntry → List ℕ
+abbrev pub taken_in : List (Option SlotEntry) → SlotRange → SlotEntry → List ℕ
 taken_in table range claim = filter (λ slot. is_above claim (entry_at table slot)) (range_with_len range.first (range.last + 1 - range.first))
 
 none_between : (first last : ℕ) → last < first → last + 1 - first ≡ 0

@@ -1,5 +1,5 @@
 -- What a table remembers stays right as claims are taken over.
-use Rattle.std.proofs.Common.{◌≡◌, ◌∙◌, ◌<◌, sym, ap, ap₂, refl, inl, inr, Bool, true, false, ◌&&◌, cond, not, ℕ, List, [], ◌∷◌, length, get_or, Option, Some, None, IfSome, set, filter}
+use Rattle.std.proofs.Common.{◌≡◌, ◌∙◌, ◌<◌, sym, ap, ap₂, refl, subst, inl, inr, Bool, true, false, ◌&&◌, cond, not, ℕ, List, [], ◌∷◌, length, get_or, Option, Some, None, IfSome, set, filter, if◌then◌else◌}
 use Rattle.std.specs.List.{range_with_len}
 use Rattle.std.proofs.lemmas.Bool.{cases_eq, eq-eqb}
 use Rattle.std.proofs.lemmas.List.{get_or-set_other, get_or-set_same}
@@ -8,7 +8,7 @@ use Rattle.slot_table.specs.declared.entry.SlotEntry.{SlotEntry}
 use Rattle.slot_table.specs.declared.runs.Run.{Run}
 use Rattle.slot_table.specs.Table.{entry_at}
 use Rattle.slot_table.specs.Claims.{changed, is_same, merged}
-use Rattle.slot_table.specs.Remembered.{AreKnown}
+use Rattle.slot_table.specs.Remembered.{AreKnown, IsKept}
 use Rattle.slot_table.proofs.JoinLemmas.{in_any_order, merging_again}
 
 same_entry : (entry : Option SlotEntry) → is_same entry entry ≡ true
@@ -50,3 +50,8 @@ still_known old new known claim owner shared within is became says = λ other sa
           let before : merged old said other ≡ old = says other said (sym (get_or-set_other known owner other shared None differ) ∙ there) in
           again (merged old claim owner) refl (in_any_order old claim said owner other ∙ ap (λ (t : List (Option SlotEntry)). merged t claim owner) before)
     ]
+
+-- what is kept stays right, unless an entry changed
+pub still_kept : (old new : List (Option SlotEntry)) (kept left : Option (ℕ × List (Run ℕ))) (changed : Bool) → (changed ≡ false → new ≡ old) → left ≡ (if changed then None else kept) → IsKept old kept → IsKept new left
+still_kept old new kept left true stays is was = subst (IsKept new) (sym is) tt
+still_kept old new kept left false stays is was = subst (IsKept new) (sym is) (subst (λ (table : List (Option SlotEntry)). IsKept table kept) (sym (stays refl)) was)

@@ -58,7 +58,7 @@ up_to-none {T} bound value_at runs so_far none =
       cut = λ slot value next is. absurd (has_none slot value (omega arith) is);
     }
 
-Any-push_left : {X : Type 0} (P : X → Type 0) (xs : List X) (y : X) → Any P xs → Any P (xs ++ y ∷ [])
+pub Any-push_left : {X : Type 0} (P : X → Type 0) (xs : List X) (y : X) → Any P xs → Any P (xs ++ y ∷ [])
 Any-push_left P xs y some = (
   some.0,
   some.1,

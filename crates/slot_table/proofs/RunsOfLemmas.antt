@@ -151,7 +151,7 @@ module _ (value_at : ℕ → Option ℕ) (runs : List (Run ℕ)) (are : AreRunsO
       run.inside _ (in_range _ _ run.some (omega arith))
 
   -- a run ends below the bound
-  ends_below : All (λ (run : Run ℕ). run.slots.last < 16384) runs
+  pub ends_below : All (λ (run : Run ℕ). run.slots.last < 16384) runs
   ends_below = λ k d lt.
       let has : value_at (get_or runs k d).slots.last ≡ Some (get_or runs k d).value = at_end k d lt in
       elim (cases_lt (get_or runs k d).slots.last 16384) [

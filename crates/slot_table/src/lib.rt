@@ -1,6 +1,7 @@
 //! Who owns each of the 16384 slots of a cluster, as a node knows it.
 #![tactic(auto)]
 
+mod changing;
 mod claim;
 mod entry;
 mod law;

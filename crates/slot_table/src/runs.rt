@@ -133,7 +133,7 @@ fn has<V: EntryValue>(entry: Option<SlotEntry>, wanted: V, value: V::Value) -> b
 }
 
 // The slots from the one at `from` to the one before `end`.
-fn slots_between(from: usize, end: usize) -> SlotRange
+pub(crate) fn slots_between(from: usize, end: usize) -> SlotRange
     requires some { from < end }
     requires within { end ≤ 16384 }
     ensures { result ≡ record { first = from; last = end - 1 } }

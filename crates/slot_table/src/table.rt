@@ -3,13 +3,15 @@ ghost use Rattle.std.specs.Prelude.{◌≡◌, ◌<◌, ℕ, true, replicate, le
 ghost use Rattle.slot_table.specs.Table.{entry_at, owner_at, claim_at, first_table, HasFirstEntries};
 ghost use Rattle.key_slot.specs.SlotRange.{is_in};
 ghost use Rattle.slot_table.specs.Runs.{runs_of};
-ghost use Rattle.slot_table.specs.Claims.{merged, changed};
+ghost use Rattle.slot_table.specs.Claims.{is_taken, merged, changed};
+ghost use Rattle.slot_table.specs.Remembered.{IsKept, KnownRuns};
 
+use crate::changing::runs_with;
 use crate::claim::Claim;
 use crate::entry::{Epoch, SlotEntry};
 use crate::merging::{take_all, taken_slots};
 use crate::node_no::NodeNo;
-use crate::runs::{ClaimOf, Owner, Run, runs_of};
+use crate::runs::{ClaimOf, EntryValue, Owner, Run, runs_of};
 use key_slot::{Slot, SlotRange};
 use std::alloc::{AllocError, Global};
 use std::marker::Model;
@@ -18,7 +20,7 @@ use std::marker::Model;
 #[derive(Debug, Drop)]
 pub struct SlotTable {
     entries: Vec<Option<SlotEntry>>,
-    // The claim of a node, if it was asked for and no entry has changed since.
+    // The claim of a node, if it was asked for and the table has followed each change of an entry since.
     kept: Option<(NodeNo, Claim)>,
     // Of each node the last claim that was taken over. It says nothing new any more.
     known: Vec<Option<Claim>>,
@@ -87,7 +89,8 @@ impl SlotTable {
         }
     }
 
-    /// Keeps the claim of the node until an entry changes. Meanwhile [`claim_of`](SlotTable::claim_of) shares it, and looks at no slot.
+    /// Keeps the claim of the node until a claim that is taken over changes an entry. Meanwhile [`claim_of`](SlotTable::claim_of)
+    /// shares it, and looks at no slot.
     ///
     /// A table keeps the claim of one node.
     pub fn keep_claim_of(&mut self, alloc: Global, node: NodeNo) -> Result<(), AllocError>
@@ -108,6 +111,54 @@ impl SlotTable {
         if *of == node { Some(claim) } else { None }
     }
 
+    /// The claim of the entry's owner once the slot has that entry.
+    ///
+    /// Where the claim of the owner is kept, it looks at the runs of that alone, and otherwise at all slots.
+    pub fn claim_with(
+        &self,
+        alloc: Global,
+        slot: Slot,
+        entry: SlotEntry,
+    ) -> Result<Claim, AllocError>
+        ensures { IfOk result (λ claim. claim ≡ runs_of (claim_at (slice_set self.now slot (Some entry)) entry.owner)) }
+    {
+        let claim = self.claim_of(alloc, entry.owner)?;
+        self.changed_claim(alloc, entry.owner, &claim, slot, Some(entry))
+    }
+
+    // The claim of the node once the slot has that entry, from the one that the node has.
+    fn changed_claim(
+        &self,
+        alloc: Global,
+        node: NodeNo,
+        claim: &Claim,
+        slot: Slot,
+        entry: Option<SlotEntry>,
+    ) -> Result<Claim, AllocError>
+        requires { claim.now ≡ runs_of (claim_at self.now node) }
+        ensures { IfOk result (λ changed. changed ≡ runs_of (claim_at (slice_set self.now slot entry) node)) }
+    {
+        let before = ClaimOf(node).value_in(self.entries[slot.index()]);
+        let epoch = ClaimOf(node).value_in(entry);
+        if before == epoch {
+            return claim.clone();
+        }
+        let runs = runs_with(alloc, claim.runs(), slot, epoch)?;
+        Claim::new(alloc, runs)
+    }
+
+    // What is kept once the slot has that entry. It is nothing where that takes memory that isn't there.
+    fn kept_with(&self, slot: Slot, entry: &Option<SlotEntry>) -> Option<(NodeNo, Claim)>
+        ensures { IsKept (slice_set self.now slot entry.now) result }
+    {
+        let (of, claim) = self.kept.as_ref()?;
+        let alloc = *self.entries.allocator();
+        match self.changed_claim(alloc, *of, claim, slot, *entry) {
+            Ok(changed) => Some((*of, changed)),
+            Err(_) => None,
+        }
+    }
+
     // The claim of the node, from all entries.
     fn made_claim(&self, alloc: Global, node: NodeNo) -> Result<Claim, AllocError>
         ensures { IfOk result (λ claim. claim ≡ runs_of (claim_at self.now node)) }
@@ -121,8 +172,8 @@ impl SlotTable {
     /// entry changed, in rising order.
     ///
     /// Of two claims to a slot that of the greater epoch counts, and of two in one epoch that of the greater owner.
-    /// A refusal of memory leaves the table as it was. It looks at the slots of the claim alone, and at none where the claim is the
-    /// last one of its owner that was taken over.
+    /// A refusal of memory leaves the table as it was. It looks at the slots of the claim alone, but for its runs that lie in
+    /// runs of the last claim of the owner that was taken over, in the same epoch.
     pub fn merge(
         &mut self,
         alloc: Global,
@@ -150,7 +201,8 @@ impl SlotTable {
         if self.is_known(owner, claim) {
             return Ok(Vec::new(alloc));
         }
-        taken_slots(alloc, self.entries.as_slice(), claim.runs(), owner)
+        let known = runs_in(&self.known[owner.index()]);
+        taken_slots(alloc, self.entries.as_slice(), claim.runs(), known, owner)
     }
 
     /// Takes over what the owner claims, as [`merge`](SlotTable::merge) does. It takes no memory.
@@ -160,10 +212,10 @@ impl SlotTable {
         if self.is_known(owner, claim) {
             return;
         }
-        let known = shared(claim);
-        take_all(self.entries.as_mut_slice(), claim.runs(), owner);
-        self.kept = None;
-        self.known[owner.index()] = known;
+        let known = runs_in(&self.known[owner.index()]);
+        let changed = take_all(self.entries.as_mut_slice(), claim.runs(), known, owner);
+        keep_unless(&mut self.kept, changed);
+        self.known[owner.index()] = shared(claim);
     }
 
     // Whether the claim is the last one of the owner that was taken over.
@@ -176,13 +228,27 @@ impl SlotTable {
         }
     }
 
-    /// Gives the slot this entry, or none. It takes no memory.
+    /// Gives the slot this entry, or none.
+    ///
+    /// It takes memory for the runs of a kept claim that changes. Where that isn't there, the claim isn't kept any more.
     pub fn set(&mut self, slot: Slot, entry: Option<SlotEntry>)
         ensures { self.new ≡ slice_set self.old slot entry }
     {
+        let kept = self.kept_with(slot, &entry);
+        let above = self.is_above(slot, &entry);
         self.entries[slot.index()] = entry;
-        self.kept = None;
-        self.known.fill(None);
+        self.kept = kept;
+        forget_unless(&mut self.known, above);
+    }
+
+    // Whether the entry counts above what the table has of the slot.
+    fn is_above(&self, slot: Slot, entry: &Option<SlotEntry>) -> bool
+        ensures { result ≡ is_taken (entry_at self.now slot) entry.now }
+    {
+        match entry {
+            None => false,
+            Some(entry) => entry.is_above(self.entry(slot)),
+        }
     }
 }
 
@@ -206,6 +272,34 @@ fn none_known(alloc: Global) -> Result<Vec<Option<Claim>>, AllocError>
     ensures { IfOk result (λ known. known.items ≡ replicate 16 None) }
 {
     Vec::from_elem(alloc, None, NodeNo::COUNT)
+}
+
+// What is kept stays so, unless an entry changed.
+fn keep_unless(kept: &mut Option<(NodeNo, Claim)>, changed: bool)
+    ensures { kept.new ≡ (if changed then None else kept.old) }
+{
+    if changed {
+        *kept = None;
+    }
+}
+
+// No claim of any node is known any more, unless all of them are right.
+fn forget_unless(known: &mut Vec<Option<Claim>>, right: bool)
+    ensures { known.new.items ≡ (if right then known.old.items else replicate (length known.old.items) None) }
+{
+    if !right {
+        known.fill(None);
+    }
+}
+
+// The runs of the claim, if there is one.
+fn runs_in(known: &Option<Claim>) -> &[Run<Epoch>]
+    ensures { KnownRuns known.now result.now }
+{
+    match known {
+        Some(claim) => claim.runs(),
+        None => &[],
+    }
 }
 
 // The claim once more, or none where that takes memory that isn't there.

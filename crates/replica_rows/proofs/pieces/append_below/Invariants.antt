@@ -3,7 +3,7 @@ use Rattle.node_step.specs.Orders.{to_all}
 use Rattle.node_parts.proofs.ToAll.{those_below}
 use Rattle.replica_rows.proofs.PieceLemmas.{copies}
 use Rattle.replica_rows.specs.Recording.{piece_of}
-use Rattle.replica_rows.proofs.pieces.append_to_all.Given as goal
+use Rattle.replica_rows.proofs.pieces.append_below.Given as goal
 
 -- the replicas so far get the piece
 abbrev pub invariant-loop-place : goal.invariant-loop-place
