@@ -235,7 +235,8 @@ fn claim_with<S: SlotParts + SlotKeys, T: Stream>(
     ensures { IfOk result (λ claim. claim ≡ runs_of (claim_at (slice_set node.now.table slot (Some (record { epoch = epoch; owner = node.now.number }))) node.now.number)) }
 {
     let owner = node.number;
-    node.table.claim_with(node.alloc, slot, SlotEntry { epoch, owner })
+    node.table
+        .claim_with(node.alloc, slot, SlotEntry { epoch, owner })
 }
 
 // What an order to import a slot changes.
