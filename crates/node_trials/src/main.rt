@@ -2,61 +2,22 @@
 //! more. The words name the trials that are played; without a word all of them are.
 #![tactic(auto)]
 
-mod acts;
-mod audited_cells;
-mod audited_stations;
-mod audits;
-mod bad_networks;
-mod callers;
-mod calls;
-mod carrying;
-mod cells;
-mod clusters;
-mod conversation;
-mod copies;
-mod dealing;
-mod deliveries;
-mod devices;
-mod failover;
-mod following;
-mod full_link;
-mod gates;
 mod growth;
-mod handing_over;
-mod in_memory;
-mod key_move;
-mod lines;
-mod mail;
-mod memory_nodes;
-mod moves;
-mod nodes;
-mod pace;
-mod playing;
-mod race;
 mod refused;
 mod replay;
-mod reused;
-mod rows;
-mod runtime;
-mod seats;
 mod second_tries;
-mod socket_clients;
-mod stream_lines;
-mod stream_node;
-mod streams;
-mod syncs;
-mod telling;
-mod turns;
-mod two_nodes;
-mod writes;
 
 use anyhow::{Result, bail};
-use runtime::Runtime;
+use cell_trials::{callers, cells, playing, seats};
+use conversation_trials::{devices, writes};
+use row_trials::{failover, following, handing_over, moves, pace, race, streams};
+use station_trials::{audits, bad_networks, deliveries, full_link, reused, syncs, two_nodes};
 use std::env;
 use std::net::{Net, TcpListener, TcpStream};
 use std::rt::Clock;
 use std::sync::Wait;
 use std::thread::Threads;
+use trial_nodes::Runtime;
 
 // What a word names.
 #[derive(Clone, Copy)]

@@ -3,17 +3,15 @@
 //! is answered as what passed for it allows.
 ghost use Rattle.std.specs.Prelude.{◌≡◌, length};
 
-use crate::calls::{CALLS, make, may_come};
-use crate::clusters::three_masters;
-use crate::conversation::{Client, Held, Manner, Place, hold};
 use crate::growth::{hash_is_unchanged, map_is_unchanged};
 use crate::replay::is_replayed;
 use crate::second_tries::{buffer_is_unchanged, reader_loses_nothing};
-use crate::telling::tell;
 use anyhow::{Result, bail};
 use cluster_config::Config;
+use conversation_trials::{CALLS, Client, Held, Manner, Place, hold, make, may_come};
 use std::alloc::{AllocError, Global};
 use std::sync::Wait;
+use trial_nodes::{tell, three_masters};
 
 // A conversation, and what its client reads where memory is ample.
 struct Conversation {

@@ -1,9 +1,8 @@
 //! How the program ends: what it prints then, and its status.
 
-use crate::failure::Failure;
-use crate::fault::ProgramFault;
 use clap::Error;
 use clap::error::ErrorKind;
+use program_fault::{Failure, ProgramFault};
 use std::io;
 use std::process::ExitCode;
 

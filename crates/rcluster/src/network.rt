@@ -1,10 +1,9 @@
 //! `rcluster serve --network`: what becomes of the messages between the nodes.
 
-use crate::failure::Failure;
-use crate::fault::ProgramFault;
-use crate::serving::Network;
 use inputs::read_file;
 use network_acts::{ActsFault, chance_acts, is_by_chance, text_acts};
+use program_fault::{Failure, ProgramFault};
+use serving::Network;
 use std::alloc::{AllocError, Global};
 use std::rt::Files;
 
