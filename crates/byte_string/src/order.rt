@@ -46,9 +46,7 @@ fn order_few(a: &[u8], b: &[u8], both: usize) -> Ordering
     a.len().cmp(&b.len())
 }
 
-// The eight bytes from i on as a number, the greatest digit first: so numbers lie as the bytes do. Always inlined, too, because it is a
-// single load once its bounds are known.
-#[inline(always)]
+// The eight bytes from i on as a number, the greatest digit first: so numbers lie as the bytes do.
 fn word(bytes: &[u8], i: usize) -> u64
     requires { i + 8 ≤ length bytes.now }
     ensures { result ≡ big_endian 0 (take 8 (drop i bytes.now)) }

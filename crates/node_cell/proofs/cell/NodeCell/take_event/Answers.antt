@@ -1,7 +1,7 @@
 use Rattle.std.proofs.Common.{rules, refl, sym, ap, ◌∙◌}
 use Rattle.node_cell.specs.Undelivered.{joined}
 use Rattle.node_cell.specs.declared.entry.Entry.TheVariants.{Skipped}
-use Rattle.node_cell.proofs.DeliveryLemmas.{is_refused_so}
+use Rattle.node_cell.proofs.DeliveryLemmas.{enters_so, is_refused_so}
 use Rattle.node_cell.proofs.GivenLemmas.{given_after_skip}
 use Rattle.node_cell.proofs.JournalLemmas.{journal_adds}
 use Rattle.node_cell.proofs.SentLemmas.{comes_to}
@@ -43,6 +43,15 @@ invariant_of-self-2 g c =
 pub advance-requires-clause-reachable : goal.advance-requires-clause-reachable
 advance-requires-clause-reachable g c =
     rw c.make_room.ensures.log (comes_to _ _ _ _ _ (search rules) (search rules) c.self.invariant.0.history)
+
+pub returns-clause-ok : goal.returns-clause-ok
+returns-clause-ok g c = elim c.match-advance.branch [
+  | in-Ok w ↦
+      rw (w.result-is, sym c.self.view_is)
+      (enters_so _ _ c.in-Some.ticket _ _ (rw c.make_room.ensures.log at w.in-Ok.ensures.ok) refl refl
+      (rw c.make_room.ensures.undelivered at w.in-Ok.ensures.undelivered) (rw c.make_room.ensures.outbox at w.in-Ok.ensures.outbox))
+  | in-Err w ↦ rw w.result-is tt
+]
 
 pub returns-clause-err : goal.returns-clause-err
 returns-clause-err g c = elim c.match-advance.branch [
