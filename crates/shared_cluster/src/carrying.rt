@@ -231,8 +231,9 @@ fn exchange<C: HasLinks<R> + Drop, R: Clock + Wait>(
     let taking = receive_from_all(rt, cell, node, count, changes, &mut called);
     let sending = send_to_all(rt, cell, count, &mut called);
     node.shared.count_steps(taking.steps);
+    let hands_over = cell.core().paused().is_some();
     node.shared
-        .note_pace(cell.is_behind(), has_sent || sending.has_sent);
+        .note_pace(cell.is_behind(), has_sent || sending.has_sent, hands_over);
     Round {
         has_received: taking.has_received,
         has_more: taking.has_more,

@@ -16,6 +16,9 @@ const PACE: u64 = 10;
 // And where none of them can be sent, because the node that they are for takes none.
 const LONG_PACE: u64 = 100;
 
+// And where the node hands its slots over: whatever a client asks for meanwhile it is to ask for again.
+const HANDOVER_PACE: u64 = 2;
+
 // How often a thread lets others run before it counts as one that waits long. Newcomers don't try to lock the node while there are
 // such threads, so that these come first.
 const FEW_YIELDS: u32 = 5;
@@ -43,10 +46,12 @@ pub struct SharedNode<C: HoldsCell> {
     steps: AtomicU64,
     // How many steps the node has made. Whoever has the lock counts them.
     all_steps: AtomicU64,
-    // Those that were taken wait for their links in too great numbers.
-    are_many: AtomicBool,
-    // None of these was sent as they were last looked at.
+    // Clients' threads are to wait: those that were taken wait for their links in too great numbers, or the node hands over.
+    is_slowed: AtomicBool,
+    // None of these messages was sent as they were last looked at.
     are_stuck: AtomicBool,
+    // The node hands its slots over.
+    hands_over: AtomicBool,
     // Once it is closed, nobody waits here for a reply any more.
     is_closed: AtomicBool,
 }
@@ -63,8 +68,9 @@ impl<C: HoldsCell + Drop> Drop for SharedNode<C> {
             wakers: _,
             steps: _,
             all_steps: _,
-            are_many: _,
+            is_slowed: _,
             are_stuck: _,
+            hands_over: _,
             is_closed: _,
         } = self;
     }
@@ -83,8 +89,9 @@ impl<C: HoldsCell + Drop> SharedNode<C> {
             wakers: OnceLock::new(),
             steps: AtomicU64::new(0),
             all_steps: AtomicU64::new(0),
-            are_many: AtomicBool::new(false),
+            is_slowed: AtomicBool::new(false),
             are_stuck: AtomicBool::new(false),
+            hands_over: AtomicBool::new(false),
             is_closed: AtomicBool::new(false),
         }
     }
@@ -101,8 +108,9 @@ impl<C: HoldsCell + Drop> SharedNode<C> {
             wakers: _,
             steps: _,
             all_steps: _,
-            are_many: _,
+            is_slowed: _,
             are_stuck: _,
+            hands_over: _,
             is_closed: _,
         } = self;
         cell.into_inner()
@@ -220,38 +228,44 @@ impl<C: HoldsCell + Drop> SharedNode<C> {
         }
     }
 
-    /// Tells clients' threads that the node's messages were taken, whether those that wait for their links are too many, and whether
-    /// some were sent.
-    pub fn note_pace(&self, are_many: bool, has_sent: bool) {
-        let was_behind = self.is_behind();
+    /// Tells clients' threads that the node's messages were taken, whether those that wait for their links are too many, whether some
+    /// were sent, and whether the node hands its slots over.
+    pub fn note_pace(&self, are_many: bool, has_sent: bool, hands_over: bool) {
+        let was_slowed = self.is_slowed();
         self.steps.store(0, Ordering::SeqCst);
-        self.are_many.store(are_many, Ordering::SeqCst);
+        self.is_slowed
+            .store(are_many || hands_over, Ordering::SeqCst);
         self.are_stuck
             .store(are_many && !has_sent, Ordering::SeqCst);
-        if was_behind && has_sent {
+        self.hands_over.store(hands_over, Ordering::SeqCst);
+        if was_slowed && has_sent {
             self.sent.notify_all();
         }
     }
 
-    // Whether messages wait in too great numbers.
-    fn is_behind(&self) -> bool {
-        self.are_many.load(Ordering::SeqCst) || self.steps.load(Ordering::SeqCst) > MOST_STEPS
+    // Whether clients' threads are to wait before their next step.
+    fn is_slowed(&self) -> bool {
+        self.is_slowed.load(Ordering::SeqCst) || self.steps.load(Ordering::SeqCst) > MOST_STEPS
     }
 
-    /// Waits where messages wait in too great numbers, until some were sent, but for some milliseconds at most.
+    /// Waits where messages wait in too great numbers, until some were sent, or where the node hands over, but for some milliseconds at
+    /// most.
     pub(crate) fn keep_pace<R: Wait>(&self, rt: &R) {
         let seen = self.sent.notifications();
-        if self.is_behind() {
+        if self.is_slowed() {
             self.sent.sleep(rt, seen, self.pace());
         }
     }
 
     // For how long a client's thread waits at most.
     fn pace(&self) -> Duration {
-        match self.are_stuck.load(Ordering::SeqCst) {
-            true => Duration::from_millis(LONG_PACE),
-            false => Duration::from_millis(PACE),
-        }
+        Duration::from_millis(if self.are_stuck.load(Ordering::SeqCst) {
+            LONG_PACE
+        } else if self.hands_over.load(Ordering::SeqCst) {
+            HANDOVER_PACE
+        } else {
+            PACE
+        })
     }
 
     /// Lets others in until replies are kept there, and then locks the node again.
