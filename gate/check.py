@@ -94,7 +94,7 @@ def pass_crates(words):
     taken = ProcessorTime()
     taken.start()
     report = Progress(proofs, edits, kit.warning(running), taken.of_edits)
-    how = {"stdout": subprocess.PIPE, "stderr": subprocess.STDOUT, "text": True, "errors": "replace"}
+    how = {"stdout": subprocess.PIPE, "stderr": subprocess.STDOUT, "text": True, "errors": "replace", "env": kit.environment()}
     with started(["rt", "ci", *words], **how) as gate, open(LOG, "w", encoding="utf-8") as log:
         for line in gate.stdout:
             log.write(line)

@@ -7,6 +7,8 @@ import subprocess
 HERE = os.path.dirname(os.path.abspath(__file__))
 # A line a version, as `rt version` prints it.
 VERSIONS = os.path.join(HERE, "KITS")
+# No check of a crate here takes more memory, in bytes. The kit reckons with up to twice as much, and would leave processors idle.
+CHECK_MEMORY = 5 << 30
 
 
 class NoKit(Exception):
@@ -35,6 +37,18 @@ def keeps_what_passed():
     """Whether this kit's gate keeps on the machine what passed. One that doesn't proves everything again each time."""
     asked = subprocess.run(["rt", "help"], stdout=subprocess.PIPE, stderr=subprocess.STDOUT, text=True, errors="replace", check=False)
     return "--anew" in asked.stdout
+
+
+def environment():
+    """Returns the environment for the kit's gate: as many checks at once as there are processors and memory for, where nobody has set that."""
+    jobs = min(len(os.sched_getaffinity(0)), free_memory() // CHECK_MEMORY)
+    return {"RT_JOBS": str(max(jobs, 1)), **os.environ}
+
+
+def free_memory():
+    """Returns how many bytes of memory are free."""
+    with open("/proc/meminfo", encoding="ascii") as file:
+        return 1024 * next(int(line.split()[1]) for line in file if line.startswith("MemAvailable:"))
 
 
 def known_versions():
