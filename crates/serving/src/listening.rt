@@ -1,10 +1,8 @@
 //! Where the nodes listen.
-ghost use Rattle.std.specs.Prelude.{◌≡◌, IfOk, length, vec_len};
 
 use cluster_config::NodeConfig;
 use program_fault::{Failure, ProgramFault};
 use std::alloc::{AllocError, Global};
-use std::collections::VecDeque;
 use std::io;
 use std::io::ErrorKind;
 use std::net::{Net, SocketAddr, TcpListener, TcpStream, ToSocketAddrs};
@@ -57,28 +55,9 @@ pub fn ports_of(alloc: Global, listeners: &[TcpListener]) -> Result<Vec<u16>, Fa
     Ok(ports)
 }
 
-/// Listens at the address of each node, in order, where no listener is open for it yet.
-pub fn listen_all<R>(
-    rt: &R,
-    nodes: &[NodeConfig],
-    doors: Doors,
-) -> Result<Vec<TcpListener>, Failure>
-where
-    R: AllocGlobal + Net<Listener = TcpListener, Stream = TcpStream>,
-    ensures { IfOk result (λ listeners. vec_len listeners ≡ length nodes.now) }
-{
-    let mut open = VecDeque::from(doors.open);
-    let mut listeners = Vec::with_capacity(rt.alloc(), nodes.len())?;
-    for (number, node) in nodes.iter().enumerate() {
-        let listener = listen_at(rt, number, node, open.pop_front(), doors.host)?;
-        listeners.push(listener).map_err(AllocError::from)?;
-    }
-    Ok(listeners)
-}
-
-// Listens where the node of that number is to listen, if no listener is open for it yet: at its port of that host, or of its own where
-// none is named.
-fn listen_at<R>(
+/// Listens where the node of that number is to listen, if no listener is open for it yet: at its port of that host, or of its own where
+/// none is named.
+pub fn listen_at<R>(
     rt: &R,
     number: usize,
     node: &NodeConfig,

@@ -4,7 +4,7 @@ ghost use Rattle.links.specs.Ends.{AreLinkedFrom};
 ghost use Rattle.tickets.specs.Tickets.{IsFresh, id_of};
 
 use crate::followers::tell_followers;
-use crate::listening::{Doors, listen_all};
+use crate::listening::{Doors, listen_at};
 use crate::logging::Logging;
 use crate::orders::start_reading;
 use crate::pace::warn_of_pace;
@@ -18,10 +18,9 @@ use cluster_config::Config;
 use links::{Act, LinkEnd, PortEnd, PortEnds, Shim, Station, Web, link_ports, link_shims};
 use node_cell::{Deployment, Journal, Log, Posted};
 use program_fault::{Failure, ProgramFault};
-use std::alloc::{AllocError, Global};
+use std::alloc::AllocError;
 use std::collections::VecDeque;
 use std::marker::Brand;
-use std::net::TcpListener;
 use std::rt::Files;
 use std::sync::{Arc, Wait};
 use std::thread::Threads;
@@ -411,7 +410,7 @@ fn overseer_of<R: AllocGlobal>(
 fn listen<K: Deployment, E: PortEnd<Carried = Posted<K>>>(
     rt: &E::Handle,
     config: &Config,
-    seats: Vec<Seat>,
+    mut seats: Vec<Seat>,
     ends: Vec<PortEnds<E>>,
     doors: Doors,
 ) -> Result<Vec<Place<E>>, Failure>
@@ -424,33 +423,12 @@ where
     ensures fresh { IfOk result (λ places. All (λ place. IsFresh K.table K.seats place.seat) places.items) }
     ensures ends { IfOk result (λ places. map (λ place. place.ends) places.items ≡ ends.items) }
 {
-    match listen_all(rt, config.nodes(), doors) {
-        Ok(listeners) => Ok(places_of::<K, E>(rt.alloc(), seats, ends, listeners)?),
-        Err(failure) => {
-            drop(seats);
-            drop(ends);
-            Err(failure)
-        }
-    }
-}
-
-// Gives each listener a seat and the ends of the links of its node.
-fn places_of<K: Deployment, E: PortEnd<Carried = Posted<K>>>(
-    alloc: Global,
-    mut seats: Vec<Seat>,
-    ends: Vec<PortEnds<E>>,
-    listeners: Vec<TcpListener>,
-) -> Result<Vec<Place<E>>, AllocError>
-    requires count { vec_len seats ≡ vec_len listeners }
-    requires fresh { All (λ seat. IsFresh K.table K.seats seat) seats.items }
-    requires ends { length ends.items ≡ vec_len listeners }
-    ensures count { IfOk result (λ places. vec_len places ≡ vec_len seats) }
-    ensures fresh { IfOk result (λ places. All (λ place. IsFresh K.table K.seats place.seat) places.items) }
-    ensures ends { IfOk result (λ places. map (λ place. place.ends) places.items ≡ ends.items) }
-{
+    let host = doors.host;
     let mut all_ends = VecDeque::from(ends);
-    let mut places = Vec::with_capacity(alloc, listeners.len())?;
-    for listener in listeners {
+    let mut open = VecDeque::from(doors.open);
+    let mut places = Vec::with_capacity(rt.alloc(), seats.len())?;
+    for (number, node) in config.nodes().iter().enumerate() {
+        let listener = listen_at(rt, number, node, open.pop_front(), host)?;
         let seat = seats.pop().unwrap();
         let ends = all_ends.pop_front().unwrap();
         let place = Place {
