@@ -113,6 +113,8 @@ def play_no_reader(judge):
         patience = threading.Timer(PATIENCE, process.kill)
         patience.start()
         judge.equal("nobody reads: the line of the node", process.stdout.readline(), b"node 0 127.0.0.1:%d\n" % port)
+        # The log begins with that. If it came later, it might be one of those that are missing.
+        judge.true("nobody reads: how the node is", STATUS.fullmatch(first := process.stderr.readline()), repr(first))
         client = stack.enter_context(connect(port))
         judge.equal("nobody reads: a client is served", ask(client, PING, PONG), PONG)
         _, most = resource.prlimit(process.pid, resource.RLIMIT_NOFILE)
