@@ -9,12 +9,11 @@ import kit
 from copies import copy_crates, workplace
 from processes import started, with_temporary
 from refused import bodies_of, crates_with_wrong_bodies, forget, note_refused, state_of
-from report import Report
+from report import BAD_EDIT, Report
 from sources import SPARING_CI, below
 
 REFUSED = re.compile(r"must-fail \w+/(\S+): refused, as it must be")
-# The kit's gate passes over an edit that it can't apply or compile.
-OF_EDIT = re.compile(r"must-fail \w+/|.*: BAD EDIT: ")
+OF_EDIT = re.compile(rf"must-fail \w+/|.*{BAD_EDIT}")
 
 
 def try_wrong_bodies(names):
