@@ -148,9 +148,7 @@ fn is_same_value(one: &Value, other: &Value) -> bool
 {
     match (one, other) {
         (Value::Str(bytes), Value::Str(other_bytes)) => bytes == other_bytes,
-        (Value::Hash(hash), Value::Hash(other_hash)) => {
-            is_same_hash(hash.get(), other_hash.get())
-        }
+        (Value::Hash(hash), Value::Hash(other_hash)) => is_same_hash(hash, other_hash),
         _ => false,
     }
 }

@@ -5,7 +5,8 @@ use Rattle.std.specs.Cmp.Lexicographic.{pointwise, nat_list_eq_equiv}
 use Rattle.std.specs.List.{AllByRecursion, IsDistinct}
 use Rattle.std.specs.Map.{keys_of, remove_entry}
 use Rattle.std.specs.Prelude.{Option, Some, None, nat_eq}
-use Rattle.hash.specs.Pairs.{Pairs, field_changed, HasDistinctFields}
+use Rattle.hash.specs.Packed.{each_set}
+use Rattle.hash.specs.Pairs.{Pairs, Changes, field_changed, fields_changed, HasDistinctFields}
 
 -- the field is none of those of the pairs
 abbrev pub IsApart : List ℕ → Pairs → Type 0
@@ -82,3 +83,13 @@ put_behind before (pair ∷ behind) distinct =
 pub put_in_order : (filled empty moved pairs : Pairs) → filled ≡ insert_all (pointwise nat_eq) empty moved → empty ≡ [] → moved ≡ pairs → HasDistinctFields pairs → filled ≡ pairs
 put_in_order filled empty moved pairs is none all distinct =
     is ∙ ap (λ (from : Pairs). insert_all (pointwise nat_eq) from moved) none ∙ ap (insert_all (pointwise nat_eq) []) all ∙ put_behind [] pairs distinct
+
+-- setting each field is putting each pair
+set_onto : (start pairs : Pairs) → fields_changed start (each_set pairs) ≡ insert_all (pointwise nat_eq) start pairs
+set_onto start [] = refl
+set_onto start (pair ∷ pairs) = set_onto (insert_entry (pointwise nat_eq) start pair.0 pair.1) pairs
+
+-- fields that are set one after another in an empty hash keep their order
+pub set_in_order : (filled empty pairs : Pairs) (changes : Changes) → filled ≡ fields_changed empty changes → empty ≡ [] → changes ≡ each_set pairs → HasDistinctFields pairs → filled ≡ pairs
+set_in_order filled empty pairs changes is none all distinct =
+    is ∙ ap (λ (from : Pairs). fields_changed from changes) none ∙ ap (fields_changed []) all ∙ set_onto [] pairs ∙ put_behind [] pairs distinct

@@ -2,6 +2,7 @@
 use Rattle.std.proofs.Common.{◌≡◌, refl, [], ◌∷◌}
 use Rattle.std.specs.Fmt.{digits}
 use Rattle.std.specs.Prelude.{Some, None, codes}
+use Rattle.hash.specs.Packed.{packed, pairs_in}
 use Rattle.hash.specs.Pairs.{fields_changed, value_of}
 use Rattle.hash.specs.Size.{words_of, size_of}
 
@@ -33,3 +34,11 @@ found = refl
 
 missing : value_of ((codes "a", codes "3") ∷ []) (codes "aa") ≡ None
 missing = refl
+
+-- HSET h a 1 bc "", packed: the length of each word stands before it
+together : packed ((codes "a", codes "1") ∷ (codes "bc", codes "") ∷ []) ≡ 1 ∷ 97 ∷ 1 ∷ 49 ∷ 2 ∷ 98 ∷ 99 ∷ 0 ∷ []
+together = refl
+
+apart : pairs_in (1 ∷ 97 ∷ 1 ∷ 49 ∷ 2 ∷ 98 ∷ 99 ∷ 0 ∷ []) ≡ (codes "a", codes "1") ∷ (codes "bc", codes "") ∷ []
+unfolding pairs_in
+apart = refl

@@ -1,7 +1,13 @@
+pub mod Block
 pub mod Entries
 pub mod Foreseen
+pub mod Form
 pub mod Holed
 pub mod Iter
+pub mod Kept
+pub mod Packed
 pub mod Pairs
+pub mod Places
 pub mod Size
 pub mod Sized
+pub mod Word

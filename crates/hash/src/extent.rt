@@ -3,14 +3,14 @@ ghost use Rattle.std.specs.Prelude.{◌≡◌, [], ◌+◌, ◌-◌, ◌<◌, �
 ghost use Rattle.std.specs.Cmp.Lexicographic.{pointwise};
 ghost use Rattle.std.specs.Option.{option_copied, unwrap_or};
 ghost use Rattle.indexmap.specs.IndexMap.{get};
-ghost use Rattle.hash.specs.Entries.{pairs_of};
 ghost use Rattle.hash.specs.Foreseen.{Foresees};
 ghost use Rattle.hash.specs.Pairs.{value_of, fields_changed};
 ghost use Rattle.hash.specs.Size.{size_of};
-ghost use Rattle.hash.specs.Sized.{pair_size, count_of, IsSized};
+ghost use Rattle.hash.specs.Sized.{pair_size, count_of};
 
-use crate::entries::Entries;
-use crate::sizes::bulk_size;
+use crate::hash::Hash;
+use crate::sizes::{bulk_size, bytes_size};
+use crate::word::Word;
 use byte_string::ByteString;
 use indexmap::IndexMap;
 use std::alloc::{AllocError, Global};
@@ -24,53 +24,51 @@ pub struct Extent {
     pub size: u128,
 }
 
-/// What a hash with these entries would take after the changes.
+/// What the hash would take after the changes.
 pub fn extent_after(
     alloc: Global,
-    entries: &Entries,
-    size: u128,
+    hash: &Hash,
     changes: &[(ByteString, Option<ByteString>)],
 ) -> Result<Extent, AllocError>
-    requires { IsSized (pairs_of entries.now) size }
     ensures len { IfOk result (λ extent.
-        extent.len ≡ length (fields_changed (pairs_of entries.now) changes.now)) }
+        extent.len ≡ length (fields_changed hash.now changes.now)) }
     ensures size { IfOk result (λ extent.
-        extent.size ≡ size_of (fields_changed (pairs_of entries.now) changes.now)) }
+        extent.size ≡ size_of (fields_changed hash.now changes.now)) }
     ensures single { length changes.now ≤ 1 → IsOk result }
 {
     // So few fields and changes have a size of 128 bits, however long they are.
     prove!(changes.len() < 1 << 60);
     let extent = Extent {
-        len: entries.len(),
-        size,
+        len: hash.len(),
+        size: hash.request_size(),
     };
     let Some((last, earlier)) = changes.split_last() else {
         return Ok(extent);
     };
     // No change asks for what the last one leaves.
     let mut left = IndexMap::new(alloc);
-    let extent = extent_before_last(entries, extent, &mut left, earlier)?;
+    let extent = extent_before_last(hash, extent, &mut left, earlier)?;
     let (field, value) = last;
-    Ok(extent.changed(field, value_now(entries, &left, field), value.as_ref()))
+    Ok(extent.changed(field, value_now(hash, &left, field), value.as_ref()))
 }
 
 // The extent after these changes, with what they leave at the fields that they name.
 fn extent_before_last(
-    entries: &Entries,
+    hash: &Hash,
     extent: Extent,
     left: &mut IndexMap<ByteString, Option<ByteString>>,
     changes: &[(ByteString, Option<ByteString>)],
 ) -> Result<Extent, AllocError>
-    requires start { Foresees (pairs_of entries.now) left.old.entries [] extent.len extent.size }
-    requires few { length (pairs_of entries.now) < 2 ^ 63 }
+    requires start { Foresees hash.now left.old.entries [] extent.len extent.size }
+    requires few { length hash.now < 2 ^ 63 }
     requires short { length changes.now < 2 ^ 60 }
     ensures foreseen { IfOk result (λ extent.
-        Foresees (pairs_of entries.now) left.new.entries changes.now extent.len extent.size) }
+        Foresees hash.now left.new.entries changes.now extent.len extent.size) }
     ensures none { length changes.now ≡ 0 → IsOk result }
 {
     let mut extent = extent;
     for (field, value) in changes {
-        extent = extent.changed(field, value_now(entries, left, field), value.as_ref());
+        extent = extent.changed(field, value_now(hash, left, field), value.as_ref());
         left.insert(field.clone()?, value.clone()?)?;
     }
     Ok(extent)
@@ -78,34 +76,30 @@ fn extent_before_last(
 
 /// The value that a field has after changes that left these values.
 fn value_now<'a>(
-    entries: &'a Entries,
+    hash: &'a Hash,
     left: &'a IndexMap<ByteString, Option<ByteString>>,
     field: &ByteString,
-) -> Option<&'a ByteString>
-    ensures { option_copied result ≡ unwrap_or (get (pointwise nat_eq) left.now field.now)
-        (value_of (pairs_of entries.now) field.now) }
+) -> Option<Word<'a>>
+    ensures { result ≡ unwrap_or (get (pointwise nat_eq) left.now field.now)
+        (value_of hash.now field.now) }
 {
     match left.get(field) {
-        Some(value) => value.as_ref(),
-        None => entries.get(field),
+        Some(Some(value)) => Some(Word::string(value)),
+        Some(None) => None,
+        None => hash.get(field),
     }
 }
 
 impl Extent {
     /// The extent once the field has the new value in place of the old one.
-    fn changed(
-        self,
-        field: &ByteString,
-        old: Option<&ByteString>,
-        new: Option<&ByteString>,
-    ) -> Extent
-        requires len { count_of (option_copied old) ≤ self.len }
-        requires size { pair_size field.now (option_copied old) ≤ self.size }
+    fn changed(self, field: &ByteString, old: Option<Word<'_>>, new: Option<&ByteString>) -> Extent
+        requires len { count_of old ≤ self.len }
+        requires size { pair_size field.now old ≤ self.size }
         requires few { self.len < 2 ^ 64 - 1 }
         requires small { self.size < 2 ^ 128 - 2 ^ 65 }
-        ensures len { result.len + count_of (option_copied old.entry) ≡
+        ensures len { result.len + count_of old.entry ≡
             self.len + count_of (option_copied new.entry) }
-        ensures size { result.size + pair_size field.now (option_copied old.entry) ≡
+        ensures size { result.size + pair_size field.now old.entry ≡
             self.size + pair_size field.now (option_copied new.entry) }
         ensures short { pair_size field.now (option_copied new.entry) ≤ 2 ^ 64 + 2 ^ 6 }
     {
@@ -113,7 +107,7 @@ impl Extent {
         let mut extent = self;
         if let Some(old) = old {
             extent.len -= 1;
-            extent.size -= field_size + bulk_size(old);
+            extent.size -= field_size + bytes_size(old.as_slice());
         }
         if let Some(new) = new {
             extent.len += 1;

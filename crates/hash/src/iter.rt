@@ -1,10 +1,13 @@
 //! The pairs of a hash, one after another.
-ghost use Rattle.std.specs.Prelude.{◌≡◌, length};
+ghost use Rattle.std.specs.Prelude.{◌≡◌, List, ℕ, length};
 ghost use Rattle.std.specs.Iterator.{at_most};
 ghost use Rattle.std.specs.Map.Iter.{TakesFirst, deref_pair};
 ghost use Rattle.hash.specs.Holed.{left_of};
 
 use crate::holes;
+use crate::packed::Packed;
+use crate::walk::Walk;
+use crate::word::Word;
 use byte_string::ByteString;
 use indexmap::{IndexMap, IndexSet, map};
 use std::marker::Model;
@@ -12,6 +15,7 @@ use std::slice;
 
 #[derive(Drop)]
 enum Form<'a> {
+    Packed(Walk<'a>),
     Few(slice::Iter<'a, (ByteString, ByteString)>),
     Many(map::Iter<'a, ByteString, ByteString>),
     Holed(Left<'a>),
@@ -41,6 +45,14 @@ impl<'a> Model for Iter<'a> {
 }
 
 impl<'a> Iter<'a> {
+    pub(crate) fn over_packed(packed: &'a Packed) -> Iter<'a>
+        ensures { result ≡ packed.now }
+    {
+        Iter {
+            form: Form::Packed(packed.walk()),
+        }
+    }
+
     pub(crate) fn over_few(pairs: &'a [(ByteString, ByteString)]) -> Iter<'a>
         ensures { result ≡ pairs.now }
     {
@@ -73,20 +85,30 @@ impl<'a> Iter<'a> {
 }
 
 impl<'a> Iterator for Iter<'a> {
-    type Item = (&'a ByteString, &'a ByteString);
+    type Item = (Word<'a>, Word<'a>);
 
-    ghost next_gives = { TakesFirst deref_pair };
+    ghost next_gives = { TakesFirst (λ (pair : List ℕ × List ℕ). pair) };
 
     ghost remaining = { λ pairs. at_most (length pairs) };
 
-    fn next(&mut self) -> Option<(&'a ByteString, &'a ByteString)> {
+    fn next(&mut self) -> Option<(Word<'a>, Word<'a>)> {
         match &mut self.form {
+            Form::Packed(walk) => {
+                let (field, value) = walk.next_pair()?;
+                Some((Word::packed(field), Word::packed(value)))
+            }
             Form::Few(pairs) => {
                 let pair = pairs.next()?;
-                Some((&pair.0, &pair.1))
+                Some((Word::string(&pair.0), Word::string(&pair.1)))
             }
-            Form::Many(pairs) => pairs.next(),
-            Form::Holed(left) => next_left(&mut left.pairs, left.removed),
+            Form::Many(pairs) => {
+                let (field, value) = pairs.next()?;
+                Some((Word::string(field), Word::string(value)))
+            }
+            Form::Holed(left) => {
+                let (field, value) = next_left(&mut left.pairs, left.removed)?;
+                Some((Word::string(field), Word::string(value)))
+            }
         }
     }
 }

@@ -217,7 +217,7 @@ fn plan_on_hash<S: Store>(
     match command {
         Hset { key, pairs } => hashes::set(alloc, store, plan, key, pairs),
         Hsetnx { key, field, value } => hashes::set_new(alloc, store, plan, key, field, value),
-        Hget { key, field } => hashes::get(store, &plan.values, key, field),
+        Hget { key, field } => hashes::get(alloc, store, &plan.values, key, field),
         Hmget { key, fields } => hashes::get_each(
             alloc,
             store,

@@ -7,7 +7,7 @@ ghost use Rattle.keyspace.specs.Keyspace.{fields_left, hash_of, keyspace_of, wit
 
 use crate::value::Value;
 use byte_string::ByteString;
-use hash::{Hash, SharedHash};
+use hash::Hash;
 use key_map::KeyMap;
 use std::alloc::{AllocError, Global};
 
@@ -70,7 +70,7 @@ fn change_value(value: &mut Value, changes: FieldChanges) -> Result<bool, AllocE
         Value::Str(_) => Ok(true),
         Value::Hash(hash) => {
             hash.change(changes)?;
-            Ok(hash.get().len() > 0)
+            Ok(hash.len() > 0)
         }
     }
 }
@@ -88,7 +88,7 @@ pub(crate) fn with_changed_fields(
         Some(Value::Hash(hash)) => {
             let mut copy = hash.clone()?;
             copy.change(changes)?;
-            if copy.get().len() == 0 {
+            if copy.len() == 0 {
                 return Ok(None);
             }
             Ok(Some(Value::Hash(copy)))
@@ -106,5 +106,5 @@ fn new_hash(changes: FieldChanges) -> Result<Option<Value>, AllocError>
     if hash.len() == 0 {
         return Ok(None);
     }
-    Ok(Some(Value::Hash(SharedHash::new(alloc, hash)?)))
+    Ok(Some(Value::Hash(hash)))
 }

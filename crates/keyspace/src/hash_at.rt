@@ -8,7 +8,7 @@ ghost use Rattle.keyspace.specs.Hashes.{fields_of, known};
 use crate::value::Value;
 use byte_string::ByteString;
 use command_table::ErrorLine;
-use hash::{Extent, Hash};
+use hash::{Extent, Hash, Word};
 use std::alloc::{AllocError, Global};
 
 /// The hash, or None where it is missing. A string is refused.
@@ -19,14 +19,14 @@ pub(crate) fn hash_in(value: Option<&Value>) -> Result<Option<&Hash>, ErrorLine>
 {
     match value {
         None => Ok(None),
-        Some(Value::Hash(hash)) => Ok(Some(hash.get())),
+        Some(Value::Hash(hash)) => Ok(Some(hash)),
         Some(Value::Str(_)) => Err(ErrorLine::WrongType),
     }
 }
 
 /// The value of the field.
-pub(crate) fn value_in<'a>(hash: Option<&'a Hash>, field: &ByteString) -> Option<&'a ByteString>
-    ensures { option_copied result ≡ value_of (known (option_copied hash.entry)) field.now }
+pub(crate) fn value_in<'a>(hash: Option<&'a Hash>, field: &ByteString) -> Option<Word<'a>>
+    ensures { result ≡ value_of (known (option_copied hash.entry)) field.now }
 {
     match hash {
         Some(hash) => hash.get(field),

@@ -22,12 +22,13 @@ use crate::replies::integer;
 use crate::store::Store;
 use byte_string::ByteString;
 use command_table::{ErrorLine, PairList, number_in};
-use hash::Hash;
+use hash::{Hash, Word};
 use resp_values::{Array, Reply};
 use std::alloc::{AllocError, Global};
 
 #[inline(never)]
 pub(crate) fn get<S: Store>(
+    alloc: Global,
     store: &S,
     values: &NewValues,
     key: &ByteString,
@@ -37,7 +38,7 @@ pub(crate) fn get<S: Store>(
         reply ≡ from_fields (fields_of (map.get (applied (S.contents store.now) values.now) key.now)) (λ fields. value_reply (value_of fields field.now))) }
 {
     match hash_in(values.look(store, key)) {
-        Ok(hash) => value_reply(value_in(hash, field)),
+        Ok(hash) => value_reply(alloc, value_in(hash, field)),
         Err(fault) => Ok(fault.reply()),
     }
 }
@@ -68,7 +69,7 @@ fn values_reply(
 {
     let mut replies = Vec::with_capacity(alloc, fields.len())?;
     for field in fields {
-        replies.push(value_reply(value_in(hash, field))?)?;
+        replies.push(value_reply(alloc, value_in(hash, field))?)?;
     }
     Ok(Reply::Array(Array::of(alloc, replies)?))
 }
@@ -89,8 +90,8 @@ pub(crate) fn exists<S: Store>(
     }
 }
 
-fn exists_reply(value: Option<&ByteString>) -> Reply
-    ensures { result ≡ exists_reply (option_copied value.entry) }
+fn exists_reply(value: Option<Word<'_>>) -> Reply
+    ensures { result ≡ exists_reply value.entry }
 {
     match value {
         Some(_) => integer(1),
@@ -129,8 +130,8 @@ pub(crate) fn value_len<S: Store>(
     }
 }
 
-fn length_reply(value: Option<&ByteString>) -> Reply
-    ensures { result ≡ Reply.Integer (pos (value_length (option_copied value.entry))) }
+fn length_reply(value: Option<Word<'_>>) -> Reply
+    ensures { result ≡ Reply.Integer (pos (value_length value.entry)) }
 {
     match value {
         Some(value) => integer(value.as_slice().len()),
@@ -160,7 +161,7 @@ fn each_field(alloc: Global, hash: &Hash) -> Result<Reply, AllocError>
 {
     let mut replies = Vec::with_capacity(alloc, hash.len())?;
     for (field, _) in hash.iter() {
-        replies.push(Reply::Bulk(field.clone()?))?;
+        replies.push(Reply::Bulk(field.to_byte_string(alloc)?))?;
     }
     Ok(Reply::Array(Array::of(alloc, replies)?))
 }
@@ -187,7 +188,7 @@ fn each_value(alloc: Global, hash: &Hash) -> Result<Reply, AllocError>
 {
     let mut replies = Vec::with_capacity(alloc, hash.len())?;
     for (_, value) in hash.iter() {
-        replies.push(Reply::Bulk(value.clone()?))?;
+        replies.push(Reply::Bulk(value.to_byte_string(alloc)?))?;
     }
     Ok(Reply::Array(Array::of(alloc, replies)?))
 }
@@ -214,8 +215,8 @@ fn each_pair(alloc: Global, hash: &Hash) -> Result<Reply, AllocError>
 {
     let mut replies = Vec::new(alloc);
     for (field, value) in hash.iter() {
-        replies.push(Reply::Bulk(field.clone()?))?;
-        replies.push(Reply::Bulk(value.clone()?))?;
+        replies.push(Reply::Bulk(field.to_byte_string(alloc)?))?;
+        replies.push(Reply::Bulk(value.to_byte_string(alloc)?))?;
     }
     Ok(Reply::Array(Array::of(alloc, replies)?))
 }
@@ -351,8 +352,8 @@ fn add_number<S: Store>(
 }
 
 // The sum of the increment and the number of a stored value, of which a missing one counts as 0, or the fault that they have.
-fn sum_in(value: Option<&ByteString>, increment: i64) -> Result<i64, ErrorLine>
-    ensures { result ≡ sum_of (Some increment) (stored_number ErrorLine.HashNotAnInteger (option_copied value.entry)) }
+fn sum_in(value: Option<Word<'_>>, increment: i64) -> Result<i64, ErrorLine>
+    ensures { result ≡ sum_of (Some increment) (stored_number ErrorLine.HashNotAnInteger value.entry) }
 {
     let stored = match value {
         Some(value) => number_in(value.as_slice()).ok_or(ErrorLine::HashNotAnInteger)?,
@@ -361,11 +362,11 @@ fn sum_in(value: Option<&ByteString>, increment: i64) -> Result<i64, ErrorLine>
     sum(stored, increment).ok_or(ErrorLine::Overflow)
 }
 
-fn value_reply(value: Option<&ByteString>) -> Result<Reply, AllocError>
-    ensures { IfOk result (λ reply. reply ≡ value_reply (option_copied value.entry)) }
+fn value_reply(alloc: Global, value: Option<Word<'_>>) -> Result<Reply, AllocError>
+    ensures { IfOk result (λ reply. reply ≡ value_reply value.entry) }
 {
     match value {
-        Some(value) => Ok(Reply::Bulk(value.clone()?)),
+        Some(value) => Ok(Reply::Bulk(value.to_byte_string(alloc)?)),
         None => Ok(Reply::Null),
     }
 }

@@ -25,7 +25,7 @@ pub fn value_fits(key: &ByteString, value: &Value) -> bool
 {
     match value {
         Value::Str(bytes) => string_fits(key, bytes),
-        Value::Hash(hash) => fits(key, extent_of(hash.get())),
+        Value::Hash(hash) => fits(key, extent_of(hash)),
     }
 }
 

@@ -6,7 +6,7 @@ ghost use Rattle.keyspace.specs.Rebuilding.{rebuilding};
 ghost use Rattle.resp_values.specs.Request.{IsRequest};
 
 use byte_string::ByteString;
-use hash::{Hash, SharedHash};
+use hash::Hash;
 use resp_values::Words;
 use std::alloc::{AllocError, Global};
 
@@ -16,7 +16,7 @@ pub enum Value {
     /// A string: any bytes.
     Str(ByteString),
     /// A hash: fields with their values, in the order in which the fields came. One without fields is kept at no key.
-    Hash(SharedHash),
+    Hash(Hash),
 }
 
 impl Clone for Value {
@@ -52,7 +52,7 @@ pub fn rebuilding_words(
             let name = ByteString::inline(b"SET");
             Ok(vec![in alloc; name, key.clone()?, bytes.clone()?]?)
         }
-        Value::Hash(hash) => setting_words(alloc, key, hash.get()),
+        Value::Hash(hash) => setting_words(alloc, key, hash),
     }
 }
 

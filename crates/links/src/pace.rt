@@ -68,12 +68,12 @@ fn room_after_pairs(room: u128, pairs: &[Pair]) -> Option<u128>
     Some(left)
 }
 
-// The bytes of a value. A hash keeps their number, so its fields aren't walked.
+// The bytes of a value. A large hash keeps their number, and only the fields of a small one are walked.
 fn value_bytes(value: &Value) -> u128
     ensures { result ≡ value_bytes value.now }
 {
     match value {
         Value::Str(bytes) => bytes.len() as u128,
-        Value::Hash(hash) => hash.get().size(),
+        Value::Hash(hash) => hash.size(),
     }
 }

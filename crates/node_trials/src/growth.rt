@@ -1,4 +1,4 @@
-//! What refused memory leaves of a hash and of a map that grow past their lists: all that was there, so that a second try
+//! What refused memory leaves of a hash and of a map that grow past a block and a list: all that was there, so that a second try
 //! succeeds.
 use byte_string::ByteString;
 use hash::Hash;
@@ -7,6 +7,9 @@ use std::alloc::{AllocError, Global};
 
 /// So many fields, or keys, no longer lie in a list.
 const MANY: u8 = 10;
+
+// The length of a field's value. So many of them as MANY don't lie in one block.
+const LONG: usize = 255;
 
 /// Whether a field that is refused leaves a hash as it was, and is set at a second try.
 pub fn hash_is_unchanged(alloc: Global) -> Result<bool, AllocError> {
@@ -27,14 +30,18 @@ pub fn hash_is_unchanged(alloc: Global) -> Result<bool, AllocError> {
 
 fn set(alloc: Global, hash: &mut Hash, number: u8) -> Result<(), AllocError> {
     let mut changes = Vec::with_capacity(alloc, 1)?;
-    changes.push((text(number), Some(text(number))))?;
+    let value = ByteString::copy_from_slice(alloc, &[number; LONG])?;
+    changes.push((text(number), Some(value)))?;
     hash.change(changes)
 }
 
 // Whether the hash has the fields below this one, and no other.
 fn has_fields(hash: &Hash, count: u8) -> bool {
     for number in 0..count {
-        if hash.get(&text(number)) != Some(&text(number)) {
+        let Some(value) = hash.get(&text(number)) else {
+            return false;
+        };
+        if value.as_slice() != [number; LONG].as_slice() {
             return false;
         }
     }

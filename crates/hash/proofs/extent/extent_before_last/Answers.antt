@@ -1,6 +1,5 @@
 use Rattle.std.proofs.Common.{◌≡◌, ◌<◌, ◌+◌, ◌^◌, ◌++◌, [], ◌∷◌, length, take, arith, ap, sym, ◌∙◌}
 use Rattle.std.proofs.lemmas.List.{length-take, take_more}
-use Rattle.hash.specs.Entries.{pairs_of}
 use Rattle.hash.proofs.Foreseen.{same_copy, old_within, size_small, foreseen_next}
 use Rattle.hash.proofs.extent.extent_before_last.Goals as goal
 
@@ -9,7 +8,7 @@ changed-extent-requires-clause-size c = old_within _ _ _ _ _ c.loop-field.invari
 
 pub changed-extent-requires-clause-small : goal.changed-extent-requires-clause-small
 changed-extent-requires-clause-small c =
-    let few : length (pairs_of c.args.entries.now) < 2 ^ 63 = c.requires.few in
+    let few : length c.args.hash.now < 2 ^ 63 = c.requires.few in
     let some : length (take c.loop-field.field-index c.args.changes.now) < 2 ^ 60 = omega (arith, length-take c.loop-field.field-index c.args.changes.now, c.requires.short) in
     size_small _ _ _ _ _ c.loop-field.invariant few some
 
