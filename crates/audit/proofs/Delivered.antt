@@ -8,8 +8,8 @@ use Rattle.std.proofs.lemmas.List.FromFn.{get_or-range_with_len}
 use Rattle.atomic_table.specs.Seated.{TableId}
 use Rattle.bus.specs.declared.message.Message.{Message}
 use Rattle.cluster_config.specs.Config.{ClusterConfig}
-use Rattle.links.specs.Ends.{AllArrived, AreWired, EndView, end_at, no_end}
-use Rattle.links.specs.Giving.{plain}
+use Rattle.link_ends.specs.Ends.{AllArrived, AreWired, EndView, end_at, no_end}
+use Rattle.link_ends.specs.Giving.{plain}
 use Rattle.links.specs.Ports.{PortView}
 use Rattle.links.specs.Stations.{IsStation, StationView, all_sent, all_taken, end_of, for_node, port_at, port_of, sent_by, taken_by}
 use Rattle.node_cell.specs.Journal.{no_cluster}

@@ -3,7 +3,7 @@ use Rattle.std.proofs.Common.{◌≡◌, ◌==◌, ◌&&◌, ◌∙◌, ℕ, Boo
 use Rattle.std.specs.Prelude.{Contains, MatchBool, Result, Ok, Err}
 use Rattle.std.proofs.lemmas.List.Elements.{Contains-append_cases}
 use Rattle.bus.specs.declared.message.Body.{Body}
-use Rattle.bus.specs.declared.message.Body.TheVariants.{Copy, Ack, Drained, Claim, Report, Request as Requested, Grant, Sync, Piece, Snapshot, Pause, Paused}
+use Rattle.bus.specs.declared.message.Body.TheVariants.{Copy, Ack, Drained, Claim, Report, Candidacy as Requested, Grant, Sync, Piece, Snapshot, Pause, Paused}
 use Rattle.bus.specs.declared.message.Handing.{Handing}
 use Rattle.bus.specs.declared.message.Message.{Message}
 use Rattle.command_table.specs.Table.{command_of}
@@ -24,7 +24,7 @@ use Rattle.migrate.specs.declared.sending.CopyVerdict.TheVariants as copies
 use Rattle.node_step.specs.Claiming.{claimed_by}
 use Rattle.node_step.specs.Commands.{command_outcome, decision_on}
 use Rattle.node_step.specs.Copies.{acknowledged, copy_outcome, copy_verdict_on, first_slot, node_at, those_there}
-use Rattle.node_step.proofs.Kept.{pieced_keeps, recorded_keeps, restored_keeps, synced_is}
+use Rattle.node_step.proofs.Kept.{pieced_keeps, with_written_keeps, restored_keeps, synced_is}
 use Rattle.election.specs.Electing.{counted, elected}
 use Rattle.election.specs.declared.running.Elected.{Elected}
 use Rattle.node_step.proofs.Ready.{in_election_keeps, ready_keeps}
@@ -175,7 +175,7 @@ taken_so_stays node from choice (Paused handing) = by_test (is_replica node && i
 
 taken_stays : (node : NodeState) (from : ℕ) (choice : Choice) (body : Body) → Stays node (taken node from choice body)
 taken_stays node from choice body =
-    recorded_keeps (IsOfNumber node) (taken_so node from choice body) (written_by_message node from body) choice.dropped (λ stream. taken_so_stays node from choice body)
+    with_written_keeps (IsOfNumber node) (taken_so node from choice body) (written_by_message node from body) choice.dropped (λ stream. taken_so_stays node from choice body)
 
 delivered_stays : (node : NodeState) (message : Message) (choice : Choice) → Stays node (delivered node message choice)
 delivered_stays node message choice = by_node (message.to == node.number)
@@ -194,7 +194,7 @@ close_stays old conn false outcome may = ap (λ (o : Outcome). o.state.number) m
 answer_stays : (old : NodeState) (conn : Conn) (words : List (List ℕ)) (asks : Bool) (outcome : Outcome) → MatchBool asks (IsAnswering old conn words outcome) (outcome ≡ silent old) → Stays old outcome
 answer_stays old conn words true outcome may =
     ap (λ (o : Outcome). o.state.number) may.comes_to
-    ∙ recorded_keeps (IsOfNumber old) (request_outcome old conn (command_of words)) (written old conn words) may.dropped (λ stream. request_stays old conn words)
+    ∙ with_written_keeps (IsOfNumber old) (request_outcome old conn (command_of words)) (written old conn words) may.dropped (λ stream. request_stays old conn words)
 answer_stays old conn words false outcome may = ap (λ (o : Outcome). o.state.number) may
 
 event_stays : (old : NodeState) (event : Event) (outcome : Outcome) → MayCome old event outcome → Stays old outcome

@@ -2,7 +2,7 @@
 use Rattle.std.specs.Prelude.{◌≡◌, ◌<◌, ℕ, List, length, map}
 use Rattle.std.specs.List.{range_with_len}
 use Rattle.bus.specs.declared.message.Message.{Message}
-use Rattle.links.specs.Ends.{EndView}
+use Rattle.link_ends.specs.Ends.{EndView}
 use Rattle.links.specs.Stations.{StationView, end_of}
 use Rattle.node_cell.specs.Journal.{CellView}
 

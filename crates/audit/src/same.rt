@@ -50,7 +50,7 @@ fn is_same_body(one: &Body, other: &Body) -> bool
         (Body::Report(suspects), Body::Report(other)) => {
             are_same_marks(suspects.as_slice(), other.as_slice())
         }
-        (Body::Request(request), Body::Request(other)) => request == other,
+        (Body::Candidacy(request), Body::Candidacy(other)) => request == other,
         (Body::Grant(epoch), Body::Grant(other)) => epoch == other,
         (Body::Sync(sync), Body::Sync(other)) => sync == other,
         (Body::Piece(piece), Body::Piece(other)) => is_same_piece(piece, other),

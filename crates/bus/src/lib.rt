@@ -6,5 +6,5 @@ mod message;
 mod suspects;
 
 pub use link::Link;
-pub use message::{Body, Handing, Message, Replaced, Request};
+pub use message::{Body, Candidacy, Handing, Message, Replaced};
 pub use suspects::Suspects;

@@ -22,7 +22,7 @@ pub struct Replaced {
 
 /// That the sender wants to be elected in the place of its master.
 #[derive(Clone, Copy, PartialEq, Eq, Debug)]
-pub struct Request {
+pub struct Candidacy {
     /// The epoch of the election.
     pub epoch: Epoch,
     /// The master.
@@ -80,7 +80,7 @@ pub enum Body {
     /// For each node whether the sender suspects it.
     Report(Suspects),
     /// The sender wants to be elected.
-    Request(Request),
+    Candidacy(Candidacy),
     /// The sender votes in this epoch for the node that the message is for.
     Grant(Epoch),
     /// How much the sender received of its master's stream.
@@ -116,7 +116,7 @@ impl Clone for Body {
             }),
             Body::Claim(claim, replaced) => Ok(Body::Claim(claim.clone()?, *replaced)),
             Body::Report(suspects) => Ok(Body::Report(*suspects)),
-            Body::Request(request) => Ok(Body::Request(*request)),
+            Body::Candidacy(candidacy) => Ok(Body::Candidacy(*candidacy)),
             Body::Grant(epoch) => Ok(Body::Grant(*epoch)),
             Body::Sync(sync) => Ok(Body::Sync(*sync)),
             Body::Piece(piece) => Ok(Body::Piece(piece.clone()?)),

@@ -1,10 +1,6 @@
-//! Trials of a node behind its lock: its journal, its tickets, those who call it, and clients at its sockets.
+//! Trials of a node behind its lock: its journal, its tickets, and those who call it.
 #![tactic(auto)]
 
 pub mod callers;
 pub mod cells;
-mod copies;
-mod mail;
-pub mod playing;
 pub mod seats;
-mod socket_clients;

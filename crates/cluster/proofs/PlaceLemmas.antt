@@ -2,7 +2,7 @@
 use Rattle.std.proofs.Common.{◌≡◌, ◌+◌, ℕ, zero, suc, List, [], ◌∷◌, ◌++◌, All, map, sym, ap, subst, ◌∙◌, arith}
 use Rattle.atomic_table.specs.Seated.{TableId}
 use Rattle.bus.specs.declared.message.Message.{Message}
-use Rattle.links.specs.Ends.{AreEndsOf, AreLinkedFrom, EndView}
+use Rattle.link_ends.specs.Ends.{AreEndsOf, AreLinkedFrom, EndView}
 use Rattle.std.specs.List.{range_with_len}
 use Rattle.std.proofs.lemmas.List.{map_push}
 use Rattle.std.proofs.lemmas.List.Elements.{All-tail}

@@ -1,7 +1,7 @@
 //! Clients that are accepted at a node, each for a thread of its own or for one that serves many in turn.
 
 use crate::one_client::serve_client;
-use client_turns::{Desk, DeskFault, Newcomer};
+use client_loops::{Inbox, InboxFault, NewClient};
 use node_cell::{Admission, Asks};
 use shared_cluster::{HasLinks, Incident, Node, Refused, Runtime, SharedCluster, Shortage};
 use std::alloc::{AllocError, Global};
@@ -17,7 +17,7 @@ const PAUSE: u64 = 10;
 // each 2 MiB, so that threads with larger stacks would cost 4 KiB more each.
 const STACK_SIZE: usize = 262_144;
 
-/// Accepts the clients of the node of that number until it is closed. Each waits at one of the desks, in turn, or where there are none
+/// Accepts the clients of the node of that number until it is closed. Each waits in one of the inboxes, in turn, or where there are none
 /// is served by a thread of its own. By the admission each begins what it asks.
 pub(crate) fn accept_clients<C: HasLinks<R> + Drop + Send + 'static, R: Runtime>(
     rt: R,
@@ -25,7 +25,7 @@ pub(crate) fn accept_clients<C: HasLinks<R> + Drop + Send + 'static, R: Runtime>
     cluster: &Arc<SharedCluster<C>, Global>,
     admission: &Admission<C::Cluster>,
     number: usize,
-    desks: &[Arc<Desk<Asks<C::Cluster>>, Global>],
+    inboxes: &[Arc<Inbox<Asks<C::Cluster>>, Global>],
 )
 where
     C::Cluster: Send + Sync + 'static,
@@ -40,7 +40,7 @@ where
         admission,
         node,
         number,
-        desks,
+        inboxes,
         turn: 0,
     };
     entrance.accept_all();
@@ -55,8 +55,8 @@ struct Entrance<'a, C: HasLinks<R>, R: Runtime> {
     admission: &'a Admission<C::Cluster>,
     node: &'a Node<C>,
     number: usize,
-    desks: &'a [Arc<Desk<Asks<C::Cluster>>, Global>],
-    // The desk at which the next client waits, if there are desks.
+    inboxes: &'a [Arc<Inbox<Asks<C::Cluster>>, Global>],
+    // The inbox in which the next client waits, if there are inboxes.
     turn: usize,
 }
 
@@ -83,9 +83,9 @@ where
 
     // Has a client served. One for which there is no memory, no thread or no descriptor is let go.
     fn admit(&mut self, stream: TcpStream) {
-        let desk = self.take_turn();
-        match self.begin(stream, desk) {
-            Ok(()) => self.node.shared.wake(desk),
+        let inbox = self.take_turn();
+        match self.begin(stream, inbox) {
+            Ok(()) => self.node.shared.wake(inbox),
             Err(Refused::Short(shortage)) => {
                 let refused = Incident::ClientRefused {
                     node: self.number,
@@ -97,33 +97,33 @@ where
         }
     }
 
-    // The number of the desk whose turn it is. Behind the last one comes the first.
+    // The number of the inbox whose turn it is. Behind the last one comes the first.
     fn take_turn(&mut self) -> usize {
-        let desk = self.turn;
-        self.turn = match desk.saturating_add(1) {
-            next if next < self.desks.len() => next,
+        let inbox = self.turn;
+        self.turn = match inbox.saturating_add(1) {
+            next if next < self.inboxes.len() => next,
             _ => 0,
         };
-        desk
+        inbox
     }
 
-    // Has the client wait at the desk of that number, or starts its thread where there are no desks. Where that fails its connection is
+    // Has the client wait in the inbox of that number, or starts its thread where there are no inboxes. Where that fails its connection is
     // closed.
-    fn begin(&self, stream: TcpStream, desk: usize) -> Result<(), Refused> {
+    fn begin(&self, stream: TcpStream, inbox: usize) -> Result<(), Refused> {
         let clients = &self.cluster.clients;
         if !clients.spares.are_kept(&self.rt, &self.node.listener) {
             return Err(Refused::Short(Shortage::Descriptor));
         }
         let stream = Arc::new(self.alloc, stream).map_err(AllocError::from)?;
         let client = clients.add(&self.rt, self.number, &stream)?;
-        let newcomer = Newcomer {
+        let new_client = NewClient {
             stream,
-            client,
+            number: client,
             asks: self.admission.begin(),
         };
-        let begun = match self.desks.get(desk) {
-            Some(desk) => desk.put(&self.rt, newcomer).map_err(refused_by),
-            None => self.start(newcomer),
+        let begun = match self.inboxes.get(inbox) {
+            Some(inbox) => inbox.put(&self.rt, new_client).map_err(refused_by),
+            None => self.start(new_client),
         };
         if begun.is_err() {
             clients.remove(&self.rt, client);
@@ -132,12 +132,12 @@ where
     }
 
     // Starts the thread of a client.
-    fn start(&self, newcomer: Newcomer<Asks<C::Cluster>>) -> Result<(), Refused> {
-        let Newcomer {
+    fn start(&self, new_client: NewClient<Asks<C::Cluster>>) -> Result<(), Refused> {
+        let NewClient {
             stream,
-            client,
+            number: client,
             asks,
-        } = newcomer;
+        } = new_client;
         let (rt, alloc, number) = (self.rt, self.alloc, self.number);
         let clients = Arc::try_clone(&self.cluster.clients)?;
         let cluster = Arc::try_clone(self.cluster)?;
@@ -152,10 +152,10 @@ where
     }
 }
 
-// Why a client can't be served that can't wait at a desk.
-fn refused_by(fault: DeskFault) -> Refused {
+// Why a client can't be served that can't wait in an inbox.
+fn refused_by(fault: InboxFault) -> Refused {
     match fault {
-        DeskFault::Memory => Refused::Short(Shortage::Memory),
-        DeskFault::Closed => Refused::Ended,
+        InboxFault::Memory => Refused::Short(Shortage::Memory),
+        InboxFault::Closed => Refused::Ended,
     }
 }

@@ -1,7 +1,7 @@
 //! The threads of a node that serve its clients in turn.
 
 use crate::threads::add;
-use client_turns::{Desk, Hall, HallFault, Register, serve_guests};
+use client_loops::{Inbox, Poller, PollerFault, Register, serve_clients};
 use mio::Waker;
 use node_cell::{Admission, Asks, HoldsCell};
 use shared_cluster::{
@@ -13,7 +13,7 @@ use std::thread;
 use std::thread::JoinHandle;
 
 /// Starts so many threads that serve the clients of the node of that number in turn, adds them to those that are to be joined, and gives their
-/// desks.
+/// inboxes.
 pub(crate) fn start_loops<C: HasLinks<R> + Drop + Send + 'static, R: Runtime>(
     rt: R,
     alloc: Global,
@@ -22,68 +22,68 @@ pub(crate) fn start_loops<C: HasLinks<R> + Drop + Send + 'static, R: Runtime>(
     number: usize,
     count: usize,
     threads: &mut Vec<JoinHandle<()>>,
-) -> Result<Vec<Arc<Desk<Asks<C::Cluster>>, Global>>, Shortage>
+) -> Result<Vec<Arc<Inbox<Asks<C::Cluster>>, Global>>, Shortage>
 where
     C::Cluster: Send + Sync + 'static,
 {
-    let halls = halls_of(rt, alloc, cluster.node(number), count)?;
-    let mut desks = Vec::with_capacity(alloc, count)?;
-    for hall in halls {
-        let desk = Arc::new(alloc, Desk::new(alloc)).map_err(AllocError::from)?;
+    let pollers = pollers_of(rt, alloc, cluster.node(number), count)?;
+    let mut inboxes = Vec::with_capacity(alloc, count)?;
+    for poller in pollers {
+        let inbox = Arc::new(alloc, Inbox::new(alloc)).map_err(AllocError::from)?;
         add(
-            start_loop(rt, alloc, cluster, admission, number, &desk, hall),
+            start_loop(rt, alloc, cluster, admission, number, &inbox, poller),
             threads,
         )?;
-        desks.push(desk).map_err(AllocError::from)?;
+        inboxes.push(inbox).map_err(AllocError::from)?;
     }
-    Ok(desks)
+    Ok(inboxes)
 }
 
-// The halls of so many of these threads. The node has what wakes the threads before the first is started.
-fn halls_of<C: HoldsCell + Drop, R: Runtime>(
+// The pollers of so many of these threads. The node has what wakes the threads before the first is started.
+fn pollers_of<C: HoldsCell + Drop, R: Runtime>(
     rt: R,
     alloc: Global,
     node: Option<&Node<C>>,
     count: usize,
-) -> Result<Vec<Hall>, Shortage> {
-    let mut halls = Vec::with_capacity(alloc, count)?;
-    match add_halls(&rt, alloc, node, count, &mut halls) {
-        Ok(()) => Ok(halls),
+) -> Result<Vec<Poller>, Shortage> {
+    let mut pollers = Vec::with_capacity(alloc, count)?;
+    match add_pollers(&rt, alloc, node, count, &mut pollers) {
+        Ok(()) => Ok(pollers),
         Err(fault) => Err(shortage_of(fault)),
     }
 }
 
-fn add_halls<C: HoldsCell + Drop, R: Runtime>(
+fn add_pollers<C: HoldsCell + Drop, R: Runtime>(
     rt: &R,
     alloc: Global,
     node: Option<&Node<C>>,
     count: usize,
-    halls: &mut Vec<Hall>,
-) -> Result<(), HallFault> {
+    pollers: &mut Vec<Poller>,
+) -> Result<(), PollerFault> {
     for _ in 0..count {
-        let hall = Hall::new(rt, alloc)?;
-        halls.push(hall).map_err(AllocError::from)?;
+        let poller = Poller::new(rt, alloc)?;
+        pollers.push(poller).map_err(AllocError::from)?;
     }
-    let wakers = wakers_of(alloc, halls.as_slice())?;
+    let wakers = wakers_of(alloc, pollers.as_slice())?;
     if let Some(node) = node {
         node.shared.set_wakers(rt, wakers);
     }
     Ok(())
 }
 
-fn wakers_of(alloc: Global, halls: &[Hall]) -> Result<Vec<Waker>, HallFault> {
-    let mut wakers = Vec::with_capacity(alloc, halls.len())?;
-    for hall in halls {
-        wakers.push(hall.waker()?).map_err(AllocError::from)?;
+fn wakers_of(alloc: Global, pollers: &[Poller]) -> Result<Vec<Waker>, PollerFault> {
+    let mut wakers = Vec::with_capacity(alloc, pollers.len())?;
+    for poller in pollers {
+        wakers.push(poller.waker()?).map_err(AllocError::from)?;
     }
     Ok(wakers)
 }
 
-// Without a hall there is no thread.
-fn shortage_of(fault: HallFault) -> Shortage {
+// Without a poller there is no thread.
+fn shortage_of(fault: PollerFault) -> Shortage {
     match fault {
-        HallFault::Memory => Shortage::Memory,
-        HallFault::Descriptor => Shortage::Descriptor,
+        PollerFault::Memory => Shortage::Memory,
+        PollerFault::Descriptor => Shortage::Descriptor,
     }
 }
 
@@ -94,15 +94,15 @@ fn start_loop<C: HasLinks<R> + Drop + Send + 'static, R: Runtime>(
     cluster: &Arc<SharedCluster<C>, Global>,
     admission: &Arc<Admission<C::Cluster>, Global>,
     number: usize,
-    desk: &Arc<Desk<Asks<C::Cluster>>, Global>,
-    hall: Hall,
+    inbox: &Arc<Inbox<Asks<C::Cluster>>, Global>,
+    poller: Poller,
 ) -> Result<JoinHandle<()>, Shortage>
 where
     C::Cluster: Send + Sync + 'static,
 {
     let cluster = Arc::try_clone(cluster)?;
     let admission = Arc::try_clone(admission)?;
-    let desk = Arc::try_clone(desk)?;
+    let inbox = Arc::try_clone(inbox)?;
     let started = thread::spawn(&rt, move || {
         serve_in_turn(
             rt,
@@ -110,22 +110,22 @@ where
             &*cluster,
             number,
             admission.begin(),
-            &*desk,
-            hall,
+            &*inbox,
+            poller,
         );
     });
     started.map_err(|_| Shortage::Thread)
 }
 
-// Serves clients of the node of that number, those that come to the desk, until the node is closed and all of them have left.
+// Serves clients of the node of that number, those that come to its inbox, until the node is closed and all of them have left.
 fn serve_in_turn<C: HasLinks<R> + Drop, R: Runtime>(
     rt: R,
     alloc: Global,
     cluster: &SharedCluster<C>,
     number: usize,
     asks: Asks<C::Cluster>,
-    desk: &Desk<Asks<C::Cluster>>,
-    hall: Hall,
+    inbox: &Inbox<Asks<C::Cluster>>,
+    poller: Poller,
 ) {
     let Some(mut gate) = SeeingGate::new(rt, alloc, cluster, number, asks, Mail::IsSent) else {
         return;
@@ -135,7 +135,7 @@ fn serve_in_turn<C: HasLinks<R> + Drop, R: Runtime>(
         cluster,
         number,
     };
-    serve_guests(&rt, alloc, &mut gate, &clients, desk, hall);
+    serve_clients(&rt, alloc, &mut gate, &clients, inbox, poller);
 }
 
 // The clients of the node of that number.

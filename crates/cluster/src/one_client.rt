@@ -1,6 +1,6 @@
 //! A client that is served by a thread of its own.
 
-use client_turns::{Lingering, is_told};
+use client_loops::{Lingering, is_told};
 use listener::{Came, ConnFault, Rest, read_once, serve_conn};
 use node_cell::Asks;
 use resp2::Counting;

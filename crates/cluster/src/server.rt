@@ -1,14 +1,15 @@
 //! All nodes of a cluster, served at once.
 ghost use Rattle.std.specs.Prelude.{◌≡◌, ◌<◌, ◌+◌, ◌++◌, ◌∷◌, [], All, IfOk, OnOk, length, map, vec_len};
 ghost use Rattle.std.specs.List.{range_with_len};
-ghost use Rattle.links.specs.Ends.{AreEndsOf, AreLinkedFrom};
+ghost use Rattle.link_ends.specs.Ends.{AreEndsOf, AreLinkedFrom};
 ghost use Rattle.tickets.specs.Tickets.{IsFresh};
 
 use crate::clock::Timing;
 use crate::telling::Telling;
 use crate::threads::start_all;
 use cluster_config::Config;
-use links::{PortEnd, PortEnds, Station, Web};
+use link_ends::{PortEnd, PortEnds};
+use links::{Station, Web};
 use node_cell::{Admission, Deployment, HoldsCell, Log, NodeCell, Posted};
 use shared_cluster::{
     Clients, HasLinks, Node, NodeStop, Orders, Runtime, SharedCluster, Shortage, Stop, Witness,

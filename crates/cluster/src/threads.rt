@@ -5,7 +5,7 @@ use crate::clock::{Timing, pass_time};
 use crate::loops::start_loops;
 use crate::server::{ServeFault, Times};
 use crate::telling::{Telling, tell_status};
-use client_turns::Desk;
+use client_loops::Inbox;
 use node_cell::{Admission, Asks};
 use shared_cluster::{HasLinks, Incident, Orders, Runtime, SharedCluster, Shortage, carry};
 use std::alloc::{AllocError, Global};
@@ -84,7 +84,7 @@ where
         start_clock(rt, cluster, orders, admission, number, timing),
         threads,
     )?;
-    let desks = start_loops(
+    let inboxes = start_loops(
         rt,
         alloc,
         cluster,
@@ -94,7 +94,7 @@ where
         threads,
     )?;
     add(
-        start_accepting(rt, alloc, cluster, admission, number, desks),
+        start_accepting(rt, alloc, cluster, admission, number, inboxes),
         threads,
     )?;
     add(start_carrying(rt, alloc, cluster, number), threads)
@@ -157,7 +157,7 @@ fn start_accepting<C: HasLinks<R> + Drop + Send + 'static, R: Runtime>(
     cluster: &Arc<SharedCluster<C>, Global>,
     admission: &Arc<Admission<C::Cluster>, Global>,
     number: usize,
-    desks: Vec<Arc<Desk<Asks<C::Cluster>>, Global>>,
+    inboxes: Vec<Arc<Inbox<Asks<C::Cluster>>, Global>>,
 ) -> Result<JoinHandle<()>, Shortage>
 where
     C::Cluster: Send + Sync + 'static,
@@ -165,7 +165,7 @@ where
     let cluster = Arc::try_clone(cluster)?;
     let admission = Arc::try_clone(admission)?;
     let started = thread::spawn(&rt, move || {
-        accept_clients(rt, alloc, &cluster, &*admission, number, desks.as_slice());
+        accept_clients(rt, alloc, &cluster, &*admission, number, inboxes.as_slice());
     });
     started.map_err(|_| Shortage::Thread)
 }

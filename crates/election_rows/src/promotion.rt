@@ -68,7 +68,7 @@ fn promote_by<S: SlotParts + SlotKeys, T: Stream>(
 {
     let replaced = replaced(node, succession.master, succession.epoch);
     let bodies = claims(node, &succession.table, replaced)?;
-    node.write_promotion(draft, bodies, succession);
+    node.draft_promotion(draft, bodies, succession);
     Ok(())
 }
 

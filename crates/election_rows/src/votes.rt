@@ -8,7 +8,7 @@ ghost use Rattle.node_step.specs.Outcome.{silent};
 ghost use Rattle.node_step.specs.State.{own_master};
 ghost use Rattle.node_step.specs.Voting.{grant_to, requests_in, voters_of};
 
-use bus::{Body, Request};
+use bus::{Body, Candidacy};
 use election::VoteRequest;
 use node_parts::{Change, Draft, NodeParts};
 use node_step::Releases;
@@ -31,7 +31,7 @@ pub fn append_requests<S: SlotParts + SlotKeys, T: Stream>(
     let Some(master) = node.own_master() else {
         return Ok(());
     };
-    let request = Body::Request(Request {
+    let request = Body::Candidacy(Candidacy {
         epoch,
         master,
         planned: node.may_take_over(),
@@ -74,7 +74,7 @@ pub fn write_vote<S: SlotParts + SlotKeys, T: Stream>(
     ensures { OnOk result (Drafts node.now (record (silent node.now) { sent = grant_to request granted }) draft.new) }
 {
     let bodies = grant_to(node.alloc, request, granted)?;
-    node.write_releases(draft, Releases::new(), bodies, Change::Nothing);
+    node.draft_releases(draft, Releases::new(), bodies, Change::Nothing);
     Ok(())
 }
 

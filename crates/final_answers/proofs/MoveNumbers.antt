@@ -5,7 +5,7 @@ use Rattle.std.specs.FinMap as map
 use Rattle.std.specs.Ordering.{nat_cmp}
 use Rattle.std.specs.Prelude.{◌-◌, MatchBool, Result, Ok, Err, nat_lt, ⊤}
 use Rattle.bus.specs.declared.message.Body.{Body}
-use Rattle.bus.specs.declared.message.Body.TheVariants.{Copy, Ack, Drained, Claim, Report, Request as Requested, Grant, Sync, Piece, Snapshot, Pause, Paused}
+use Rattle.bus.specs.declared.message.Body.TheVariants.{Copy, Ack, Drained, Claim, Report, Candidacy as Requested, Grant, Sync, Piece, Snapshot, Pause, Paused}
 use Rattle.bus.specs.declared.message.Message.{Message}
 use Rattle.cluster_config.specs.Config.{ClusterConfig}
 use Rattle.command_table.specs.Table.{command_of}
@@ -32,7 +32,7 @@ use Rattle.node_step.specs.Claiming.{claimed_by}
 use Rattle.node_step.specs.Commands.{command_outcome, decision_on}
 use Rattle.node_step.specs.Copies.{acknowledged, copy_outcome, copy_verdict_on, first_slot, keep_limits, node_at, those_there}
 use Rattle.redirect.specs.Decision.{has_other_slot}
-use Rattle.node_step.proofs.Kept.{pieced_keeps, recorded_keeps, restored_keeps, synced_is}
+use Rattle.node_step.proofs.Kept.{pieced_keeps, with_written_keeps, restored_keeps, synced_is}
 use Rattle.election.specs.Electing.{elected}
 use Rattle.election.specs.declared.running.Elected.{Elected}
 use Rattle.node_step.proofs.Ready.{in_election_keeps, ready_keeps}
@@ -364,7 +364,7 @@ taken_so_nameable node from choice (Paused handing) all =
 
 taken_nameable : (node : NodeState) (from : ℕ) (choice : Choice) (body : Body) → HasNameable node → HasNameable (taken node from choice body).state
 taken_nameable node from choice body all =
-    recorded_keeps HasNameable (taken_so node from choice body) (written_by_message node from body) choice.dropped (λ stream. taken_so_nameable node from choice body all)
+    with_written_keeps HasNameable (taken_so node from choice body) (written_by_message node from body) choice.dropped (λ stream. taken_so_nameable node from choice body all)
 
 delivered_nameable : (node : NodeState) (message : Message) (choice : Choice) → HasNameable node → HasNameable (delivered node message choice).state
 delivered_nameable node message choice all =
@@ -378,7 +378,7 @@ answer_nameable : (old : NodeState) (conn : Conn) (words : List (List ℕ)) (ask
     → HasNameable outcome.state
 answer_nameable old conn words true outcome may all =
     subst (λ (o : Outcome). HasNameable o.state) (sym may.comes_to)
-    (recorded_keeps HasNameable (request_outcome old conn (command_of words)) (written old conn words) may.dropped (λ stream. request_nameable old conn words all))
+    (with_written_keeps HasNameable (request_outcome old conn (command_of words)) (written old conn words) may.dropped (λ stream. request_nameable old conn words all))
 answer_nameable old conn words false outcome may all = subst (λ (o : Outcome). HasNameable o.state) (sym may) all
 
 close_nameable : (old : NodeState) (conn : Conn) (is_open : Bool) (outcome : Outcome) → MatchBool is_open (IsClosing old conn outcome) (outcome ≡ silent old) → HasNameable old → HasNameable outcome.state

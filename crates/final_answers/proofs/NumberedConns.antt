@@ -4,7 +4,7 @@ use Rattle.std.proofs.Math.ListN.{get_or-map}
 use Rattle.std.proofs.lemmas.Bool.{cases_eq}
 use Rattle.std.specs.Prelude.{MatchBool, Result, Ok, Err}
 use Rattle.bus.specs.declared.message.Body.{Body}
-use Rattle.bus.specs.declared.message.Body.TheVariants.{Copy, Ack, Drained, Claim, Report, Request as Requested, Grant, Sync, Piece, Snapshot, Pause, Paused}
+use Rattle.bus.specs.declared.message.Body.TheVariants.{Copy, Ack, Drained, Claim, Report, Candidacy as Requested, Grant, Sync, Piece, Snapshot, Pause, Paused}
 use Rattle.bus.specs.declared.message.Message.{Message}
 use Rattle.command_table.specs.Table.{command_of}
 use Rattle.command_table.specs.declared.command.ClusterCommand.{ClusterCommand}
@@ -25,8 +25,8 @@ use Rattle.migrate.specs.declared.sending.CopyVerdict.TheVariants as copies
 use Rattle.node_step.specs.Claiming.{claimed_by}
 use Rattle.node_step.specs.Commands.{command_outcome, decision_on}
 use Rattle.node_step.specs.Copies.{acknowledged, copy_outcome, copy_verdict_on, first_slot, node_at, those_there, waiting_for}
-use Rattle.node_step.proofs.Kept.{pieced_keeps, recorded_keeps, restored_keeps, synced_is}
-use Rattle.node_step.proofs.Recorded.{recorded_state}
+use Rattle.node_step.proofs.Kept.{pieced_keeps, with_written_keeps, restored_keeps, synced_is}
+use Rattle.node_step.proofs.WithWritten.{with_written_state}
 use Rattle.election.specs.Electing.{elected}
 use Rattle.election.specs.declared.running.Elected.{Elected}
 use Rattle.node_step.proofs.Ready.{in_election_keeps, ready_keeps}
@@ -218,7 +218,7 @@ request_stays node conn words other is =
 
 answered_stays : (node : NodeState) (conn : Conn) (words : List (List ℕ)) (dropped : ℕ) → Stays node (answered node conn words dropped).state
 answered_stays node conn words dropped =
-    recorded_keeps (Stays node) (request_outcome node conn (command_of words)) (written node conn words) dropped (λ stream. request_stays node conn words)
+    with_written_keeps (Stays node) (request_outcome node conn (command_of words)) (written node conn words) dropped (λ stream. request_stays node conn words)
 
 acknowledged_stays : (node : NodeState) (id : CopyId) (keys : Option (List (List ℕ))) → Stays node (acknowledged node id keys).state
 acknowledged_stays node id None other is = is
@@ -276,7 +276,7 @@ taken_so_stays node from choice (Paused handing) other is = by_test (is_replica 
 
 taken_stays : (node : NodeState) (from : ℕ) (choice : Choice) (body : Body) → Stays node (taken node from choice body).state
 taken_stays node from choice body =
-    recorded_keeps (Stays node) (taken_so node from choice body) (written_by_message node from body) choice.dropped (λ stream. taken_so_stays node from choice body)
+    with_written_keeps (Stays node) (taken_so node from choice body) (written_by_message node from body) choice.dropped (λ stream. taken_so_stays node from choice body)
 
 delivered_stays : (node : NodeState) (message : Message) (choice : Choice) → Stays node (delivered node message choice).state
 delivered_stays node message choice other is = by_node (message.to == node.number)
@@ -346,7 +346,7 @@ introduces ticket old new conn words outputs answer step answers is =
     let read : command_of words ≡ Ok (Cluster cluster.Numbered) = ap command_of is in
     ap (λ (node : NodeState). introduced_at node.connections conn) step.state
     ∙ ap (λ (o : Outcome). introduced_at o.state.connections conn) (heard ticket old new conn words outputs answer step answers).answering.comes_to
-    ∙ ap (λ (node : NodeState). introduced_at node.connections conn) (recorded_state (request_outcome old conn (command_of words)) (written old conn words) (heard ticket old new conn words outputs answer step answers).answering.dropped)
+    ∙ ap (λ (node : NodeState). introduced_at node.connections conn) (with_written_state (request_outcome old conn (command_of words)) (written old conn words) (heard ticket old new conn words outputs answer step answers).answering.dropped)
     ∙ ap (λ (command : Result Command CommandFault). introduced_at (request_outcome old conn command).state.connections conn) read
     ∙ newly_introduced (using_up old conn).connections conn (λ connection. record connection { numbered = true }) (λ connection. refl) (λ connection. refl)
 

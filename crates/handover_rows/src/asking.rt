@@ -31,7 +31,7 @@ pub fn ask_master<S: SlotParts + SlotKeys, T: Stream>(
     let pause = Body::Pause(node.stream.id());
     let bodies = listed(node.alloc, Some((master, pause)))?;
     let change = Change::Wishes { conn };
-    node.write_reply_sending(draft, Why::TakesOver, done(), bodies, change);
+    node.draft_reply_sending(draft, Why::TakesOver, done(), bodies, change);
     Ok(())
 }
 

@@ -25,12 +25,12 @@ pub fn hand_over<S: SlotParts + SlotKeys, T: Stream>(
     ensures { OnOk result (Drafts node.now (asked_to_pause node.now from stream) draft.new) }
 {
     if !may_pause(node, from, stream) {
-        node.write_change(draft, Change::Nothing);
+        node.draft_change(draft, Change::Nothing);
         return Ok(());
     }
     let bodies = listed(node.alloc, handed_to(node, from)?)?;
     let change = Change::Pauses { replica: from };
-    node.write_releases(draft, Releases::new(), bodies, change);
+    node.draft_releases(draft, Releases::new(), bodies, change);
     Ok(())
 }
 

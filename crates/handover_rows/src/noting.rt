@@ -21,11 +21,11 @@ pub fn note_handing<S: SlotParts + SlotKeys, T: Stream>(
     ensures { OnOk result (Drafts node.now (told_of_handing node.now handing.now) draft.new) }
 {
     if !concerns(node, handing) {
-        node.write_change(draft, Change::Nothing);
+        node.draft_change(draft, Change::Nothing);
         return Ok(());
     }
     let handing = Some(handing.clone()?);
-    node.write_change(draft, Change::Learns { handing });
+    node.draft_change(draft, Change::Learns { handing });
     Ok(())
 }
 

@@ -66,7 +66,7 @@ fn serve<S: SlotParts + SlotKeys, T: Stream>(
     let (reply, bodies) = execute(node, slot, place, command, &mut draft.plan)?;
     let why = Why::Decided(decision);
     let change = served_change(conn, place, command);
-    node.write_reply_sending(draft, why, reply, bodies, change);
+    node.draft_reply_sending(draft, why, reply, bodies, change);
     Ok(())
 }
 

@@ -1,13 +1,3 @@
 pub mod ActionLemmas
-pub mod ChangingLemmas
-pub mod ComparingLemmas
-pub mod FacingLemmas
-pub mod JoiningLemmas
-pub mod LastLemmas
-pub mod NamingLemmas
-pub mod RuleLemmas
 pub mod StationLemmas
-pub mod TogetherLemmas
-pub mod HeldLemmas
-pub mod ShimLemmas
 pub mod PortLemmas

@@ -3,8 +3,8 @@ use Rattle.std.proofs.Common.{◌∙◌, ◌++◌, List, ap, sym, subst}
 use Rattle.std.specs.Prelude.{Contains}
 use Rattle.std.proofs.lemmas.List.Elements.{Contains-push}
 use Rattle.bus.specs.declared.message.Message.{Message}
-use Rattle.links.specs.Ends.{EndView}
-use Rattle.links.specs.Giving.{Gives, GivesNone, GivingView}
+use Rattle.link_ends.specs.Ends.{EndView}
+use Rattle.link_ends.specs.Giving.{Gives, GivesNone, GivingView}
 use Rattle.links.specs.Ports.{HasGiven, HasGivenNone, PortView}
 
 -- the port at an end, with the messages that wait there

@@ -9,9 +9,9 @@ use Rattle.std.proofs.lemmas.List.Elements.{Contains-append_cases, Contains-appe
 use Rattle.atomic_table.specs.Seated.{TableId}
 use Rattle.bus.specs.declared.message.Message.{Message}
 use Rattle.cluster_config.specs.Config.{ClusterConfig}
-use Rattle.links.specs.Giving.{GivingView}
+use Rattle.link_ends.specs.Giving.{GivingView}
 use Rattle.links.specs.Ports.{HasGiven, HasGivenNone, HasMore, HasSent, PortView}
-use Rattle.links.specs.Ends.{AreEndsOf, EndView}
+use Rattle.link_ends.specs.Ends.{AreEndsOf, EndView}
 use Rattle.links.specs.Stations.{IsPort, IsStation, StationView, all_sent, all_taken, end_of, for_node, port_at, port_of, sent_by, taken_by, taken_in}
 use Rattle.node_cell.specs.Journal.{CellView, EnteredView, Enters, IsNotTaken, IsRefused, IsTooEarly}
 use Rattle.node_cell.specs.declared.delivery.DeliveryFault.{DeliveryFault}

@@ -1,13 +1,4 @@
-pub mod Rule
-pub mod Halves
-pub mod Ends
-pub mod Joining
-pub mod Giving
-pub mod Acts
-pub mod Shims
-pub mod Received
 pub mod Pace
 pub mod Ports
 pub mod Syncs
 pub mod Stations
-pub mod Comparing

@@ -2,7 +2,7 @@
 use Rattle.std.specs.Prelude.{◌≡◌, ◌++◌, ◌∷◌, ◌⊎◌, Contains, List, []}
 use Rattle.atomic_table.specs.Seated.{TableId}
 use Rattle.bus.specs.declared.message.Message.{Message}
-use Rattle.links.specs.Halves.{WasFull}
+use Rattle.link_ends.specs.Halves.{WasFull}
 
 pub record PortView : Type 0 where
   pub to : TableId

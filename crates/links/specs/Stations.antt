@@ -3,8 +3,8 @@ use Rattle.std.specs.Prelude.{◌≡◌, ◌==◌, ◌++◌, ◌∷◌, ◌<◌,
 use Rattle.std.specs.List.{filter, flat_map}
 use Rattle.atomic_table.specs.Seated.{TableId}
 use Rattle.bus.specs.declared.message.Message.{Message}
-use Rattle.links.specs.Ends.{EndView}
-use Rattle.links.specs.Giving.{GivingView}
+use Rattle.link_ends.specs.Ends.{EndView}
+use Rattle.link_ends.specs.Giving.{GivingView}
 use Rattle.links.specs.Ports.{HasGiven, HasGivenNone, PortView}
 use Rattle.links.specs.Syncs.{is_sync}
 use Rattle.links.specs.declared.not_taken.NotTaken.{NotTaken}

@@ -47,7 +47,7 @@ fn room_after(room: u128, body: &Body) -> Option<u128>
         | Body::Drained { .. }
         | Body::Claim(_, _)
         | Body::Report(_)
-        | Body::Request(_)
+        | Body::Candidacy(_)
         | Body::Grant(_)
         | Body::Sync(_)
         | Body::Snapshot(_)

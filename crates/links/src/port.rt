@@ -1,17 +1,15 @@
 //! A node's end of its link with another node, with the messages that found no room there yet.
 ghost use Rattle.std.specs.Prelude.{◌≡◌, ◌++◌, ◌∷◌, ◌⊎◌, [], true, false, IfNone, IfSome, IsTrue, OnErr, OnOk};
-ghost use Rattle.links.specs.Halves.{WasFull};
+ghost use Rattle.link_ends.specs.Halves.{WasFull};
 ghost use Rattle.links.specs.Pace.{are_many};
 ghost use Rattle.links.specs.Syncs.{is_sync};
 ghost use Rattle.links.specs.Ports.{HasGiven, HasGivenNone, HasMore, HasSent, HasSentOne};
 ghost use Rattle.links.specs.Stations.{end_of, port_of};
 
-use crate::acts::Act;
-use crate::end::LinkEnd;
 use crate::pace::are_many;
-use crate::port_end::PortEnd;
 use crate::sync_filter::{Progress, SyncFilter};
 use bus::Body;
+use link_ends::{Act, LinkEnd, PortEnd};
 use node_cell::{Deployment, Posted, Sending};
 use std::alloc::{AllocError, Global};
 use std::collections::VecDeque;

@@ -2,20 +2,17 @@
 ghost use Rattle.std.specs.Prelude.{◌≡◌, ◌<◌, ◌⊎◌, [], drop, false, length, map, IfNone, IfOk, IfSome, OnOk};
 ghost use Rattle.std.specs.List.{list_any};
 ghost use Rattle.bus.specs.declared.message.Message.{Message};
-ghost use Rattle.links.specs.Ends.{AreEndsOf};
-ghost use Rattle.links.specs.Halves.{WasFull};
+ghost use Rattle.link_ends.specs.Ends.{AreEndsOf};
+ghost use Rattle.link_ends.specs.Halves.{WasFull};
 ghost use Rattle.links.specs.Pace.{are_many};
 ghost use Rattle.links.specs.Ports.{PortView};
 ghost use Rattle.links.specs.Stations.{Arrives, GivesNone, IsStation, Loses, OnlySends, SendsNothing, end_of, port_at, port_of, said_of};
 
-use crate::acts::Act;
-use crate::end::LinkEnd;
 use crate::not_taken::NotTaken;
 use crate::port::Port;
-use crate::port_end::PortEnd;
-use crate::port_ends::PortEnds;
 use crate::web::Web;
 use cluster_config::Config;
+use link_ends::{Act, LinkEnd, PortEnd, PortEnds};
 use node_cell::{
     Asks, DeliveryFault, Deployment, Entered, HoldsCell, Log, NodeCell, Posted, Sending,
 };

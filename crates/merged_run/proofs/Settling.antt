@@ -6,7 +6,7 @@ use Rattle.std.specs.FinMap as map
 use Rattle.std.specs.Ordering.{nat_cmp}
 use Rattle.std.specs.Prelude.{MatchBool, Result, Ok, Err, is_some, slice_get, slice_set}
 use Rattle.bus.specs.declared.message.Body.{Body}
-use Rattle.bus.specs.declared.message.Body.TheVariants.{Copy, Ack, Drained, Claim, Report, Request as Requested, Grant, Sync, Piece, Snapshot, Pause, Paused}
+use Rattle.bus.specs.declared.message.Body.TheVariants.{Copy, Ack, Drained, Claim, Report, Candidacy as Requested, Grant, Sync, Piece, Snapshot, Pause, Paused}
 use Rattle.bus.specs.declared.message.Handing.{Handing}
 use Rattle.bus.specs.declared.message.Message.{Message}
 use Rattle.cluster_config.specs.Config.{ClusterConfig}
@@ -58,7 +58,7 @@ use Rattle.slot_table.specs.declared.entry.SlotEntry.{SlotEntry}
 use Rattle.node_step.specs.Claiming.{claimed_by}
 use Rattle.node_step.specs.Commands.{asked_of, command_outcome, decision_on}
 use Rattle.node_step.specs.Copies.{acknowledged, copy_outcome, copy_verdict_on, first_slot, node_at, those_there}
-use Rattle.node_step.proofs.Kept.{pieced_keeps, recorded_keeps, restored_keeps, synced_is}
+use Rattle.node_step.proofs.Kept.{pieced_keeps, with_written_keeps, restored_keeps, synced_is}
 use Rattle.node_step.proofs.Ready.{in_election_keeps, ready_keeps}
 use Rattle.node_step.specs.Failing.{a_tick_older, members_of}
 use Rattle.node_step.specs.Messages.{Choice, delivered, ready, taken, taken_so, written_by_message}
@@ -71,7 +71,7 @@ use Rattle.node_step.specs.State.{NodeState, is_replica, own_master}
 use Rattle.stream_values.specs.Stream.{is_same}
 use Rattle.stream_values.specs.declared.stream_id.StreamId.{StreamId}
 use Rattle.node_step.specs.Step.{IsAnswering, IsClosing, NodeStep, written}
-use Rattle.node_step.specs.Streams.{Requests, recorded}
+use Rattle.node_step.specs.Streams.{Requests, with_written}
 use Rattle.node_step.specs.Ticks.{older, tick}
 use Rattle.node_step.specs.Voting.{due_epoch, if_elected}
 use Rattle.node_step.specs.declared.event.Event.{Event}
@@ -231,9 +231,9 @@ module _ (words : List (List ℕ)) (node : NodeState) (settled : IsSettled node.
   words_quiet conn connection (Ok (Data which)) = command_quiet (is_numbered connection) which connection (decision_on node which (asking_of connection)) refl
 
 -- so it is where what was executed is written
-recorded_quiet : (words : List (List ℕ)) (outcome : Outcome) (requests : Requests) (dropped : ℕ) → IsQuiet words outcome → IsQuiet words (recorded outcome requests dropped)
-recorded_quiet words outcome [] dropped quiet = quiet
-recorded_quiet words outcome (request ∷ requests) dropped quiet = quiet
+with_written_quiet : (words : List (List ℕ)) (outcome : Outcome) (requests : Requests) (dropped : ℕ) → IsQuiet words outcome → IsQuiet words (with_written outcome requests dropped)
+with_written_quiet words outcome [] dropped quiet = quiet
+with_written_quiet words outcome (request ∷ requests) dropped quiet = quiet
 
 -- ---- messages
 
@@ -319,7 +319,7 @@ module _ (node : NodeState) (settled : IsSettled node.moves) where
 
   taken_settled : (from : ℕ) (choice : Choice) (body : Body) → IsSettled (taken node from choice body).state.moves
   taken_settled from choice body =
-      recorded_keeps (λ (s : NodeState). IsSettled s.moves) (taken_so node from choice body) (written_by_message node from body) choice.dropped (λ stream. taken_so_settled from choice body)
+      with_written_keeps (λ (s : NodeState). IsSettled s.moves) (taken_so node from choice body) (written_by_message node from body) choice.dropped (λ stream. taken_so_settled from choice body)
 
 delivered_settled : (node : NodeState) (message : Message) (choice : Choice) → IsSettled node.moves → IsSettled (delivered node message choice).state.moves
 delivered_settled node message choice settled = by_receiver (message.to == node.number)
@@ -347,7 +347,7 @@ module _ (old : NodeState) (settled : IsSettled old.moves) (outcome : Outcome) w
   request_quiet : (conn : Conn) (words : List (List ℕ)) (asks : Bool) → MatchBool asks (IsAnswering old conn words outcome) (outcome ≡ silent old) → IsQuiet words outcome
   request_quiet conn words true answers =
       subst (IsQuiet words) (sym answers.comes_to)
-      (recorded_quiet words (request_outcome old conn (command_of words)) (written old conn words) answers.dropped
+      (with_written_quiet words (request_outcome old conn (command_of words)) (written old conn words) answers.dropped
       (words_quiet words (using_up old conn) settled conn (connection_at old.connections conn) (command_of words)))
   request_quiet conn words false is = subst (IsQuiet words) (sym is) (λ none. settled, λ past n. tt)
 

@@ -26,7 +26,7 @@ pub fn take_claim<S: SlotParts + SlotKeys, T: Stream>(
     ensures { OnOk result (Drafts node.now (claim node.now from taken.now) draft.new) }
 {
     if from == node.number {
-        node.write_change(draft, Change::Nothing);
+        node.draft_change(draft, Change::Nothing);
         return Ok(());
     }
     let lost = lost_to(node, from, taken)?;
@@ -35,7 +35,7 @@ pub fn take_claim<S: SlotParts + SlotKeys, T: Stream>(
     let claim = taken.clone()?;
     let bodies = Vec::new(node.alloc);
     let change = Change::Loses { from, claim, lost };
-    node.write_releases(draft, released, bodies, change);
+    node.draft_releases(draft, released, bodies, change);
     Ok(())
 }
 

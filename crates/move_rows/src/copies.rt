@@ -45,15 +45,15 @@ pub fn take_copy<S: SlotParts + SlotKeys, T: Stream>(
             let plan = plan_of(node.alloc, pairs)?;
             draft.plan = plan;
             let change = Change::Installs { slot, copy };
-            node.write_releases(draft, Releases::new(), bodies, change);
+            node.draft_releases(draft, Releases::new(), bodies, change);
             Ok(())
         }
         ArrivalVerdict::Repeats => {
-            node.write_releases(draft, Releases::new(), bodies, Change::Nothing);
+            node.draft_releases(draft, Releases::new(), bodies, Change::Nothing);
             Ok(())
         }
         ArrivalVerdict::Ignored => {
-            node.write_releases(draft, Releases::new(), bodies, Change::Nothing);
+            node.draft_releases(draft, Releases::new(), bodies, Change::Nothing);
             Ok(())
         }
     }
@@ -82,7 +82,7 @@ pub fn take_ack<S: SlotParts + SlotKeys, T: Stream>(
 {
     let CopyId { slot, number, copy } = id;
     let Some(keys) = acknowledged_keys(node.moves.get(slot), from, number, copy) else {
-        node.write_change(draft, Change::Nothing);
+        node.draft_change(draft, Change::Nothing);
         return Ok(());
     };
     let bodies = listed(node.alloc, drained_by_ack(node, slot, keys.as_slice()))?;
@@ -91,7 +91,7 @@ pub fn take_ack<S: SlotParts + SlotKeys, T: Stream>(
     let change = Change::Frees {
         id: CopyId { slot, number, copy },
     };
-    node.write_releases(draft, released, bodies, change);
+    node.draft_releases(draft, released, bodies, change);
     Ok(())
 }
 
@@ -153,7 +153,7 @@ pub fn take_drained<S: SlotParts + SlotKeys, T: Stream>(
         number,
         drained,
     };
-    node.write_change(draft, change);
+    node.draft_change(draft, change);
 }
 
 // The acknowledgement of a copy.

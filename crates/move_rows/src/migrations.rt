@@ -162,7 +162,7 @@ fn send_again<S: SlotParts + SlotKeys, T: Stream>(
     let id = wait.id;
     let body = outstanding(node, id.slot, node.moves.get(id.slot))?;
     let bodies = listed(node.alloc, body)?;
-    node.write_parked(draft, bodies, Change::Parks { conn, wait });
+    node.draft_parked(draft, bodies, Change::Parks { conn, wait });
     Ok(())
 }
 
@@ -181,7 +181,7 @@ fn send_copy<S: SlotParts + SlotKeys, T: Stream>(
 {
     let body = copy_of(node, to, wait.id, keys.as_slice())?;
     let bodies = listed(node.alloc, Some(body))?;
-    node.write_parked(draft, bodies, Change::Freezes { conn, keys, wait });
+    node.draft_parked(draft, bodies, Change::Freezes { conn, keys, wait });
     Ok(())
 }
 

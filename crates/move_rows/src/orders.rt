@@ -62,7 +62,7 @@ fn import<S: SlotParts + SlotKeys, T: Stream>(
     let verdict = import_verdict(node, &order);
     let reply = import_reply(&verdict);
     let change = import_change(conn, order.slot, &verdict);
-    node.write_reply(draft, Why::Imports(verdict), reply, change);
+    node.draft_reply(draft, Why::Imports(verdict), reply, change);
 }
 
 // The verdict on an order to import a slot.
@@ -92,7 +92,7 @@ fn migrate_slot<S: SlotParts + SlotKeys, T: Stream>(
     let bodies = listed(node.alloc, drained)?;
     let change = migrate_change(conn, order.slot, &verdict);
     let why = Why::Migrates(verdict);
-    node.write_reply_sending(draft, why, reply, bodies, change);
+    node.draft_reply_sending(draft, why, reply, bodies, change);
     Ok(())
 }
 
@@ -222,7 +222,7 @@ fn end_of_import<S: SlotParts + SlotKeys, T: Stream>(
     node.append_to_others(&claim, &mut bodies)?;
     let why = Why::Ends(NodeVerdict::Ends { drained });
     let change = Change::Ends { conn, slot, epoch };
-    node.write_reply_in(draft, why, done(), bodies, epoch, change);
+    node.draft_reply_in(draft, why, done(), bodies, epoch, change);
     Ok(())
 }
 

@@ -3,7 +3,7 @@
 use crate::fault::ActsFault;
 use crate::text::no_acts;
 use command_table::count_in;
-use links::Act;
+use link_ends::Act;
 use rand_core::Rng;
 use rand_pcg::Pcg32;
 use std::alloc::{AllocError, Global};

@@ -2,7 +2,7 @@
 
 use crate::fault::{ActsFault, NoAct};
 use command_table::{count_in, positive_in};
-use links::Act;
+use link_ends::Act;
 use std::alloc::{AllocError, Global};
 
 // A link has no more acts, and an act no greater number.

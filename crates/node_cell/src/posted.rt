@@ -6,6 +6,7 @@ ghost use Rattle.node_cell.specs.Journal.{IsSent};
 
 use crate::deployment::Deployment;
 use bus::Message;
+use link_ends::Repeated;
 use slot_table::NodeNo;
 use std::alloc::{AllocError, Global};
 use std::collections::VecDeque;
@@ -67,6 +68,12 @@ impl<K: Deployment> Clone for Posted<K> {
             message: self.message.clone()?,
             cluster: PhantomData,
         })
+    }
+}
+
+impl<K: Deployment> Repeated for Posted<K> {
+    fn again(&self) -> Result<Posted<K>, AllocError> {
+        self.clone()
     }
 }
 

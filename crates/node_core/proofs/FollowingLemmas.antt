@@ -1,7 +1,7 @@
 -- Messages by which a replica follows its master's stream.
 use Rattle.std.proofs.Common.{◌≡◌, ℕ, refl, sym, ap, subst, arith}
 use Rattle.bus.specs.declared.message.Body.{Body}
-use Rattle.bus.specs.declared.message.Body.TheVariants.{Copy, Ack, Drained, Claim, Report, Request, Grant, Sync, Piece, Snapshot, Pause, Paused}
+use Rattle.bus.specs.declared.message.Body.TheVariants.{Copy, Ack, Drained, Claim, Report, Candidacy, Grant, Sync, Piece, Snapshot, Pause, Paused}
 use Rattle.node_core.specs.Comes.{MayBeTaken}
 use Rattle.node_core.specs.Following.{FollowsBy}
 use Rattle.node_parts.specs.Drafts.{Comes}
@@ -38,7 +38,7 @@ by_body node from (Ack id) new never = absurd never
 by_body node from (Drained slot number epoch) new never = absurd never
 by_body node from (Claim slots replaced) new never = absurd never
 by_body node from (Report suspects) new never = absurd never
-by_body node from (Request request) new never = absurd never
+by_body node from (Candidacy request) new never = absurd never
 by_body node from (Grant epoch) new never = absurd never
 by_body node from (Sync sync) new never = absurd never
 by_body node from (Pause stream) new never = absurd never

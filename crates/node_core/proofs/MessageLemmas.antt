@@ -4,7 +4,7 @@ use Rattle.std.proofs.lemmas.Bool.{cond-false, cond-true, not-false, not-true}
 use Rattle.std.specs.FinMap as fin_map
 use Rattle.std.specs.List.{list_any}
 use Rattle.bus.specs.declared.message.Body.{Body}
-use Rattle.bus.specs.declared.message.Body.TheVariants.{Copy, Ack, Drained, Claim, Report, Request, Grant, Sync, Piece, Snapshot, Pause, Paused}
+use Rattle.bus.specs.declared.message.Body.TheVariants.{Copy, Ack, Drained, Claim, Report, Candidacy, Grant, Sync, Piece, Snapshot, Pause, Paused}
 use Rattle.bus.specs.declared.message.Message.{Message}
 use Rattle.bus.specs.declared.message.Replaced.{Replaced}
 use Rattle.key_slot.specs.Slot.{hash_slot}
@@ -19,7 +19,7 @@ use Rattle.node_step.specs.Outcome.{Outcome, no_outputs, silent}
 use Rattle.node_step.specs.Replicas.{follower_of}
 use Rattle.node_step.specs.State.{NodeState}
 use Rattle.node_step.specs.Step.{NodeStep}
-use Rattle.node_step.specs.Streams.{Requests, deletion, recorded, written_by_claim, written_by_loss}
+use Rattle.node_step.specs.Streams.{Requests, deletion, with_written, written_by_claim, written_by_loss}
 use Rattle.node_step.specs.declared.event.Event.TheVariants.{Deliver}
 use Rattle.node_step.specs.declared.outputs.Outputs.{Outputs}
 use Rattle.resp2.specs.Stream.{stream_spelling}
@@ -40,7 +40,7 @@ by_draft node from choice (Report suspects) is = refl
 by_draft node from choice (Sync sync) is = refl
 by_draft node from choice (Pause stream) is = refl
 by_draft node from choice (Paused handing) is = refl
-by_draft node from choice (Request request) is = absurd (true≢false (sym is))
+by_draft node from choice (Candidacy request) is = absurd (true≢false (sym is))
 by_draft node from choice (Grant epoch) is = absurd (true≢false (sym is))
 by_draft node from choice (Piece piece) is = absurd (true≢false (sym is))
 by_draft node from choice (Snapshot snapshot) is = absurd (true≢false (sym is))
@@ -54,7 +54,7 @@ makes_none node from (Report suspects) is = tt
 makes_none node from (Sync sync) is = tt
 makes_none node from (Pause stream) is = tt
 makes_none node from (Paused handing) is = tt
-makes_none node from (Request request) is = tt
+makes_none node from (Candidacy request) is = tt
 makes_none node from (Grant epoch) is = tt
 makes_none node from (Piece piece) is = absurd (true≢false (sym is))
 makes_none node from (Snapshot snapshot) is = tt
@@ -68,7 +68,7 @@ drafted_to_be_taken node from body draft is records = record {
   may_come = λ dropped within. record {
     choice = choosing node dropped;
     may_choose = record { follower = makes_none node from body is; dropped = within };
-    comes_to = ap (λ (outcome : Outcome). recorded outcome (written_by_message node from body) dropped) (by_draft node from (choosing node dropped) body is);
+    comes_to = ap (λ (outcome : Outcome). with_written outcome (written_by_message node from body) dropped) (by_draft node from (choosing node dropped) body is);
   };
   records = records;
 }

@@ -1,9 +1,9 @@
 -- Votes, as a node takes them.
 use Rattle.std.proofs.Common.{◌≡◌, ℕ, Bool, true, false, cond, [], Option, Some, None, refl, sym, ap, subst, ◌∙◌, arith}
 use Rattle.std.proofs.lemmas.Option.{none-some}
-use Rattle.bus.specs.declared.message.Body.TheVariants.{Grant, Request}
+use Rattle.bus.specs.declared.message.Body.TheVariants.{Grant, Candidacy}
 use Rattle.bus.specs.declared.message.Handing.{Handing}
-use Rattle.bus.specs.declared.message.Request.{Request as Asked}
+use Rattle.bus.specs.declared.message.Candidacy.{Candidacy as Asked}
 use Rattle.election.specs.Electing.{counted, elected}
 use Rattle.election.specs.Voting.{after_request, may_grant}
 use Rattle.election.specs.declared.running.Elected.{Elected}
@@ -30,7 +30,7 @@ just_drafted node May outcome draft may drafts =
 module _ (ticket : ℕ) (old voted : NodeState) (from : ℕ) (request : Asked) (granted : Bool) (draft : Draft)
     (grants : granted ≡ may_grant old.voter (members_of old) old.health old.current_epoch (request_of from request))
     (votes : voted ≡ record old { voter = after_request old.voter (request_of from request) granted }) where
-  may_vote : MayBeTaken old from (Request request) (record (silent voted) { sent = grant_to (request_of from request) granted })
+  may_vote : MayBeTaken old from (Candidacy request) (record (silent voted) { sent = grant_to (request_of from request) granted })
   may_vote = record {
     choice = choosing old 0;
     may_choose = record { follower = tt; dropped = omega arith };
@@ -40,12 +40,12 @@ module _ (ticket : ℕ) (old voted : NodeState) (from : ℕ) (request : Asked) (
   }
 
   pub vote_drafted : Drafts voted (record (silent voted) { sent = grant_to (request_of from request) granted }) draft
-      → IsDraftOf voted (MayBeTaken old from (Request request)) draft
-  vote_drafted drafts = just_drafted voted (MayBeTaken old from (Request request)) (record (silent voted) { sent = grant_to (request_of from request) granted }) draft may_vote drafts
+      → IsDraftOf voted (MayBeTaken old from (Candidacy request)) draft
+  vote_drafted drafts = just_drafted voted (MayBeTaken old from (Candidacy request)) (record (silent voted) { sent = grant_to (request_of from request) granted }) draft may_vote drafts
 
   pub vote_taken : (outputs : Outputs) (new : NodeState) → Drafts voted (record (silent voted) { sent = grant_to (request_of from request) granted }) draft
-      → outputs ≡ stamped_draft voted ticket draft → IsApplied voted draft new → Comes ticket (MayBeTaken old from (Request request)) outputs new
-  vote_taken outputs new drafts are applied = made_comes ticket voted (MayBeTaken old from (Request request)) draft outputs new (vote_drafted drafts) are applied
+      → outputs ≡ stamped_draft voted ticket draft → IsApplied voted draft new → Comes ticket (MayBeTaken old from (Candidacy request)) outputs new
+  vote_taken outputs new drafts are applied = made_comes ticket voted (MayBeTaken old from (Candidacy request)) draft outputs new (vote_drafted drafts) are applied
 
 -- a vote for this node
 module _ (ticket : ℕ) (old after : NodeState) (from epoch : ℕ) (wins : Option Elected) (is : wins ≡ elected old.candidate (members_of old) from epoch)

@@ -1,7 +1,7 @@
 -- What comes of an event, as the parts of a node say it of themselves.
 use Rattle.std.specs.Prelude.{◌≡◌, ℕ, Bool, true, false, List, Result}
 use Rattle.bus.specs.declared.message.Body.{Body}
-use Rattle.bus.specs.declared.message.Body.TheVariants.{Copy, Ack, Drained, Claim, Report, Request, Grant, Sync, Piece, Snapshot, Pause, Paused}
+use Rattle.bus.specs.declared.message.Body.TheVariants.{Copy, Ack, Drained, Claim, Report, Candidacy, Grant, Sync, Piece, Snapshot, Pause, Paused}
 use Rattle.command_table.specs.Table.{command_of}
 use Rattle.command_table.specs.declared.command.Command.{Command}
 use Rattle.command_table.specs.declared.fault.CommandFault.{CommandFault}
@@ -28,7 +28,7 @@ is_followed (Ack id) = false
 is_followed (Drained slot number epoch) = false
 is_followed (Claim slots replaced) = false
 is_followed (Report suspects) = false
-is_followed (Request request) = false
+is_followed (Candidacy request) = false
 is_followed (Grant epoch) = false
 is_followed (Sync sync) = false
 is_followed (Pause stream) = false
@@ -44,7 +44,7 @@ is_drafted_body (Report suspects) = true
 is_drafted_body (Sync sync) = true
 is_drafted_body (Pause stream) = true
 is_drafted_body (Paused handing) = true
-is_drafted_body (Request request) = false
+is_drafted_body (Candidacy request) = false
 is_drafted_body (Grant epoch) = false
 is_drafted_body (Piece piece) = false
 is_drafted_body (Snapshot snapshot) = false
@@ -56,7 +56,7 @@ taken_by_draft node from (Ack id) = acknowledgement node from id
 taken_by_draft node from (Drained slot number epoch) = noted node from slot number epoch
 taken_by_draft node from (Claim slots replaced) = claim node from slots
 taken_by_draft node from (Report suspects) = silent node
-taken_by_draft node from (Request request) = silent node
+taken_by_draft node from (Candidacy request) = silent node
 taken_by_draft node from (Grant epoch) = silent node
 taken_by_draft node from (Sync sync) = synced node from sync
 taken_by_draft node from (Pause stream) = asked_to_pause node from stream

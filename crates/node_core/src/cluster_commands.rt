@@ -105,7 +105,7 @@ fn number_asks<S: SlotParts + SlotKeys, T: Stream>(
     requires { HasNothing node.now draft.old }
     ensures { Drafts node.now (replied (with_numbers (using_up node.now conn) conn) Told done) draft.new }
 {
-    node.write_reply(draft, Why::Told, done(), Change::Numbers { conn });
+    node.draft_reply(draft, Why::Told, done(), Change::Numbers { conn });
 }
 
 // The next request of the connection may be served in a slot that comes to this node.
@@ -118,7 +118,7 @@ fn allow<S: SlotParts + SlotKeys, T: Stream>(
     requires { HasNothing node.now draft.old }
     ensures { Drafts node.now (replied (at_connection (using_up node.now conn) conn (λ (connection : Connection). record connection { asking = asking })) Told done) draft.new }
 {
-    node.write_reply(draft, Why::Told, done(), Change::Allows { conn, asking });
+    node.draft_reply(draft, Why::Told, done(), Change::Allows { conn, asking });
 }
 
 fn asking_for(number: Option<MoveNo>) -> Asking

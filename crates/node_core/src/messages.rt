@@ -18,7 +18,7 @@ use move_rows::{lost_to, take_ack, take_claim, take_copy, take_drained};
 use node_parts::{Draft, NodeParts};
 use node_step::{Outputs, Recorder, StepFault};
 use repl_stream::{Replaces, Stream};
-use replica_rows::{answer_sync, record, written_by_ack, written_by_copy, written_by_loss};
+use replica_rows::{add_written, answer_sync, written_by_ack, written_by_copy, written_by_loss};
 use slot_store::{SlotKeys, SlotParts};
 use slot_table::{Claim, NodeNo};
 use std::alloc::AllocError;
@@ -36,7 +36,7 @@ pub(crate) fn take<S: SlotParts + SlotKeys + Replaces, T: Stream, K: Recorder>(
 {
     match &message.body {
         Body::Piece(_) | Body::Snapshot(_) => follow::<S, T, K>(node, ticket, message),
-        Body::Request(request) => { ask_for_vote::<S, T, K>(node, ticket, message.from, request) }
+        Body::Candidacy(request) => { ask_for_vote::<S, T, K>(node, ticket, message.from, request) }
         Body::Grant(epoch) => count_vote::<S, T, K>(node, ticket, message.from, *epoch),
         Body::Copy { .. }
         | Body::Ack(_)
@@ -80,7 +80,7 @@ fn draft_taking<S: SlotParts + SlotKeys, T: Stream>(
 {
     take_by_row(node, message, draft)?;
     let bytes = written_by(node, message)?;
-    record(node, bytes, draft)?;
+    add_written(node, bytes, draft)?;
     Ok(())
 }
 
@@ -112,7 +112,7 @@ fn take_by_row<S: SlotParts + SlotKeys, T: Stream>(
         Body::Paused(handing) => Ok(note_handing(node, handing, draft)?),
         // All that a report tells was noted before.
         Body::Report(_) => Ok(()),
-        Body::Request(_) | Body::Grant(_) | Body::Piece(_) | Body::Snapshot(_) => unreachable!(),
+        Body::Candidacy(_) | Body::Grant(_) | Body::Piece(_) | Body::Snapshot(_) => unreachable!(),
     }
 }
 
@@ -131,7 +131,7 @@ fn written_by<S: SlotParts + SlotKeys, T: Stream>(
         Body::Drained { .. }
         | Body::Sync(_)
         | Body::Report(_)
-        | Body::Request(_)
+        | Body::Candidacy(_)
         | Body::Grant(_)
         | Body::Piece(_)
         | Body::Snapshot(_)

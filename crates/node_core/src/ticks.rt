@@ -53,7 +53,7 @@ fn draft_tick<S: SlotParts + SlotKeys, T: Stream>(
 {
     let released = released(node)?;
     let bodies = sent(node, epoch)?;
-    node.write_releases(draft, released, bodies, Change::Ages);
+    node.draft_releases(draft, released, bodies, Change::Ages);
     Ok(())
 }
 

@@ -1,6 +1,6 @@
 //! Messages of elections.
 ghost use Rattle.std.specs.Prelude.{◌≡◌, ◌≢◌, Err, IfOk, OnErr, Some};
-ghost use Rattle.bus.specs.declared.message.Body.TheVariants.{Grant, Request as Asks};
+ghost use Rattle.bus.specs.declared.message.Body.TheVariants.{Grant, Candidacy as Asks};
 ghost use Rattle.node_core.specs.Comes.{MayBeTaken, IsJust};
 ghost use Rattle.node_parts.specs.Drafts.{Comes};
 ghost use Rattle.node_parts.specs.Electing.{KeepsRest};
@@ -8,7 +8,7 @@ ghost use Rattle.node_step.specs.Promotion.{handed_promotion, promotion};
 ghost use Rattle.node_step.specs.Voting.{if_elected};
 ghost use Rattle.step_fault.specs.declared.fault.StepFault.TheVariants.{Exhausted};
 
-use bus::Request;
+use bus::Candidacy;
 use election::VoteRequest;
 use election_rows::{promote, promote_by_plan, write_vote};
 use node_parts::{NodeParts, plain};
@@ -23,7 +23,7 @@ pub(crate) fn ask_for_vote<S: SlotParts + SlotKeys, T: Stream, K: Recorder>(
     node: &mut NodeParts<S, T>,
     ticket: u64,
     from: NodeNo,
-    request: &Request,
+    request: &Candidacy,
 ) -> Result<(Outputs, K::Record), StepFault>
     ensures taken { IfOk result (λ made. Comes ticket (MayBeTaken node.old from (Asks request.now)) made.0 node.new) }
     ensures recorded { IfOk result (λ made. K.recorded made.1 ≡ made.0) }

@@ -21,7 +21,7 @@ use Rattle.node_step.specs.declared.response.Why.{Why}
 use Rattle.resp_values.specs.declared.reply.Reply.{Reply}
 use Rattle.node_step.specs.Requests.{using_up}
 use Rattle.node_step.specs.State.{NodeState, kept_in}
-use Rattle.node_step.specs.Streams.{MayGiveUp, Requests, recorded}
+use Rattle.node_step.specs.Streams.{MayGiveUp, Requests, with_written}
 use Rattle.resp2.specs.Stream.{stream_spelling}
 use Rattle.stream_values.specs.Stream.{StreamView, written}
 use Rattle.node_step.specs.declared.outputs.Outputs.{Outputs}
@@ -158,7 +158,7 @@ applied_alike old draft other new epoch written plan change succession is = reco
 pub record GivesUp (old : NodeState) (outcome : Outcome) (requests : Requests) (new : NodeState) : Type 0 where
   pub dropped : ℕ
   pub within : MayGiveUp old requests dropped
-  pub state : new ≡ (recorded outcome requests dropped).state
+  pub state : new ≡ (with_written outcome requests dropped).state
 
 gives_up : (old after new : NodeState) (outcome : Outcome) (requests : Requests) → after ≡ outcome.state → after.stream ≡ old.stream
     → GoesOn (kept_in old.config) (stream_spelling requests) after.stream new.stream → new ≡ record after { stream = new.stream } → GivesUp old outcome requests new
@@ -176,12 +176,12 @@ gives_up old after new outcome (request ∷ requests) same own goes state = reco
 }
 
 -- what is sent, and by whom, doesn't depend on that
-sent_alike : (outcome : Outcome) (requests : Requests) (dropped : ℕ) → (recorded outcome requests 0).sent ≡ (recorded outcome requests dropped).sent
+sent_alike : (outcome : Outcome) (requests : Requests) (dropped : ℕ) → (with_written outcome requests 0).sent ≡ (with_written outcome requests dropped).sent
 sent_alike outcome [] dropped = refl
 sent_alike outcome (request ∷ requests) dropped = refl
 
 outputs_alike : (ticket : ℕ) (outcome : Outcome) (requests : Requests) (dropped : ℕ)
-    → sends outcome.state.number ticket outcome.state.current_epoch outcome.response outcome.released (recorded outcome requests dropped).sent outcome.promoted ≡ outputs_of ticket (recorded outcome requests dropped)
+    → sends outcome.state.number ticket outcome.state.current_epoch outcome.response outcome.released (with_written outcome requests dropped).sent outcome.promoted ≡ outputs_of ticket (with_written outcome requests dropped)
 outputs_alike ticket outcome [] dropped = refl
 outputs_alike ticket outcome (request ∷ requests) dropped = refl
 
@@ -201,15 +201,15 @@ made_comes ticket old May draft outputs new is are applied =
     ((keeps_own (at_epoch old draft.epoch) draft.plan draft.change made.after made.changes).stream)
     (subst (λ bytes. GoesOn (kept_in old.config) bytes made.after.stream applied.made.stream) records.written made.goes_on) made.state in
     record {
-      outcome = recorded outcome is.requests given.dropped;
+      outcome = with_written outcome is.requests given.dropped;
       may = is.may_come given.dropped given.within;
       outputs_are =
           are ∙ ap (λ r. sends old.number ticket draft.epoch r draft.released bodies (promoted_by old draft.succession)) records.response
           ∙ ap (λ r. sends old.number ticket draft.epoch outcome.response r bodies (promoted_by old draft.succession)) records.released
           ∙ ap (λ b. sends old.number ticket draft.epoch outcome.response outcome.released b (promoted_by old draft.succession)) (records.sent ∙ sent_alike outcome is.requests given.dropped)
-          ∙ ap (sends old.number ticket draft.epoch outcome.response outcome.released (recorded outcome is.requests given.dropped).sent) none
-          ∙ ap (λ n. sends n ticket draft.epoch outcome.response outcome.released (recorded outcome is.requests given.dropped).sent outcome.promoted) (sym own.number)
-          ∙ ap (λ e. sends outcome.state.number ticket e outcome.response outcome.released (recorded outcome is.requests given.dropped).sent outcome.promoted) (sym own.epoch)
+          ∙ ap (sends old.number ticket draft.epoch outcome.response outcome.released (with_written outcome is.requests given.dropped).sent) none
+          ∙ ap (λ n. sends n ticket draft.epoch outcome.response outcome.released (with_written outcome is.requests given.dropped).sent outcome.promoted) (sym own.number)
+          ∙ ap (λ e. sends outcome.state.number ticket e outcome.response outcome.released (with_written outcome is.requests given.dropped).sent outcome.promoted) (sym own.epoch)
           ∙ outputs_alike ticket outcome is.requests given.dropped;
       state = same ∙ given.state;
     }

@@ -8,7 +8,7 @@ use Rattle.node_parts.specs.declared.draft.Draft.{Draft}
 use Rattle.node_parts.specs.Succession.{promoted_by, succeeded_by}
 use Rattle.node_step.specs.Outcome.{Outcome, no_outputs, outputs_of, silent, stamped}
 use Rattle.node_step.specs.State.{NodeState}
-use Rattle.node_step.specs.Streams.{MayGiveUp, Requests, recorded}
+use Rattle.node_step.specs.Streams.{MayGiveUp, Requests, with_written}
 use Rattle.node_step.specs.declared.outputs.Outputs.{Outputs}
 use Rattle.node_step.specs.declared.promotion.Promotion.{Promotion}
 use Rattle.node_step.specs.declared.outputs.Release.{Release}
@@ -54,7 +54,7 @@ pub record Promotes (old : NodeState) (outcome : Outcome) (draft : Draft) : Type
 pub record Records (old : NodeState) (outcome : Outcome) (requests : Requests) (draft : Draft) : Type 0 where
   pub response : draft.response ≡ outcome.response
   pub released : draft.released ≡ outcome.released
-  pub sent : draft.bodies.items ≡ (recorded outcome requests 0).sent
+  pub sent : draft.bodies.items ≡ (with_written outcome requests 0).sent
   pub promoted : outcome.promoted ≡ None
   pub written : draft.written.items ≡ stream_spelling requests
   pub stays : draft.succession ≡ None
@@ -64,7 +64,7 @@ pub record Records (old : NodeState) (outcome : Outcome) (requests : Requests) (
 pub record IsDraftOf (old : NodeState) (May : Outcome → Type 0) (draft : Draft) : Type 0 where
   pub outcome : Outcome
   pub requests : Requests
-  pub may_come : (dropped : ℕ) → MayGiveUp old requests dropped → May (recorded outcome requests dropped)
+  pub may_come : (dropped : ℕ) → MayGiveUp old requests dropped → May (with_written outcome requests dropped)
   pub records : Records old outcome requests draft
 
 -- what a step comes to: something that may come, with its outputs under the ticket

@@ -11,7 +11,7 @@ use crate::draft::Draft;
 use crate::parts::NodeParts;
 use crate::succession::Succession;
 use keyspace::Plan;
-use repl_stream::{Replica, Stream};
+use repl_stream::{NodeStream, Stream};
 use slot_store::{SlotKeys, SlotParts};
 use std::alloc::AllocError;
 
@@ -59,7 +59,7 @@ impl<S: SlotParts + SlotKeys, T: Stream> NodeParts<S, T> {
 }
 
 // Makes room for so many bytes behind the stream. That they have offsets was seen before.
-fn make_room<T: Stream>(stream: &mut Replica<T>, count: usize) -> Result<(), AllocError>
+fn make_room<T: Stream>(stream: &mut NodeStream<T>, count: usize) -> Result<(), AllocError>
     ensures stream { stream.new.stream ≡ stream.old.stream }
     ensures keeps { stream.new.keeps ≡ stream.old.keeps }
     ensures room { OnOk result (count ≤ stream.new.room) }
@@ -73,7 +73,7 @@ fn make_room<T: Stream>(stream: &mut Replica<T>, count: usize) -> Result<(), All
 
 // Puts the bytes behind the stream, if there are any.
 #[tactic(auto, using(crate::proofs::HalfLemmas::nothing_written, crate::proofs::HalfLemmas::some_written))]
-fn write<T: Stream>(stream: &mut Replica<T>, bytes: &[u8])
+fn write<T: Stream>(stream: &mut NodeStream<T>, bytes: &[u8])
     requires room { length bytes.now ≤ stream.old.room }
     requires offset { received stream.old.stream + length bytes.now < 2 ^ 64 }
     ensures goes_on { GoesOn stream.old.keeps bytes.now stream.old.stream stream.new.stream }

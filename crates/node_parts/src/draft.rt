@@ -103,7 +103,7 @@ impl<S: SlotParts + SlotKeys, T: Stream> NodeParts<S, T> {
     }
 
     /// Nothing comes out but the change.
-    pub fn write_change(&self, draft: &mut Draft, change: Change)
+    pub fn draft_change(&self, draft: &mut Draft, change: Change)
         requires { HasNothing self.now draft.old }
         ensures { (after : NodeState) → Becomes self.now draft.old.plan change after → Drafts self.now (silent after) draft.new }
     {
@@ -115,11 +115,11 @@ impl<S: SlotParts + SlotKeys, T: Stream> NodeParts<S, T> {
         requires { HasNothing self.now draft.old }
         ensures { Drafts self.now (replied (using_up self.now conn) why reply) draft.new }
     {
-        self.write_reply(draft, why, reply, Change::Asks { conn });
+        self.draft_reply(draft, why, reply, Change::Asks { conn });
     }
 
     /// A reply comes out beside the change.
-    pub fn write_reply(&self, draft: &mut Draft, why: Why, reply: Reply, change: Change)
+    pub fn draft_reply(&self, draft: &mut Draft, why: Why, reply: Reply, change: Change)
         requires { HasNothing self.now draft.old }
         ensures { (after : NodeState) → Becomes self.now draft.old.plan change after → Drafts self.now (replied after why reply) draft.new }
     {
@@ -128,7 +128,7 @@ impl<S: SlotParts + SlotKeys, T: Stream> NodeParts<S, T> {
     }
 
     /// The connection gets no reply before a copy is acknowledged, and these messages go out.
-    pub fn write_parked(&self, draft: &mut Draft, bodies: Vec<(NodeNo, Body)>, change: Change)
+    pub fn draft_parked(&self, draft: &mut Draft, bodies: Vec<(NodeNo, Body)>, change: Change)
         requires { HasNothing self.now draft.old }
         ensures { (after : NodeState) → Becomes self.now draft.old.plan change after → Drafts self.now (parking after bodies.items) draft.new }
     {
@@ -139,7 +139,7 @@ impl<S: SlotParts + SlotKeys, T: Stream> NodeParts<S, T> {
 
     /// The same with messages.
     #[inline(always)]
-    pub fn write_reply_sending(
+    pub fn draft_reply_sending(
         &self,
         draft: &mut Draft,
         why: Why,
@@ -156,7 +156,7 @@ impl<S: SlotParts + SlotKeys, T: Stream> NodeParts<S, T> {
     }
 
     /// The same in that epoch.
-    pub fn write_reply_in(
+    pub fn draft_reply_in(
         &self,
         draft: &mut Draft,
         why: Why,
@@ -175,7 +175,7 @@ impl<S: SlotParts + SlotKeys, T: Stream> NodeParts<S, T> {
     }
 
     /// Connections that waited get replies, and other nodes messages.
-    pub fn write_releases(
+    pub fn draft_releases(
         &self,
         draft: &mut Draft,
         released: Releases,
@@ -191,7 +191,7 @@ impl<S: SlotParts + SlotKeys, T: Stream> NodeParts<S, T> {
     }
 
     /// The node takes the place of its master, and these messages go out.
-    pub fn write_promotion(
+    pub fn draft_promotion(
         &self,
         draft: &mut Draft,
         bodies: Vec<(NodeNo, Body)>,

@@ -124,7 +124,7 @@ impl<S: SlotParts + SlotKeys, T: Stream> NodeParts<S, T> {
             | Body::Ack(_)
             | Body::Drained { .. }
             | Body::Claim(_, _)
-            | Body::Request(_)
+            | Body::Candidacy(_)
             | Body::Grant(_)
             | Body::Sync(_)
             | Body::Piece(_)
@@ -294,7 +294,7 @@ fn replaced_in(body: &Body) -> Option<Replaced>
         | Body::Ack(_)
         | Body::Drained { .. }
         | Body::Report(_)
-        | Body::Request(_)
+        | Body::Candidacy(_)
         | Body::Grant(_)
         | Body::Sync(_)
         | Body::Piece(_)

@@ -27,13 +27,13 @@ impl<S: SlotParts + SlotKeys, T: Stream> NodeParts<S, T> {
         ensures recorded { IfOk result (λ made. K.recorded made.1 ≡ made.0) }
         ensures err { OnErr result (self.new ≡ self.old) }
     {
-        let made = self.record::<K>(ticket, draft)?;
+        let made = self.stamp::<K>(ticket, draft)?;
         self.apply(draft)?;
         Ok(made)
     }
 
     // Takes what comes out of the draft, stamped, and what is recorded of it.
-    fn record<K: Recorder>(
+    fn stamp<K: Recorder>(
         &self,
         ticket: u64,
         draft: &mut Draft,

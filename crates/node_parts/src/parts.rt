@@ -9,7 +9,7 @@ use crate::masters::{first_at, first_masters};
 use bus::Handing;
 use cluster_config::{Config, NodeConfig, Role};
 use connections::Connections;
-use repl_stream::{Replica, Stream};
+use repl_stream::{NodeStream, Stream};
 use slot_state::SlotMoves;
 use slot_store::{SlotKeys, SlotParts};
 use slot_table::{Epoch, NodeNo, SlotTable};
@@ -40,7 +40,7 @@ pub struct NodeParts<S: SlotParts + SlotKeys, T: Stream> {
     /// What its master hands over, as far as the master told.
     pub note: Option<Handing>,
     /// The stream of its writes, or what it has of its master's.
-    pub stream: Replica<T>,
+    pub stream: NodeStream<T>,
     /// The connections of its clients.
     pub connections: Connections,
 }
@@ -114,7 +114,7 @@ impl<S: SlotParts + SlotKeys, T: Stream> NodeParts<S, T> {
         let table = SlotTable::new(alloc, owners.as_slice())?;
         let masters = first_masters(&config);
         let id = first_id(&config, number);
-        let stream = Replica::begin(alloc, id, kept_bytes(&config))?;
+        let stream = NodeStream::begin(alloc, id, kept_bytes(&config))?;
         Ok(NodeParts {
             alloc,
             config,

@@ -13,13 +13,13 @@ use Rattle.node_step.specs.Outcome.{Outcome, silent}
 use Rattle.node_step.specs.Replicas.{follower_of, pieced, restored_by, sync_answer, synced, with_follower, with_piece}
 use Rattle.node_step.specs.Roles.{is_just}
 use Rattle.node_step.specs.State.{NodeState, is_replica, own_master}
-use Rattle.node_step.specs.Streams.{Requests, recorded}
+use Rattle.node_step.specs.Streams.{Requests, with_written}
 
 -- what holds whatever the stream is holds behind a write
-pub recorded_keeps : (P : NodeState → Type 0) (outcome : Outcome) (requests : Requests) (dropped : ℕ) → ((stream : StreamView) → P (record outcome.state { stream = stream }))
-    → P (recorded outcome requests dropped).state
-recorded_keeps P outcome [] dropped holds = holds outcome.state.stream
-recorded_keeps P outcome (request ∷ requests) dropped holds = holds _
+pub with_written_keeps : (P : NodeState → Type 0) (outcome : Outcome) (requests : Requests) (dropped : ℕ) → ((stream : StreamView) → P (record outcome.state { stream = stream }))
+    → P (with_written outcome requests dropped).state
+with_written_keeps P outcome [] dropped holds = holds outcome.state.stream
+with_written_keeps P outcome (request ∷ requests) dropped holds = holds _
 
 module _ (P : NodeState → Type 0) (node : NodeState) (holds : (stream : StreamView) (keyspace : Keyspace) → P (record node { stream = stream; keyspace = keyspace })) where
   by_verdict : (follower : Follower) (verdict : PieceVerdict) → P (with_piece node follower verdict)

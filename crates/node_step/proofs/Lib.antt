@@ -1,5 +1,5 @@
 pub mod Taking
-pub mod Recorded
+pub mod WithWritten
 pub mod Kept
 pub mod Ready
 pub mod Lists

@@ -4,7 +4,7 @@ use Rattle.std.specs.Prelude.{codes, replicate}
 use Rattle.std.specs.FinMap as fin_map
 use Rattle.std.specs.List.{range_with_len}
 use Rattle.bus.specs.declared.message.Body.{Body}
-use Rattle.bus.specs.declared.message.Body.TheVariants.{Claim, Grant, Pause, Paused, Report, Request, Sync}
+use Rattle.bus.specs.declared.message.Body.TheVariants.{Claim, Grant, Pause, Paused, Report, Candidacy, Sync}
 use Rattle.bus.specs.declared.message.Handing.{Handing}
 use Rattle.cluster_config.specs.Config.{ClusterConfig}
 use Rattle.cluster_config.specs.declared.config.Role.TheVariants.{Master, Replica}
@@ -66,7 +66,7 @@ abbrev second_tick : Outcome
 second_tick = ticked first_tick.state
 
 abbrev asked : Outcome
-asked = to_itself second_tick.state (Request (record { epoch = 2; master = 0; planned = false }))
+asked = to_itself second_tick.state (Candidacy (record { epoch = 2; master = 0; planned = false }))
 
 abbrev elected : Outcome
 elected = to_itself asked.state (Grant 2)
@@ -79,7 +79,7 @@ first_signs : first_tick.sent ≡ (0, Claim (claim_of replica) None) ∷ (0, sus
 first_signs = refl
 
 election_begins : second_tick.sent
-    ≡ (0, Claim (claim_of replica) None) ∷ (0, suspects_master) ∷ (0, Sync (record { stream = masters_stream; received = 27 })) ∷ (1, Request (record { epoch = 2; master = 0; planned = false })) ∷ []
+    ≡ (0, Claim (claim_of replica) None) ∷ (0, suspects_master) ∷ (0, Sync (record { stream = masters_stream; received = 27 })) ∷ (1, Candidacy (record { epoch = 2; master = 0; planned = false })) ∷ []
 election_begins = refl
 
 in_next_epoch : second_tick.state.current_epoch ≡ 2
@@ -89,7 +89,7 @@ votes : asked.sent ≡ (1, Grant 2) ∷ []
 votes = refl
 
 -- a second request of the epoch gets no vote
-votes_once : (to_itself asked.state (Request (record { epoch = 2; master = 0; planned = false }))).sent ≡ []
+votes_once : (to_itself asked.state (Candidacy (record { epoch = 2; master = 0; planned = false }))).sent ≡ []
 votes_once = refl
 
 takes_over : elected.sent ≡ (0, Claim (claim_of elected.state) (Some (record { master = 0; stream = record { node = 1; epoch = 2 }; offset = 27 }))) ∷ []
@@ -163,11 +163,11 @@ has_noted = refl
 abbrev planned_tick : Outcome
 planned_tick = ticked noted.state
 
-planned_election : planned_tick.sent ≡ (0, Claim (claim_of replica) None) ∷ (0, suspects_master) ∷ (0, Sync (record { stream = masters_stream; received = 27 })) ∷ (1, Request (record { epoch = 2; master = 0; planned = true })) ∷ []
+planned_election : planned_tick.sent ≡ (0, Claim (claim_of replica) None) ∷ (0, suspects_master) ∷ (0, Sync (record { stream = masters_stream; received = 27 })) ∷ (1, Candidacy (record { epoch = 2; master = 0; planned = true })) ∷ []
 planned_election = refl
 
 abbrev planned_vote : Outcome
-planned_vote = to_itself planned_tick.state (Request (record { epoch = 2; master = 0; planned = true }))
+planned_vote = to_itself planned_tick.state (Candidacy (record { epoch = 2; master = 0; planned = true }))
 
 votes_for_it : planned_vote.sent ≡ (1, Grant 2) ∷ []
 votes_for_it = refl

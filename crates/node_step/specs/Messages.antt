@@ -1,7 +1,7 @@
 -- A message of another node arrives (Redis Cluster specification, "Cluster current epoch": a node takes a greater epoch over).
 use Rattle.std.specs.Prelude.{◌≡◌, ℕ, ◌==◌, ⊤, true, [], max, if◌then◌else◌}
 use Rattle.bus.specs.declared.message.Body.{Body}
-use Rattle.bus.specs.declared.message.Body.TheVariants.{Copy, Ack, Drained, Claim, Report, Request, Grant, Sync, Piece, Snapshot, Pause, Paused}
+use Rattle.bus.specs.declared.message.Body.TheVariants.{Copy, Ack, Drained, Claim, Report, Candidacy, Grant, Sync, Piece, Snapshot, Pause, Paused}
 use Rattle.bus.specs.declared.message.Message.{Message}
 use Rattle.migrate.specs.Acknowledging.{acknowledged_keys}
 use Rattle.migrate.specs.Arriving.{arrival_verdict}
@@ -15,7 +15,7 @@ use Rattle.node_step.specs.Outcome.{Outcome, silent}
 use Rattle.node_step.specs.Replicas.{MayFollow, pieced, restored_by, synced}
 use Rattle.node_step.specs.Roles.{following, is_just, replaced_in}
 use Rattle.node_step.specs.State.{NodeState, own_master}
-use Rattle.node_step.specs.Streams.{MayGiveUp, Requests, recorded, written_by_ack, written_by_claim, written_by_copy}
+use Rattle.node_step.specs.Streams.{MayGiveUp, Requests, with_written, written_by_ack, written_by_claim, written_by_copy}
 use Rattle.node_step.specs.Voting.{asked_for_vote, request_of, voted_for}
 
 -- the greater of the node's epoch and that of the message
@@ -41,7 +41,7 @@ taken_so node from choice (Ack id) = acknowledgement node from id
 taken_so node from choice (Drained slot number epoch) = noted node from slot number epoch
 taken_so node from choice (Claim slots replaced) = claim node from slots
 taken_so node from choice (Report suspects) = silent node
-taken_so node from choice (Request request) = asked_for_vote node (request_of from request)
+taken_so node from choice (Candidacy request) = asked_for_vote node (request_of from request)
 taken_so node from choice (Grant epoch) = voted_for node from epoch
 taken_so node from choice (Sync sync) = synced node from sync
 taken_so node from choice (Piece piece) = pieced node from piece choice.follower
@@ -57,7 +57,7 @@ written_by_message node from (Ack id) = written_by_ack (acknowledged_keys (move_
 written_by_message node from (Drained slot number epoch) = []
 written_by_message node from (Claim slots replaced) = written_by_claim node from slots
 written_by_message node from (Report suspects) = []
-written_by_message node from (Request request) = []
+written_by_message node from (Candidacy request) = []
 written_by_message node from (Grant epoch) = []
 written_by_message node from (Sync sync) = []
 written_by_message node from (Piece piece) = []
@@ -66,7 +66,7 @@ written_by_message node from (Pause stream) = []
 written_by_message node from (Paused handing) = []
 
 abbrev pub taken : NodeState → ℕ → Choice → Body → Outcome
-taken node from choice body = recorded (taken_so node from choice body) (written_by_message node from body) choice.dropped
+taken node from choice body = with_written (taken_so node from choice body) (written_by_message node from body) choice.dropped
 
 -- what a piece of the own master makes
 abbrev pub MayMake : NodeState → ℕ → Body → Follower → Type 0

@@ -9,7 +9,7 @@ use Rattle.node_step.specs.Messages.{Choice, MayChoose, delivered, ready}
 use Rattle.node_step.specs.Outcome.{Outcome, outputs_of, silent}
 use Rattle.node_step.specs.Requests.{has_number, request_outcome, using_up}
 use Rattle.node_step.specs.State.{NodeState}
-use Rattle.node_step.specs.Streams.{MayGiveUp, Requests, recorded, written_by_request}
+use Rattle.node_step.specs.Streams.{MayGiveUp, Requests, with_written, written_by_request}
 use Rattle.node_step.specs.Ticks.{older, tick}
 use Rattle.node_step.specs.Voting.{has_due_epoch}
 use Rattle.connections.specs.declared.conn.Conn.{Conn}
@@ -34,7 +34,7 @@ abbrev pub written : NodeState → Conn → List (List ℕ) → Requests
 written node conn words = written_by_request words (command_of words) (request_outcome node conn (command_of words)).response
 
 abbrev pub answered : NodeState → Conn → List (List ℕ) → ℕ → Outcome
-answered node conn words dropped = recorded (request_outcome node conn (command_of words)) (written node conn words) dropped
+answered node conn words dropped = with_written (request_outcome node conn (command_of words)) (written node conn words) dropped
 
 -- the words were read as a command and answered; they are those of a request, which keeps the limits
 -- (else: SET gives a a value longer than a word may be; it goes behind the stream, where no replica can read it)

@@ -94,9 +94,9 @@ abbrev pub MayGiveUp : NodeState → Requests → ℕ → Type 0
 MayGiveUp node requests dropped = dropped ≤ length node.stream.held.bytes + length (stream_spelling requests) - kept_in node.config
 
 -- all that a step writes goes to the replicas as one piece, behind its other messages
-abbrev pub recorded : Outcome → Requests → ℕ → Outcome
-recorded outcome [] dropped = outcome
-recorded outcome (request ∷ requests) dropped = let bytes = stream_spelling (request ∷ requests) in let stream = outcome.state.stream in record outcome {
+abbrev pub with_written : Outcome → Requests → ℕ → Outcome
+with_written outcome [] dropped = outcome
+with_written outcome (request ∷ requests) dropped = let bytes = stream_spelling (request ∷ requests) in let stream = outcome.state.stream in record outcome {
   sent = outcome.sent ++ to_all (replicas_of outcome.state.masters outcome.state.number)
       (Piece (record { stream = stream.held.id; from = end_of stream.held; bytes = bytes; base = stream.former }));
   state = record outcome.state { stream = written dropped bytes stream };

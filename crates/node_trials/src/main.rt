@@ -8,10 +8,13 @@ mod replay;
 mod second_tries;
 
 use anyhow::{Result, bail};
-use cell_trials::{callers, cells, playing, seats};
+use audit_trials::audits;
+use cell_trials::{callers, cells, seats};
 use conversation_trials::{devices, writes};
+use copy_trials::playing;
+use lock_trials::two_nodes;
 use row_trials::{failover, following, handing_over, moves, pace, race, streams};
-use station_trials::{audits, bad_networks, deliveries, full_link, reused, syncs, two_nodes};
+use station_trials::{bad_networks, deliveries, full_link, reused, syncs};
 use std::env;
 use std::net::{Net, TcpListener, TcpStream};
 use std::rt::Clock;

@@ -46,7 +46,7 @@ use Rattle.world_run.specs.Ballots.{is_elected, was_cast}
 use Rattle.world_run.specs.Run.{Entry, MayHappen, sent_by}
 use Rattle.one_master.proofs.Casting.{elected_by_row, sent_is_cast}
 use Rattle.one_master.proofs.Counting.{entered, nobody_entered}
-use Rattle.one_master.proofs.Steps.{IsNoVote, IsStill, node_still, of_slots, quiet, recorded_leaves, slots_no_vote}
+use Rattle.one_master.proofs.Steps.{IsNoVote, IsStill, node_still, of_slots, quiet, with_written_leaves, slots_no_vote}
 use Rattle.one_master.specs.Stands.{AreSent, NodeStands, StepStands}
 
 -- ---- votes that are counted
@@ -246,7 +246,7 @@ module _ (voters : List ℕ) (sent : List Message) (n : ℕ) (node : NodeState) 
   so_taken_leaves from choice (body.Claim slots replaced) cast =
       of_slots voters sent n node stands _ _ (claim_is_of_slots (IsStill node) node (λ keyspace table moves current handover connections known noted. record { number = refl; config = refl; voter = refl; election = inl refl; role = refl }) from slots)
   so_taken_leaves from choice (body.Report suspects) cast = nothing
-  so_taken_leaves from choice (body.Request request) cast = vote_leaves (request_of from request) _ refl
+  so_taken_leaves from choice (body.Candidacy request) cast = vote_leaves (request_of from request) _ refl
   so_taken_leaves from choice (body.Grant epoch) cast = voted_leaves from epoch (cast epoch refl) _ refl
   so_taken_leaves from choice (body.Sync sync) cast =
       synced_is Leaves node from sync nothing (quiet voters sent n node stands _ (record { number = refl; config = refl; voter = refl; election = inl refl; role = refl }) (sync_sent from (answer_to node.stream sync)) refl)
@@ -259,7 +259,7 @@ module _ (voters : List ℕ) (sent : List Message) (n : ℕ) (node : NodeState) 
 
   taken_leaves : (from : ℕ) (choice : Choice) (said : Body) → ((epoch : ℕ) → said ≡ body.Grant epoch → was_cast sent from epoch n ≡ true) → Leaves (taken node from choice said)
   taken_leaves from choice said cast =
-      recorded_leaves voters sent n node.voter.last_vote (is_replica node) (taken_so node from choice said) (written_by_message node from said) choice.dropped (so_taken_leaves from choice said cast)
+      with_written_leaves voters sent n node.voter.last_vote (is_replica node) (taken_so node from choice said) (written_by_message node from said) choice.dropped (so_taken_leaves from choice said cast)
 
 -- ---- events
 
@@ -341,7 +341,7 @@ module _ (voters : List ℕ) (past : List Entry) (n : ℕ) (node : NodeState) (s
   answering_leaves : (conn : Conn) (words : List (List ℕ)) (outcome : Outcome) → IsAnswering node conn words outcome → LeavesAll outcome
   answering_leaves conn words outcome answering =
       subst LeavesAll (sym answering.comes_to)
-      (recorded_leaves voters (sent_by past) n node.voter.last_vote (is_replica node) (request_outcome node conn (command_of words)) (written node conn words) answering.dropped
+      (with_written_leaves voters (sent_by past) n node.voter.last_vote (is_replica node) (request_outcome node conn (command_of words)) (written node conn words) answering.dropped
       (of_slots voters (sent_by past) n node stands _ (request_outcome node conn (command_of words))
       (request_is_of_slots (IsStill node) (using_up node conn) (λ keyspace table moves current handover connections known noted. record { number = refl; config = refl; voter = refl; election = inl refl; role = refl })
       conn (connection_at node.connections conn) (command_of words))))

@@ -12,7 +12,7 @@ use Rattle.node_step.specs.Orders.{to_all}
 use Rattle.node_step.specs.Outcome.{Outcome}
 use Rattle.node_step.specs.Roles.{replicas_of}
 use Rattle.node_step.specs.State.{NodeState, is_replica}
-use Rattle.node_step.specs.Streams.{Requests, recorded}
+use Rattle.node_step.specs.Streams.{Requests, with_written}
 use Rattle.node_step.specs.declared.promotion.Promotion.{Promotion}
 use Rattle.one_master.specs.Stands.{AreSent, NodeStands, StepStands}
 
@@ -84,10 +84,10 @@ module _ (voters : List ℕ) (sent : List Message) (n : ℕ) where
   pub of_slots : (before : NodeState) → NodeStands voters sent n before → (own : NodeState) (outcome : Outcome) → IsOfSlotsAlone own (IsStill before) outcome → Leaves before outcome
   of_slots before stands own outcome alone = quiet before stands outcome alone.state (no_vote_of_slots own outcome.sent alone.sent) alone.promoted
 
-  pub recorded_leaves : (last : ℕ) (replica : Bool) (outcome : Outcome) (requests : Requests) (dropped : ℕ) → StepStands voters sent n last replica outcome
-      → StepStands voters sent n last replica (recorded outcome requests dropped)
-  recorded_leaves last replica outcome [] dropped step = step
-  recorded_leaves last replica outcome (request ∷ requests) dropped step = record {
+  pub with_written_leaves : (last : ℕ) (replica : Bool) (outcome : Outcome) (requests : Requests) (dropped : ℕ) → StepStands voters sent n last replica outcome
+      → StepStands voters sent n last replica (with_written outcome requests dropped)
+  with_written_leaves last replica outcome [] dropped step = step
+  with_written_leaves last replica outcome (request ∷ requests) dropped step = record {
     number = step.number;
     voters_are = step.voters_are;
     rises = step.rises;
@@ -99,5 +99,5 @@ module _ (voters : List ℕ) (sent : List Message) (n : ℕ) where
     promoted = λ promotion is. let won = step.promoted promotion is in record { was = won.was; is = won.is; elected = won.elected };
   }
     where
-      before : (candidate epoch : ℕ) → Contains (recorded outcome (request ∷ requests) dropped).sent (candidate, body.Grant epoch) → Contains outcome.sent (candidate, body.Grant epoch)
+      before : (candidate epoch : ℕ) → Contains (with_written outcome (request ∷ requests) dropped).sent (candidate, body.Grant epoch) → Contains outcome.sent (candidate, body.Grant epoch)
       before = vote_before outcome (replicas_of outcome.state.masters outcome.state.number) _ (λ epoch is. cc)

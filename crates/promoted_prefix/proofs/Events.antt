@@ -45,7 +45,7 @@ use Rattle.node_step.specs.Requests.{request_outcome, using_up}
 use Rattle.node_step.specs.Roles.{is_just, replicas_of}
 use Rattle.node_step.specs.State.{NodeState, is_replica, own_master}
 use Rattle.node_step.specs.Step.{IsAnswering, written as written_at}
-use Rattle.node_step.specs.Streams.{MayGiveUp, Requests, recorded}
+use Rattle.node_step.specs.Streams.{MayGiveUp, Requests, with_written}
 use Rattle.node_step.specs.Ticks.{older, slots_tick, tick}
 use Rattle.node_step.specs.Voting.{due_epoch, grant_to, if_elected, request_of, requests_in, voters_of, voting}
 use Rattle.node_step.specs.declared.promotion.Promotion.{Promotion}
@@ -97,7 +97,7 @@ slots_sound full own can (body.Ack id) of = tt
 slots_sound full own can (body.Drained slot number epoch) of = tt
 slots_sound full own can (body.Claim slots replaced) of = tt
 slots_sound full own can (body.Report suspects) of = absurd of
-slots_sound full own can (body.Request request) of = absurd of
+slots_sound full own can (body.Candidacy request) of = absurd of
 slots_sound full own can (body.Grant epoch) of = absurd of
 slots_sound full own can (body.Sync sync) of = absurd of
 slots_sound full own can (body.Piece piece) of = absurd of
@@ -138,7 +138,7 @@ module _ (full : FullStreams) (n : ℕ) (node : NodeState) where
 
   -- a master writes
   master_writes : IsMaster full n node → (requests : Requests) (outcome : Outcome) → outcome.promoted ≡ None → Leaves node requests outcome → AreAll (IsSound full) outcome.sent → All IsRequest requests
-      → (dropped : ℕ) → MayGiveUp node requests dropped → StandsBy requests (recorded outcome requests dropped)
+      → (dropped : ℕ) → MayGiveUp node requests dropped → StandsBy requests (with_written outcome requests dropped)
   master_writes master [] outcome none leaves sent are dropped within =
       unwritten outcome none
       (inl (record {
@@ -151,7 +151,7 @@ module _ (full : FullStreams) (n : ℕ) (node : NodeState) where
       let bytes : List ℕ = stream_spelling all in
       let more : FullStreams = longer full id bytes in
       let few : dropped ≤ length node.stream.held.bytes + length bytes = omega (arith, within) in
-      by_none all (recorded outcome all dropped) none
+      by_none all (with_written outcome all dropped) none
       (record {
         grows = longer_grows full id bytes;
         apart = λ other apart. longer_apart full id bytes other (λ same. apart (same ∙ master.has.own));
@@ -165,7 +165,7 @@ module _ (full : FullStreams) (n : ℕ) (node : NodeState) where
             (all_to_all (IsSound more) (replicas_of outcome.state.masters outcome.state.number) _
             (subst (λ (stream : StreamView). IsTruePiece more (record { stream = stream.held.id; from = end_of stream.held; bytes = bytes; base = stream.former })) (sym leaves.stream)
             (written_piece full n (follower_of node) master.has all are dropped few)));
-        begins = begins_nothing (recorded outcome all dropped) none;
+        begins = begins_nothing (with_written outcome all dropped) none;
       })
 
   replica_after : IsReplica full n node → (outcome : Outcome) → Leaves node [] outcome → IsSlotless n outcome.state → NodeStands full n outcome.state
@@ -179,14 +179,14 @@ module _ (full : FullStreams) (n : ℕ) (node : NodeState) where
 
   -- a replica doesn't
   replica_writes : IsReplica full n node → (requests : Requests) (outcome : Outcome) → outcome.promoted ≡ None → Leaves node requests outcome → Stays n requests outcome → AreAll (IsSound full) outcome.sent
-      → (dropped : ℕ) → StandsBy requests (recorded outcome requests dropped)
+      → (dropped : ℕ) → StandsBy requests (with_written outcome requests dropped)
   replica_writes replica requests outcome none leaves stays sent dropped =
-      subst (λ (r : Requests). StandsBy r (recorded outcome r dropped)) (sym stays.nothing)
+      subst (λ (r : Requests). StandsBy r (with_written outcome r dropped)) (sym stays.nothing)
       (unwritten outcome none (replica_after replica outcome (subst (λ (r : Requests). Leaves node r outcome) stays.nothing leaves) stays.node) sent)
 
   -- either of them
   node_writes : NodeStands full n node → (requests : Requests) (outcome : Outcome) → outcome.promoted ≡ None → Leaves node requests outcome → (IsSlotless n node → Stays n requests outcome) → AreAll (IsSound full) outcome.sent
-      → All IsRequest requests → (dropped : ℕ) → MayGiveUp node requests dropped → StandsBy requests (recorded outcome requests dropped)
+      → All IsRequest requests → (dropped : ℕ) → MayGiveUp node requests dropped → StandsBy requests (with_written outcome requests dropped)
   node_writes (inl master) requests outcome none leaves stays sent are dropped within = master_writes master requests outcome none leaves sent are dropped within
   node_writes (inr replica) requests outcome none leaves stays sent are dropped within = replica_writes replica requests outcome none leaves (stays replica.slotless) sent dropped
 
@@ -345,7 +345,7 @@ module _ (full : FullStreams) (n : ℕ) (node : NodeState) where
       let does = claim_is_of_slots (λ s. ⊤) node (λ keyspace table moves current handover connections known noted. tt) from slots in
       node_writes stands _ _ does.promoted (claim_leaves node from slots) (λ slotless. claim_stays n node slotless from slots) (all_sound full node (node_can full n node stands) _ does.sent) are choice.dropped may.dropped
   taken_stands stands from choice (body.Report suspects) sound may are = silent_stands node stands
-  taken_stands stands from choice (body.Request request) sound may are =
+  taken_stands stands from choice (body.Candidacy request) sound may are =
       vote_stands stands (request_of from request) (may_grant node.voter (members_of node) node.health node.current_epoch (request_of from request))
   taken_stands stands from choice (body.Grant epoch) sound may are =
       voted_stands stands (counted node.candidate (members_of node) from epoch) (elected node.candidate (members_of node) from epoch)

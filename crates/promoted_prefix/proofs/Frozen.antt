@@ -47,7 +47,7 @@ use Rattle.slot_state.specs.declared.copy_id.CopyId.{CopyId}
 use Rattle.slot_table.specs.Claims.{merged}
 use Rattle.slot_table.specs.declared.runs.Run.{Run}
 use Rattle.node_step.proofs.Copied.{are_there}
-use Rattle.node_step.proofs.Kept.{pieced_keeps, recorded_keeps, restored_keeps, synced_is}
+use Rattle.node_step.proofs.Kept.{pieced_keeps, with_written_keeps, restored_keeps, synced_is}
 use Rattle.node_step.proofs.Ready.{in_election_keeps, ready_keeps}
 use Rattle.node_step.specs.Claiming.{claim, claimed_by, is_lost}
 use Rattle.node_step.specs.Commands.{command_outcome, decision_on}
@@ -280,7 +280,7 @@ body_keeps node can short from choice (body.Ack id) = acknowledged_keeps node ca
 body_keeps node can short from choice (body.Drained slot number epoch) = changed_short node.moves slot (note_drained from number epoch) (noted_short from number epoch) short
 body_keeps node can short from choice (body.Claim slots replaced) = claim_keeps node can short from slots
 body_keeps node can short from choice (body.Report suspects) = short
-body_keeps node can short from choice (body.Request request) = short
+body_keeps node can short from choice (body.Candidacy request) = short
 body_keeps node can short from choice (body.Grant epoch) = elected_keeps (record node { candidate = _ }) short (elected node.candidate (members_of node) from epoch) can
 body_keeps node can short from choice (body.Sync sync) = synced_is KeepsShort node from sync short short
 body_keeps node can short from choice (body.Piece piece) = pieced_keeps IsKept node (λ stream keyspace. short) from piece choice.follower
@@ -300,7 +300,7 @@ module _ (node : NodeState) (can : CanBeMade node.keyspace) (short : HasShortFro
           ready_keeps (λ (heard : NodeState). KeepsShort (taken heard message.from choice message.body)) node message (λ epoch masters health candidate handover role election.
           let heard : NodeState = record node { current_epoch = epoch; masters = masters; health = health; candidate = candidate; handover = handover } in
           let kept : KeepsShort (taken_so heard message.from choice message.body) = body_keeps heard can short message.from choice message.body in
-          recorded_keeps IsKept (taken_so heard message.from choice message.body) (written_by_message heard message.from message.body) choice.dropped (λ stream. kept))
+          with_written_keeps IsKept (taken_so heard message.from choice message.body) (written_by_message heard message.from message.body) choice.dropped (λ stream. kept))
 
   tick_keeps : KeepsShort (tick node)
   tick_keeps = in_election_keeps IsKept (a_tick_older (older node)) (due_epoch (a_tick_older (older node))) (λ current candidate handover. short)
@@ -313,7 +313,7 @@ module _ (node : NodeState) (can : CanBeMade node.keyspace) (short : HasShortFro
   answering_keeps conn words false outcome may = subst KeepsShort (sym may) short
   answering_keeps conn words true outcome may =
       subst KeepsShort (sym may.comes_to)
-      (recorded_keeps IsKept (request_outcome node conn (command_of words)) (written node conn words) may.dropped
+      (with_written_keeps IsKept (request_outcome node conn (command_of words)) (written node conn words) may.dropped
       (λ stream. request_keeps (using_up node conn) can short conn (connection_at node.connections conn) (command_of words)))
 
   pub frozen_stay_short : (event : Event) (outcome : Outcome) → MayCome node event outcome → HasShortFrozen outcome.state.moves

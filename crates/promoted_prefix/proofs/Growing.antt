@@ -132,7 +132,7 @@ sound_true full (bodies.Ack id) sound = tt
 sound_true full (bodies.Drained slot number epoch) sound = tt
 sound_true full (bodies.Claim slots replaced) sound = tt
 sound_true full (bodies.Report suspects) sound = tt
-sound_true full (bodies.Request request) sound = tt
+sound_true full (bodies.Candidacy request) sound = tt
 sound_true full (bodies.Grant epoch) sound = tt
 sound_true full (bodies.Sync sync) sound = tt
 sound_true full (bodies.Pause stream) sound = tt
@@ -149,7 +149,7 @@ module _ (full more : FullStreams) (grows : Grows full more) where
   said_more (bodies.Drained slot number epoch) is_true = tt
   said_more (bodies.Claim slots replaced) is_true = tt
   said_more (bodies.Report suspects) is_true = tt
-  said_more (bodies.Request request) is_true = tt
+  said_more (bodies.Candidacy request) is_true = tt
   said_more (bodies.Grant epoch) is_true = tt
   said_more (bodies.Sync sync) is_true = tt
   said_more (bodies.Pause stream) is_true = tt

@@ -15,7 +15,7 @@ use Rattle.true_streams.proofs.Following.{follows, is_on}
 use Rattle.true_streams.proofs.Laws.{follow}
 use Rattle.true_streams.specs.Full.{FullStreams}
 use Rattle.true_streams.specs.Law.{new_replica}
-use Rattle.node_step.proofs.Recorded.{recorded_response}
+use Rattle.node_step.proofs.WithWritten.{with_written_response}
 use Rattle.node_step.specs.Outcome.{Outcome, outputs_of, silent, stamped}
 use Rattle.node_step.specs.Replicas.{follower_of}
 use Rattle.node_step.specs.Requests.{request_outcome}
@@ -67,7 +67,7 @@ module _ (full : FullStreams) (n : ℕ) (node : NodeState) (stands : NodeStands 
       subst (λ (o : Outcome). StandsBy full n node (written_by_request words (command_of words) o.response) o) (sym may) (nothing_stands full n node stands)
   requesting conn words true outcome may =
       let asked : Outcome = request_outcome node conn (command_of words) in
-      let same : outcome.response ≡ asked.response = ap (λ (o : Outcome). o.response) may.comes_to ∙ recorded_response asked (written_at node conn words) may.dropped in
+      let same : outcome.response ≡ asked.response = ap (λ (o : Outcome). o.response) may.comes_to ∙ with_written_response asked (written_at node conn words) may.dropped in
       subst (λ (r : Response). StandsBy full n node (written_by_request words (command_of words) r) outcome) (sym same) (answering_stands full n node stands conn words outcome may)
 
   event_stands : HasShortFrozen node.moves → (event : Event) (outcome : Outcome) → IsSoundEvent event → MayCome node event outcome → Deeds event outcome

@@ -11,7 +11,7 @@ use Rattle.connections.specs.declared.conn.Conn.{Conn}
 use Rattle.node_step.specs.Outcome.{Outcome, silent}
 use Rattle.node_step.specs.Requests.{cluster_outcome, request_outcome, using_up}
 use Rattle.node_step.specs.State.{NodeState}
-use Rattle.node_step.specs.Streams.{Requests, is_error, is_executed, recorded, written_by_request}
+use Rattle.node_step.specs.Streams.{Requests, is_error, is_executed, with_written, written_by_request}
 use Rattle.node_step.specs.declared.response.Response.{Response}
 use Rattle.node_step.specs.declared.response.Response.TheVariants.{Nothing, Opened, Replied, Parked}
 use Rattle.node_step.specs.Step.{IsAnswering}
@@ -39,7 +39,7 @@ by_asking : (command : ClusterCommand) (node : NodeState) (conn : Conn) (words :
 by_asking command node conn words outcome true reads may =
     let asked : Outcome = request_outcome node conn (command_of words) in
     Came.took (may.comes_to
-    ∙ ap (λ (requests : Requests). recorded asked requests may.dropped) (ap (λ (r : Result Command CommandFault). written_by_request words r asked.response) reads ∙ nothing_written command words asked.response)
+    ∙ ap (λ (requests : Requests). with_written asked requests may.dropped) (ap (λ (r : Result Command CommandFault). written_by_request words r asked.response) reads ∙ nothing_written command words asked.response)
     ∙ ap (λ (r : Result Command CommandFault). request_outcome node conn r) reads)
 by_asking command node conn words outcome false reads may = Came.ignored may
 

@@ -2,4 +2,4 @@ pub mod Bodies
 pub mod Faults
 pub mod Pages
 pub mod Reading
-pub mod Replica
+pub mod NodeStream

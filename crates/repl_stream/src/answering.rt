@@ -4,12 +4,12 @@ ghost use Rattle.stream_values.specs.Stream.{end_of};
 ghost use Rattle.stream_values.specs.Syncing.{answer_to, is_of_former, piece_from};
 
 use crate::fault::StreamFault;
-use crate::replica::Replica;
+use crate::node_stream::NodeStream;
 use crate::stream::Stream;
 use std::alloc::{AllocError, Global};
 use stream_values::{MOST_PIECE_BYTES, Piece, Sync, SyncAnswer};
 
-impl<T: Stream> Replica<T> {
+impl<T: Stream> NodeStream<T> {
     /// What comes next for a replica. Where it says that this is a snapshot, the pairs are still to be read from the store.
     pub fn answer(&self, alloc: Global, sync: &Sync) -> Result<SyncAnswer, AllocError>
         ensures { IfOk result (λ answer. answer ≡ answer_to self.now.stream sync.now) }

@@ -6,15 +6,15 @@ ghost use Rattle.stream_values.specs.Stream.{received};
 ghost use Rattle.repl_stream.specs.Faults.{IsRefusedFor};
 
 use crate::fault::OfferFault;
+use crate::node_stream::NodeStream;
 use crate::parts::front;
 use crate::received::read;
-use crate::replica::Replica;
 use crate::stream::Stream;
 use keyspace::{Store, commit};
 use std::alloc::{AllocError, Global};
 use stream_values::{Base, Piece};
 
-impl<T: Stream> Replica<T> {
+impl<T: Stream> NodeStream<T> {
     /// Takes what is new of the piece, and executes the requests that are whole now, or changes nothing.
     pub fn offer<S: Store>(
         &mut self,

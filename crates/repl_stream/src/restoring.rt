@@ -4,14 +4,14 @@ ghost use Rattle.keyspace.specs.Keyspace.{keyspace_of};
 ghost use Rattle.stream_values.specs.Snapshot.{is_known, restored};
 ghost use Rattle.stream_values.specs.Stream.{begun};
 
+use crate::node_stream::NodeStream;
 use crate::replaces::Replaces;
-use crate::replica::Replica;
 use crate::stream::Stream;
 use keyspace::Pair;
 use std::alloc::{AllocError, Global};
 use stream_values::{Snapshot, StreamId};
 
-impl<T: Stream> Replica<T> {
+impl<T: Stream> NodeStream<T> {
     /// Takes all pairs of the snapshot in place of what is in the store, and its place in the stream, or changes nothing.
     ///
     /// One of the own stream that isn't past the offset is known: it changes nothing either.

@@ -4,11 +4,11 @@ ghost use Rattle.stream_values.specs.Stream.{Writes, received};
 ghost use Rattle.repl_stream.specs.Faults.{IsRefusedAt};
 
 use crate::fault::AppendFault;
-use crate::replica::Replica;
+use crate::node_stream::NodeStream;
 use crate::stream::Stream;
 
-impl<T: Stream> Replica<T> {
-    /// Makes room for so many more bytes, so that [`append`](Replica::append) takes no memory. What can fail is done between
+impl<T: Stream> NodeStream<T> {
+    /// Makes room for so many more bytes, so that [`append`](NodeStream::append) takes no memory. What can fail is done between
     /// the two calls.
     pub fn reserve(&mut self, count: usize) -> Result<(), AppendFault>
         ensures stream { self.new.stream ≡ self.old.stream }

@@ -1,6 +1,6 @@
 mod FollowingLemmas
 mod PieceLemmas
-mod RecordingLemmas
+mod AddingLemmas
 mod SpellingLemmas
 mod SyncLemmas
 mod WriteLemmas

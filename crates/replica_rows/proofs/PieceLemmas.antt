@@ -7,7 +7,7 @@ use Rattle.node_step.specs.Orders.{to_all}
 use Rattle.node_step.specs.Roles.{is_just, replicas_of}
 use Rattle.node_step.specs.State.{NodeState}
 use Rattle.node_parts.proofs.ToAll.{those_below}
-use Rattle.replica_rows.specs.Recording.{piece_of, pieces_of, replicas_below}
+use Rattle.replica_rows.specs.Adding.{piece_of, pieces_of, replicas_below}
 use Rattle.slot_table.proofs.MergeLemmas.{filter_more_range}
 
 -- a node is a replica of this one

@@ -11,7 +11,7 @@ use Rattle.node_step.specs.declared.response.Response.{Response}
 use Rattle.node_step.specs.declared.response.Response.TheVariants.{Nothing, Opened, Parked, Replied}
 use Rattle.resp2.specs.Stream.{stream_spelling}
 use Rattle.resp_values.specs.Request.{request_spelling}
-use Rattle.replica_rows.specs.Recording.{is_done, written_if}
+use Rattle.replica_rows.specs.Adding.{is_done, written_if}
 
 -- one request alone
 pub one_request : (words : List (List ℕ)) → request_spelling words ≡ stream_spelling (words ∷ [])

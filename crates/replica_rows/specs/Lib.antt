@@ -1,2 +1,2 @@
 pub mod Following
-pub mod Recording
+pub mod Adding

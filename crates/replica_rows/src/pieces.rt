@@ -2,7 +2,7 @@
 ghost use Rattle.std.specs.Prelude.{◌≡◌, ◌++◌, ◌∷◌, ◌+◌, ◌<◌, ◌^◌, [], length, IfNone, IfOk, IfSome, OnOk};
 ghost use Rattle.node_step.specs.Orders.{to_all};
 ghost use Rattle.node_step.specs.Roles.{replicas_of};
-ghost use Rattle.replica_rows.specs.Recording.{piece_of, pieces_of, replicas_below};
+ghost use Rattle.replica_rows.specs.Adding.{piece_of, pieces_of, replicas_below};
 ghost use Rattle.stream_values.specs.Stream.{end_of};
 
 use bus::Body;

@@ -3,7 +3,7 @@ ghost use Rattle.std.specs.Prelude.{◌≡◌, ◌++◌, IfOk, OnOk, map};
 ghost use Rattle.std.specs.List.{flat_map};
 ghost use Rattle.node_step.specs.Streams.{deletion};
 ghost use Rattle.resp2.specs.Stream.{stream_spelling};
-ghost use Rattle.replica_rows.specs.Recording.{deletion_bytes, deletion_if, rebuilt};
+ghost use Rattle.replica_rows.specs.Adding.{deletion_bytes, deletion_if, rebuilt};
 ghost use Rattle.resp_values.specs.Request.{request_spelling};
 
 use byte_string::ByteString;

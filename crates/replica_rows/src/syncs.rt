@@ -45,11 +45,11 @@ pub fn answer_sync<S: SlotParts + SlotKeys, T: Stream>(
     ensures { OnOk result (Drafts node.now (synced node.now from sync.now) draft.new) }
 {
     if node.is_replica() {
-        node.write_change(draft, Change::Nothing);
+        node.draft_change(draft, Change::Nothing);
         return Ok(());
     }
     let bodies = listed(node.alloc, sync_answer(node, from, sync)?)?;
-    node.write_releases(draft, Releases::new(), bodies, Change::Nothing);
+    node.draft_releases(draft, Releases::new(), bodies, Change::Nothing);
     Ok(())
 }
 

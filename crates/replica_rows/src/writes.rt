@@ -12,7 +12,7 @@ ghost use Rattle.node_step.specs.Streams.{deletion, is_error, is_executed, is_wr
 ghost use Rattle.resp2.specs.Stream.{stream_spelling};
 ghost use Rattle.slot_pairs.specs.Several.{is_in_one};
 ghost use Rattle.slot_state.specs.Moves.{move_of};
-ghost use Rattle.replica_rows.specs.Recording.{is_done, written_if};
+ghost use Rattle.replica_rows.specs.Adding.{is_done, written_if};
 
 use crate::spelling::{append_rebuilding, deletions_bytes, request_bytes};
 use byte_string::ByteString;

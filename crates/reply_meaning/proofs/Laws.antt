@@ -45,7 +45,7 @@ use Rattle.reply_meaning.specs.Law.IsOfClient.{command as plain_command, numbers
 use Rattle.reply_meaning.specs.Law.Prepares.{numbers, asks}
 use Rattle.reply_meaning.specs.Refusal.{is_refusal}
 use Rattle.reply_meaning.proofs.Executions.{told}
-use Rattle.node_step.proofs.Recorded.{recorded_response}
+use Rattle.node_step.proofs.WithWritten.{with_written_response}
 use Rattle.reply_meaning.proofs.Steps.{Says, says_so}
 use Rattle.reply_meaning.proofs.Words.{IsOfCluster, IsOfData, cluster_words, data_words}
 use Rattle.reply_meaning.proofs.Words.IsOfCluster.{order, none}
@@ -201,6 +201,6 @@ pub client_is_answered : ClientsAreAnswered
 client_is_answered ticket node after conn words outputs step may_be client =
     let may = subst (λ (b : Bool). MatchBool b (IsAnswering node conn words step.outcome) (step.outcome ≡ silent node)) may_be step.may_come in
     let same : (request_outcome node conn (command_of words)).response ≡ outputs.response =
-    sym (recorded_response (request_outcome node conn (command_of words)) (written node conn words) may.dropped)
+    sym (with_written_response (request_outcome node conn (command_of words)) (written node conn words) may.dropped)
     ∙ ap (λ (o : Outcome). o.response) (sym may.comes_to) ∙ sym (ap (λ (o : Outputs). o.response) step.outputs_are) in
     subst IsAnswered same (client_answered node conn words client)

@@ -7,7 +7,7 @@ use Rattle.connections.specs.declared.conn.Conn.{Conn}
 use Rattle.node_step.specs.Outcome.{Outcome, silent}
 use Rattle.node_step.specs.Requests.{request_outcome}
 use Rattle.node_step.specs.State.{NodeState}
-use Rattle.node_step.proofs.Recorded.{recorded_response}
+use Rattle.node_step.proofs.WithWritten.{with_written_response}
 use Rattle.node_step.specs.Step.{IsAnswering, written}
 use Rattle.node_step.specs.declared.outputs.Outputs.{Outputs}
 use Rattle.node_step.specs.declared.response.Answer.{Answer}
@@ -27,7 +27,7 @@ by_asking : (P : Answer → Type 0) (node : NodeState) (conn : Conn) (words : Li
     → MatchBool asks (IsAnswering node conn words outcome) (outcome ≡ silent node) → Says P outcome.response
 by_asking P node conn words true outcome says may =
     let asked : Outcome = request_outcome node conn (command_of words) in
-    subst (λ (o : Outcome). Says P o.response) (sym may.comes_to) (subst (Says P) (sym (recorded_response asked (written node conn words) may.dropped)) says)
+    subst (λ (o : Outcome). Says P o.response) (sym may.comes_to) (subst (Says P) (sym (with_written_response asked (written node conn words) may.dropped)) says)
 by_asking P node conn words false outcome says may = subst (λ (o : Outcome). Says P o.response) (sym may) tt
 
 -- what each outcome of the request says is true of the answer

@@ -4,7 +4,7 @@ use anyhow::{Context, Result};
 use byte_string::ByteString;
 use command::{Command, parse};
 use keyspace::{Pair, Pairs, Plan, Store, TreeStore, Value, commit, plan_command};
-use repl_stream::{OfferFault, Replica, Stream, block_of};
+use repl_stream::{NodeStream, OfferFault, Stream, block_of};
 use slot_table::{Epoch, NodeNo};
 use std::alloc::{AllocError, Global};
 use stream_values::{Base, Piece, Snapshot, StreamId};
@@ -13,7 +13,7 @@ use trial_nodes::words_of;
 /// A node, as far as its stream goes.
 pub struct Node<T: Stream + Drop> {
     /// What it has of the stream.
-    pub replica: Replica<T>,
+    pub replica: NodeStream<T>,
     /// Its keys.
     pub store: TreeStore,
 }
@@ -45,7 +45,7 @@ impl<T: Stream + Drop> Node<T> {
     /// A node with nothing of the stream (2, 0), which is to keep so many of its last bytes.
     pub fn new(alloc: Global, kept: usize) -> Result<Node<T>> {
         Ok(Node {
-            replica: Replica::begin(alloc, stream_id((2, 0))?, kept)?,
+            replica: NodeStream::begin(alloc, stream_id((2, 0))?, kept)?,
             store: TreeStore::new(alloc),
         })
     }

@@ -1,7 +1,7 @@
 //! What a message says.
 
 use crate::quoted::Quoted;
-use bus::{Body, Handing, Replaced, Request, Suspects};
+use bus::{Body, Candidacy, Handing, Replaced, Suspects};
 use keyspace::Pairs;
 use slot_state::CopyId;
 use slot_table::Claim;
@@ -28,7 +28,7 @@ pub(crate) fn write_body(text: &mut String, body: &Body) -> Result<(), AllocErro
         ),
         Body::Claim(claim, replaced) => write_claim(text, claim, *replaced),
         Body::Report(suspects) => write_report(text, suspects),
-        Body::Request(request) => write_candidacy(text, *request),
+        Body::Candidacy(candidacy) => write_candidacy(text, *candidacy),
         Body::Grant(epoch) => write!(text, "Grant epoch {}", epoch.get()),
         Body::Sync(sync) => write_sync(text, *sync),
         Body::Piece(piece) => write_piece(text, piece),
@@ -90,13 +90,13 @@ fn write_report(text: &mut String, suspects: &Suspects) -> Result<(), AllocError
     Ok(())
 }
 
-fn write_candidacy(text: &mut String, request: Request) -> Result<(), AllocError> {
-    let how = if request.planned { " as planned" } else { "" };
+fn write_candidacy(text: &mut String, candidacy: Candidacy) -> Result<(), AllocError> {
+    let how = if candidacy.planned { " as planned" } else { "" };
     write!(
         text,
         "Request epoch {} in the place of {}{how}",
-        request.epoch.get(),
-        request.master.get()
+        candidacy.epoch.get(),
+        candidacy.master.get()
     )
 }
 

@@ -4,7 +4,7 @@
 //! asks. Without a log there are only the answers to orders, where these are taken, and the advice for whoever runs the cluster.
 
 use cluster::{Heard, Hearing, Incident, NodeStatus, Shortage, Witness};
-use links::Act;
+use link_ends::Act;
 use program_fault::{Failure, ProgramFault};
 use std::alloc::{AllocError, Global};
 use std::rt::Clock;

@@ -1,6 +1,6 @@
 //! `rcluster serve`: a cluster, on sockets.
 ghost use Rattle.std.specs.Prelude.{◌≡◌, All, IfOk, length, map, vec_len};
-ghost use Rattle.links.specs.Ends.{AreLinkedFrom};
+ghost use Rattle.link_ends.specs.Ends.{AreLinkedFrom};
 ghost use Rattle.tickets.specs.Tickets.{IsFresh, id_of};
 
 use crate::followers::tell_followers;
@@ -15,7 +15,8 @@ use cluster::{
     Course, Hearing, NodeStop, Orders, Overseer, Place, Runtime, ServeFault, Telling, serve_nodes,
 };
 use cluster_config::Config;
-use links::{Act, LinkEnd, PortEnd, PortEnds, Shim, Station, Web, link_ports, link_shims};
+use link_ends::{Act, LinkEnd, PortEnd, PortEnds, Shim, link_ports, link_shims};
+use links::{Station, Web};
 use node_cell::{Deployment, Journal, Log, Posted};
 use program_fault::{Failure, ProgramFault};
 use std::alloc::AllocError;

@@ -3,7 +3,7 @@
 use crate::linked::HasLinks;
 use crate::witness::{Incident, Witness};
 use key_slot::Slot;
-use links::Act;
+use link_ends::Act;
 use node_cell::HoldsCell;
 use slot_state::Move;
 use std::alloc::Global;

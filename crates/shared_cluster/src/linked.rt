@@ -1,6 +1,7 @@
 //! What has a node's cell and its links with all nodes.
 
-use links::{Act, PortEnd, Station, Web};
+use link_ends::{Act, PortEnd};
+use links::{Station, Web};
 use node_cell::{Deployment, HoldsCell, Log, Posted};
 use std::alloc::AllocError;
 use std::sync::Wait;

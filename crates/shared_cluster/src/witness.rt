@@ -1,7 +1,7 @@
 //! What happens to a cluster, for somebody who listens: what no client is told, which slots come and go, who hands over, and who is promoted.
 
 use crate::status::NodeStatus;
-use links::Act;
+use link_ends::Act;
 use std::alloc::{AllocError, Global};
 use std::collections::VecDeque;
 use std::rt::Clock;

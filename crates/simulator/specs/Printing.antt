@@ -2,7 +2,7 @@
 use Rattle.std.specs.Prelude.{◌++◌, ℕ, Bool, true, false, List, Ok, Err, codes, decimal}
 use Rattle.std.specs.List.{flat_map}
 use Rattle.bus.specs.declared.message.Body.{Body}
-use Rattle.bus.specs.declared.message.Body.TheVariants.{Copy, Ack, Drained, Claim, Report, Request, Grant, Sync, Piece, Snapshot, Pause, Paused}
+use Rattle.bus.specs.declared.message.Body.TheVariants.{Copy, Ack, Drained, Claim, Report, Candidacy, Grant, Sync, Piece, Snapshot, Pause, Paused}
 use Rattle.resp_values.specs.Reply.{reply_spelling}
 use Rattle.smart_client.specs.Faults.{code_of}
 use Rattle.world.specs.declared.output.Output.{Output}
@@ -18,7 +18,7 @@ kind (Ack id) = codes "Ack"
 kind (Drained slot number epoch) = codes "Drained"
 kind (Claim claim replaced) = codes "Claim"
 kind (Report suspects) = codes "Report"
-kind (Request request) = codes "Request"
+kind (Candidacy request) = codes "Request"
 kind (Grant epoch) = codes "Grant"
 kind (Sync sync) = codes "Sync"
 kind (Piece piece) = codes "Piece"

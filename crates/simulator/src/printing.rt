@@ -134,7 +134,7 @@ fn kind(body: &Body) -> &'static [u8]
         Body::Drained { .. } => b"Drained",
         Body::Claim(_, _) => b"Claim",
         Body::Report(_) => b"Report",
-        Body::Request(_) => b"Request",
+        Body::Candidacy(_) => b"Request",
         Body::Grant(_) => b"Grant",
         Body::Sync(_) => b"Sync",
         Body::Piece(_) => b"Piece",

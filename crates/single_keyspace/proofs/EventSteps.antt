@@ -8,7 +8,7 @@ use Rattle.connections.specs.Connections.{connection_at, may_ask}
 use Rattle.node_step.specs.Outcome.{Outcome, outputs_of, silent}
 use Rattle.node_step.specs.Requests.{request_outcome, using_up}
 use Rattle.node_step.specs.State.{NodeState}
-use Rattle.node_step.specs.Streams.{Requests, recorded}
+use Rattle.node_step.specs.Streams.{Requests, with_written}
 use Rattle.node_step.specs.declared.response.Response.{Response}
 use Rattle.node_step.specs.Step.{IsAnswering, IsClosing, MayCome, written}
 use Rattle.connections.specs.declared.conn.Conn.{Conn}
@@ -21,8 +21,8 @@ use Rattle.single_keyspace.specs.Stands.{NodeStands}
 use Rattle.single_keyspace.proofs.MessageSteps.{delivered_stands, tick_stands}
 use Rattle.single_keyspace.proofs.RequestSteps.{command_stands}
 use Rattle.single_keyspace.proofs.Seen.{SlotWas, again}
-use Rattle.node_step.proofs.Recorded.{recorded_response}
-use Rattle.single_keyspace.proofs.Steps.{StepStands, nothing_sent, quiet_still, recorded_stands}
+use Rattle.node_step.proofs.WithWritten.{with_written_response}
+use Rattle.single_keyspace.proofs.Steps.{StepStands, nothing_sent, quiet_still, with_written_stands}
 
 module _ {past : List Entry} {n : ℕ} {before : NodeState} {one : Keyspace} (was : (slot : ℕ) → SlotWas past n before one slot) (stands : NodeStands n before) (local : CommandsAreLocal) where
   nothing_happens : StepStands was None (silent before)
@@ -41,13 +41,13 @@ module _ {past : List Entry} {n : ℕ} {before : NodeState} {one : Keyspace} (wa
       let asked : Outcome = request_outcome before conn (command_of words) in
       let requests : Requests = written before conn words in
       let inner = command_stands (λ slot. again (was slot) (using_up before conn) refl) (record { number_is = stands.number_is; slots = stands.slots; is_master = stands.is_master; rests = stands.rests }) local words conn (connection_at before.connections conn)
-      (command_of words) refl (subst (λ (r : Response). MayAsk past n (answered_with words r)) (recorded_response asked requests answering.dropped)
+      (command_of words) refl (subst (λ (r : Response). MayAsk past n (answered_with words r)) (with_written_response asked requests answering.dropped)
       (subst (λ (o : Outcome). MayAsk past n (answered_with words o.response)) answering.comes_to may)) in
       let answered_so : StepStands was (answered_with words asked.response) asked =
       record { node = inner.node; holds = inner.holds; sent = inner.sent; told = inner.told; replies = inner.replies } in
       subst (λ (o : Outcome). StepStands was (answered_with words o.response) o) (sym answering.comes_to)
-      (subst (λ (r : Response). StepStands was (answered_with words r) (recorded asked requests answering.dropped)) (sym (recorded_response asked requests answering.dropped))
-      (recorded_stands was (answered_with words asked.response) asked requests answering.dropped answered_so))
+      (subst (λ (r : Response). StepStands was (answered_with words r) (with_written asked requests answering.dropped)) (sym (with_written_response asked requests answering.dropped))
+      (with_written_stands was (answered_with words asked.response) asked requests answering.dropped answered_so))
 
   request_stands : (conn : Conn) (words : List (List ℕ)) (asks : Bool) (outcome : Outcome) → MatchBool asks (IsAnswering before conn words outcome) (outcome ≡ silent before)
       → MayAsk past n (answered_with words outcome.response) → StepStands was (answered_with words outcome.response) outcome

@@ -70,7 +70,7 @@ use Rattle.single_keyspace.proofs.Running.{got_from_entry}
 use Rattle.single_keyspace.proofs.Seen.{SlotWas, again, holds_but, no_some, same_values, same_view}
 use Rattle.single_keyspace.proofs.Roles.{no_messages_from_master}
 use Rattle.single_keyspace.proofs.Sendings.{AreJustified, IsJustified, IsInstalled, both_justified, claim_justified, one_justified, to_all_justified, drained_if_empty_justified, drained_since_justified, outstanding_justified}
-use Rattle.single_keyspace.proofs.Steps.{StepStands, nothing_sent, quiet, quiet_still, recorded_stands}
+use Rattle.single_keyspace.proofs.Steps.{StepStands, nothing_sent, quiet, quiet_still, with_written_stands}
 use Rattle.single_keyspace.proofs.Values.{AreInSlot, elsewhere, puts_here, removes_here, with_copied_apart, without_apart}
 use Rattle.single_keyspace.proofs.Verdicts.{copy_arrives, copy_repeats, ack_counts}
 
@@ -314,7 +314,7 @@ module _ {past : List Entry} {n : ℕ} {before : NodeState} {one : Keyspace} (wa
   so_taken_stands choice (body.Drained slot number epoch) is = drained_stands slot number epoch is
   so_taken_stands choice (body.Claim runs replaced) is = claims_stand runs replaced is
   so_taken_stands choice (body.Report suspects) is = quiet_still was None refl refl (silent before) stands (λ slot. refl) (nothing_sent past n before)
-  so_taken_stands choice (body.Request request) is =
+  so_taken_stands choice (body.Candidacy request) is =
       vote_stands (request_of message.from request) (may_grant before.voter (members_of before) before.health before.current_epoch (request_of message.from request))
   so_taken_stands choice (body.Grant epoch) is = grant_stands (counted before.candidate (members_of before) message.from epoch) (elected before.candidate (members_of before) message.from epoch)
   so_taken_stands choice (body.Sync sync) is = synced_stands message.from sync (is_replica before)
@@ -325,7 +325,7 @@ module _ {past : List Entry} {n : ℕ} {before : NodeState} {one : Keyspace} (wa
 
   pub taken_stands : (choice : Choice) → StepStands was None (taken before message.from choice message.body)
   taken_stands choice =
-      recorded_stands was None (taken_so before message.from choice message.body) (written_by_message before message.from message.body) choice.dropped (so_taken_stands choice message.body refl)
+      with_written_stands was None (taken_so before message.from choice message.body) (written_by_message before message.from message.body) choice.dropped (so_taken_stands choice message.body refl)
 
 module _ {past : List Entry} {n : ℕ} {before : NodeState} {one : Keyspace} (was : (slot : ℕ) → SlotWas past n before one slot) (stands : NodeStands n before) where
   pub delivered_stands : (message : Message) (choice : Choice) → Contains (sent_by past) message → StepStands was None (delivered before message choice)

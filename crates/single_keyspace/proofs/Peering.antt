@@ -18,14 +18,14 @@ use Rattle.election.specs.declared.running.Elected.{Elected}
 use Rattle.handovers.specs.Events.{Begins, FollowsNext, Notes, Pauses}
 use Rattle.stream_values.specs.Stream.{StreamView, is_same}
 use Rattle.stream_values.specs.declared.stream_id.StreamId.{StreamId}
-use Rattle.node_step.proofs.Kept.{pieced_keeps, recorded_keeps, restored_keeps, synced_is}
+use Rattle.node_step.proofs.Kept.{pieced_keeps, with_written_keeps, restored_keeps, synced_is}
 use Rattle.node_step.proofs.OfSlots.{acknowledgement_is_of_slots, arrival_is_of_slots, claim_is_of_slots, noted_is_of_slots, request_is_of_slots}
-use Rattle.node_step.proofs.Recorded.{recorded_promoted}
+use Rattle.node_step.proofs.WithWritten.{with_written_promoted}
 use Rattle.node_step.specs.Failing.{a_tick_older, hearing, judging, members_of}
 use Rattle.node_step.specs.Handovers.{asked_to_pause, handing_of, handing_over, is_at_end, is_free_for, may_pause, may_take_over, noting, told_of_handing}
 use Rattle.node_step.specs.Messages.{Choice, knowing, ready, taken, taken_so, written_by_message}
 use Rattle.node_step.specs.Outcome.{Outcome, silent}
-use Rattle.node_step.specs.Streams.{Requests, recorded}
+use Rattle.node_step.specs.Streams.{Requests, with_written}
 use Rattle.node_step.specs.Promotion.{handed_promotion, promotion, promotion_to, table_handed}
 use Rattle.node_step.specs.Requests.{request_outcome, using_up}
 use Rattle.node_step.specs.Roles.{following, instead, is_just, replaced_in, succeeded, with_master, without_note}
@@ -282,7 +282,7 @@ module _ (node : NodeState) where
   row_goes from choice (body.Claim slots replaced) no_pause no_word not_now =
       (claim_is_of_slots (Goes node) node (λ keyspace table moves current handover connections known noted. of_slots node current handover _ known noted refl refl refl refl refl refl refl) from slots).state
   row_goes from choice (body.Report suspects) no_pause no_word not_now = goes_itself node
-  row_goes from choice (body.Request request) no_pause no_word not_now = same_goes _ refl refl refl refl refl refl refl
+  row_goes from choice (body.Candidacy request) no_pause no_word not_now = same_goes _ refl refl refl refl refl refl refl
   row_goes from choice (body.Grant epoch) no_pause no_word not_now = grant_goes (counted node.candidate (members_of node) from epoch) (counted_planned node.candidate (members_of node) from epoch) (elected node.candidate (members_of node) from epoch) not_now
   row_goes from choice (body.Sync sync) no_pause no_word not_now = synced_is (Stays node) node from sync (goes_itself node) (same_goes _ refl refl refl refl refl refl refl)
   row_goes from choice (body.Piece piece) no_pause no_word not_now = pieced_keeps (Goes node) node (λ stream keyspace. same_goes _ refl refl refl refl refl refl refl) from piece choice.follower
@@ -290,9 +290,9 @@ module _ (node : NodeState) where
   row_goes from choice (body.Pause stream) no_pause no_word not_now = absurd (no_pause stream refl)
   row_goes from choice (body.Paused handing) no_pause no_word not_now = absurd (no_word handing refl)
 
-  recorded_goes : (outcome : Outcome) (requests : Requests) (dropped : ℕ) → Goes node outcome.state → Goes node (recorded outcome requests dropped).state
-  recorded_goes outcome requests dropped was =
-      recorded_keeps (Goes node) outcome requests dropped (λ stream. record { number = was.number; master = was.master; current = was.current; paused = was.paused; note = was.note; planned = was.planned; replaced = was.replaced })
+  with_written_goes : (outcome : Outcome) (requests : Requests) (dropped : ℕ) → Goes node outcome.state → Goes node (with_written outcome requests dropped).state
+  with_written_goes outcome requests dropped was =
+      with_written_keeps (Goes node) outcome requests dropped (λ stream. record { number = was.number; master = was.master; current = was.current; paused = was.paused; note = was.note; planned = was.planned; replaced = was.replaced })
 
 -- ---- a message
 
@@ -321,7 +321,7 @@ module _ (node : NodeState) (message : Message) (choice : Choice) where
       let outcome : Outcome = taken_so heard message.from choice message.body in
       let requests : Requests = written_by_message heard message.from message.body in
       behind_it message node heard _ (ready_does node message)
-      (recorded_goes heard outcome requests choice.dropped (row_goes heard message.from choice message.body no_pause no_word (sym (recorded_promoted outcome requests choice.dropped) ∙ not_now)))
+      (with_written_goes heard outcome requests choice.dropped (row_goes heard message.from choice message.body no_pause no_word (sym (with_written_promoted outcome requests choice.dropped) ∙ not_now)))
 
   pause_does : (stream : StreamId) → message.body ≡ body.Pause stream → Does message node (asked_to_pause heard message.from stream).state
   pause_does stream is = by_test (may_pause heard message.from stream) refl
@@ -409,7 +409,7 @@ module _ (node : NodeState) (message : Message) (choice : Choice) where
       by_body (body.Drained slot number epoch) is = others (body.Drained slot number epoch) is (λ stream same. cc) (λ handing same. cc)
       by_body (body.Claim slots replaced) is = others (body.Claim slots replaced) is (λ stream same. cc) (λ handing same. cc)
       by_body (body.Report suspects) is = others (body.Report suspects) is (λ stream same. cc) (λ handing same. cc)
-      by_body (body.Request request) is = others (body.Request request) is (λ stream same. cc) (λ handing same. cc)
+      by_body (body.Candidacy request) is = others (body.Candidacy request) is (λ stream same. cc) (λ handing same. cc)
       by_body (body.Grant epoch) is = others (body.Grant epoch) is (λ stream same. cc) (λ handing same. cc)
       by_body (body.Sync sync) is = others (body.Sync sync) is (λ stream same. cc) (λ handing same. cc)
       by_body (body.Piece piece) is = others (body.Piece piece) is (λ stream same. cc) (λ handing same. cc)
@@ -491,7 +491,7 @@ module _ (node : NodeState) where
   request_goes conn words false outcome may = subst (Stays node) (sym may) (goes_itself node)
   request_goes conn words true outcome may =
       subst (Stays node) (sym may.comes_to)
-      (recorded_goes node (request_outcome node conn (command_of words)) (written_at node conn words) may.dropped
+      (with_written_goes node (request_outcome node conn (command_of words)) (written_at node conn words) may.dropped
       (request_is_of_slots (Goes node) (using_up node conn) (λ keyspace table moves current handover connections known noted. of_slots node current handover _ known noted refl refl refl refl refl refl refl)
       conn (connection_at node.connections conn) (command_of words)).state)
 

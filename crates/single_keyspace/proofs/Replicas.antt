@@ -87,7 +87,7 @@ use Rattle.node_step.specs.Roles.{is_just, replicas_of}
 use Rattle.node_step.specs.State.{NodeState, is_replica, own_master, standing}
 use Rattle.node_step.specs.Step.{IsAnswering, IsClosing, MayCome, written}
 use Rattle.node_step.specs.Replicas.{follower_of, sync_answer, sync_to, with_follower, with_piece}
-use Rattle.node_step.specs.Streams.{Requests, recorded}
+use Rattle.node_step.specs.Streams.{Requests, with_written}
 use Rattle.node_step.specs.Handovers.{asked_again, failover, handed_again, handed_to, handing_of, handing_over, is_at_end, is_free_for, may_pause, noting}
 use Rattle.node_step.specs.Promotion.{handed_promotion, promotion, promotion_to, table_handed}
 use Rattle.node_step.specs.Ticks.{older, sent_again, slots_tick, tick}
@@ -106,7 +106,7 @@ use Rattle.single_keyspace.proofs.Running.{got_from_entry}
 use Rattle.single_keyspace.proofs.Seen.{no_some, same_some}
 use Rattle.single_keyspace.proofs.Sendings.{claim_justified}
 use Rattle.single_keyspace.proofs.Served.{decided_in, one_reply}
-use Rattle.node_step.proofs.Recorded.{recorded_promoted, recorded_response}
+use Rattle.node_step.proofs.WithWritten.{with_written_promoted, with_written_response}
 use Rattle.single_keyspace.proofs.Steps.{RepliesAs, next_of}
 use Rattle.single_keyspace.proofs.Values.{values_alike}
 use Rattle.single_keyspace.proofs.Verdicts.{ack_counts, asks, copy_arrives, copy_repeats, import_ends, import_runs, migration_runs, replicas_import_nothing, replicas_migrate_nothing, serves, serves_import}
@@ -165,10 +165,10 @@ mute_to_all n table numbers said mute to body among =
 -- ---- what is put round a step
 
 module _ {n : ℕ} {role : Bool} {paused : Option ℕ} {last : fin_map.FinMap nat_cmp ℕ} {one : Keyspace} where
-  recorded_replica : (answer : Option Answered) (outcome : Outcome) (requests : Requests) (dropped : ℕ) → IdleStep n role paused last one answer outcome
-      → IdleStep n role paused last one answer (recorded outcome requests dropped)
-  recorded_replica answer outcome [] dropped step = step
-  recorded_replica answer outcome (request ∷ requests) dropped step = record {
+  with_written_replica : (answer : Option Answered) (outcome : Outcome) (requests : Requests) (dropped : ℕ) → IdleStep n role paused last one answer outcome
+      → IdleStep n role paused last one answer (with_written outcome requests dropped)
+  with_written_replica answer outcome [] dropped step = step
+  with_written_replica answer outcome (request ∷ requests) dropped step = record {
     node = record { number_is = step.node.number_is; slots = step.node.slots; bars = step.node.bars; rests = step.node.rests; idle = step.node.idle };
     role_is = step.role_is;
     pausing = step.pausing;
@@ -505,7 +505,7 @@ module _ {n : ℕ} {before : NodeState} (one : Keyspace) (stands : IdleStands n 
   so_taken_replica from choice (body.Drained slot number epoch) not_now = drained_replica from slot number epoch
   so_taken_replica from choice (body.Claim runs replaced) not_now = claim_replica from runs
   so_taken_replica from choice (body.Report suspects) not_now = plain None refl refl (silent before) refl refl refl refl refl refl
-  so_taken_replica from choice (body.Request request) not_now = vote_replica (request_of from request) (may_grant before.voter (members_of before) before.health before.current_epoch (request_of from request))
+  so_taken_replica from choice (body.Candidacy request) not_now = vote_replica (request_of from request) (may_grant before.voter (members_of before) before.health before.current_epoch (request_of from request))
   so_taken_replica from choice (body.Grant epoch) not_now =
       grant_replica (counted before.candidate (members_of before) from epoch) (elected before.candidate (members_of before) from epoch) not_now
   so_taken_replica from choice (body.Sync sync) not_now = sync_replica from sync (is_replica before)
@@ -518,8 +518,8 @@ module _ {n : ℕ} {before : NodeState} (one : Keyspace) (stands : IdleStands n 
   taken_replica from choice said not_now =
       let outcome : Outcome = taken_so before from choice said in
       let requests : Requests = written_by_message before from said in
-      recorded_replica None outcome requests choice.dropped
-      (so_taken_replica from choice said (sym (recorded_promoted outcome requests choice.dropped) ∙ not_now))
+      with_written_replica None outcome requests choice.dropped
+      (so_taken_replica from choice said (sym (with_written_promoted outcome requests choice.dropped) ∙ not_now))
 
 module _ {n : ℕ} {before : NodeState} (one : Keyspace) (stands : IdleStands n before) where
   abbrev pub Idles : Option Answered → Outcome → Type 0
@@ -608,8 +608,8 @@ module _ {n : ℕ} {before : NodeState} (one : Keyspace) (stands : IdleStands n 
       let inner : Idles (answered_with words asked.response) asked =
       command_replica one (same_node one stands (using_up before conn) refl refl refl refl refl) local words conn (connection_at before.connections conn) (command_of words) refl in
       subst (λ (o : Outcome). Idles (answered_with words o.response) o) (sym may.comes_to)
-      (subst (λ (r : Response). Idles (answered_with words r) (recorded asked requests may.dropped)) (sym (recorded_response asked requests may.dropped))
-      (recorded_replica (answered_with words asked.response) asked requests may.dropped inner))
+      (subst (λ (r : Response). Idles (answered_with words r) (with_written asked requests may.dropped)) (sym (with_written_response asked requests may.dropped))
+      (with_written_replica (answered_with words asked.response) asked requests may.dropped inner))
 
   pub event_replica : CommandsAreLocal → (ticket : ℕ) (event : Event) (outcome : Outcome) → MayCome before event outcome → IsNoEnd outcome
       → Idles (answered (Made event (outputs_of ticket outcome))) outcome

@@ -68,7 +68,7 @@ use Rattle.node_step.specs.Roles.{replicas_of}
 use Rattle.node_step.specs.Slots.{drained, drained_by, drained_if_empty, drained_since, has_keys, slot_epoch}
 use Rattle.node_step.specs.State.{NodeState, own_master}
 use Rattle.node_step.specs.Step.{IsAnswering, IsClosing, MayCome, written as written_at}
-use Rattle.node_step.specs.Streams.{Requests, recorded}
+use Rattle.node_step.specs.Streams.{Requests, with_written}
 use Rattle.node_step.specs.Ticks.{older, sent_again, tick}
 use Rattle.node_step.specs.Voting.{due_epoch, if_elected, request_of, requests_in, voters_of, voting}
 use Rattle.node_step.specs.declared.event.Event.{Event}
@@ -272,7 +272,7 @@ module _ (node : NodeState) where
   row_says from choice (body.Drained slot number epoch) no_pause = speak_nothing (taken_so node from choice (body.Drained slot number epoch)).state
   row_says from choice (body.Claim slots replaced) no_pause = claimed_says (from == node.number) (claimed_by node (merged node.table slots from)) refl
   row_says from choice (body.Report suspects) no_pause = speak_nothing node
-  row_says from choice (body.Request request) no_pause = vote_says (request_of from request) (may_grant node.voter (members_of node) node.health node.current_epoch (request_of from request))
+  row_says from choice (body.Candidacy request) no_pause = vote_says (request_of from request) (may_grant node.voter (members_of node) node.health node.current_epoch (request_of from request))
   row_says from choice (body.Grant epoch) no_pause = grant_says (counted node.candidate (members_of node) from epoch) (elected node.candidate (members_of node) from epoch)
   row_says from choice (body.Sync sync) no_pause = synced_is (λ (o : Outcome). AskAll o.state o.sent) node from sync (speak_nothing node) (answer_says from (answer_to node.stream sync))
   row_says from choice (body.Piece piece) no_pause = speak_nothing (taken_so node from choice (body.Piece piece)).state
@@ -288,7 +288,7 @@ asks_speaks node stream to (body.Ack id) is = tt
 asks_speaks node stream to (body.Drained slot number epoch) is = tt
 asks_speaks node stream to (body.Claim slots replaced) is = is
 asks_speaks node stream to (body.Report suspects) is = tt
-asks_speaks node stream to (body.Request request) is = tt
+asks_speaks node stream to (body.Candidacy request) is = tt
 asks_speaks node stream to (body.Grant epoch) is = tt
 asks_speaks node stream to (body.Sync sync) is = tt
 asks_speaks node stream to (body.Piece piece) is = tt
@@ -314,12 +314,12 @@ said_to_all node numbers said is to more among =
 said_nothing : (node : NodeState) → Speak node []
 said_nothing node to said among = absurd (contains_nothing (to, said) among)
 
-recorded_speaks : (outcome : Outcome) (requests : Requests) (dropped : ℕ) → AskAll outcome.state outcome.sent → Speak (recorded outcome requests dropped).state (recorded outcome requests dropped).sent
-recorded_speaks outcome [] dropped is = λ to said among. asks_speaks outcome.state outcome.state.stream to said (is to said among)
-recorded_speaks outcome (request ∷ requests) dropped is =
-    said_both (recorded outcome (request ∷ requests) dropped).state outcome.sent (to_all (replicas_of outcome.state.masters outcome.state.number) _)
-    (λ to said among. asks_speaks outcome.state (recorded outcome (request ∷ requests) dropped).state.stream to said (is to said among))
-    (said_to_all (recorded outcome (request ∷ requests) dropped).state (replicas_of outcome.state.masters outcome.state.number) _ (λ to. tt))
+with_written_speaks : (outcome : Outcome) (requests : Requests) (dropped : ℕ) → AskAll outcome.state outcome.sent → Speak (with_written outcome requests dropped).state (with_written outcome requests dropped).sent
+with_written_speaks outcome [] dropped is = λ to said among. asks_speaks outcome.state outcome.state.stream to said (is to said among)
+with_written_speaks outcome (request ∷ requests) dropped is =
+    said_both (with_written outcome (request ∷ requests) dropped).state outcome.sent (to_all (replicas_of outcome.state.masters outcome.state.number) _)
+    (λ to said among. asks_speaks outcome.state (with_written outcome (request ∷ requests) dropped).state.stream to said (is to said among))
+    (said_to_all (with_written outcome (request ∷ requests) dropped).state (replicas_of outcome.state.masters outcome.state.number) _ (λ to. tt))
 
 -- ---- any event
 
@@ -343,17 +343,17 @@ module _ (node : NodeState) where
 
   taken_speaks : (from : ℕ) (choice : Choice) (said : Body) → Speak (taken node from choice said).state (taken node from choice said).sent
   taken_speaks from choice (body.Pause stream) = pause_speaks from (may_pause node from stream)
-  taken_speaks from choice (body.Copy id pairs) = recorded_speaks (taken_so node from choice (body.Copy id pairs)) (written_by_message node from (body.Copy id pairs)) choice.dropped (row_says node from choice (body.Copy id pairs) (λ stream is. cc))
-  taken_speaks from choice (body.Ack id) = recorded_speaks (taken_so node from choice (body.Ack id)) (written_by_message node from (body.Ack id)) choice.dropped (row_says node from choice (body.Ack id) (λ stream is. cc))
-  taken_speaks from choice (body.Drained slot number epoch) = recorded_speaks (taken_so node from choice (body.Drained slot number epoch)) [] choice.dropped (row_says node from choice (body.Drained slot number epoch) (λ stream is. cc))
-  taken_speaks from choice (body.Claim slots replaced) = recorded_speaks (taken_so node from choice (body.Claim slots replaced)) (written_by_message node from (body.Claim slots replaced)) choice.dropped (row_says node from choice (body.Claim slots replaced) (λ stream is. cc))
-  taken_speaks from choice (body.Report suspects) = recorded_speaks (taken_so node from choice (body.Report suspects)) [] choice.dropped (row_says node from choice (body.Report suspects) (λ stream is. cc))
-  taken_speaks from choice (body.Request request) = recorded_speaks (taken_so node from choice (body.Request request)) [] choice.dropped (row_says node from choice (body.Request request) (λ stream is. cc))
-  taken_speaks from choice (body.Grant epoch) = recorded_speaks (taken_so node from choice (body.Grant epoch)) [] choice.dropped (row_says node from choice (body.Grant epoch) (λ stream is. cc))
-  taken_speaks from choice (body.Sync sync) = recorded_speaks (taken_so node from choice (body.Sync sync)) [] choice.dropped (row_says node from choice (body.Sync sync) (λ stream is. cc))
-  taken_speaks from choice (body.Piece piece) = recorded_speaks (taken_so node from choice (body.Piece piece)) [] choice.dropped (row_says node from choice (body.Piece piece) (λ stream is. cc))
-  taken_speaks from choice (body.Snapshot snapshot) = recorded_speaks (taken_so node from choice (body.Snapshot snapshot)) [] choice.dropped (row_says node from choice (body.Snapshot snapshot) (λ stream is. cc))
-  taken_speaks from choice (body.Paused handing) = recorded_speaks (taken_so node from choice (body.Paused handing)) [] choice.dropped (row_says node from choice (body.Paused handing) (λ stream is. cc))
+  taken_speaks from choice (body.Copy id pairs) = with_written_speaks (taken_so node from choice (body.Copy id pairs)) (written_by_message node from (body.Copy id pairs)) choice.dropped (row_says node from choice (body.Copy id pairs) (λ stream is. cc))
+  taken_speaks from choice (body.Ack id) = with_written_speaks (taken_so node from choice (body.Ack id)) (written_by_message node from (body.Ack id)) choice.dropped (row_says node from choice (body.Ack id) (λ stream is. cc))
+  taken_speaks from choice (body.Drained slot number epoch) = with_written_speaks (taken_so node from choice (body.Drained slot number epoch)) [] choice.dropped (row_says node from choice (body.Drained slot number epoch) (λ stream is. cc))
+  taken_speaks from choice (body.Claim slots replaced) = with_written_speaks (taken_so node from choice (body.Claim slots replaced)) (written_by_message node from (body.Claim slots replaced)) choice.dropped (row_says node from choice (body.Claim slots replaced) (λ stream is. cc))
+  taken_speaks from choice (body.Report suspects) = with_written_speaks (taken_so node from choice (body.Report suspects)) [] choice.dropped (row_says node from choice (body.Report suspects) (λ stream is. cc))
+  taken_speaks from choice (body.Candidacy request) = with_written_speaks (taken_so node from choice (body.Candidacy request)) [] choice.dropped (row_says node from choice (body.Candidacy request) (λ stream is. cc))
+  taken_speaks from choice (body.Grant epoch) = with_written_speaks (taken_so node from choice (body.Grant epoch)) [] choice.dropped (row_says node from choice (body.Grant epoch) (λ stream is. cc))
+  taken_speaks from choice (body.Sync sync) = with_written_speaks (taken_so node from choice (body.Sync sync)) [] choice.dropped (row_says node from choice (body.Sync sync) (λ stream is. cc))
+  taken_speaks from choice (body.Piece piece) = with_written_speaks (taken_so node from choice (body.Piece piece)) [] choice.dropped (row_says node from choice (body.Piece piece) (λ stream is. cc))
+  taken_speaks from choice (body.Snapshot snapshot) = with_written_speaks (taken_so node from choice (body.Snapshot snapshot)) [] choice.dropped (row_says node from choice (body.Snapshot snapshot) (λ stream is. cc))
+  taken_speaks from choice (body.Paused handing) = with_written_speaks (taken_so node from choice (body.Paused handing)) [] choice.dropped (row_says node from choice (body.Paused handing) (λ stream is. cc))
 
   tick_speaks : Speak (tick node).state (tick node).sent
   tick_speaks =
@@ -405,7 +405,7 @@ event_speaks node (Request conn words) outcome may = by_asking (may_ask (connect
     by_asking false may = subst (λ (o : Outcome). Speak o.state o.sent) (sym may) (said_nothing node)
     by_asking true may =
         subst (λ (o : Outcome). Speak o.state o.sent) (sym may.comes_to)
-        (recorded_speaks (request_outcome node conn (command_of words)) (written_at node conn words) may.dropped (words_say (using_up node conn) conn (connection_at node.connections conn) (command_of words)))
+        (with_written_speaks (request_outcome node conn (command_of words)) (written_at node conn words) may.dropped (words_say (using_up node conn) conn (connection_at node.connections conn) (command_of words)))
 event_speaks node (Deliver message) outcome may = subst (λ (o : Outcome). Speak o.state o.sent) (sym may.comes_to) (by_target (message.to == node.number))
   where
     by_target : (b : Bool) → Speak (cond b (taken (ready node message) message.from may.choice message.body) (silent node)).state (cond b (taken (ready node message) message.from may.choice message.body) (silent node)).sent

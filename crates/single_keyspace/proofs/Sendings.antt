@@ -175,7 +175,7 @@ module _ (past : List Entry) (node : NodeState) {top : SlotEntry} {seen : Views 
       subst (IsSent top seen) (sym says.2)
       ((laws_at top seen one n (view_of node slot) holds here).claim_sent says.0 (just slot says.0 says.1))
   justified_is_true to (body.Report suspects) sent just says = absurd says
-  justified_is_true to (body.Request request) sent just says = absurd says
+  justified_is_true to (body.Candidacy request) sent just says = absurd says
   justified_is_true to (body.Grant epoch) sent just says = absurd says
   justified_is_true to (body.Sync sync) sent just says = absurd says
   justified_is_true to (body.Piece piece) sent just says = absurd says

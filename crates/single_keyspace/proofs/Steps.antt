@@ -8,7 +8,7 @@ use Rattle.node_step.specs.Orders.{to_all}
 use Rattle.node_step.specs.Outcome.{Outcome}
 use Rattle.node_step.specs.Roles.{replicas_of}
 use Rattle.node_step.specs.State.{NodeState}
-use Rattle.node_step.specs.Streams.{Requests, recorded}
+use Rattle.node_step.specs.Streams.{Requests, with_written}
 use Rattle.world_run.specs.Executed.{Answered, Redirection, if_served, redirection_in}
 use Rattle.world_run.specs.Run.{Entry}
 use Rattle.single_keyspace.specs.Slots.{view_of}
@@ -59,9 +59,9 @@ module _ {past : List Entry} {n : ℕ} {before : NodeState} {one : Keyspace} (wa
   -- ---- what is put round a step
 
   -- bytes that are written change no slot, and no piece says anything of one
-  pub recorded_stands : (answer : Option Answered) (outcome : Outcome) (requests : Requests) (dropped : ℕ) → StepStands was answer outcome → StepStands was answer (recorded outcome requests dropped)
-  recorded_stands answer outcome [] dropped step = step
-  recorded_stands answer outcome (request ∷ requests) dropped step = record {
+  pub with_written_stands : (answer : Option Answered) (outcome : Outcome) (requests : Requests) (dropped : ℕ) → StepStands was answer outcome → StepStands was answer (with_written outcome requests dropped)
+  with_written_stands answer outcome [] dropped step = step
+  with_written_stands answer outcome (request ∷ requests) dropped step = record {
     node = record { number_is = step.node.number_is; slots = step.node.slots; is_master = step.node.is_master; rests = step.node.rests };
     holds = step.holds;
     sent = both_justified past n outcome.state outcome.sent (to_all (replicas_of outcome.state.masters outcome.state.number) _) step.sent

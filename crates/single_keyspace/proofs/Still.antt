@@ -60,7 +60,7 @@ use Rattle.node_step.specs.Requests.{asking_of, by_command, cluster_outcome, is_
 use Rattle.node_step.specs.Roles.{is_just}
 use Rattle.node_step.specs.State.{NodeState, is_replica, own_master}
 use Rattle.node_step.specs.Step.{IsAnswering, IsClosing, MayCome, written as written_at}
-use Rattle.node_step.specs.Streams.{Requests, deletion, recorded, written_by_ack, written_by_copy, written_by_loss, written_by_request}
+use Rattle.node_step.specs.Streams.{Requests, deletion, with_written, written_by_ack, written_by_copy, written_by_loss, written_by_request}
 use Rattle.node_step.specs.Ticks.{older}
 use Rattle.node_step.specs.Voting.{due_epoch, if_elected}
 use Rattle.node_step.specs.declared.event.Event.{Event}
@@ -154,8 +154,8 @@ module _ {n : ℕ} (node : NodeState) (stands : IdleStands n node) (words : List
 -- ---- what is put round a step
 
 -- nothing is written
-recorded_still : (stream : StreamView) (outcome : Outcome) (requests : Requests) (dropped : ℕ) → requests ≡ [] → outcome.state.stream ≡ stream → (recorded outcome requests dropped).state.stream ≡ stream
-recorded_still stream outcome requests dropped none is = subst (λ (r : Requests). (recorded outcome r dropped).state.stream ≡ stream) (sym none) is
+with_written_still : (stream : StreamView) (outcome : Outcome) (requests : Requests) (dropped : ℕ) → requests ≡ [] → outcome.state.stream ≡ stream → (with_written outcome requests dropped).state.stream ≡ stream
+with_written_still stream outcome requests dropped none is = subst (λ (r : Requests). (with_written outcome r dropped).state.stream ≡ stream) (sym none) is
 
 -- ---- messages
 
@@ -218,10 +218,10 @@ module _ {n : ℕ} (node : NodeState) (stands : IdleStands n node) (master : is_
   not_followed after false is = refl
 
   claims_still : (from : ℕ) (runs : List (Run ℕ)) (own : Bool) → (from == node.number) ≡ own → ((from == node.number) ≡ false → KeepsOwn node (merged node.table runs from))
-      → (dropped : ℕ) → IsStill (recorded (cond own (silent node) (claimed_by node (merged node.table runs from))) (cond own [] (written_by_loss node (merged node.table runs from))) dropped)
+      → (dropped : ℕ) → IsStill (with_written (cond own (silent node) (claimed_by node (merged node.table runs from))) (cond own [] (written_by_loss node (merged node.table runs from))) dropped)
   claims_still from runs true own keeps dropped = refl
   claims_still from runs false other keeps dropped =
-      recorded_still node.stream (claimed_by node (merged node.table runs from)) (written_by_loss node (merged node.table runs from)) dropped
+      with_written_still node.stream (claimed_by node (merged node.table runs from)) (written_by_loss node (merged node.table runs from)) dropped
       (loses_nothing node (merged node.table runs from) (keeps other) (fin_map.keys node.keyspace)) refl
 
   pause_still : (from : ℕ) (b : Bool) → IsStill (cond b (handing_over node from) (silent node))
@@ -229,19 +229,19 @@ module _ {n : ℕ} (node : NodeState) (stands : IdleStands n node) (master : is_
   pause_still from false = refl
 
   acknowledged_still : (from : ℕ) (id : CopyId) (dropped : ℕ) (move : Option Move) → move ≡ None
-      → IsStill (recorded (acknowledged node id (acknowledged_keys move from id.number id.copy)) (written_by_ack (acknowledged_keys move from id.number id.copy)) dropped)
+      → IsStill (with_written (acknowledged node id (acknowledged_keys move from id.number id.copy)) (written_by_ack (acknowledged_keys move from id.number id.copy)) dropped)
   acknowledged_still from id dropped move none =
-      subst (λ (m : Option Move). IsStill (recorded (acknowledged node id (acknowledged_keys m from id.number id.copy)) (written_by_ack (acknowledged_keys m from id.number id.copy)) dropped)) (sym none) refl
+      subst (λ (m : Option Move). IsStill (with_written (acknowledged node id (acknowledged_keys m from id.number id.copy)) (written_by_ack (acknowledged_keys m from id.number id.copy)) dropped)) (sym none) refl
 
   pub taken_still : (from : ℕ) (choice : Choice) (said : Body) → ((runs : List (Run ℕ)) → (from == node.number) ≡ false → IsClaimOf said runs → KeepsOwn node (merged node.table runs from)) → IsStill (taken node from choice said)
   taken_still from choice (body.Copy id pairs) keeps =
-      recorded_still node.stream (taken_so node from choice (body.Copy id pairs)) (written_by_message node from (body.Copy id pairs)) choice.dropped
+      with_written_still node.stream (taken_so node from choice (body.Copy id pairs)) (written_by_message node from (body.Copy id pairs)) choice.dropped
       (arrived_still from id pairs (move_of node.moves id.slot) (stands.idle id.slot)) refl
   taken_still from choice (body.Ack id) keeps = acknowledged_still from id choice.dropped (move_of node.moves id.slot) (stands.idle id.slot)
   taken_still from choice (body.Drained slot number epoch) keeps = refl
   taken_still from choice (body.Claim runs replaced) keeps = claims_still from runs (from == node.number) refl (λ other. keeps runs other (replaced, refl)) choice.dropped
   taken_still from choice (body.Report suspects) keeps = refl
-  taken_still from choice (body.Request request) keeps = refl
+  taken_still from choice (body.Candidacy request) keeps = refl
   taken_still from choice (body.Grant epoch) keeps = grant_still (counted node.candidate (members_of node) from epoch) (elected node.candidate (members_of node) from epoch)
   taken_still from choice (body.Sync sync) keeps = synced_is IsStill node from sync refl refl
   taken_still from choice (body.Piece piece) keeps = not_followed _ (is_just (own_master node) from) (no_messages_from_master (own_master node) from master)
@@ -280,7 +280,7 @@ module _ {n : ℕ} (node : NodeState) (stands : IdleStands n node) (master : is_
       by_asking false may = ap (λ (o : Outcome). o.state.stream) may
       by_asking true may =
           ap (λ (o : Outcome). o.state.stream) may.comes_to
-          ∙ recorded_still node.stream (request_outcome node conn (command_of words)) (written_at node conn words) may.dropped
+          ∙ with_written_still node.stream (request_outcome node conn (command_of words)) (written_at node conn words) may.dropped
           (words_unwritten (using_up node conn) (idle_so (using_up node conn) refl refl refl refl refl) words conn (connection_at node.connections conn) (command_of words) refl)
           (request_is_of_slots (λ s. s.stream ≡ node.stream) (using_up node conn) (λ keyspace table moves current handover connections known noted. refl) conn (connection_at node.connections conn) (command_of words)).state
   stream_still (Deliver message) outcome may keeps = ap (λ (o : Outcome). o.state.stream) may.comes_to ∙ by_target (message.to == node.number)

@@ -16,7 +16,7 @@ use Rattle.stream_values.specs.Stream.{StreamView}
 use Rattle.node_step.proofs.Kept.{synced_is}
 use Rattle.node_step.proofs.OfSlots.{acknowledgement_is_of_slots, arrival_is_of_slots, claim_is_of_slots, request_is_of_slots}
 use Rattle.node_step.proofs.Ready.{ready_keeps}
-use Rattle.node_step.proofs.Recorded.{recorded_promoted}
+use Rattle.node_step.proofs.WithWritten.{with_written_promoted}
 use Rattle.node_step.specs.Failing.{members_of}
 use Rattle.node_step.specs.Handovers.{handing_over, is_at_end, may_pause}
 use Rattle.node_step.specs.Messages.{Choice, ready, taken, taken_so, written_by_message}
@@ -146,7 +146,7 @@ module _ (node : NodeState) where
   row_quiet from choice (body.Claim slots replaced) no_grant =
       (claim_is_of_slots (λ s. s.number ≡ node.number) node (λ keyspace table moves current handover connections known noted. refl) from slots).promoted
   row_quiet from choice (body.Report suspects) no_grant = refl
-  row_quiet from choice (body.Request request) no_grant = refl
+  row_quiet from choice (body.Candidacy request) no_grant = refl
   row_quiet from choice (body.Grant epoch) no_grant = absurd (no_grant epoch refl)
   row_quiet from choice (body.Sync sync) no_grant = synced_is IsQuiet node from sync refl refl
   row_quiet from choice (body.Piece piece) no_grant = refl
@@ -170,7 +170,7 @@ event_turns node (Request conn words) outcome may promoted now planned = absurd 
     by_asking false may = ap (λ (o : Outcome). o.promoted) may
     by_asking true may =
         ap (λ (o : Outcome). o.promoted) may.comes_to
-        ∙ recorded_promoted (request_outcome node conn (command_of words)) (written_at node conn words) may.dropped
+        ∙ with_written_promoted (request_outcome node conn (command_of words)) (written_at node conn words) may.dropped
         ∙ (request_is_of_slots (λ s. s.number ≡ node.number) (using_up node conn) (λ keyspace table moves current handover connections known noted. refl) conn (connection_at node.connections conn) (command_of words)).promoted
 event_turns node (Deliver message) outcome may promoted now planned =
     (message, refl, subst (Succession node) (sym may.comes_to) (by_target (message.to == node.number) (ap (λ (o : Outcome). o.promoted) (sym may.comes_to) ∙ now)))
@@ -180,7 +180,7 @@ event_turns node (Deliver message) outcome may promoted now planned =
 
     others : (said : Body) → ((epoch : ℕ) → said ≡ body.Grant epoch → ⊥) → (taken (ready node message) message.from may.choice said).promoted ≡ Some promoted → Succession node (taken (ready node message) message.from may.choice said)
     others said no_grant now =
-        absurd (no_some (recorded_promoted (taken_so (ready node message) message.from may.choice said) (written_by_message (ready node message) message.from said) may.choice.dropped ∙ row_quiet (ready node message) message.from may.choice said no_grant) now)
+        absurd (no_some (with_written_promoted (taken_so (ready node message) message.from may.choice said) (written_by_message (ready node message) message.from said) may.choice.dropped ∙ row_quiet (ready node message) message.from may.choice said no_grant) now)
 
     by_body : (said : Body) → message.body ≡ said → (taken (ready node message) message.from may.choice said).promoted ≡ Some promoted → Succession node (taken (ready node message) message.from may.choice said)
     by_body (body.Grant epoch) is now = voted_turns node (ready node message) (goes_then message node (ready node message) (ap replaced_in is) (ready_does node message)) like message.from epoch promoted planned now
@@ -189,7 +189,7 @@ event_turns node (Deliver message) outcome may promoted now planned =
     by_body (body.Drained slot number e) is now = others (body.Drained slot number e) (λ epoch same. cc) now
     by_body (body.Claim slots replaced) is now = others (body.Claim slots replaced) (λ epoch same. cc) now
     by_body (body.Report suspects) is now = others (body.Report suspects) (λ epoch same. cc) now
-    by_body (body.Request request) is now = others (body.Request request) (λ epoch same. cc) now
+    by_body (body.Candidacy request) is now = others (body.Candidacy request) (λ epoch same. cc) now
     by_body (body.Sync sync) is now = others (body.Sync sync) (λ epoch same. cc) now
     by_body (body.Piece piece) is now = others (body.Piece piece) (λ epoch same. cc) now
     by_body (body.Snapshot snapshot) is now = others (body.Snapshot snapshot) (λ epoch same. cc) now

@@ -34,9 +34,9 @@ use Rattle.slot_state.specs.declared.copy_id.CopyId.{CopyId}
 use Rattle.slot_table.specs.Claims.{merged}
 use Rattle.slot_table.specs.declared.runs.Run.{Run}
 use Rattle.stream_values.specs.Stream.{is_same}
-use Rattle.node_step.proofs.Kept.{pieced_keeps, recorded_keeps, restored_keeps, synced_is}
+use Rattle.node_step.proofs.Kept.{pieced_keeps, with_written_keeps, restored_keeps, synced_is}
 use Rattle.node_step.proofs.Ready.{in_election_keeps, ready_keeps}
-use Rattle.node_step.proofs.Recorded.{recorded_promoted}
+use Rattle.node_step.proofs.WithWritten.{with_written_promoted}
 use Rattle.node_step.specs.Claiming.{claimed_by}
 use Rattle.node_step.specs.Commands.{command_outcome, decision_on}
 use Rattle.node_step.specs.Copies.{acknowledged, copy_outcome, copy_verdict_on, first_slot, node_at, those_there}
@@ -49,7 +49,7 @@ use Rattle.node_step.specs.Promotion.{handed_promotion, promotion, promotion_to,
 use Rattle.node_step.specs.Requests.{asking_of, by_command, cluster_outcome, is_numbered, node_with_id, order_outcome, request_outcome, using_up}
 use Rattle.node_step.specs.State.{NodeState, is_replica, own_master, standing}
 use Rattle.node_step.specs.Step.{IsAnswering, IsClosing, MayCome, written as written_at}
-use Rattle.node_step.specs.Streams.{Requests, recorded}
+use Rattle.node_step.specs.Streams.{Requests, with_written}
 use Rattle.node_step.specs.Ticks.{older}
 use Rattle.node_step.specs.Voting.{due_epoch, if_elected}
 use Rattle.node_step.specs.declared.event.Event.{Event}
@@ -125,12 +125,12 @@ module _ (event : Event) (node : NodeState) where
   words_table conn connection (Ok (Cluster which)) = cluster_table conn which
   words_table conn connection (Ok (Data which)) = command_table (is_numbered connection) which (decision_on node which (asking_of connection))
 
-  recorded_table : (outcome : Outcome) (requests : Requests) (dropped : ℕ) → By outcome → By (recorded outcome requests dropped)
-  recorded_table outcome requests dropped (same is) = same (recorded_keeps (λ s. s.table ≡ node.table) outcome requests dropped (λ stream. is))
-  recorded_table outcome requests dropped (ends slot moving is) =
-      ends slot moving (recorded_keeps (λ s. s.table ≡ slice_set node.table slot (Some (record { epoch = s.current_epoch; owner = node.number }))) outcome requests dropped (λ stream. is))
-  recorded_table outcome requests dropped (learns message runs replaced is says apart table) =
-      learns message runs replaced is says apart (recorded_keeps (λ s. s.table ≡ merged node.table runs message.from) outcome requests dropped (λ stream. table))
+  with_written_table : (outcome : Outcome) (requests : Requests) (dropped : ℕ) → By outcome → By (with_written outcome requests dropped)
+  with_written_table outcome requests dropped (same is) = same (with_written_keeps (λ s. s.table ≡ node.table) outcome requests dropped (λ stream. is))
+  with_written_table outcome requests dropped (ends slot moving is) =
+      ends slot moving (with_written_keeps (λ s. s.table ≡ slice_set node.table slot (Some (record { epoch = s.current_epoch; owner = node.number }))) outcome requests dropped (λ stream. is))
+  with_written_table outcome requests dropped (learns message runs replaced is says apart table) =
+      learns message runs replaced is says apart (with_written_keeps (λ s. s.table ≡ merged node.table runs message.from) outcome requests dropped (λ stream. table))
 
 -- ---- messages
 
@@ -184,7 +184,7 @@ module _ (message : Message) (node : NodeState) where
   row_table choice (body.Drained slot number epoch) is not_now = same refl
   row_table choice (body.Claim runs replaced) is not_now = claim_table runs replaced is (message.from == node.number) refl
   row_table choice (body.Report suspects) is not_now = same refl
-  row_table choice (body.Request request) is not_now = same refl
+  row_table choice (body.Candidacy request) is not_now = same refl
   row_table choice (body.Grant epoch) is not_now = grant_table (counted node.candidate (members_of node) message.from epoch) (elected node.candidate (members_of node) message.from epoch) not_now
   row_table choice (body.Sync sync) is not_now = synced_is ByMessage node message.from sync (same refl) (same refl)
   row_table choice (body.Piece piece) is not_now = same (pieced_keeps (λ s. s.table ≡ node.table) node (λ stream keyspace. refl) message.from piece choice.follower)
@@ -196,7 +196,7 @@ module _ (message : Message) (node : NodeState) where
   taken_table choice not_now =
       let outcome : Outcome = taken_so node message.from choice message.body in
       let requests : Requests = written_by_message node message.from message.body in
-      recorded_table (Deliver message) node outcome requests choice.dropped (row_table choice message.body refl (sym (recorded_promoted outcome requests choice.dropped) ∙ not_now))
+      with_written_table (Deliver message) node outcome requests choice.dropped (row_table choice message.body refl (sym (with_written_promoted outcome requests choice.dropped) ∙ not_now))
 
 -- ---- any event
 
@@ -222,7 +222,7 @@ event_table node (Request conn words) outcome may not_now = by_asking (may_ask (
     by_asking true may =
         subst (λ (o : Outcome). TableIs (Request conn words) node o.state) (sym may.comes_to)
         (heard_table (Request conn words) node (using_up node conn) _ refl refl refl
-        (recorded_table (Request conn words) (using_up node conn) (request_outcome node conn (command_of words)) (written_at node conn words) may.dropped
+        (with_written_table (Request conn words) (using_up node conn) (request_outcome node conn (command_of words)) (written_at node conn words) may.dropped
         (words_table (Request conn words) (using_up node conn) conn (connection_at node.connections conn) (command_of words))))
 event_table node (Deliver message) outcome may not_now =
     subst (λ (o : Outcome). TableIs (Deliver message) node o.state) (sym may.comes_to) (by_target (message.to == node.number) (subst (λ (o : Outcome). o.promoted ≡ None) may.comes_to not_now))

@@ -248,7 +248,7 @@ module _ (config : ClusterConfig) {past : List Entry} {nodes : List NodeState} {
         said_now to (body.Ack id) is = tt
         said_now to (body.Drained slot number epoch) is = tt
         said_now to (body.Report suspects) is = tt
-        said_now to (body.Request request) is = tt
+        said_now to (body.Candidacy request) is = tt
         said_now to (body.Grant epoch) is = tt
         said_now to (body.Sync sync) is = tt
         said_now to (body.Piece piece) is = tt

@@ -1,16 +1,14 @@
 //! A key that moves between two nodes whose messages are lost, come several times, or come late, and what the audit says of that.
 ghost use Rattle.std.specs.Prelude.{◌≡◌, length};
-ghost use Rattle.links.specs.Ends.{AreLinkedFrom};
+ghost use Rattle.link_ends.specs.Ends.{AreLinkedFrom};
 ghost use Rattle.tickets.specs.Tickets.{IsFresh, id_of};
 
-use crate::audited_stations::both_stations;
-use crate::carrying::carry;
-use crate::key_move::{Both, keys_of_move, step};
 use anyhow::Result;
 use audit::gather_stations;
 use cluster_config::Config;
-use links::Act::{Hold, Lose, Pass, Repeat};
-use links::{Act, LinkEnd, PortEnd, PortEnds, Shim, Station, Web, link_shims};
+use link_ends::Act::{Hold, Lose, Pass, Repeat};
+use link_ends::{Act, LinkEnd, PortEnd, PortEnds, Shim, link_shims};
+use links::{Station, Web};
 use node_cell::{Admission, Asks, Deployment, HoldsCell, Journal, Posted};
 use node_core::Event;
 use std::alloc::{AllocError, Global};
@@ -18,6 +16,7 @@ use std::marker::Brand;
 use std::sync::Wait;
 use tickets::{Seat, Table};
 use trial_nodes::{Two, conn_of, deal_two, say, two_masters};
+use trial_pairs::{Both, both_stations, carry, keys_of_move, step};
 
 // A trial.
 struct Row {

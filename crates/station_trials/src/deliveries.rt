@@ -2,8 +2,6 @@
 ghost use Rattle.std.specs.Prelude.{◌≡◌, length};
 ghost use Rattle.tickets.specs.Tickets.{IsFresh};
 
-use crate::audited_cells::both_cells;
-use crate::key_move::{Both, step};
 use anyhow::{Context, Result};
 use cluster_config::Config;
 use node_cell::{Admission, Asks, Deployment, Entry, Journal, NodeCell};
@@ -12,6 +10,7 @@ use std::alloc::Global;
 use std::marker::Brand;
 use tickets::Seat;
 use trial_nodes::{Two, conn_of, deal_two, one_replica, say, words_of};
+use trial_pairs::{Both, both_cells, step};
 
 // So many messages come to a replica, a write each.
 const MESSAGES: usize = 1000;

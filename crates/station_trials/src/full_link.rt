@@ -2,7 +2,7 @@
 
 use anyhow::Result;
 use bus::Link;
-use links::{LinkEnd, MOST_MESSAGES, link};
+use link_ends::{LinkEnd, MOST_MESSAGES, link};
 use std::alloc::{AllocError, Global};
 use std::sync::Wait;
 use trial_nodes::say;

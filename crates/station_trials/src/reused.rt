@@ -1,14 +1,12 @@
 //! A connection that is closed while its reply is on the way, and whose key is used again: the reply is given to neither.
 ghost use Rattle.std.specs.Prelude.{◌≡◌, length};
-ghost use Rattle.links.specs.Ends.{AreLinkedFrom};
+ghost use Rattle.link_ends.specs.Ends.{AreLinkedFrom};
 ghost use Rattle.tickets.specs.Tickets.{IsFresh};
 
-use crate::audited_stations::both_stations;
-use crate::carrying::carry;
-use crate::key_move::{Both, keys_of_move, step};
 use anyhow::Result;
 use cluster_config::Config;
-use links::{LinkEnd, PortEnd, PortEnds, Station, Web, link_ports};
+use link_ends::{LinkEnd, PortEnd, PortEnds, link_ports};
+use links::{Station, Web};
 use node_cell::{Admission, Asks, Deployment, HoldsCell, Journal, Posted};
 use node_core::{Conn, Event};
 use std::alloc::Global;
@@ -16,6 +14,7 @@ use std::marker::Brand;
 use std::sync::Wait;
 use tickets::Seat;
 use trial_nodes::{Two, conn_of, deal_two, say, two_masters};
+use trial_pairs::{Both, both_stations, carry, keys_of_move, step};
 
 // The second connection with the key 0.
 const SECOND: Conn = Conn {

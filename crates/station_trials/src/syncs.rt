@@ -1,14 +1,13 @@
 //! A replica that says how much of its master's stream it has, while what it lacks is on its way to it, and once that was lost.
 ghost use Rattle.std.specs.Prelude.{◌≡◌, length};
-ghost use Rattle.links.specs.Ends.{AreLinkedFrom};
+ghost use Rattle.link_ends.specs.Ends.{AreLinkedFrom};
 ghost use Rattle.tickets.specs.Tickets.{IsFresh};
 
-use crate::audited_stations::both_stations;
-use crate::key_move::{Both, step};
 use anyhow::Result;
 use cluster_config::Config;
 use key_slot::Slot;
-use links::{LinkEnd, NotTaken, PortEnd, PortEnds, Station, Web, link_ports};
+use link_ends::{LinkEnd, PortEnd, PortEnds, link_ports};
+use links::{NotTaken, Station, Web};
 use node_cell::{Admission, Asks, Deployment, HoldsCell, Journal, Posted};
 use node_core::Event;
 use std::alloc::Global;
@@ -16,6 +15,7 @@ use std::marker::Brand;
 use std::sync::Wait;
 use tickets::Seat;
 use trial_nodes::{Two, conn_of, deal_two, one_replica, say, words_of};
+use trial_pairs::{Both, both_stations, step};
 
 // The slot of all keys, whose tag is `a`.
 const SLOT: u16 = 15495;

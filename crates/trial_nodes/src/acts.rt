@@ -116,7 +116,7 @@ fn push_body(text: &mut Vec<u8>, body: &Body) -> Result<(), AllocError> {
         }
         Body::Claim(_, Some(replaced)) => push_replaced(text, *replaced),
         Body::Report(suspects) => push_suspects(text, suspects),
-        Body::Request(request) => push_number(text, request.epoch.get(), b" "),
+        Body::Candidacy(request) => push_number(text, request.epoch.get(), b" "),
         Body::Grant(epoch) => push_number(text, epoch.get(), b" "),
         Body::Paused(handing) => push_number(text, handing.offset, b" "),
         Body::Claim(_, None) => Ok(()),
@@ -160,7 +160,7 @@ fn name_of(body: &Body) -> &'static [u8] {
         Body::Drained { .. } => b"drained ",
         Body::Claim(_, _) => b"claim ",
         Body::Report(_) => b"report ",
-        Body::Request(_) => b"request ",
+        Body::Candidacy(_) => b"request ",
         Body::Grant(_) => b"grant ",
         Body::Sync(_) => b"sync ",
         Body::Piece(_) => b"piece ",

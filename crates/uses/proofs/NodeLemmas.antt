@@ -30,12 +30,12 @@ use Rattle.connections.specs.Connections.{ConnectionTable, connection_at, open_a
 use Rattle.connections.specs.declared.conn.Conn.{Conn}
 use Rattle.connections.specs.declared.conn.Connection.{Connection}
 use Rattle.node_step.specs.Commands.{command_outcome, decision_on, served as served_by, executed}
-use Rattle.node_step.proofs.Recorded.{recorded_response, recorded_state}
+use Rattle.node_step.proofs.WithWritten.{with_written_response, with_written_state}
 use Rattle.node_step.specs.Outcome.{Outcome}
 use Rattle.node_step.specs.Requests.{asking_of, is_numbered, request_outcome, using_up}
 use Rattle.node_step.specs.State.{NodeState}
 use Rattle.node_step.specs.Step.{NodeStep, written}
-use Rattle.node_step.specs.Streams.{recorded}
+use Rattle.node_step.specs.Streams.{with_written}
 use Rattle.node_step.specs.declared.event.Event.{Event}
 use Rattle.node_step.specs.declared.event.Event.TheVariants.{Open, Request}
 use Rattle.node_step.specs.declared.outputs.Outputs.{Outputs}
@@ -129,15 +129,15 @@ answered : (ticket : ℕ) (old new : NodeState) (conn : Conn) (words : List (Lis
 answered ticket old new conn words outputs command step is_command is serves =
     let answering = rw (may old conn is) at step.may_come in
     let asked : Outcome = request_outcome old conn (command_of words) in
-    let behind : Outcome = recorded asked (written old conn words) answering.dropped in
+    let behind : Outcome = with_written asked (written old conn words) answering.dropped in
     let known : asked ≡ command_outcome (using_up old conn) false command (decision_on (using_up old conn) command No) =
     ap (λ c. request_outcome old conn c) is_command
     ∙ ap (λ c. command_outcome (using_up old conn) (is_numbered c) command (decision_on (using_up old conn) command (asking_of c))) is in
     let made : asked ≡ served_by (using_up old conn) command Serve = known ∙ ap (command_outcome (using_up old conn) false command) serves in
     let comes : new ≡ behind.state = step.state ∙ ap (λ (o : Outcome). o.state) answering.comes_to in (
-      ap (λ (o : Outputs). o.response) step.outputs_are ∙ ap (λ (o : Outcome). o.response) answering.comes_to ∙ recorded_response asked (written old conn words) answering.dropped
+      ap (λ (o : Outputs). o.response) step.outputs_are ∙ ap (λ (o : Outcome). o.response) answering.comes_to ∙ with_written_response asked (written old conn words) answering.dropped
           ∙ ap (λ (o : Outcome). o.response) made,
-      comes ∙ recorded_state asked (written old conn words) answering.dropped ∙ ap (λ (node : NodeState). record asked.state { stream = node.stream }) (sym comes)
+      comes ∙ with_written_state asked (written old conn words) answering.dropped ∙ ap (λ (node : NodeState). record asked.state { stream = node.stream }) (sym comes)
           ∙ ap (λ (o : Outcome). record o.state { stream = new.stream }) made,
     )
 

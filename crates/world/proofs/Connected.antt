@@ -5,7 +5,7 @@ use Rattle.std.proofs.lemmas.Bool.{cases_eq, cond-true, cond-false}
 use Rattle.std.proofs.lemmas.List.{get_or-set_other}
 use Rattle.std.specs.Prelude.{MatchBool, Result, Ok, Err, ⊤}
 use Rattle.bus.specs.declared.message.Body.{Body}
-use Rattle.bus.specs.declared.message.Body.TheVariants.{Copy, Ack, Drained, Claim, Report, Request as Requested, Grant, Sync, Piece, Snapshot, Pause, Paused}
+use Rattle.bus.specs.declared.message.Body.TheVariants.{Copy, Ack, Drained, Claim, Report, Candidacy as Requested, Grant, Sync, Piece, Snapshot, Pause, Paused}
 use Rattle.bus.specs.declared.message.Message.{Message}
 use Rattle.command_table.specs.Keys.{data_keys}
 use Rattle.command_table.specs.Table.{command_of}
@@ -46,8 +46,8 @@ use Rattle.slot_table.specs.declared.entry.SlotEntry.{SlotEntry}
 use Rattle.node_step.specs.Claiming.{claimed_by}
 use Rattle.node_step.specs.Commands.{asked_of, command_outcome, decision_on}
 use Rattle.node_step.specs.Copies.{acknowledged, copy_outcome, copy_verdict_on, first_slot, node_at, those_there, waiting_for}
-use Rattle.node_step.proofs.Kept.{pieced_keeps, recorded_keeps, restored_keeps, synced_is}
-use Rattle.node_step.proofs.Recorded.{recorded_response}
+use Rattle.node_step.proofs.Kept.{pieced_keeps, with_written_keeps, restored_keeps, synced_is}
+use Rattle.node_step.proofs.WithWritten.{with_written_response}
 use Rattle.election.specs.Electing.{counted, elected}
 use Rattle.election.specs.Health.{Candidate, Health}
 use Rattle.election.specs.declared.running.Elected.{Elected}
@@ -475,7 +475,7 @@ module _ (node : NodeState) (from epoch : ℕ) (masters : List (Option ℕ)) (he
   taken_stays : (body : Body) → Stays node (taken heard from choice body).state
   taken_stays body =
       let outcome : Outcome = taken_so heard from choice body in
-      recorded_keeps (Stays node) outcome (written_by_message heard from body) choice.dropped (λ stream. stays_beside outcome.state stream outcome.state.keyspace (taken_so_stays body))
+      with_written_keeps (Stays node) outcome (written_by_message heard from body) choice.dropped (λ stream. stays_beside outcome.state stream outcome.state.keyspace (taken_so_stays body))
 
 delivered_stays : (node : NodeState) (message : Message) (choice : Choice) → Stays node (delivered node message choice).state
 delivered_stays node message choice = by_node (message.to == node.number)
@@ -544,7 +544,7 @@ answer_leaves : (old : NodeState) (conn : Conn) (words : List (List ℕ)) (asks 
 answer_leaves old conn words true outcome may =
     let left = request_leaves old conn words in
     subst (λ (o : Outcome). Leaves (Request conn words) old o.state) (sym may.comes_to)
-    (recorded_keeps (Leaves (Request conn words) old) (request_outcome old conn (command_of words)) (written old conn words) may.dropped
+    (with_written_keeps (Leaves (Request conn words) old) (request_outcome old conn (command_of words)) (written old conn words) may.dropped
     (λ stream. record { config = left.config; opens = left.opens; calm = left.calm }))
 answer_leaves old conn words false outcome may = silent_leaves (Request conn words) old outcome may
 
@@ -568,7 +568,7 @@ request_uses_up ticket old new conn words outputs answer step answers =
     let answered : step.outcome.response ≡ Replied answer = sym (ap (λ (o : Outputs). o.response) step.outputs_are) ∙ answers in
     let may : IsAnswering old conn words step.outcome = is_answering old conn words (may_ask (connection_at old.connections conn)) step.outcome answer step.may_come answered in
     subst (UsesUp conn words) (sym (step.state ∙ ap (λ (o : Outcome). o.state) may.comes_to))
-    (recorded_keeps (UsesUp conn words) (request_outcome old conn (command_of words)) (written old conn words) may.dropped (λ stream. uses_up old conn words))
+    (with_written_keeps (UsesUp conn words) (request_outcome old conn (command_of words)) (written old conn words) may.dropped (λ stream. uses_up old conn words))
 
 -- a connection that is opened wasn't opened before, and allows nothing
 pub record IsNew (old new : NodeState) (conn : Conn) : Type 0 where
@@ -719,5 +719,5 @@ served_if_allowed ticket old new conn words outputs answer number step answers =
     let answered : step.outcome.response ≡ Replied answer = sym (ap (λ (o : Outputs). o.response) step.outputs_are) ∙ answers in
     let may : IsAnswering old conn words step.outcome = is_answering old conn words (may_ask (connection_at old.connections conn)) step.outcome answer step.may_come answered in
     subst (Says (AnswersAllowed (asking_on old conn) number))
-    (sym (recorded_response (request_outcome old conn (command_of words)) (written old conn words) may.dropped) ∙ ap (λ (o : Outcome). o.response) (sym may.comes_to) ∙ answered)
+    (sym (with_written_response (request_outcome old conn (command_of words)) (written old conn words) may.dropped) ∙ ap (λ (o : Outcome). o.response) (sym may.comes_to) ∙ answered)
     (command_allowed (using_up old conn) conn (connection_at old.connections conn) (command_of words) number)

@@ -4,7 +4,7 @@ use Rattle.std.proofs.Math.ListN.{get_or-map}
 use Rattle.std.proofs.lemmas.Bool.{cases_eq, cases_Bool, cond-true, cond-false}
 use Rattle.std.specs.Prelude.{MatchBool, Result, Ok, Err, ⊤}
 use Rattle.bus.specs.declared.message.Body.{Body}
-use Rattle.bus.specs.declared.message.Body.TheVariants.{Copy, Ack, Drained, Claim, Report, Request as Requested, Grant, Sync, Piece, Snapshot, Pause, Paused}
+use Rattle.bus.specs.declared.message.Body.TheVariants.{Copy, Ack, Drained, Claim, Report, Candidacy as Requested, Grant, Sync, Piece, Snapshot, Pause, Paused}
 use Rattle.bus.specs.declared.message.Message.{Message}
 use Rattle.command_table.specs.Table.{command_of}
 use Rattle.command_table.specs.declared.command.ClusterCommand.{ClusterCommand}
@@ -47,7 +47,7 @@ use Rattle.node_step.specs.Outcome.{Outcome, release, silent}
 use Rattle.node_step.specs.Requests.{asking_for, asking_of, by_command, cluster_outcome, is_numbered, node_with_id, order_outcome, request_outcome, using_up}
 use Rattle.node_step.specs.State.{Handover, NodeState, is_replica, own_master}
 use Rattle.node_step.specs.Step.{IsAnswering, IsClosing, IsOpening, MayCome, NodeStep, written}
-use Rattle.node_step.specs.Streams.{Requests, recorded}
+use Rattle.node_step.specs.Streams.{Requests, with_written}
 use Rattle.node_step.specs.Ticks.{slots_tick, tick}
 use Rattle.node_step.specs.declared.event.Event.{Event}
 use Rattle.node_step.specs.declared.event.Event.TheVariants.{Open, Close, Request, Deliver, Tick}
@@ -387,9 +387,9 @@ claimed_ready event old node table same = record {
 }
 
 -- the same behind a write, and with another stream and keyspace
-recorded_ready : (event : Event) (old : NodeState) (outcome : Outcome) (requests : Requests) (dropped : ℕ) → KeepsReady event old outcome → KeepsReady event old (recorded outcome requests dropped)
-recorded_ready event old outcome [] dropped kept = kept
-recorded_ready event old outcome (request ∷ requests) dropped kept = record { ready = kept.ready; freed = kept.freed }
+with_written_ready : (event : Event) (old : NodeState) (outcome : Outcome) (requests : Requests) (dropped : ℕ) → KeepsReady event old outcome → KeepsReady event old (with_written outcome requests dropped)
+with_written_ready event old outcome [] dropped kept = kept
+with_written_ready event old outcome (request ∷ requests) dropped kept = record { ready = kept.ready; freed = kept.freed }
 
 quiet_ready : (event : Event) (old node : NodeState) → node.connections ≡ old.connections → KeepsReady event old (silent node)
 quiet_ready event old node same = same_ready event old (silent node) same refl
@@ -449,7 +449,7 @@ module _ (event : Event) (old : NodeState) (epoch : ℕ) (masters : List (Option
   taken_so_ready from choice (Paused handing) = noting_ready handing (is_replica heard && is_same handing.stream heard.stream.held.id)
 
   taken_ready : (from : ℕ) (choice : Choice) (body : Body) → KeepsReady event old (taken heard from choice body)
-  taken_ready from choice body = recorded_ready event old (taken_so heard from choice body) (written_by_message heard from body) choice.dropped (taken_so_ready from choice body)
+  taken_ready from choice body = with_written_ready event old (taken_so heard from choice body) (written_by_message heard from body) choice.dropped (taken_so_ready from choice body)
 
 delivered_ready : (old : NodeState) (message : Message) (choice : Choice) → KeepsReady (Deliver message) old (delivered old message choice)
 delivered_ready old message choice = by_node (message.to == old.number)
@@ -489,7 +489,7 @@ answering_ready : (old : NodeState) (conn : Conn) (words : List (List ℕ)) (out
 answering_ready old conn words outcome false may = silent_ready (Request conn words) old outcome may
 answering_ready old conn words outcome true may =
     subst (KeepsReady (Request conn words) old) (sym may.comes_to)
-    (recorded_ready (Request conn words) old (request_outcome old conn (command_of words)) (written old conn words) may.dropped
+    (with_written_ready (Request conn words) old (request_outcome old conn (command_of words)) (written old conn words) may.dropped
     (record {
       ready = λ other spared was. request_keeps old conn (command_of words) other spared was;
       freed = none_freed old (request_outcome old conn (command_of words)).released (request_frees old conn (command_of words));

@@ -1,6 +1,6 @@
 use Rattle.std.proofs.Common.{rules, ◌≡◌, ℕ, List, length, sym, subst}
 use Rattle.bus.specs.declared.message.Message.{Message}
-use Rattle.links.specs.Ends.{AllArrived, AreWired, EndView}
+use Rattle.link_ends.specs.Ends.{AllArrived, AreWired, EndView}
 use Rattle.audit.specs.Gathered.{parts_of}
 use Rattle.audit.specs.Merge.{AreEachOnce, PartView, nodes_of}
 use Rattle.audit.specs.Stations.{cells_of}

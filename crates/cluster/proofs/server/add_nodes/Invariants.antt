@@ -1,6 +1,6 @@
 use Rattle.std.proofs.Common.{◌≡◌, ◌+◌, All, length, map, vec_len}
 use Rattle.std.specs.Vec.Iter.{into_iter_items}
-use Rattle.links.specs.Ends.{AreLinkedFrom}
+use Rattle.link_ends.specs.Ends.{AreLinkedFrom}
 use Rattle.tickets.specs.Tickets.{IsFresh}
 use Rattle.cluster.proofs.server.add_nodes.Given as goal
 

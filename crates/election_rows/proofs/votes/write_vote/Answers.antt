@@ -4,4 +4,4 @@ use Rattle.election_rows.proofs.votes.write_vote.Goals as goal
 
 pub returns : goal.returns
 returns g c =
-    vote_drafted c.args.node.now c.args.request c.args.granted _ _ c.write_releases.new.draft (search rules) c.in_ok-bodies.ensures (c.write_releases.ensures _ refl)
+    vote_drafted c.args.node.now c.args.request c.args.granted _ _ c.draft_releases.new.draft (search rules) c.in_ok-bodies.ensures (c.draft_releases.ensures _ refl)

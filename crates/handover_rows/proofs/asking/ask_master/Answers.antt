@@ -10,5 +10,5 @@ returns-in_default g c =
 
 pub returns : goal.returns
 returns g c =
-    asked c.args.node.now c.args.conn c.write_reply_sending.new.draft _ c.in-Some.master _ (sym c.own_master.ensures ∙ c.in-Some.is) c.done.ensures
-    (c.in_ok-bodies.ensures ∙ ap (λ id. (c.in-Some.master, Pause id) ∷ []) c.id.ensures ∙ ap (λ (n : NodeState). (c.in-Some.master, Pause n.stream.held.id) ∷ []) c.node.view_is) (c.write_reply_sending.ensures _ refl)
+    asked c.args.node.now c.args.conn c.draft_reply_sending.new.draft _ c.in-Some.master _ (sym c.own_master.ensures ∙ c.in-Some.is) c.done.ensures
+    (c.in_ok-bodies.ensures ∙ ap (λ id. (c.in-Some.master, Pause id) ∷ []) c.id.ensures ∙ ap (λ (n : NodeState). (c.in-Some.master, Pause n.stream.held.id) ∷ []) c.node.view_is) (c.draft_reply_sending.ensures _ refl)

@@ -9,15 +9,15 @@ use Rattle.move_rows.proofs.copies.take_ack.Goals as goal
 pub returns-in_default : goal.returns-in_default
 returns-in_default g c =
     let id = c.args.id in
-    nothing_acknowledged c.args.node.now c.args.from id c.write_change.new.draft c.acknowledged_keys.result c.in_default.is
+    nothing_acknowledged c.args.node.now c.args.from id c.draft_change.new.draft c.acknowledged_keys.result c.in_default.is
     (c.acknowledged_keys.ensures
     ∙ ap (λ move. acknowledged_keys move c.args.from id.number id.copy) (c.get.ensures ∙ ap (λ (node : NodeState). move_of node.moves id.slot) c.node.view_is))
-    (c.write_change.ensures _ refl)
+    (c.draft_change.ensures _ refl)
 
 pub returns : goal.returns
 returns g c =
     let id = c.args.id in
-    acknowledges c.args.node.now c.args.from id c.write_releases.new.draft c.acknowledged_keys.result c.in-Some.keys c.done.result _ _ c.in-Some.is
+    acknowledges c.args.node.now c.args.from id c.draft_releases.new.draft c.acknowledged_keys.result c.in-Some.keys c.done.result _ _ c.in-Some.is
     (c.acknowledged_keys.ensures
     ∙ ap (λ move. acknowledged_keys move c.args.from id.number id.copy) (c.get.ensures ∙ ap (λ (node : NodeState). move_of node.moves id.slot) c.node.view_is))
-    (c.in_ok-bodies.ensures ∙ c.drained_by_ack.ensures ∙ ap (drained_by_ack c.args.node.now id.slot) c.as_slice.ensures) c.in_ok-released.ensures c.done.ensures c.write_releases.ensures
+    (c.in_ok-bodies.ensures ∙ c.drained_by_ack.ensures ∙ ap (drained_by_ack c.args.node.now id.slot) c.as_slice.ensures) c.in_ok-released.ensures c.done.ensures c.draft_releases.ensures

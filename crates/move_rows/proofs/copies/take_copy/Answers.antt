@@ -8,20 +8,20 @@ use Rattle.move_rows.proofs.copies.take_copy.Goals as goal
 pub returns-in_ok-plan-in-Installs : goal.returns-in_ok-plan-in-Installs
 returns-in_ok-plan-in-Installs g c =
     let id = c.args.id in
-    installs_copy c.args.node.now c.args.from id c.args.pairs.now c.pairs_fit-fits.result c.arrival_verdict-verdict.result _ _ c.in_ok-plan-in-Installs.plan c.write_releases.new.draft
+    installs_copy c.args.node.now c.args.from id c.args.pairs.now c.pairs_fit-fits.result c.arrival_verdict-verdict.result _ _ c.in_ok-plan-in-Installs.plan c.draft_releases.new.draft
     (c.arrival_verdict-verdict.ensures ∙ ap (λ move. arrival_verdict move c.args.from id.number id.copy c.pairs_fit-fits.result) (c.get.ensures ∙ ap (λ (node : NodeState). move_of node.moves id.slot) c.node.view_is))
-    c.pairs_fit-fits.ensures c.new.ensures (c.in_ok-bodies.ensures ∙ c.acknowledgement-word.ensures) c.in-Installs.is c.in_ok-plan-in-Installs.ensures c.write_releases.ensures
+    c.pairs_fit-fits.ensures c.new.ensures (c.in_ok-bodies.ensures ∙ c.acknowledgement-word.ensures) c.in-Installs.is c.in_ok-plan-in-Installs.ensures c.draft_releases.ensures
 
 pub returns-in-Repeats : goal.returns-in-Repeats
 returns-in-Repeats g c =
     let id = c.args.id in
-    repeats_copy c.args.node.now c.args.from id c.args.pairs.now c.pairs_fit-fits.result c.arrival_verdict-verdict.result _ _ c.args.draft.now.plan c.write_releases-in-Repeats.new.draft
+    repeats_copy c.args.node.now c.args.from id c.args.pairs.now c.pairs_fit-fits.result c.arrival_verdict-verdict.result _ _ c.args.draft.now.plan c.draft_releases-in-Repeats.new.draft
     (c.arrival_verdict-verdict.ensures ∙ ap (λ move. arrival_verdict move c.args.from id.number id.copy c.pairs_fit-fits.result) (c.get.ensures ∙ ap (λ (node : NodeState). move_of node.moves id.slot) c.node.view_is))
-    c.pairs_fit-fits.ensures c.new-in-Repeats.ensures (c.in_ok-bodies.ensures ∙ c.acknowledgement-word.ensures) c.in-Repeats.is c.write_releases-in-Repeats.ensures
+    c.pairs_fit-fits.ensures c.new-in-Repeats.ensures (c.in_ok-bodies.ensures ∙ c.acknowledgement-word.ensures) c.in-Repeats.is c.draft_releases-in-Repeats.ensures
 
 pub returns-in-Ignored : goal.returns-in-Ignored
 returns-in-Ignored g c =
     let id = c.args.id in
-    ignores_copy c.args.node.now c.args.from id c.args.pairs.now c.pairs_fit-fits.result c.arrival_verdict-verdict.result _ _ c.args.draft.now.plan c.write_releases-in-Ignored.new.draft
+    ignores_copy c.args.node.now c.args.from id c.args.pairs.now c.pairs_fit-fits.result c.arrival_verdict-verdict.result _ _ c.args.draft.now.plan c.draft_releases-in-Ignored.new.draft
     (c.arrival_verdict-verdict.ensures ∙ ap (λ move. arrival_verdict move c.args.from id.number id.copy c.pairs_fit-fits.result) (c.get.ensures ∙ ap (λ (node : NodeState). move_of node.moves id.slot) c.node.view_is))
-    c.pairs_fit-fits.ensures c.new-in-Ignored.ensures (c.in_ok-bodies.ensures ∙ c.acknowledgement-word.ensures) c.in-Ignored.is c.write_releases-in-Ignored.ensures
+    c.pairs_fit-fits.ensures c.new-in-Ignored.ensures (c.in_ok-bodies.ensures ∙ c.acknowledgement-word.ensures) c.in-Ignored.is c.draft_releases-in-Ignored.ensures

@@ -2,4 +2,4 @@ use Rattle.std.proofs.Common.{refl}
 use Rattle.move_rows.proofs.copies.take_drained.Goals as goal
 
 pub returns : goal.returns
-returns g c = c.write_change.ensures _ refl
+returns g c = c.draft_change.ensures _ refl

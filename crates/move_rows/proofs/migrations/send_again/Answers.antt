@@ -10,7 +10,7 @@ pub returns : goal.returns
 returns g c =
     let old = c.args.node.now in
     let wait = c.args.wait in
-    sends_again old (using_up old c.args.conn) c.args.conn wait _ c.write_parked.new.draft
+    sends_again old (using_up old c.args.conn) c.args.conn wait _ c.draft_parked.new.draft
     (c.in_ok-bodies.ensures ∙ c.in_ok-body.ensures
     ∙ ap (outstanding old.keyspace wait.id.slot) (c.get.ensures ∙ ap (λ (node : NodeState). move_of node.moves wait.id.slot) c.node.view_is))
-    (c.write_parked.ensures _ refl)
+    (c.draft_parked.ensures _ refl)

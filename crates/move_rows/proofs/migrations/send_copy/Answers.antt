@@ -12,7 +12,7 @@ pub returns : goal.returns
 returns g c =
     let old = c.args.node.now in
     let wait = c.args.wait in
-    sends_copy old (with_moves (using_up old c.args.conn) (frozen old.moves wait.id.slot wait.id.copy c.args.keys)) c.args.conn c.args.keys c.args.to wait _ c.write_parked.new.draft c.requires.leaves
+    sends_copy old (with_moves (using_up old c.args.conn) (frozen old.moves wait.id.slot wait.id.copy c.args.keys)) c.args.conn c.args.keys c.args.to wait _ c.draft_parked.new.draft c.requires.leaves
     (c.in_ok-bodies.ensures ∙ ap (λ (body : ℕ × Body). body ∷ []) c.in_ok-body.ensures
     ∙ ap (λ (keys : List (List ℕ)). (c.args.to, Copy wait.id (pairs_at old.keyspace keys)) ∷ []) c.as_slice.ensures)
-    (c.write_parked.ensures _ refl)
+    (c.draft_parked.ensures _ refl)

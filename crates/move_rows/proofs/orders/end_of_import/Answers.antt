@@ -10,7 +10,7 @@ pub returns : goal.returns
 returns g c =
     let claim = c.in_ok-claim.claim in
     let numbers = others c.args.node.now in
-    end_drafted c.args.node.now c.args.conn c.args.slot c.args.drained c.args.epoch _ _ _ c.write_reply_in.new.draft c.requires.epoch.0 c.requires.epoch.1 c.in_ok-claim.ensures c.done.ensures
+    end_drafted c.args.node.now c.args.conn c.args.slot c.args.drained c.args.epoch _ _ _ c.draft_reply_in.new.draft c.requires.epoch.0 c.requires.epoch.1 c.in_ok-claim.ensures c.done.ensures
     (c.in_ok-append_to_others.ensures ∙ ap (λ (before : List (ℕ × Body)). before ++ to_all numbers (Claim claim c.node.inside.election.replaced)) c.new-bodies.ensures.items
     ∙ ap (λ (node : NodeState). to_all numbers (Claim claim node.replaced)) c.node.view_is)
-    c.write_reply_in.ensures
+    c.draft_reply_in.ensures

@@ -10,4 +10,4 @@ use Rattle.node_step.specs.declared.response.Why.TheVariants.{Told}
 pub returns : goal.returns
 returns g c =
     let after = at_connection (using_up c.args.node.now c.args.conn) c.args.conn (λ (connection : Connection). record connection { asking = c.args.asking }) in
-    subst (λ (reply : Reply). Drafts c.args.node.now (replied after Told reply) c.write_reply.new.draft) c.done.ensures (c.write_reply.ensures after refl)
+    subst (λ (reply : Reply). Drafts c.args.node.now (replied after Told reply) c.draft_reply.new.draft) c.done.ensures (c.draft_reply.ensures after refl)

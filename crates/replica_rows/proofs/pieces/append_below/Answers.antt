@@ -3,7 +3,7 @@ use Rattle.node_parts.proofs.ToAll.{left_out, sent_on}
 use Rattle.replica_rows.proofs.PieceLemmas.{copies}
 use Rattle.replica_rows.proofs.pieces.append_below.Goals as goal
 use Rattle.replica_rows.proofs.pieces.append_below.Goals.{then-has_replica+in_ok-clone+in_ok-push, else-has_replica}
-use Rattle.replica_rows.specs.Recording.{piece_of}
+use Rattle.replica_rows.specs.Adding.{piece_of}
 
 pub loop-place-preserved : goal.loop-place-preserved
 loop-place-preserved g c =

@@ -2,7 +2,7 @@ use Rattle.std.proofs.Common.{◌≡◌, ◌++◌}
 use Rattle.node_step.specs.Orders.{to_all}
 use Rattle.node_parts.proofs.ToAll.{those_below}
 use Rattle.replica_rows.proofs.PieceLemmas.{copies}
-use Rattle.replica_rows.specs.Recording.{piece_of}
+use Rattle.replica_rows.specs.Adding.{piece_of}
 use Rattle.replica_rows.proofs.pieces.append_below.Given as goal
 
 -- the replicas so far get the piece

@@ -1,6 +1,6 @@
 use Rattle.std.proofs.Common.{◌≡◌, ◌++◌, take}
 use Rattle.std.specs.List.{flat_map}
-use Rattle.replica_rows.specs.Recording.{deletion_bytes}
+use Rattle.replica_rows.specs.Adding.{deletion_bytes}
 use Rattle.replica_rows.proofs.spelling.append_deletions.Given as goal
 
 -- the keys so far are spelled

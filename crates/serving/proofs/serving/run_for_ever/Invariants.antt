@@ -1,4 +1,4 @@
-use Rattle.links.specs.Ends.{links_by}
+use Rattle.link_ends.specs.Ends.{links_by}
 use Rattle.serving.proofs.serving.run_for_ever.Given as goal
 
 -- the links that are used are those of these ends

@@ -1,4 +1,4 @@
-use Rattle.links.specs.Ends.{links_by}
+use Rattle.link_ends.specs.Ends.{links_by}
 use Rattle.station_trials.proofs.reused.seen_at.Given as goal
 
 -- the links that are used are those of these ends

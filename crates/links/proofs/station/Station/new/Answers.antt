@@ -1,6 +1,6 @@
 use Rattle.std.proofs.Common.{◌∙◌, map, subst, sym}
 use mathlib.Core.List.{map-map}
-use Rattle.links.specs.Ends.{AreEndsOf}
+use Rattle.link_ends.specs.Ends.{AreEndsOf}
 use Rattle.links.specs.Stations.{port_of}
 use Rattle.links.proofs.StationLemmas.{begins_so, end_in}
 use Rattle.links.proofs.station.Station.new.Goals as goal

@@ -1,0 +1,10 @@
+pub mod ChangingLemmas
+pub mod ComparingLemmas
+pub mod FacingLemmas
+pub mod JoiningLemmas
+pub mod LastLemmas
+pub mod NamingLemmas
+pub mod RuleLemmas
+pub mod TogetherLemmas
+pub mod HeldLemmas
+pub mod ShimLemmas

@@ -1,0 +1,9 @@
+pub mod Rule
+pub mod Halves
+pub mod Ends
+pub mod Joining
+pub mod Giving
+pub mod Acts
+pub mod Shims
+pub mod Received
+pub mod Comparing

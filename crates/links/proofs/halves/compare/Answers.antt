@@ -1,9 +1,0 @@
-use Rattle.std.proofs.Common.{rules}
-use Rattle.links.proofs.RuleLemmas.{by_both, joins}
-use Rattle.links.proofs.halves.compare.Goals as goal
-
-pub absorb-requires-clause-rule : goal.absorb-requires-clause-rule
-absorb-requires-clause-rule g c = joins _ _ _ _ (search rules) (search rules)
-
-pub learn_as-requires-clause-rule : goal.learn_as-requires-clause-rule
-learn_as-requires-clause-rule g c = by_both _ _ (search rules) (search rules)

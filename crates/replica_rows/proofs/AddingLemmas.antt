@@ -1,0 +1,71 @@
+-- A draft with what it writes.
+use Rattle.std.proofs.Common.{◌≡◌, ◌++◌, ◌==◌, ◌+◌, ◌^◌, ℕ, true, false, List, [], ◌∷◌, Option, length, eq-eqb, true≢false, sym, ap, subst, ◌∙◌, arith}
+use Rattle.std.proofs.lemmas.Bool.{eqb-true}
+use Rattle.std.specs.Prelude.{nat_lt}
+use Rattle.bus.specs.declared.message.Body.{Body}
+use Rattle.bus.specs.declared.message.Body.TheVariants.{Piece}
+use Rattle.node_parts.proofs.ChangeLemmas.{KeepsOwn, keeps_own, records_nothing}
+use Rattle.node_parts.specs.Becomes.{Becomes}
+use Rattle.node_parts.specs.Drafts.{Drafts, Records, at_epoch}
+use Rattle.node_parts.specs.declared.draft.Draft.{Draft}
+use Rattle.node_step.specs.Numbers.{has_offset}
+use Rattle.node_step.specs.Orders.{to_all}
+use Rattle.node_step.specs.Outcome.{Outcome}
+use Rattle.node_step.specs.Roles.{replicas_of}
+use Rattle.node_step.specs.State.{NodeState}
+use Rattle.node_step.specs.Streams.{Requests}
+use Rattle.resp2.specs.Stream.{stream_spelling}
+use Rattle.replica_rows.specs.Adding.{Adds, pieces_of}
+use Rattle.stream_values.specs.Stream.{StreamView, end_of}
+
+-- no bytes are no requests
+some_bytes : {A : Type 0} (request : List (List ℕ)) (requests : Requests) (bytes : List ℕ) → (length bytes == 0) ≡ true → bytes ≡ stream_spelling (request ∷ requests) → A
+some_bytes request requests bytes none is =
+    let empty : length (stream_spelling (request ∷ requests)) ≡ 0 = sym (ap (λ (b : List ℕ). length b) is) ∙ eqb-true (length bytes) 0 none in
+    let never : ⊥ = omega (arith, empty) in absurd never
+
+no_bytes : {A : Type 0} (bytes : List ℕ) → (length bytes == 0) ≡ false → bytes ≡ [] → A
+no_bytes bytes some is = absurd (true≢false (sym (eq-eqb (length bytes) 0 (ap (λ (b : List ℕ). length b) is)) ∙ some))
+
+pub records_none : (old : NodeState) (outcome : Outcome) (requests : Requests) (bytes : List ℕ) (draft : Draft) → (length bytes == 0) ≡ true → bytes ≡ stream_spelling requests
+    → Drafts old outcome draft → Records old outcome requests draft
+records_none old outcome [] bytes draft none is drafts = records_nothing old outcome draft drafts
+records_none old outcome (request ∷ requests) bytes draft none is drafts = some_bytes request requests bytes none is
+
+-- who gets pieces, and of what, a change leaves as it was
+abbrev pieces_by : List (Option ℕ) → ℕ → StreamView → List ℕ → List (ℕ × Body)
+pieces_by masters number stream bytes =
+    to_all (replicas_of masters number) (Piece (record { stream = stream.held.id; from = end_of stream.held; bytes = bytes; base = stream.former }))
+
+same_pieces : (old new : NodeState) (bytes : List ℕ) → KeepsOwn old new → pieces_of old bytes ≡ pieces_of new bytes
+same_pieces old new bytes keeps =
+    ap (λ masters. pieces_by masters old.number old.stream bytes) (sym keeps.masters)
+    ∙ ap (λ number. pieces_by new.masters number old.stream bytes) (sym keeps.number)
+    ∙ ap (λ stream. pieces_by new.masters new.number stream bytes) (sym keeps.stream)
+
+pub records_some : (old : NodeState) (outcome : Outcome) (requests : Requests) (bytes : List ℕ) (before draft : Draft) → (length bytes == 0) ≡ false → bytes ≡ stream_spelling requests
+    → Drafts old outcome before → Adds old bytes before draft → Records old outcome requests draft
+records_some old outcome [] bytes before draft some is drafts adds = no_bytes bytes some is
+records_some old outcome (request ∷ requests) bytes before draft some is drafts adds =
+    let keeps : KeepsOwn (at_epoch old before.epoch) outcome.state = keeps_own (at_epoch old before.epoch) before.plan before.change outcome.state drafts.state in
+    record {
+      response = adds.response ∙ drafts.response;
+      released = adds.released ∙ drafts.released;
+      sent =
+          adds.sent ∙ ap (λ (b : List (ℕ × Body)). b ++ pieces_of old bytes) drafts.sent
+          ∙ ap (λ (b : List ℕ). outcome.sent ++ pieces_of old b) is
+          ∙ ap (λ (p : List (ℕ × Body)). outcome.sent ++ p) (same_pieces (at_epoch old before.epoch) outcome.state (stream_spelling (request ∷ requests)) keeps);
+      promoted = drafts.promoted;
+      written = adds.written ∙ is;
+      stays = adds.succession ∙ drafts.stays;
+      state =
+          subst (λ e. Becomes (at_epoch old e) draft.plan draft.change outcome.state) (sym adds.epoch)
+          (subst (λ p. Becomes (at_epoch old before.epoch) p draft.change outcome.state) (sym adds.plan)
+          (subst (λ c. Becomes (at_epoch old before.epoch) before.plan c outcome.state) (sym adds.change) drafts.state));
+    }
+
+-- where the stream has no offset behind the bytes
+pub no_offset : (old : NodeState) (requests : Requests) (bytes : List ℕ) → (length bytes == 0) ≡ false → bytes ≡ stream_spelling requests
+    → nat_lt (end_of old.stream.held + length bytes) (2 ^ 64) ≡ false → has_offset old requests ≡ false
+no_offset old [] bytes some is past = no_bytes bytes some is
+no_offset old (request ∷ requests) bytes some is past = ap (λ (b : List ℕ). nat_lt (end_of old.stream.held + length b) (2 ^ 64)) (sym is) ∙ past

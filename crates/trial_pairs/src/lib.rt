@@ -1,0 +1,12 @@
+//! What the trials of two nodes share: their cells or stations as they begin, and the steps by which a key moves from one to the other.
+#![tactic(auto)]
+
+mod carrying;
+mod cells;
+mod key_move;
+mod stations;
+
+pub use carrying::carry;
+pub use cells::both_cells;
+pub use key_move::{Both, keys_of_move, step};
+pub use stations::both_stations;

@@ -1,0 +1,77 @@
+//! The stations of two nodes, at the ends of their links.
+ghost use Rattle.std.specs.Prelude.{◌≡◌, ◌<◌, length};
+ghost use Rattle.link_ends.specs.Ends.{AreEndsOf, AreLinkedFrom};
+ghost use Rattle.tickets.specs.Tickets.{IsFresh};
+
+use crate::key_move::Both;
+use cluster_config::Config;
+use link_ends::{PortEnd, PortEnds};
+use links::{Station, Web};
+use node_cell::{Deployment, Journal, Posted};
+use std::alloc::{AllocError, Global};
+use tickets::Seat;
+use trial_nodes::cell_of;
+
+/// The stations of both nodes as they begin.
+pub fn both_stations<K: Deployment, W: Web, E: PortEnd<Carried = Posted<K>>>(
+    alloc: Global,
+    config: &Config,
+    first: Seat,
+    second: Seat,
+    mut ends: Vec<PortEnds<E>>,
+) -> Result<Both<Station<K, W, Journal, E>>, AllocError>
+    requires cluster { config.now ≡ K.config }
+    requires two { length config.now.nodes ≡ 2 }
+    requires first { IsFresh K.table K.seats first }
+    requires second { IsFresh K.table K.seats second }
+    requires ends { length ends.items ≡ 2 }
+    requires linked { AreLinkedFrom W.links 2 0 ends.items }
+{
+    let second_ends = ends.pop().unwrap();
+    let first_ends = ends.pop().unwrap();
+    stations_at::<K, W, E>(alloc, config, first, first_ends, second, second_ends)
+}
+
+// The stations at these ends.
+fn stations_at<K: Deployment, W: Web, E: PortEnd<Carried = Posted<K>>>(
+    alloc: Global,
+    config: &Config,
+    first: Seat,
+    first_ends: PortEnds<E>,
+    second: Seat,
+    second_ends: PortEnds<E>,
+) -> Result<Both<Station<K, W, Journal, E>>, AllocError>
+    requires cluster { config.now ≡ K.config }
+    requires two { length config.now.nodes ≡ 2 }
+    requires first { IsFresh K.table K.seats first }
+    requires second { IsFresh K.table K.seats second }
+    requires first_ends { AreEndsOf W.links 0 2 first_ends }
+    requires second_ends { AreEndsOf W.links 1 2 second_ends }
+{
+    let first = station_at::<K, W, E>(alloc, config, 0, first, first_ends)?;
+    match station_at(alloc, config, 1, second, second_ends) {
+        Ok(second) => Ok(Both { first, second }),
+        Err(refused) => {
+            drop(first);
+            Err(refused)
+        }
+    }
+}
+
+// A node as it begins.
+fn station_at<K: Deployment, W: Web, E: PortEnd<Carried = Posted<K>>>(
+    alloc: Global,
+    config: &Config,
+    number: u8,
+    seat: Seat,
+    ends: PortEnds<E>,
+) -> Result<Station<K, W, Journal, E>, AllocError>
+    requires number { number < 2 }
+    requires two { length config.now.nodes ≡ 2 }
+    requires cluster { config.now ≡ K.config }
+    requires seat { IsFresh K.table K.seats seat }
+    requires ends { AreEndsOf W.links number 2 ends }
+{
+    let cell = cell_of(alloc, config, number, seat)?;
+    Station::new(alloc, cell, ends)
+}
