@@ -4,7 +4,7 @@ use Rattle.std.proofs.lemmas.Cmp.{nat_list_cmp_total, eq_by_cmp_equiv}
 use Rattle.std.specs.FinMap as map
 use Rattle.hash.specs.Pairs.{Changes, fields_changed}
 use Rattle.keyspace.proofs.Applied.{is_key, is_key-same, get_changed, same}
-use Rattle.keyspace.proofs.Placeholders.{remove_absent}
+use Rattle.keyspace.proofs.Removed.{remove_absent}
 use Rattle.keyspace.specs.Keyspace.{Keyspace, appended, changed, fields_left, hash_of, with_appended, with_fields}
 use Rattle.keyspace.specs.declared.value.Value.{Value}
 use Rattle.keyspace.specs.declared.value.Value.TheVariants.{Str}

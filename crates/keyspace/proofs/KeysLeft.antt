@@ -14,12 +14,10 @@ use Rattle.keyspace.proofs.FirstChange.{key_test}
 use Rattle.keyspace.proofs.InPlace.{get_changed_itself}
 use Rattle.keyspace.proofs.Maps.{get_seen}
 use Rattle.keyspace.specs.Changes.{Changes, changes_of, applied, with_first}
-use Rattle.keyspace.specs.Commit.{is_put}
 use Rattle.keyspace.specs.Keyspace.{Keyspace, changed, fields_left, keyspace_of, with_appended, with_fields}
-use Rattle.keyspace.specs.Leaving.{beside, has_keys, is_gone, puts_beside, stays_beside}
-use Rattle.keyspace.specs.Plan.{with_strings}
+use Rattle.keyspace.specs.Leaving.{beside, has_keys, is_gone, is_put, puts_beside, stays_beside}
+use Rattle.keyspace.specs.Putting.{with_pairs}
 use Rattle.keyspace.specs.declared.value.Value.{Value}
-use Rattle.keyspace.specs.declared.value.Value.TheVariants.{Str}
 use Rattle.hash.specs.Pairs.{Changes as FieldChanges}
 
 -- ---- a key that is there
@@ -198,16 +196,16 @@ fields_there m k changes some = sym (changed_there m k (fields_left (map.get m k
 pub fields_gone : (m : Keyspace) (k : List ℕ) (changes : FieldChanges) → is_some (fields_left (map.get m k) changes) ≡ false → has_keys (map.remove m k) ≡ has_keys (with_fields m k changes)
 fields_gone m k changes none = sym (ap (λ value. has_keys (changed m k value)) (no_value (fields_left (map.get m k) changes) none))
 
-strings_there : (pairs : List (List ℕ × List ℕ)) (m : Keyspace) → has_keys m ≡ true → has_keys (with_strings m pairs) ≡ true
-strings_there [] m some = some
-strings_there (pair ∷ pairs) m some = strings_there pairs (map.insert m pair.0 (Str pair.1)) (changed_there m pair.0 (Some (Str pair.1)) refl)
+pairs_there : (pairs : List (List ℕ × Value)) (m : Keyspace) → has_keys m ≡ true → has_keys (with_pairs m pairs) ≡ true
+pairs_there [] m some = some
+pairs_there (pair ∷ pairs) m some = pairs_there pairs (map.insert m pair.0 pair.1) (changed_there m pair.0 (Some pair.1) refl)
 
--- strings are put at keys
-pub strings_put : (m : Keyspace) (pairs : List (List ℕ × List ℕ)) → (length pairs ≡ 0 → ⊥) → true ≡ has_keys (with_strings m pairs)
-strings_put m [] some = absurd (some refl)
-strings_put m (pair ∷ pairs) some = sym (strings_there pairs (map.insert m pair.0 (Str pair.1)) (changed_there m pair.0 (Some (Str pair.1)) refl))
+-- values are put at keys
+pub pairs_put : (m : Keyspace) (pairs : List (List ℕ × Value)) → (length pairs ≡ 0 → ⊥) → true ≡ has_keys (with_pairs m pairs)
+pairs_put m [] some = absurd (some refl)
+pairs_put m (pair ∷ pairs) some = sym (pairs_there pairs (map.insert m pair.0 pair.1) (changed_there m pair.0 (Some pair.1) refl))
 
 -- or at no key
-pub no_strings : (m : Keyspace) (pairs : List (List ℕ × List ℕ)) → length pairs ≡ 0 → has_keys m ≡ has_keys (with_strings m pairs)
-no_strings m [] none = refl
-no_strings m (pair ∷ pairs) none = absurd (omega arith)
+pub no_pairs : (m : Keyspace) (pairs : List (List ℕ × Value)) → length pairs ≡ 0 → has_keys m ≡ has_keys (with_pairs m pairs)
+no_pairs m [] none = refl
+no_pairs m (pair ∷ pairs) none = absurd (omega arith)

@@ -4,10 +4,9 @@ pub mod Parts
 pub mod Maps
 pub mod Sums
 pub mod FirstChange
-pub mod CommitLoop
-pub mod Placeholders
-pub mod Setting
-pub mod StringLemmas
+pub mod Parted
+pub mod Removed
+pub mod Restored
 pub mod Deleting
 pub mod Counting
 mod WorkedValues

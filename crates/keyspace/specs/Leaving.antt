@@ -3,8 +3,8 @@ use Rattle.std.specs.Prelude.{ℕ, nat_eq, nat_lt, List, Bool, false, not, ◌&&
 use Rattle.std.specs.Cmp.Lexicographic.{pointwise}
 use Rattle.std.specs.FinMap as map
 use Rattle.keyspace.specs.Changes.{Changes}
-use Rattle.keyspace.specs.Commit.{is_put}
 use Rattle.keyspace.specs.Keyspace.{Keyspace}
+use Rattle.keyspace.specs.declared.value.Value.{Value}
 
 -- a key is there
 abbrev pub has_keys : Keyspace → Bool
@@ -19,6 +19,11 @@ beside (Some key) keyspace = map.remove keyspace key
 abbrev pub is_gone : Option (List ℕ) → List ℕ → Bool
 is_gone None key = false
 is_gone (Some gone) key = pointwise nat_eq gone key
+
+-- the change of a key, if there is one, puts a value
+abbrev pub is_put : Option (Option Value) → Bool
+is_put None = false
+is_put (Some value) = is_some value
 
 -- a value is put at the key, which isn't gone
 abbrev pub puts_beside : Changes → Option (List ℕ) → List ℕ → Bool

@@ -1,24 +1,18 @@
 -- A plan: changes that are decided and not made yet.
 use Rattle.std.specs.Prelude.{ℕ, nat_lt, Bool, List, Option, Some, None}
 use Rattle.std.specs.FinMap as map
-use Rattle.command_table.specs.Keys.{pair_keys}
-use Rattle.keyspace.specs.Commands.{with_values}
 use Rattle.keyspace.specs.Keyspace.{Keyspace, with_appended, with_fields}
 use Rattle.keyspace.specs.Changes.{applied}
-use Rattle.keyspace.specs.Strings.{strings_left}
+use Rattle.keyspace.specs.Putting.{with_pairs}
 use Rattle.keyspace.specs.declared.plans.LastStep.{LastStep}
-use Rattle.keyspace.specs.declared.plans.LastStep.TheVariants.{Append, Fields, Strings}
+use Rattle.keyspace.specs.declared.plans.LastStep.TheVariants.{Append, Fields, Pairs}
 use Rattle.keyspace.specs.declared.plans.Plan.{Plan}
-
--- strings put at keys, from left to right
-abbrev pub with_strings : Keyspace → List (List ℕ × List ℕ) → Keyspace
-with_strings keyspace pairs = with_values keyspace (pair_keys pairs) (strings_left pairs)
 
 -- a step made
 abbrev pub with_step : Keyspace → LastStep → Keyspace
 with_step keyspace (Append key bytes) = with_appended keyspace key bytes
 with_step keyspace (Fields key changes) = with_fields keyspace key changes
-with_step keyspace (Strings pairs) = with_strings keyspace pairs.items
+with_step keyspace (Pairs pairs) = with_pairs keyspace pairs.items
 
 -- the last step made, if there is one
 abbrev pub with_last : Keyspace → Option LastStep → Keyspace

@@ -4,11 +4,13 @@ ghost use Rattle.std.specs.List.{list_any};
 ghost use Rattle.std.specs.Map.{keys_of};
 ghost use Rattle.std.specs.Option.{option_copied};
 ghost use Rattle.std.specs.FinMap as map;
-ghost use Rattle.keyspace.specs.Commit.{new_keys, with_placeholders, without, AddsNoKey, AddNoKeys};
-ghost use Rattle.keyspace.specs.Keyspace.{Keyspace, changed};
+ghost use Rattle.keyspace.specs.Commit.{without};
+ghost use Rattle.keyspace.specs.Keyspace.{Keyspace};
 ghost use Rattle.keyspace.specs.Leaving.{beside, has_keys, is_gone, puts_beside};
 ghost use Rattle.keyspace.specs.Changes.{changes_of, applied};
+ghost use Rattle.keyspace.specs.Putting.{with_pairs};
 
+use crate::putting::{ValuePairs, change_key, put_pairs};
 use crate::store::Store;
 use crate::value::Value;
 use byte_string::ByteString;
@@ -86,6 +88,18 @@ impl NewValues {
             None => self.first = Some((key, change)),
             Some((first, former)) if *first == key => *former = change,
             Some(_) => return put(&mut self.more, key, change),
+        }
+        Ok(())
+    }
+
+    // Puts values at their keys, from left to right.
+    #[tactic(auto, using(crate::proofs::Restored::pair_planned))]
+    pub(crate) fn insert_each(&mut self, pairs: ValuePairs) -> Result<(), AllocError>
+        ensures { OnOk result ((keyspace : Keyspace) →
+            applied keyspace self.new ≡ with_pairs (applied keyspace self.old) pairs.items) }
+    {
+        for (key, value) in pairs {
+            self.insert(key, Some(value))?;
         }
         Ok(())
     }
@@ -208,26 +222,7 @@ fn put(
     Ok(())
 }
 
-pub(crate) fn change_key<S: Store>(
-    store: &mut S,
-    key: ByteString,
-    change: Option<Value>,
-) -> Result<(), AllocError>
-    ensures ok { OnOk result (S.contents store.new ≡ changed (S.contents store.old) key change) }
-    ensures err { OnErr result (S.contents store.new ≡ S.contents store.old) }
-    ensures over { AddsNoKey (S.contents store.old) key change → IsOk result }
-{
-    match change {
-        Some(value) => store.insert(key, value),
-        None => {
-            store.remove(&key);
-            Ok(())
-        }
-    }
-}
-
-// An insert over a key that is there can't fail. So each new key gets a placeholder first. If one of them fails, all are
-// removed again. If none does, the changes are made, and none of them can fail.
+// All values are put, of which each new one may be refused, and then the other keys are removed, which can't fail.
 fn change_all<S: Store>(
     alloc: Global,
     store: &mut S,
@@ -237,55 +232,29 @@ fn change_all<S: Store>(
         S.contents store.new ≡ applied (S.contents store.old) (changes_of changes.entries)) }
     ensures err { OnErr result (S.contents store.new ≡ S.contents store.old) }
 {
-    let keys = new_keys(alloc, store, &changes)?;
-    put_placeholders(store, keys.as_slice())?;
-    change_existing(store, changes);
+    let (pairs, removed) = parted(alloc, changes)?;
+    put_pairs(alloc, store, pairs)?;
+    remove_all(store, removed.as_slice());
     Ok(())
 }
 
-// The keys that get a value and are not in the store.
-fn new_keys<S: Store>(
+// The values that are put, and the keys that are removed.
+fn parted(
     alloc: Global,
-    store: &S,
-    changes: &BTreeMap<ByteString, Option<Value>>,
-) -> Result<Vec<ByteString>, AllocError>
-    ensures { IfOk result (λ keys. keys.items ≡ new_keys (S.contents store.now) changes.now.entries) }
+    mut changes: BTreeMap<ByteString, Option<Value>>,
+) -> Result<(ValuePairs, Vec<ByteString>), AllocError>
+    ensures { IfOk result (λ parts. (keyspace : Keyspace) →
+        without (with_pairs keyspace parts.0.items) parts.1.items ≡ applied keyspace (changes_of changes.entries)) }
 {
-    let mut keys = Vec::new(alloc);
-    for (key, change) in changes.iter() {
-        if change.is_some() && store.get(key).is_none() {
-            let key = key.clone()?;
-            keys.push(key)?;
+    let mut pairs = Vec::with_capacity(alloc, changes.len())?;
+    let mut removed = Vec::new(alloc);
+    while let Some((key, change)) = changes.pop_first() {
+        match change {
+            Some(value) => pairs.push((key, value))?,
+            None => removed.push(key)?,
         }
     }
-    Ok(keys)
-}
-
-// Puts a placeholder, the empty string, at each key. None of the keys is in the store.
-pub(crate) fn put_placeholders<S: Store>(
-    store: &mut S,
-    keys: &[ByteString],
-) -> Result<(), AllocError>
-    requires { without (S.contents store.old) keys.now ≡ S.contents store.old }
-    ensures ok { OnOk result (S.contents store.new ≡ with_placeholders (S.contents store.old) keys.now) }
-    ensures err { OnErr result (S.contents store.new ≡ S.contents store.old) }
-{
-    for key in keys {
-        if let Err(refused) = put_placeholder(store, key) {
-            remove_all(store, keys);
-            return Err(refused);
-        }
-    }
-    Ok(())
-}
-
-fn put_placeholder<S: Store>(store: &mut S, key: &ByteString) -> Result<(), AllocError>
-    ensures ok { OnOk result (
-        S.contents store.new ≡ map.insert (S.contents store.old) key.now (Value.Str [])) }
-    ensures err { OnErr result (S.contents store.new ≡ S.contents store.old) }
-{
-    let key = key.clone()?;
-    store.insert(key, Value::Str(ByteString::new()))
+    Ok((pairs, removed))
 }
 
 fn remove_all<S: Store>(store: &mut S, keys: &[ByteString])
@@ -293,16 +262,5 @@ fn remove_all<S: Store>(store: &mut S, keys: &[ByteString])
 {
     for key in keys {
         store.remove(key);
-    }
-}
-
-// Each key that gets a value is in the store.
-fn change_existing<S: Store>(store: &mut S, mut changes: BTreeMap<ByteString, Option<Value>>)
-    requires { AddNoKeys (S.contents store.old) (changes_of changes.entries) }
-    ensures { S.contents store.new ≡ applied (S.contents store.old) (changes_of changes.entries) }
-{
-    while let Some((key, change)) = changes.pop_first() {
-        let made = change_key(store, key, change);
-        prove!(made.is_ok());
     }
 }

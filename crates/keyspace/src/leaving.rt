@@ -25,7 +25,7 @@ pub fn leaves_keys(store: &TreeStore, plan: &Plan) -> bool
 }
 
 // Whether a key is there once all values are put and then the step is made.
-#[tactic(auto, using(crate::proofs::KeysLeft::fields_there, crate::proofs::KeysLeft::fields_gone, crate::proofs::KeysLeft::strings_put, crate::proofs::KeysLeft::no_strings))]
+#[tactic(auto, using(crate::proofs::KeysLeft::fields_there, crate::proofs::KeysLeft::fields_gone, crate::proofs::KeysLeft::pairs_put, crate::proofs::KeysLeft::no_pairs))]
 fn step_leaves_keys(store: &TreeStore, values: &NewValues, step: &LastStep) -> bool
     ensures { result ≡ has_keys (with_step (applied (keyspace_of store.now.entries) values.now) step.now) }
 {
@@ -34,7 +34,7 @@ fn step_leaves_keys(store: &TreeStore, values: &NewValues, step: &LastStep) -> b
         LastStep::Fields(key, changes) => {
             changes.leave_value(values.look(store, key)) || leaves_beside(store, values, Some(key))
         }
-        LastStep::Strings(pairs) => !pairs.is_empty() || leaves_beside(store, values, None),
+        LastStep::Pairs(pairs) => !pairs.is_empty() || leaves_beside(store, values, None),
     }
 }
 

@@ -15,10 +15,10 @@ mod number;
 mod pairs;
 mod planned_fields;
 mod plans;
+mod putting;
 mod replay;
 mod replies;
 mod store;
-mod string_pairs;
 mod strings;
 mod value;
 

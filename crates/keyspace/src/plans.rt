@@ -2,15 +2,15 @@
 ghost use Rattle.std.specs.Prelude.{◌≡◌, None, IfOk, OnOk, OnErr};
 ghost use Rattle.keyspace.specs.Changes.{applied};
 ghost use Rattle.keyspace.specs.Keyspace.{Keyspace, with_appended, with_fields};
-ghost use Rattle.keyspace.specs.Plan.{committed, with_step, with_strings};
+ghost use Rattle.keyspace.specs.Plan.{committed, with_step};
 ghost use Rattle.keyspace.specs.Putting.{with_pairs};
 
 use crate::appending::appended;
 use crate::changes::NewValues;
 use crate::fields::{FieldChanges, with_changed_fields};
 use crate::planned_fields::PlannedFields;
+use crate::putting::{ValuePairs, put_pairs};
 use crate::store::Store;
-use crate::string_pairs::{StringPairs, change_to_strings, put_strings};
 use crate::value::Value;
 use byte_string::ByteString;
 use std::alloc::{AllocError, Global};
@@ -22,8 +22,8 @@ pub(crate) enum LastStep {
     Append(ByteString, ByteString),
     // Fields of the hash at a key are changed.
     Fields(ByteString, PlannedFields),
-    // Strings are put at keys, from left to right.
-    Strings(StringPairs),
+    // Values are put at keys, from left to right.
+    Pairs(ValuePairs),
 }
 
 /// Changes that are decided and not made yet. A plan with one change allocates nothing for itself.
@@ -52,15 +52,14 @@ impl Plan {
         }
     }
 
-    /// A plan that puts these values at their keys, one after another.
-    pub fn putting(alloc: Global, pairs: Vec<(ByteString, Value)>) -> Result<Plan, AllocError>
-        ensures { IfOk result (λ plan. (keyspace : Keyspace) → committed keyspace plan ≡ with_pairs keyspace pairs.items) }
+    /// A plan that puts these values at their keys, one after another. It takes no memory.
+    pub fn putting(alloc: Global, pairs: Vec<(ByteString, Value)>) -> Plan
+        ensures { (keyspace : Keyspace) → committed keyspace result ≡ with_pairs keyspace pairs.items }
     {
-        let mut values = NewValues::new(alloc);
-        for (key, value) in pairs {
-            values.insert(key, Some(value))?;
+        Plan {
+            values: NewValues::new(alloc),
+            last: Some(LastStep::Pairs(pairs)),
         }
-        Ok(Plan { values, last: None })
     }
 
     /// Puts bytes behind the string at the key. No other step is planned.
@@ -86,13 +85,13 @@ impl Plan {
         Ok(())
     }
 
-    /// Puts strings at keys, from left to right. No other step is planned.
-    pub(crate) fn put_strings(&mut self, pairs: StringPairs)
+    /// Puts values at keys, from left to right. No other step is planned.
+    pub(crate) fn put_pairs(&mut self, pairs: ValuePairs)
         requires { self.old.last ≡ None }
         ensures { (keyspace : Keyspace) →
-            committed keyspace self.new ≡ with_strings (applied keyspace self.old.values) pairs.items }
+            committed keyspace self.new ≡ with_pairs (applied keyspace self.old.values) pairs.items }
     {
-        self.end_with(LastStep::Strings(pairs));
+        self.end_with(LastStep::Pairs(pairs));
     }
 
     fn end_with(&mut self, step: LastStep)
@@ -142,7 +141,7 @@ fn settle_step<S: Store>(
     match step {
         LastStep::Append(key, bytes) => put_appended(alloc, store, values, key, bytes),
         LastStep::Fields(key, changes) => put_changed(store, values, key, changes.into_changes()),
-        LastStep::Strings(pairs) => change_to_strings(values, pairs),
+        LastStep::Pairs(pairs) => values.insert_each(pairs),
     }
 }
 
@@ -210,7 +209,7 @@ fn make_step<S: Store>(alloc: Global, store: &mut S, step: LastStep) -> Result<(
     match step {
         LastStep::Append(key, bytes) => store.append(alloc, key, bytes),
         LastStep::Fields(key, changes) => store.change_fields(key, changes.into_changes()),
-        LastStep::Strings(pairs) => put_strings(alloc, store, pairs),
+        LastStep::Pairs(pairs) => put_pairs(alloc, store, pairs),
     }
 }
 

@@ -1,5 +1,5 @@
 //! Where a node keeps its keys: the trait of all stores, and a store in a map.
-ghost use Rattle.std.specs.Prelude.{◌≡◌, OnOk, OnErr, IsSome, IsOk};
+ghost use Rattle.std.specs.Prelude.{◌≡◌, OnOk, OnErr, IfOk, IsSome, IsOk};
 ghost use Rattle.std.specs.Option.{option_copied};
 ghost use Rattle.std.specs.FinMap as map;
 ghost use Rattle.keyspace.specs.Keyspace.{keyspace_of, with_appended, with_fields};
@@ -21,8 +21,9 @@ pub trait Store {
     fn get(&self, key: &ByteString) -> Option<&Value>
         ensures { option_copied result ≡ map.get (contents self.now) key.now };
 
-    /// Puts the value at the key, and replaces the one that is there. It fails only where the key is new and memory is out.
-    fn insert(&mut self, key: ByteString, value: Value) -> Result<(), AllocError>
+    /// Puts the value at the key, and gives back the one that it had. It fails only where the key is new and memory is out.
+    fn insert(&mut self, key: ByteString, value: Value) -> Result<Option<Value>, AllocError>
+        ensures old { IfOk result (λ old. old ≡ map.get (contents self.old) key) }
         ensures ok { OnOk result (contents self.new ≡ map.insert (contents self.old) key value) }
         ensures err { OnErr result (contents self.new ≡ contents self.old) }
         ensures over { IsSome (map.get (contents self.old) key) → IsOk result };
@@ -61,9 +62,8 @@ impl Store for KeyMap<Value> {
         KeyMap::get(self, key)
     }
 
-    fn insert(&mut self, key: ByteString, value: Value) -> Result<(), AllocError> {
-        let _old = KeyMap::insert(self, key, value)?;
-        Ok(())
+    fn insert(&mut self, key: ByteString, value: Value) -> Result<Option<Value>, AllocError> {
+        KeyMap::insert(self, key, value)
     }
 
     fn remove(&mut self, key: &ByteString) {

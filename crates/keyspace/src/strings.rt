@@ -17,9 +17,9 @@ use crate::changes::NewValues;
 use crate::limits::length_fits;
 use crate::number::{sum, text_of};
 use crate::plans::Plan;
+use crate::putting::copied_pairs;
 use crate::replies::{integer, simple};
 use crate::store::Store;
-use crate::string_pairs::copied_pairs;
 use crate::value::Value;
 use byte_string::ByteString;
 use command_table::{Condition, ErrorLine, PairList, number_in};
@@ -106,7 +106,7 @@ fn holds(condition: Condition, value: Option<&Value>) -> bool
 
 // Puts the string of each pair at its key, from left to right.
 #[inline(never)]
-#[tactic(auto, using(crate::proofs::Committed::committed_values))]
+#[tactic(auto, using(crate::proofs::Restored::strings_put))]
 pub(crate) fn set_each(
     alloc: Global,
     plan: &mut Plan,
@@ -117,7 +117,7 @@ pub(crate) fn set_each(
         record { reply = reply; after = committed keyspace plan.new }
         ≡ exec (applied keyspace plan.old.values) (DataCommand.Mset pairs.now)) }
 {
-    plan.put_strings(copied_pairs(alloc, pairs)?);
+    plan.put_pairs(copied_pairs(alloc, pairs)?);
     Ok(simple(b"OK"))
 }
 
@@ -331,7 +331,7 @@ pub(crate) fn delete<S: Store>(
 }
 
 // Removes the key, and gives 1 where it was there, else 0.
-#[tactic(auto, using(crate::proofs::Applied::applied_insert, crate::proofs::Placeholders::remove_absent))]
+#[tactic(auto, using(crate::proofs::Applied::applied_insert, crate::proofs::Removed::remove_absent))]
 fn delete_key<S: Store>(
     store: &S,
     values: &mut NewValues,

@@ -67,7 +67,7 @@ fn plan_of(alloc: Global, pairs: &[Pair]) -> Result<Plan, AllocError>
     for pair in pairs {
         copied.push((pair.key().clone()?, pair.value().clone()?))?;
     }
-    Plan::putting(alloc, copied)
+    Ok(Plan::putting(alloc, copied))
 }
 
 /// Deletes the keys whose copy was installed, and answers those who wait for that.

@@ -58,7 +58,7 @@ fn store_of<S: Replaces>(alloc: Global, pairs: &[Pair]) -> Result<S, AllocError>
     let mut store = S::empty(alloc)?;
     for place in 0..pairs.len() {
         let pair = &pairs[pairs.len() - 1 - place];
-        store.insert(pair.key().clone()?, pair.value().clone()?)?;
+        let _old = store.insert(pair.key().clone()?, pair.value().clone()?)?;
     }
     Ok(store)
 }

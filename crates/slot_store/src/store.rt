@@ -61,10 +61,9 @@ impl Store for SlotStore {
         self.maps[slot(key.as_slice()).index()].get(key)
     }
 
-    fn insert(&mut self, key: ByteString, value: Value) -> Result<(), AllocError> {
+    fn insert(&mut self, key: ByteString, value: Value) -> Result<Option<Value>, AllocError> {
         let slot = slot(key.as_slice());
-        let _old = self.maps[slot.index()].insert(key, value)?;
-        Ok(())
+        self.maps[slot.index()].insert(key, value)
     }
 
     fn remove(&mut self, key: &ByteString) {

@@ -1,5 +1,5 @@
 use Rattle.std.proofs.Common.{◌∙◌}
-use Rattle.keyspace.proofs.CommitLoop.{on_ok_then}
+use Rattle.keyspace.proofs.Parted.{on_ok_then}
 use Rattle.keyspace.proofs.Committed.{step_alone}
 use Rattle.keyspace.proofs.plans.put_and_step.Goals as goal
 

@@ -1,7 +1,7 @@
 use Rattle.std.proofs.Common.{ap, ◌∙◌}
 use Rattle.std.specs.FinMap as map
 use Rattle.keyspace.proofs.FirstChange.{insert_first, insert_more}
-use Rattle.keyspace.proofs.CommitLoop.{on_ok_then}
+use Rattle.keyspace.proofs.Parted.{on_ok_then}
 use Rattle.keyspace.proofs.changes.NewValues.insert.Goals as goal
 
 pub returns-in-Some-clause-ok : goal.returns-in-Some-clause-ok
