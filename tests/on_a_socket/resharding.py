@@ -23,6 +23,8 @@ NOT_ACKNOWLEDGED = b"-IOERR copy not acknowledged\r\n"
 NOT_DRAINED = b"-ERR slot is not drained\r\n"
 REFUSED = b"-ERR no\r\n"
 LAST_MOVE = 9223372036854775807
+# How many milliseconds a run rests behind a slot whose keys it moved.
+REST = 10
 # The most bytes of a word, and of a request with all its marks.
 MOST_WORD_BYTES, MOST_REQUEST_BYTES = 8388608, 16777216
 # The greatest limit that the program takes, for runs that have to wait until a node's thread goes on.
@@ -390,7 +392,10 @@ def play_a_range(judge, ports):
         for key in some:
             judge.equal("a key is set", talk(ports[SOURCE], spelled(b"SET", key, key)), OK)
     lines = b"".join(line(len(some), slot) for slot, some in of_slot.items())
+    begun = time.monotonic()
     judge.equal("a range of slots", reshard_patiently(ports[3], f"{first}-{last}", target=0), (0, lines))
+    rests = sum(bool(some) for slot, some in of_slot.items() if slot < last)
+    judge.least("a range of slots: milliseconds, with a rest behind each slot with keys", 1000 * (time.monotonic() - begun), rests * REST)
     for some in of_slot.values():
         for key in some:
             judge.equal("a key of the range", talk(ports[0], spelled(b"GET", key)), bulk(key))

@@ -50,6 +50,11 @@ impl Progress {
         }
     }
 
+    /// How many slots are to be moved.
+    pub(crate) fn slots(&self) -> u64 {
+        self.slots
+    }
+
     /// Tells that so many slots are done, and how many keys were moved, where it is time to.
     pub(crate) fn tell<R: Eprint + Clock>(&mut self, rt: &R, done: u64, keys: u64) {
         let Some(told) = self.told else {

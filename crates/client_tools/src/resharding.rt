@@ -21,7 +21,12 @@ use smart_client::{Connections, Network};
 use std::alloc::{AllocError, Global};
 use std::cell::RefCell;
 use std::rt::Clock;
-use std::time::Instant;
+use std::thread::sleep;
+use std::time::{Duration, Instant};
+
+// So many milliseconds a run rests behind a slot whose keys it moved. A copy keeps its target for some 50 microseconds, and so
+// few requests of other clients meet one.
+const REST: u64 = 10;
 
 /// The slots that are to be moved, the masters that they leave and come to, and the node that is asked who these are.
 #[derive(Drop)]
@@ -58,6 +63,7 @@ impl<'a> Move<'a> {
 }
 
 /// Moves the slots, and prints a line once a slot is at its new master. A node is asked the same so often again at most.
+/// Behind a slot whose keys were moved it rests, if another one is to come.
 /// Where standard error is a terminal it tells meanwhile how far it has come, and once all slots are moved what was done.
 /// Where it waits for long it tells for what. A target that refuses connections ends the run.
 pub fn reshard<R: ToolRuntime>(
@@ -155,6 +161,9 @@ fn move_all<R: ToolRuntime, N: Network + Drop>(
                 done.progress.make_room(rt);
                 print(rt, &moved)?;
                 done.add(rt, &moved);
+                if moved.keys > 0 && done.has_more() {
+                    sleep(rt, Duration::from_millis(REST));
+                }
             }
             Ok(None) => return Ok(Ok(())),
             Err(fault) => return Ok(Err(fault)),
@@ -190,6 +199,11 @@ impl Done {
         self.slots = self.slots.saturating_add(1);
         self.keys = self.keys.saturating_add(moved.keys);
         self.progress.tell(rt, self.slots, self.keys);
+    }
+
+    // Whether slots are left behind those that are done.
+    fn has_more(&self) -> bool {
+        self.slots < self.progress.slots()
     }
 
     // Where it can't be told what was done, it is done all the same.
