@@ -6,3 +6,4 @@ pub mod Obeying
 pub mod Positions
 pub mod SendingLemmas
 mod NamingLemmas
+mod WriteLemmas

@@ -4,6 +4,8 @@ ghost use Rattle.std.specs.List.{list_any};
 ghost use Rattle.slot_table.specs.Claims.{merged};
 ghost use Rattle.node_parts.specs.Drafts.{Drafts, HasNothing};
 ghost use Rattle.node_step.specs.Claiming.{claim, is_lost};
+ghost use Rattle.node_step.specs.Streams.{written_by_claim};
+ghost use Rattle.resp2.specs.Stream.{stream_spelling};
 
 use command_table::ErrorLine;
 use connections::Waiting;
@@ -13,34 +15,37 @@ use repl_stream::Stream;
 use slot_store::{SlotKeys, SlotParts};
 use slot_table::{Claim, NodeNo};
 use std::alloc::AllocError;
+use stream_requests::cleared_bytes;
 
-/// Learns the slots of another node. Those that it takes from this one leave with their keys.
+/// Learns the slots of another node. Those that it takes from this one leave with their keys. It gives the requests that this writes.
 #[inline(never)]
 pub fn take_claim<S: SlotParts + SlotKeys, T: Stream>(
     node: &NodeParts<S, T>,
     from: NodeNo,
     taken: &Claim,
     draft: &mut Draft,
-) -> Result<(), AllocError>
+) -> Result<Vec<u8>, AllocError>
     requires { HasNothing node.now draft.old }
-    ensures { OnOk result (Drafts node.now (claim node.now from taken.now) draft.new) }
+    ensures draft { OnOk result (Drafts node.now (claim node.now from taken.now) draft.new) }
+    ensures written { IfOk result (λ bytes. bytes.items ≡ stream_spelling (written_by_claim node.now from taken.now)) }
 {
     if from == node.number {
         node.draft_change(draft, Change::Nothing);
-        return Ok(());
+        return Ok(Vec::new(node.alloc));
     }
     let lost = lost_to(node, from, taken)?;
     let reply = ErrorLine::NotAcknowledged.reply();
     let released = node.releases(&Waiting::In(lost.as_slice()), &reply)?;
     let claim = taken.clone()?;
+    let bytes = cleared_bytes(node.alloc, &node.store, lost.as_slice())?;
     let bodies = Vec::new(node.alloc);
     let change = Change::Loses { from, claim, lost };
     node.draft_releases(draft, released, bodies, change);
-    Ok(())
+    Ok(bytes)
 }
 
-/// The slots of this node that the claim takes.
-pub fn lost_to<S: SlotParts + SlotKeys, T: Stream>(
+// The slots of this node that the claim takes.
+fn lost_to<S: SlotParts + SlotKeys, T: Stream>(
     node: &NodeParts<S, T>,
     from: NodeNo,
     claim: &Claim,

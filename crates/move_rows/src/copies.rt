@@ -8,7 +8,12 @@ ghost use Rattle.keyspace.specs.Keyspace.{Keyspace};
 ghost use Rattle.keyspace.specs.Plan.{committed};
 ghost use Rattle.migrate.specs.Sending.{is_among};
 ghost use Rattle.move_rows.specs.LastKeys.{are_last, drained_by_ack};
-ghost use Rattle.node_step.specs.Copies.{ack_by, acknowledgement, arrival, noted, with_copied};
+ghost use Rattle.migrate.specs.Acknowledging.{acknowledged_keys};
+ghost use Rattle.migrate.specs.Arriving.{arrival_verdict};
+ghost use Rattle.node_step.specs.Copies.{ack_by, acknowledgement, arrival, keep_limits, noted, with_copied};
+ghost use Rattle.node_step.specs.Streams.{written_by_ack, written_by_copy};
+ghost use Rattle.resp2.specs.Stream.{stream_spelling};
+ghost use Rattle.slot_state.specs.Moves.{move_of};
 
 use bus::Body;
 use byte_string::ByteString;
@@ -23,17 +28,20 @@ use slot_state::{CopyId, MoveNo};
 use slot_store::{SlotKeys, SlotParts};
 use slot_table::{Epoch, NodeNo};
 use std::alloc::{AllocError, Global};
+use stream_requests::{deletions_bytes, installed_bytes};
 
-/// Installs a copy that arrives, or only acknowledges it again.
+/// Installs a copy that arrives, or only acknowledges it again, and gives the requests that it writes.
 pub fn take_copy<S: SlotParts + SlotKeys, T: Stream>(
     node: &NodeParts<S, T>,
     from: NodeNo,
     id: CopyId,
     pairs: &[Pair],
     draft: &mut Draft,
-) -> Result<(), AllocError>
+) -> Result<Vec<u8>, AllocError>
     requires { HasNothing node.now draft.old }
-    ensures { OnOk result (Drafts node.now (arrival node.now from id pairs.now) draft.new) }
+    ensures draft { OnOk result (Drafts node.now (arrival node.now from id pairs.now) draft.new) }
+    ensures written { IfOk result (λ bytes. bytes.items ≡ stream_spelling (written_by_copy node.now.keyspace pairs.now
+        (arrival_verdict (move_of node.now.moves id.slot) from id.number id.copy (keep_limits pairs.now)))) }
 {
     let CopyId { slot, number, copy } = id;
     let fits = pairs_fit(pairs);
@@ -43,18 +51,19 @@ pub fn take_copy<S: SlotParts + SlotKeys, T: Stream>(
     match verdict {
         ArrivalVerdict::Installs => {
             let plan = plan_of(node.alloc, pairs)?;
+            let bytes = installed_bytes(node.alloc, &node.store, pairs)?;
             draft.plan = plan;
             let change = Change::Installs { slot, copy };
             node.draft_releases(draft, Releases::new(), bodies, change);
-            Ok(())
+            Ok(bytes)
         }
         ArrivalVerdict::Repeats => {
             node.draft_releases(draft, Releases::new(), bodies, Change::Nothing);
-            Ok(())
+            Ok(Vec::new(node.alloc))
         }
         ArrivalVerdict::Ignored => {
             node.draft_releases(draft, Releases::new(), bodies, Change::Nothing);
-            Ok(())
+            Ok(Vec::new(node.alloc))
         }
     }
 }
@@ -70,29 +79,32 @@ fn plan_of(alloc: Global, pairs: &[Pair]) -> Result<Plan, AllocError>
     Ok(Plan::putting(alloc, copied))
 }
 
-/// Deletes the keys whose copy was installed, and answers those who wait for that.
+/// Deletes the keys whose copy was installed, answers those who wait for that, and gives the requests that it writes.
 pub fn take_ack<S: SlotParts + SlotKeys, T: Stream>(
     node: &NodeParts<S, T>,
     from: NodeNo,
     id: CopyId,
     draft: &mut Draft,
-) -> Result<(), AllocError>
+) -> Result<Vec<u8>, AllocError>
     requires { HasNothing node.now draft.old }
-    ensures { OnOk result (Drafts node.now (acknowledgement node.now from id) draft.new) }
+    ensures draft { OnOk result (Drafts node.now (acknowledgement node.now from id) draft.new) }
+    ensures written { IfOk result (λ bytes. bytes.items ≡ stream_spelling
+        (written_by_ack (acknowledged_keys (move_of node.now.moves id.slot) from id.number id.copy))) }
 {
     let CopyId { slot, number, copy } = id;
     let Some(keys) = acknowledged_keys(node.moves.get(slot), from, number, copy) else {
         node.draft_change(draft, Change::Nothing);
-        return Ok(());
+        return Ok(Vec::new(node.alloc));
     };
     let bodies = listed(node.alloc, drained_by_ack(node, slot, keys.as_slice()))?;
     let waiting = Waiting::For(CopyId { slot, number, copy });
     let released = node.releases(&waiting, &done())?;
+    let bytes = deletions_bytes(node.alloc, keys.as_slice())?;
     let change = Change::Frees {
         id: CopyId { slot, number, copy },
     };
     node.draft_releases(draft, released, bodies, change);
-    Ok(())
+    Ok(bytes)
 }
 
 // The word that the slot is drained, where the keys are its last.
@@ -125,14 +137,14 @@ fn are_all_among(keys: &[ByteString], part: &TreeStore) -> bool
     ensures all { result ≡ list_all (is_among keys.now) (key_map.keys part.now) }
     ensures ordered { IsOrdered part.now }
 {
-    part.keys().all(|key| is_among(keys, key.as_slice()))
+    part.keys().all(|key| is_among(keys, key))
 }
 
 /// Whether the key is one of these.
-pub(crate) fn is_among(keys: &[ByteString], key: &[u8]) -> bool
+pub(crate) fn is_among(keys: &[ByteString], key: &ByteString) -> bool
     ensures { result ≡ is_among keys.now key.now }
 {
-    keys.iter().any(|other| other.as_slice() == key)
+    keys.iter().any(|other| other == key)
 }
 
 /// Notes that a slot is drained that comes to this node.

@@ -8,7 +8,7 @@ mod nodes;
 mod orders;
 mod ticks;
 
-pub use claims::{lost_to, take_claim};
+pub use claims::take_claim;
 pub use copies::{take_ack, take_copy, take_drained};
 pub use migrations::migrate_keys;
 pub use nodes::{node_at, node_with_id};

@@ -143,7 +143,7 @@ fn those_there<S: SlotParts + SlotKeys, T: Stream>(
 fn add_named(keys: &mut Vec<ByteString>, key: &ByteString, is_there: bool) -> Result<(), AllocError>
     ensures { OnOk result (keys.new.items ≡ with_named keys.old.items key.now is_there) }
 {
-    if is_there && !is_among(keys.as_slice(), key.as_slice()) {
+    if is_there && !is_among(keys.as_slice(), key) {
         keys.push(key.clone()?)?;
     }
     Ok(())

@@ -7,7 +7,6 @@ use Rattle.std.specs.Prelude.{MatchBool, Result, Ok, Err, is_none, is_some}
 use Rattle.resp_values.specs.declared.reply.Reply.{Reply}
 use Rattle.command_table.specs.Keys.{is_data_write}
 use Rattle.command_table.specs.Table.{command_of}
-use Rattle.resp2.specs.Stream.{stream_spelling}
 use Rattle.resp_values.specs.Request.{IsRequest}
 use Rattle.command_table.specs.declared.command.Command.{Command}
 use Rattle.command_table.specs.declared.command.ClusterCommand.{ClusterCommand}
@@ -30,6 +29,7 @@ use Rattle.node_step.specs.Copies.{copy_outcome, copy_verdict_on, first_slot, is
 use Rattle.node_step.specs.Handovers.{failover}
 use Rattle.node_step.specs.Orders.{done}
 use Rattle.node_step.specs.Outcome.{error}
+use Rattle.node_step.specs.Numbers.{has_offset}
 use Rattle.node_step.specs.Requests.{asking_for, asking_of, at_connection, has_copy_number, has_number, has_order_number, is_numbered, node_with_id, request_outcome, using_up, with_numbers}
 use Rattle.node_step.specs.State.{NodeState, own_master}
 use Rattle.node_step.specs.Step.{MayCome, NodeStep, written}
@@ -128,22 +128,29 @@ pub fault_answered : (old : NodeState) (conn : Conn) (fault : CommandFault) (rep
     → Drafts old (replied (using_up old conn) (NotACommand fault) reply) draft → AnswersSo old conn (Err fault) draft
 fault_answered old conn fault reply draft is drafts = record { number = refl; drafts = rw (sym is) drafts }
 
-pub same_spelling : (old : NodeState) (conn : Conn) (words : List (List ℕ)) (before : Draft) → AnswersSo old conn (command_of words) before
-    → stream_spelling (written_by_request words (command_of words) before.response) ≡ stream_spelling (written old conn words)
-same_spelling old conn words before answers = ap (λ (response : Response). stream_spelling (written_by_request words (command_of words) response)) answers.drafts.response
+-- what its words write goes by the reply that was drafted
+same_written : (old : NodeState) (conn : Conn) (words : List (List ℕ)) (before : Draft) → AnswersSo old conn (command_of words) before
+    → written_by_request words (command_of words) before.response ≡ written old conn words
+same_written old conn words before answers = ap (λ (response : Response). written_by_request words (command_of words) response) answers.drafts.response
 
 -- an answer, and what is written by its words
-pub answered_and_written : (old : NodeState) (conn : Conn) (words : List (List ℕ)) (is_write : Bool) (bytes : List ℕ) (before draft : Draft)
+pub answered_and_written : (old : NodeState) (conn : Conn) (words : List (List ℕ)) (is_write : Bool) (before draft : Draft)
     → IsRequest words → is_write ≡ is_written (command_of words) → AnswersSo old conn (command_of words) before
-    → ((command : Result Command CommandFault) → is_write ≡ is_written command → bytes ≡ stream_spelling (written_by_request words command before.response))
-    → ((outcome : Outcome) (requests : Requests) → bytes ≡ stream_spelling requests → Drafts old outcome before → Records old outcome requests draft)
+    → ((outcome : Outcome) (command : Result Command CommandFault) → is_write ≡ is_written command → Drafts old outcome before
+    → Records old outcome (written_by_request words command before.response) draft)
     → AnswersAndWrites old conn words draft
-answered_and_written old conn words is_write bytes before draft request is answers spelled records =
+answered_and_written old conn words is_write before draft request is answers records =
     record {
       request = request;
       number = answers.number;
-      records = records (request_outcome old conn (command_of words)) (written old conn words) (spelled (command_of words) is ∙ same_spelling old conn words before answers) answers.drafts;
+      records = subst (λ (requests : Requests). Records old (request_outcome old conn (command_of words)) requests draft) (same_written old conn words before answers)
+          (records (request_outcome old conn (command_of words)) (command_of words) is answers.drafts);
     }
+
+pub no_offset_written : (old : NodeState) (conn : Conn) (words : List (List ℕ)) (before : Draft) → AnswersSo old conn (command_of words) before
+    → has_offset old (written_by_request words (command_of words) before.response) ≡ false → has_offset old (written old conn words) ≡ false
+no_offset_written old conn words before answers past =
+    ap (λ (requests : Requests). has_offset old requests) (sym (same_written old conn words before answers)) ∙ past
 
 -- which words are a write
 pub data_written : (read : Result Command CommandFault) (command : DataCommand) (is_write : Bool) → read ≡ Ok (Data command) → is_write ≡ is_data_write command → is_write ≡ is_written read

@@ -1,35 +1,25 @@
 -- Messages that are taken by a draft.
-use Rattle.std.proofs.Common.{◌≡◌, ◌==◌, ℕ, Bool, true, false, not, List, [], map, filter, Option, true≢false, refl, sym, ap, subst, ◌∙◌}
+use Rattle.std.proofs.Common.{◌≡◌, ◌==◌, ℕ, Bool, true, false, not, List, Option, true≢false, refl, sym, ap, subst, ◌∙◌}
 use Rattle.std.proofs.lemmas.Bool.{cond-false, cond-true, not-false, not-true}
-use Rattle.std.specs.FinMap as fin_map
-use Rattle.std.specs.List.{list_any}
 use Rattle.bus.specs.declared.message.Body.{Body}
 use Rattle.bus.specs.declared.message.Body.TheVariants.{Copy, Ack, Drained, Claim, Report, Candidacy, Grant, Sync, Piece, Snapshot, Pause, Paused}
 use Rattle.bus.specs.declared.message.Message.{Message}
 use Rattle.bus.specs.declared.message.Replaced.{Replaced}
-use Rattle.key_slot.specs.Slot.{hash_slot}
-use Rattle.node_core.specs.Comes.{MayBeTaken, is_drafted_body, taken_by_draft}
+use Rattle.node_core.specs.Comes.{MayBeTaken, choosing, is_drafted_body, taken_by_draft}
 use Rattle.node_parts.proofs.ChangeLemmas.{made_comes}
 use Rattle.node_parts.specs.Drafts.{Comes, Drafts, IsDraftOf, Records, stamped_draft}
 use Rattle.node_parts.specs.Making.{IsApplied}
 use Rattle.node_parts.specs.declared.draft.Draft.{Draft}
-use Rattle.node_step.specs.Claiming.{claim, is_lost}
+use Rattle.node_step.specs.Claiming.{claim}
 use Rattle.node_step.specs.Messages.{Choice, MayMake, ready, taken, taken_so, written_by_message}
 use Rattle.node_step.specs.Outcome.{Outcome, no_outputs, silent}
 use Rattle.node_step.specs.Replicas.{follower_of}
 use Rattle.node_step.specs.State.{NodeState}
 use Rattle.node_step.specs.Step.{NodeStep}
-use Rattle.node_step.specs.Streams.{Requests, deletion, with_written, written_by_claim, written_by_loss}
+use Rattle.node_step.specs.Streams.{with_written}
 use Rattle.node_step.specs.declared.event.Event.TheVariants.{Deliver}
 use Rattle.node_step.specs.declared.outputs.Outputs.{Outputs}
-use Rattle.resp2.specs.Stream.{stream_spelling}
-use Rattle.slot_pairs.specs.Several.{is_in_one}
-use Rattle.slot_table.specs.Claims.{merged}
 use Rattle.slot_table.specs.declared.runs.Run.{Run}
-
--- nothing is chosen but how many bytes are kept no longer
-abbrev pub choosing : NodeState → ℕ → Choice
-choosing old dropped = record { follower = follower_of old; dropped = dropped }
 
 by_draft : (node : NodeState) (from : ℕ) (choice : Choice) (body : Body) → is_drafted_body body ≡ true → taken_by_draft node from body ≡ taken_so node from choice body
 by_draft node from choice (Copy id pairs) is = refl
@@ -59,7 +49,7 @@ makes_none node from (Grant epoch) is = tt
 makes_none node from (Piece piece) is = absurd (true≢false (sym is))
 makes_none node from (Snapshot snapshot) is = tt
 
--- what is drafted may come, and what is written by it is recorded
+-- what is drafted may come, with what it writes
 pub drafted_to_be_taken : (node : NodeState) (from : ℕ) (body : Body) (draft : Draft) → is_drafted_body body ≡ true
     → Records node (taken_by_draft node from body) (written_by_message node from body) draft → IsDraftOf node (MayBeTaken node from body) draft
 drafted_to_be_taken node from body draft is records = record {
@@ -120,17 +110,3 @@ taken_is_step ticket old message outputs new own comes =
       outputs_are = comes.outputs_are;
       state = comes.state;
     }
-
--- a claim of another node
-pub loss_written : (node : NodeState) (from : ℕ) (claim : List (Run ℕ)) (lost first : List ℕ) → (from == node.number) ≡ false
-    → ((slot : ℕ) → list_any (λ other. other == slot) lost ≡ is_lost node (merged node.table claim from) slot) → first ≡ lost
-    → stream_spelling (map deletion (filter (is_in_one first) (fin_map.keys node.keyspace))) ≡ stream_spelling (written_by_claim node from claim)
-loss_written node from claim lost first other are same =
-    ap (λ (slots : List ℕ). stream_spelling (map deletion (filter (is_in_one slots) (fin_map.keys node.keyspace)))) same
-    ∙ ap (λ (test : List ℕ → Bool). stream_spelling (map deletion (filter test (fin_map.keys node.keyspace)))) (λ j key. are (hash_slot key) j)
-    ∙ sym (ap (λ (requests : Requests). stream_spelling requests) (cond-false (from == node.number) [] (written_by_loss node (merged node.table claim from)) other))
-
--- an own one
-pub own_claim_written : (node : NodeState) (from : ℕ) (claim : List (Run ℕ)) → (from == node.number) ≡ true → [] ≡ stream_spelling (written_by_claim node from claim)
-own_claim_written node from claim own =
-    sym (ap (λ (requests : Requests). stream_spelling requests) (cond-true (from == node.number) [] (written_by_loss node (merged node.table claim from)) own))

@@ -7,8 +7,7 @@ use Rattle.bus.specs.declared.message.Candidacy.{Candidacy as Asked}
 use Rattle.election.specs.Electing.{counted, elected}
 use Rattle.election.specs.Voting.{after_request, may_grant}
 use Rattle.election.specs.declared.running.Elected.{Elected}
-use Rattle.node_core.proofs.MessageLemmas.{choosing}
-use Rattle.node_core.specs.Comes.{IsJust, MayBeTaken}
+use Rattle.node_core.specs.Comes.{IsJust, MayBeTaken, choosing}
 use Rattle.node_parts.proofs.ChangeLemmas.{made_comes, promotion_comes, records_nothing}
 use Rattle.node_parts.specs.Drafts.{Comes, Drafts, IsDraftOf, Promotes, stamped_draft}
 use Rattle.node_parts.specs.Making.{IsApplied}

@@ -6,21 +6,19 @@ ghost use Rattle.node_parts.specs.Electing.{KeepsRest};
 ghost use Rattle.node_step.specs.Messages.{written_by_message};
 ghost use Rattle.node_step.specs.Numbers.{has_offset};
 ghost use Rattle.node_step.specs.Outcome.{silent};
-ghost use Rattle.node_step.specs.Streams.{written_by_claim};
 ghost use Rattle.resp2.specs.Stream.{stream_spelling};
 ghost use Rattle.step_fault.specs.declared.fault.StepFault.TheVariants.{Exhausted};
 
-use crate::following::follow;
+use crate::following::{follow_piece, follow_snapshot};
 use crate::votes::{ask_for_vote, count_vote};
 use bus::{Body, Message};
 use handover_rows::{hand_over, note_handing};
-use move_rows::{lost_to, take_ack, take_claim, take_copy, take_drained};
+use move_rows::{take_ack, take_claim, take_copy, take_drained};
 use node_parts::{Draft, NodeParts};
 use node_step::{Outputs, Recorder, StepFault};
 use repl_stream::{Replaces, Stream};
-use replica_rows::{add_written, answer_sync, written_by_ack, written_by_copy, written_by_loss};
+use replica_rows::{add_written, answer_sync};
 use slot_store::{SlotKeys, SlotParts};
-use slot_table::{Claim, NodeNo};
 use std::alloc::AllocError;
 
 /// Takes a message for this node, of which the node took note before.
@@ -35,7 +33,10 @@ pub(crate) fn take<S: SlotParts + SlotKeys + Replaces, T: Stream, K: Recorder>(
     ensures exhausted { result ≡ Err Exhausted → has_offset node.old (written_by_message node.old message.now.from message.now.body) ≡ false }
 {
     match &message.body {
-        Body::Piece(_) | Body::Snapshot(_) => follow::<S, T, K>(node, ticket, message),
+        Body::Piece(piece) => follow_piece::<S, T, K>(node, ticket, message.from, piece),
+        Body::Snapshot(snapshot) => {
+            follow_snapshot::<S, T, K>(node, ticket, message.from, snapshot)
+        }
         Body::Candidacy(request) => { ask_for_vote::<S, T, K>(node, ticket, message.from, request) }
         Body::Grant(epoch) => count_vote::<S, T, K>(node, ticket, message.from, *epoch),
         Body::Copy { .. }
@@ -67,7 +68,7 @@ fn by_draft<S: SlotParts + SlotKeys, T: Stream, K: Recorder>(
     Ok(node.make::<K>(ticket, &mut draft)?)
 }
 
-// Drafts what comes of it, and records what is written by it.
+// Drafts what comes of it, with what it writes.
 fn draft_taking<S: SlotParts + SlotKeys, T: Stream>(
     node: &NodeParts<S, T>,
     message: &Message,
@@ -78,80 +79,38 @@ fn draft_taking<S: SlotParts + SlotKeys, T: Stream>(
     ensures draft { OnOk result (IsDraftOf node.now (MayBeTaken node.now message.now.from message.now.body) draft.new) }
     ensures exhausted { result ≡ Err Exhausted → has_offset node.now (written_by_message node.now message.now.from message.now.body) ≡ false }
 {
-    take_by_row(node, message, draft)?;
-    let bytes = written_by(node, message)?;
+    let bytes = take_by_row(node, message, draft)?;
     add_written(node, bytes, draft)?;
     Ok(())
 }
 
-// Each body by its row.
+// Each body by its row. It gives the requests that it writes.
 fn take_by_row<S: SlotParts + SlotKeys, T: Stream>(
     node: &NodeParts<S, T>,
     message: &Message,
     draft: &mut Draft,
-) -> Result<(), AllocError>
+) -> Result<Vec<u8>, AllocError>
     requires body { IsTrue (is_drafted_body message.now.body) }
     requires nothing { HasNothing node.now draft.old }
-    ensures { OnOk result (Drafts node.now (taken_by_draft node.now message.now.from message.now.body) draft.new) }
+    ensures draft { OnOk result (Drafts node.now (taken_by_draft node.now message.now.from message.now.body) draft.new) }
+    ensures written { IfOk result (λ bytes. bytes.items ≡ stream_spelling (written_by_message node.now message.now.from message.now.body)) }
 {
     let from = message.from;
     match &message.body {
-        Body::Copy { id, pairs } => Ok(take_copy(node, from, *id, pairs.as_slice(), draft)?),
-        Body::Ack(id) => Ok(take_ack(node, from, *id, draft)?),
+        Body::Copy { id, pairs } => return take_copy(node, from, *id, pairs.as_slice(), draft),
+        Body::Ack(id) => return take_ack(node, from, *id, draft),
+        Body::Claim(claim, _replaced) => return take_claim(node, from, claim, draft),
         Body::Drained {
             slot,
             number,
             epoch,
-        } => {
-            take_drained(node, from, *slot, *number, *epoch, draft);
-            Ok(())
-        }
-        Body::Claim(claim, _replaced) => Ok(take_claim(node, from, claim, draft)?),
-        Body::Sync(sync) => Ok(answer_sync(node, from, sync, draft)?),
-        Body::Pause(stream) => Ok(hand_over(node, from, *stream, draft)?),
-        Body::Paused(handing) => Ok(note_handing(node, handing, draft)?),
+        } => take_drained(node, from, *slot, *number, *epoch, draft),
+        Body::Sync(sync) => answer_sync(node, from, sync, draft)?,
+        Body::Pause(stream) => hand_over(node, from, *stream, draft)?,
+        Body::Paused(handing) => note_handing(node, handing, draft)?,
         // All that a report tells was noted before.
-        Body::Report(_) => Ok(()),
+        Body::Report(_) => {}
         Body::Candidacy(_) | Body::Grant(_) | Body::Piece(_) | Body::Snapshot(_) => unreachable!(),
     }
-}
-
-// What is written by the message, as the bytes of requests.
-fn written_by<S: SlotParts + SlotKeys, T: Stream>(
-    node: &NodeParts<S, T>,
-    message: &Message,
-) -> Result<Vec<u8>, AllocError>
-    ensures { IfOk result (λ bytes. bytes.items ≡ stream_spelling (written_by_message node.now message.now.from message.now.body)) }
-{
-    let from = message.from;
-    match &message.body {
-        Body::Copy { id, pairs } => written_by_copy(node, from, *id, pairs.as_slice()),
-        Body::Ack(id) => written_by_ack(node, from, *id),
-        Body::Claim(claim, _replaced) => written_by_claim(node, from, claim),
-        Body::Drained { .. }
-        | Body::Sync(_)
-        | Body::Report(_)
-        | Body::Candidacy(_)
-        | Body::Grant(_)
-        | Body::Piece(_)
-        | Body::Snapshot(_)
-        | Body::Pause(_)
-        | Body::Paused(_) => Ok(Vec::new(node.alloc)),
-    }
-}
-
-// What is written by a claim: the keys of slots that are lost go.
-#[tactic(auto, using(crate::proofs::MessageLemmas::own_claim_written))]
-fn written_by_claim<S: SlotParts + SlotKeys, T: Stream>(
-    node: &NodeParts<S, T>,
-    from: NodeNo,
-    claim: &Claim,
-) -> Result<Vec<u8>, AllocError>
-    ensures { IfOk result (λ bytes. bytes.items ≡ stream_spelling (written_by_claim node.now from claim.now)) }
-{
-    if from == node.number {
-        return Ok(Vec::new(node.alloc));
-    }
-    let lost = lost_to(node, from, claim)?;
-    written_by_loss(node, lost.as_slice())
+    Ok(Vec::new(node.alloc))
 }

@@ -20,7 +20,7 @@ use key_rows::answer_on_keys;
 use node_parts::{Draft, NodeParts};
 use node_step::{Event, StepFault, Why};
 use repl_stream::Stream;
-use replica_rows::{add_written, written_by_request};
+use replica_rows::add_request;
 use resp_values::Words;
 use slot_store::{SlotKeys, SlotParts};
 
@@ -64,8 +64,7 @@ fn answer<S: SlotParts + SlotKeys, T: Stream>(
     // Who reads the words knows that they are a request.
     let _words = words.as_slice();
     let is_write = answer_words(node, conn, connection, words, draft)?;
-    let bytes = written_by_request(node.alloc, words, is_write, &draft.response)?;
-    add_written(node, bytes, draft)?;
+    add_request(node, words, is_write, draft)?;
     Ok(())
 }
 

@@ -54,16 +54,8 @@ abbrev pub written_by_message : NodeState → ℕ → Body → Requests
 written_by_message node from (Copy id pairs) =
     written_by_copy node.keyspace pairs (arrival_verdict (move_of node.moves id.slot) from id.number id.copy (keep_limits pairs))
 written_by_message node from (Ack id) = written_by_ack (acknowledged_keys (move_of node.moves id.slot) from id.number id.copy)
-written_by_message node from (Drained slot number epoch) = []
 written_by_message node from (Claim slots replaced) = written_by_claim node from slots
-written_by_message node from (Report suspects) = []
-written_by_message node from (Candidacy request) = []
-written_by_message node from (Grant epoch) = []
-written_by_message node from (Sync sync) = []
-written_by_message node from (Piece piece) = []
-written_by_message node from (Snapshot snapshot) = []
-written_by_message node from (Pause stream) = []
-written_by_message node from (Paused handing) = []
+written_by_message node from other = []
 
 abbrev pub taken : NodeState → ℕ → Choice → Body → Outcome
 taken node from choice body = with_written (taken_so node from choice body) (written_by_message node from body) choice.dropped

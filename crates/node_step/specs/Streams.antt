@@ -17,7 +17,7 @@ use Rattle.slot_table.specs.Claims.{merged}
 use Rattle.slot_table.specs.declared.entry.SlotEntry.{SlotEntry}
 use Rattle.slot_table.specs.declared.runs.Run.{Run}
 use Rattle.migrate.specs.declared.arriving.ArrivalVerdict.{ArrivalVerdict}
-use Rattle.migrate.specs.declared.arriving.ArrivalVerdict.TheVariants.{Installs, Repeats, Ignored}
+use Rattle.migrate.specs.declared.arriving.ArrivalVerdict.TheVariants.{Installs}
 use Rattle.bus.specs.declared.message.Body.TheVariants.{Piece}
 use Rattle.stream_values.specs.Stream.{end_of, written}
 use Rattle.node_step.specs.Claiming.{is_lost}
@@ -26,7 +26,7 @@ use Rattle.node_step.specs.Outcome.{Outcome}
 use Rattle.node_step.specs.Roles.{replicas_of}
 use Rattle.node_step.specs.State.{NodeState, kept_in}
 use Rattle.node_step.specs.declared.response.Response.{Response}
-use Rattle.node_step.specs.declared.response.Response.TheVariants.{Nothing, Opened, Replied, Parked}
+use Rattle.node_step.specs.declared.response.Response.TheVariants.{Replied}
 use Rattle.node_step.specs.declared.response.Why.{Why}
 use Rattle.node_step.specs.declared.response.Why.TheVariants.{Decided}
 
@@ -53,9 +53,7 @@ is_written (Err fault) = false
 abbrev pub written_by_request : List (List ℕ) → Result Command CommandFault → Response → Requests
 written_by_request words command (Replied answer) =
     if is_executed answer.why && is_written command && not (is_error answer.reply) then words ∷ [] else []
-written_by_request words command Nothing = []
-written_by_request words command (Opened conn) = []
-written_by_request words command Parked = []
+written_by_request words command other = []
 
 abbrev pub deletion : List ℕ → List (List ℕ)
 deletion key = codes "DEL" ∷ key ∷ []
@@ -73,8 +71,7 @@ written_by_pairs keyspace (pair ∷ pairs) = written_by_pair keyspace pair.0 pai
 -- a copy that is installed
 abbrev pub written_by_copy : Keyspace → List (List ℕ × Value) → ArrivalVerdict → Requests
 written_by_copy keyspace pairs Installs = written_by_pairs keyspace pairs
-written_by_copy keyspace pairs Repeats = []
-written_by_copy keyspace pairs Ignored = []
+written_by_copy keyspace pairs other = []
 
 -- a copy that is acknowledged
 abbrev pub written_by_ack : Option (List (List ℕ)) → Requests

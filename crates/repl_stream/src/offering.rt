@@ -1,14 +1,16 @@
 //! What a replica takes of its master's stream.
-ghost use Rattle.std.specs.Prelude.{◌≡◌, ◌+◌, ◌<◌, ◌≤◌, ◌^◌, length, IfOk, IfErr, IfSome, OnOk, OnErr};
+ghost use Rattle.std.specs.Prelude.{◌≡◌, ◌+◌, ◌++◌, ◌<◌, ◌≤◌, ◌^◌, length, IfOk, IfErr, IfSome, OnOk, OnErr};
+ghost use Rattle.keyspace.specs.Plan.{committed};
 ghost use Rattle.stream_values.specs.Piece.{TakesBehind, TakesPiece, common_end, end_by_base, news_in, verdict_on};
 ghost use Rattle.stream_values.specs.Piece.PieceVerdict.{Takes};
 ghost use Rattle.stream_values.specs.Stream.{received};
 ghost use Rattle.repl_stream.specs.Faults.{IsRefusedFor};
+ghost use Rattle.repl_stream.specs.Reading.{IsPlanned};
 
 use crate::fault::OfferFault;
 use crate::node_stream::NodeStream;
 use crate::parts::front;
-use crate::received::read;
+use crate::received::{Received, plan_request, read};
 use crate::stream::Stream;
 use keyspace::{Store, commit};
 use std::alloc::{AllocError, Global};
@@ -88,7 +90,7 @@ impl<T: Stream> NodeStream<T> {
     {
         let stayed = front(self.partial.as_slice(), place - self.offset);
         let news = news_of(piece, place);
-        let received = read(alloc, &*store, stayed, news)?;
+        let received = come_to(alloc, &*store, stayed, news, piece, place)?;
         self.stream.reserve(news.len())?;
         commit(alloc, store, received.plan)?;
         self.stream.cut_at(place, piece.stream());
@@ -97,6 +99,28 @@ impl<T: Stream> NodeStream<T> {
         self.partial = received.rest;
         Ok(())
     }
+}
+
+// What the news of the piece come to behind what stayed. A piece that is one request, and all of it new, isn't read if its words are
+// at hand.
+fn come_to<S: Store>(
+    alloc: Global,
+    store: &S,
+    stayed: &[u8],
+    news: &[u8],
+    piece: &Piece,
+    place: u64,
+) -> Result<Received, AllocError>
+    requires { news.now ≡ news_in piece.now place }
+    ensures { IfOk result (λ received. IsPlanned (S.contents store.now) (stayed.now ++ news.now)
+        (committed (S.contents store.now) received.plan) received.rest.items) }
+{
+    if stayed.is_empty() && place == piece.from() {
+        if let Some(words) = piece.request() {
+            return plan_request(alloc, store, words);
+        }
+    }
+    read(alloc, store, stayed, news)
 }
 
 // The bytes of the piece from that offset on.

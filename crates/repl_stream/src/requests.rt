@@ -76,8 +76,8 @@ fn behind<'b>(words: &Words, bytes: &'b [u8]) -> &'b [u8]
     &bytes[spelled_len(words)..]
 }
 
-// Words that are no command on keys execute nothing.
-fn plan_words<S: Store>(
+/// Plans the command that these words are. Words that are no command on keys execute nothing.
+pub(crate) fn plan_words<S: Store>(
     alloc: Global,
     store: &S,
     plan: &mut Plan,

@@ -1,9 +1,11 @@
 -- A draft with what it writes.
-use Rattle.std.proofs.Common.{◌≡◌, ◌++◌, ◌==◌, ◌+◌, ◌^◌, ℕ, true, false, List, [], ◌∷◌, Option, length, eq-eqb, true≢false, sym, ap, subst, ◌∙◌, arith}
+use Rattle.std.proofs.Common.{◌≡◌, ◌++◌, ◌==◌, ◌+◌, ◌^◌, ◌&&◌, ℕ, Bool, true, false, List, [], ◌∷◌, Option, length, eq-eqb, true≢false, refl, sym, ap, subst, ◌∙◌, arith}
 use Rattle.std.proofs.lemmas.Bool.{eqb-true}
-use Rattle.std.specs.Prelude.{nat_lt}
+use Rattle.std.specs.Prelude.{nat_lt, Result}
 use Rattle.bus.specs.declared.message.Body.{Body}
 use Rattle.bus.specs.declared.message.Body.TheVariants.{Piece}
+use Rattle.command_table.specs.declared.command.Command.{Command}
+use Rattle.command_table.specs.declared.fault.CommandFault.{CommandFault}
 use Rattle.node_parts.proofs.ChangeLemmas.{KeepsOwn, keeps_own, records_nothing}
 use Rattle.node_parts.specs.Becomes.{Becomes}
 use Rattle.node_parts.specs.Drafts.{Drafts, Records, at_epoch}
@@ -13,9 +15,12 @@ use Rattle.node_step.specs.Orders.{to_all}
 use Rattle.node_step.specs.Outcome.{Outcome}
 use Rattle.node_step.specs.Roles.{replicas_of}
 use Rattle.node_step.specs.State.{NodeState}
-use Rattle.node_step.specs.Streams.{Requests}
+use Rattle.node_step.specs.Streams.{Requests, is_written, written_by_request}
+use Rattle.node_step.specs.declared.response.Response.{Response}
 use Rattle.resp2.specs.Stream.{stream_spelling}
-use Rattle.replica_rows.specs.Adding.{Adds, pieces_of}
+use Rattle.resp_values.specs.Request.{request_spelling}
+use Rattle.replica_rows.proofs.WriteLemmas.{one_request, written_so}
+use Rattle.replica_rows.specs.Adding.{Adds, is_done, pieces_of, written_if}
 use Rattle.stream_values.specs.Stream.{StreamView, end_of}
 
 -- no bytes are no requests
@@ -69,3 +74,47 @@ pub no_offset : (old : NodeState) (requests : Requests) (bytes : List ℕ) → (
     → nat_lt (end_of old.stream.held + length bytes) (2 ^ 64) ≡ false → has_offset old requests ≡ false
 no_offset old [] bytes some is past = no_bytes bytes some is
 no_offset old (request ∷ requests) bytes some is past = ap (λ (b : List ℕ). nat_lt (end_of old.stream.held + length b) (2 ^ 64)) (sym is) ∙ past
+
+-- ---- a request that was answered
+
+module _ (words : List (List ℕ)) (is_write recorded : Bool) (response : Response) (test : recorded ≡ (is_write && is_done response)) where
+  -- it isn't written
+  not_written : recorded ≡ false → (command : Result Command CommandFault) → is_write ≡ is_written command → [] ≡ written_by_request words command response
+  not_written none command is = sym (ap (λ r. written_if r words) none) ∙ written_so words is_write recorded response command test is
+
+  -- it is, in its words
+  spelled_so : (bytes : List ℕ) → recorded ≡ true → bytes ≡ request_spelling words → (command : Result Command CommandFault) → is_write ≡ is_written command
+      → bytes ≡ stream_spelling (written_by_request words command response)
+  spelled_so bytes some spelled command is =
+      spelled ∙ one_request words ∙ sym (ap (λ (r : Bool). stream_spelling (written_if r words)) some)
+      ∙ ap (λ (requests : Requests). stream_spelling requests) (written_so words is_write recorded response command test is)
+
+-- the bytes of a request are some
+has_bytes : (words : List (List ℕ)) (bytes : List ℕ) → bytes ≡ request_spelling words → (length bytes == 0) ≡ false
+has_bytes words bytes spelled = some (length bytes == 0) refl
+  where
+    some : (none : Bool) → (length bytes == 0) ≡ none → none ≡ false
+    some true is = some_bytes words [] bytes is (spelled ∙ one_request words)
+    some false is = refl
+
+pub request_not_written : (old : NodeState) (draft : Draft) (words : List (List ℕ)) (is_write recorded : Bool) → recorded ≡ (is_write && is_done draft.response) → recorded ≡ false
+    → (outcome : Outcome) (command : Result Command CommandFault) → is_write ≡ is_written command → Drafts old outcome draft
+    → Records old outcome (written_by_request words command draft.response) draft
+request_not_written old draft words is_write recorded test none outcome command is drafts =
+    subst (λ (requests : Requests). Records old outcome requests draft) (not_written words is_write recorded draft.response test none command is) (records_nothing old outcome draft drafts)
+
+pub request_is_written : (old : NodeState) (words : List (List ℕ)) (is_write recorded : Bool) (bytes : List ℕ) (before draft : Draft)
+    → recorded ≡ (is_write && is_done before.response) → recorded ≡ true → bytes ≡ request_spelling words → Adds old bytes before draft
+    → (outcome : Outcome) (command : Result Command CommandFault) → is_write ≡ is_written command → Drafts old outcome before
+    → Records old outcome (written_by_request words command before.response) draft
+request_is_written old words is_write recorded bytes before draft test some spelled adds outcome command is drafts =
+    records_some old outcome (written_by_request words command before.response) bytes before draft (has_bytes words bytes spelled)
+    (spelled_so words is_write recorded before.response test bytes some spelled command is) drafts adds
+
+pub no_offset_for_request : (old : NodeState) (words : List (List ℕ)) (is_write recorded : Bool) (response : Response) (bytes : List ℕ)
+    → recorded ≡ (is_write && is_done response) → recorded ≡ true → bytes ≡ request_spelling words
+    → nat_lt (end_of old.stream.held + length bytes) (2 ^ 64) ≡ false
+    → (command : Result Command CommandFault) → is_write ≡ is_written command → has_offset old (written_by_request words command response) ≡ false
+no_offset_for_request old words is_write recorded response bytes test some spelled past command is =
+    no_offset old (written_by_request words command response) bytes (has_bytes words bytes spelled)
+    (spelled_so words is_write recorded response test bytes some spelled command is) past

@@ -1,6 +1,5 @@
 mod FollowingLemmas
 mod PieceLemmas
 mod AddingLemmas
-mod SpellingLemmas
 mod SyncLemmas
 mod WriteLemmas

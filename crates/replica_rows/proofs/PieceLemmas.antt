@@ -18,18 +18,16 @@ copies masters number other = is_just (slice_index_or masters other None) number
 pub none_sent : (node : NodeState) (before : List (ℕ × Body)) (bytes : List ℕ) → replicas_of node.masters node.number ≡ [] → before ≡ before ++ pieces_of node bytes
 none_sent node before bytes none = sym (ap (λ replicas. before ++ to_all replicas (piece_of node bytes)) none ∙ append-nil before)
 
--- the pieces of those below the last replica, and then its own, are all pieces
+-- the piece for each replica below the last one, and then for that one, is one for each
 pub last_sent : (node : NodeState) (before below after : List (ℕ × Body)) (bytes : List ℕ) (last : ℕ) (sent : Body)
     → replicas_of node.masters node.number ≡ replicas_below node last ++ last ∷ [] → sent ≡ piece_of node bytes
-    → below ≡ before ++ to_all (replicas_below node last) (piece_of node bytes) → after ≡ below ++ (last, sent) ∷ []
+    → below ≡ before ++ to_all (replicas_below node last) sent → after ≡ below ++ (last, sent) ∷ []
     → after ≡ before ++ pieces_of node bytes
 last_sent node before below after bytes last sent are is so more =
-    let body = piece_of node bytes in
-    let others = to_all (replicas_below node last) body in
     more ∙ ap (λ bodies. bodies ++ (last, sent) ∷ []) so
-    ∙ ap (λ (b : Body). (before ++ others) ++ (last, b) ∷ []) is
-    ∙ append_assoc before others ((last, body) ∷ [])
-    ∙ ap (λ bodies. before ++ bodies) (sym (ap (λ numbers. to_all numbers body) are ∙ map-append (λ (other : ℕ). (other, body)) (replicas_below node last) (last ∷ [])))
+    ∙ append_assoc before (to_all (replicas_below node last) sent) ((last, sent) ∷ [])
+    ∙ ap (λ bodies. before ++ bodies) (sym (ap (λ numbers. to_all numbers sent) are ∙ map-append (λ (other : ℕ). (other, sent)) (replicas_below node last) (last ∷ [])))
+    ∙ ap (λ (b : Body). before ++ to_all (replicas_of node.masters node.number) b) is
 
 -- that number is the last of these, or there are none
 pub record IsLastOf (test : ℕ → Bool) (found : Option ℕ) (place : ℕ) : Type 0 where

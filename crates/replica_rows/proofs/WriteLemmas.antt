@@ -3,10 +3,7 @@ use Rattle.std.proofs.Common.{◌≡◌, ◌&&◌, ℕ, Bool, true, false, not, 
 use Rattle.std.specs.Prelude.{Result}
 use Rattle.command_table.specs.declared.command.Command.{Command}
 use Rattle.command_table.specs.declared.fault.CommandFault.{CommandFault}
-use Rattle.keyspace.specs.Keyspace.{Keyspace}
-use Rattle.keyspace.specs.declared.value.Value.{Value}
-use Rattle.migrate.specs.declared.arriving.ArrivalVerdict.{ArrivalVerdict}
-use Rattle.node_step.specs.Streams.{Requests, is_error, is_executed, is_written, written_by_copy, written_by_request}
+use Rattle.node_step.specs.Streams.{Requests, is_error, is_executed, is_written, written_by_request}
 use Rattle.node_step.specs.declared.response.Response.{Response}
 use Rattle.node_step.specs.declared.response.Response.TheVariants.{Nothing, Opened, Parked, Replied}
 use Rattle.resp2.specs.Stream.{stream_spelling}
@@ -43,13 +40,7 @@ as_written words command Parked = nothing (is_written command)
     nothing false = refl
 
 -- a request that is a write, executed without an error
-pub request_written : (words : List (List ℕ)) (is_write recorded : Bool) (response : Response) (bytes : List ℕ) (command : Result Command CommandFault)
-    → bytes ≡ stream_spelling (written_if recorded words) → recorded ≡ (is_write && is_done response) → is_write ≡ is_written command → bytes ≡ stream_spelling (written_by_request words command response)
-request_written words is_write recorded response bytes command spelled test is =
-    spelled ∙ ap (λ (requests : Requests). stream_spelling requests)
-    (ap (λ t. written_if t words) (test ∙ ap (λ w. w && is_done response) is) ∙ as_written words command response)
-
--- a copy with that verdict
-pub copy_written : (keyspace : Keyspace) (pairs : List (List ℕ × Value)) (verdict other : ArrivalVerdict) (bytes : List ℕ) → bytes ≡ stream_spelling (written_by_copy keyspace pairs verdict)
-    → verdict ≡ other → bytes ≡ stream_spelling (written_by_copy keyspace pairs other)
-copy_written keyspace pairs verdict other bytes spelled same = spelled ∙ ap (λ (v : ArrivalVerdict). stream_spelling (written_by_copy keyspace pairs v)) same
+pub written_so : (words : List (List ℕ)) (is_write recorded : Bool) (response : Response) (command : Result Command CommandFault)
+    → recorded ≡ (is_write && is_done response) → is_write ≡ is_written command → written_if recorded words ≡ written_by_request words command response
+written_so words is_write recorded response command test is =
+    ap (λ t. written_if t words) (test ∙ ap (λ w. w && is_done response) is) ∙ as_written words command response

@@ -3,29 +3,14 @@ use Rattle.std.specs.Prelude.{◌≡◌, ◌++◌, ◌∷◌, ◌&&◌, ℕ, Boo
 use Rattle.std.specs.List.{range_with_len}
 use Rattle.bus.specs.declared.message.Body.{Body}
 use Rattle.bus.specs.declared.message.Body.TheVariants.{Piece}
-use Rattle.keyspace.specs.Rebuilding.{rebuilding}
-use Rattle.keyspace.specs.declared.value.Value.{Value}
 use Rattle.node_parts.specs.declared.draft.Draft.{Draft}
 use Rattle.node_step.specs.Orders.{to_all}
 use Rattle.node_step.specs.Roles.{is_just, replicas_of}
 use Rattle.node_step.specs.State.{NodeState}
-use Rattle.node_step.specs.Streams.{Requests, deletion, is_error, is_executed}
+use Rattle.node_step.specs.Streams.{Requests, is_error, is_executed}
 use Rattle.node_step.specs.declared.response.Response.{Response}
 use Rattle.node_step.specs.declared.response.Response.TheVariants.{Nothing, Opened, Parked, Replied}
-use Rattle.resp_values.specs.Request.{request_spelling}
 use Rattle.stream_values.specs.Stream.{end_of}
-
--- what makes a key anew
-abbrev pub rebuilt : Bool → List ℕ → Value → Requests
-rebuilt is_there key value = if is_there then deletion key ∷ rebuilding key value ∷ [] else rebuilding key value ∷ []
-
--- the bytes of a deletion
-abbrev pub deletion_bytes : List ℕ → List ℕ
-deletion_bytes key = request_spelling (deletion key)
-
--- and of one that comes only where the key is there
-abbrev pub deletion_if : Bool → List ℕ → List ℕ
-deletion_if is_there key = if is_there then deletion_bytes key else []
 
 -- the request, if it is to be written
 abbrev pub written_if : Bool → List (List ℕ) → Requests

@@ -1,19 +1,25 @@
 //! What a step writes, in its draft.
-ghost use Rattle.std.specs.Prelude.{◌≡◌, ◌+◌, ◌^◌, nat_lt, length, false, Err, OnOk};
+ghost use Rattle.std.specs.Prelude.{◌≡◌, ◌+◌, ◌^◌, nat_lt, length, false, Err, IfSome, OnOk, Result};
+ghost use Rattle.command_table.specs.declared.command.Command.{Command};
+ghost use Rattle.command_table.specs.declared.fault.CommandFault.{CommandFault};
 ghost use Rattle.node_parts.specs.Drafts.{Drafts, Records};
 ghost use Rattle.node_step.specs.Numbers.{has_offset};
 ghost use Rattle.node_step.specs.Outcome.{Outcome};
-ghost use Rattle.node_step.specs.Streams.{Requests};
+ghost use Rattle.node_step.specs.Streams.{Requests, is_written, written_by_request};
 ghost use Rattle.resp2.specs.Stream.{stream_spelling};
+ghost use Rattle.resp_values.specs.Request.{request_spelling};
 ghost use Rattle.step_fault.specs.declared.fault.StepFault.TheVariants.{Exhausted};
 ghost use Rattle.replica_rows.specs.Adding.{Adds};
 ghost use Rattle.stream_values.specs.Stream.{end_of};
 
 use crate::pieces::append_pieces;
+use crate::writes::is_recorded;
 use node_parts::{Draft, NodeParts};
 use repl_stream::Stream;
+use resp_values::Words;
 use slot_store::{SlotKeys, SlotParts};
 use step_fault::StepFault;
+use stream_requests::request_bytes;
 
 /// Adds the bytes of requests, if there are any, to what the draft writes: they will stand behind the node's stream, and each replica gets them as a
 /// piece.
@@ -31,22 +37,47 @@ pub fn add_written<S: SlotParts + SlotKeys, T: Stream>(
     if bytes.is_empty() {
         return Ok(());
     }
-    add(node, bytes, draft)
+    add(node, bytes, None, draft)
+}
+
+/// The same of a request that was answered, if it is a write that was executed without an error. It is written in its own words, so replicas
+/// get these with the piece.
+#[tactic(auto, using(crate::proofs::AddingLemmas::request_not_written, crate::proofs::AddingLemmas::request_is_written, crate::proofs::AddingLemmas::no_offset_for_request))]
+pub fn add_request<S: SlotParts + SlotKeys, T: Stream>(
+    node: &NodeParts<S, T>,
+    words: &Words,
+    is_write: bool,
+    draft: &mut Draft,
+) -> Result<(), StepFault>
+    ensures records { OnOk result ((outcome : Outcome) (command : Result Command CommandFault) → is_write ≡ is_written command
+        → Drafts node.now outcome draft.old
+        → Records node.now outcome (written_by_request words.now command draft.old.response) draft.new) }
+    ensures exhausted { result ≡ Err Exhausted → (command : Result Command CommandFault) → is_write ≡ is_written command
+        → has_offset node.now (written_by_request words.now command draft.old.response) ≡ false }
+{
+    if !is_recorded(is_write, &draft.response) {
+        return Ok(());
+    }
+    let bytes = request_bytes(node.alloc, words.as_slice())?;
+    add(node, bytes, Some(words), draft)?;
+    Ok(())
 }
 
 // Adds bytes behind which the stream has an offset.
 fn add<S: SlotParts + SlotKeys, T: Stream>(
     node: &NodeParts<S, T>,
     bytes: Vec<u8>,
+    request: Option<&Words>,
     draft: &mut Draft,
 ) -> Result<(), StepFault>
+    requires { IfSome request (λ words. bytes.items ≡ request_spelling words.now) }
     ensures ok { OnOk result (Adds node.now bytes.items draft.old draft.new) }
     ensures exhausted { result ≡ Err Exhausted → nat_lt (end_of node.now.stream.held + length bytes.items) (2 ^ 64) ≡ false }
 {
     if bytes.len() as u64 > u64::MAX - node.stream.received() {
         return Err(StepFault::Exhausted);
     }
-    append_pieces(node, bytes.as_slice(), &mut draft.bodies)?;
+    append_pieces(node, bytes.as_slice(), request, &mut draft.bodies)?;
     draft.written = bytes;
     Ok(())
 }

@@ -4,11 +4,9 @@
 mod adding;
 mod following;
 mod pieces;
-mod spelling;
 mod syncs;
 mod writes;
 
-pub use adding::add_written;
+pub use adding::{add_request, add_written};
 pub use following::{take_piece, take_snapshot};
 pub use syncs::{answer_sync, append_sync};
-pub use writes::{written_by_ack, written_by_copy, written_by_loss, written_by_request};

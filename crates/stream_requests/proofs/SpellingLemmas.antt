@@ -13,7 +13,7 @@ use Rattle.node_step.specs.Streams.{Requests, deletion, written_by_pair, written
 use Rattle.resp2.proofs.Callers.{stream_spelling-append}
 use Rattle.resp2.specs.Stream.{stream_spelling}
 use Rattle.resp_values.specs.Request.{request_spelling}
-use Rattle.replica_rows.specs.Adding.{deletion_bytes, deletion_if, rebuilt}
+use Rattle.stream_requests.specs.Spelling.{deletion_bytes, deletion_if, rebuilt}
 
 pub deletions_spelled : (keys : List (List ℕ)) → flat_map deletion_bytes keys ≡ stream_spelling (map deletion keys)
 deletions_spelled [] = refl

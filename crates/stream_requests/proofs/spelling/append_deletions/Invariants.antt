@@ -1,7 +1,7 @@
 use Rattle.std.proofs.Common.{◌≡◌, ◌++◌, take}
 use Rattle.std.specs.List.{flat_map}
-use Rattle.replica_rows.specs.Adding.{deletion_bytes}
-use Rattle.replica_rows.proofs.spelling.append_deletions.Given as goal
+use Rattle.stream_requests.specs.Spelling.{deletion_bytes}
+use Rattle.stream_requests.proofs.spelling.append_deletions.Given as goal
 
 -- the keys so far are spelled
 abbrev pub invariant-loop-key : goal.invariant-loop-key

@@ -1,9 +1,9 @@
-//! What a step writes, as bytes.
+//! Requests as the bytes that stand behind a stream.
 ghost use Rattle.std.specs.Prelude.{◌≡◌, ◌++◌, IfOk, OnOk, map};
 ghost use Rattle.std.specs.List.{flat_map};
 ghost use Rattle.node_step.specs.Streams.{deletion};
 ghost use Rattle.resp2.specs.Stream.{stream_spelling};
-ghost use Rattle.replica_rows.specs.Adding.{deletion_bytes, deletion_if, rebuilt};
+ghost use Rattle.stream_requests.specs.Spelling.{deletion_bytes, deletion_if, rebuilt};
 ghost use Rattle.resp_values.specs.Request.{request_spelling};
 
 use byte_string::ByteString;
@@ -13,7 +13,7 @@ use std::alloc::{AllocError, Global};
 use std::slice;
 
 /// The bytes of a request of these words.
-pub(crate) fn request_bytes(alloc: Global, words: &[ByteString]) -> Result<Vec<u8>, AllocError>
+pub fn request_bytes(alloc: Global, words: &[ByteString]) -> Result<Vec<u8>, AllocError>
     ensures { IfOk result (λ bytes. bytes.items ≡ request_spelling words.now) }
 {
     let mut bytes = Vec::new(alloc);
@@ -52,7 +52,7 @@ fn append_deletion_if(
 
 /// The bytes of the deletions of these keys.
 #[tactic(auto, using(crate::proofs::SpellingLemmas::deletions_spelled))]
-pub(crate) fn deletions_bytes(alloc: Global, keys: &[ByteString]) -> Result<Vec<u8>, AllocError>
+pub fn deletions_bytes(alloc: Global, keys: &[ByteString]) -> Result<Vec<u8>, AllocError>
     ensures { IfOk result (λ bytes. bytes.items ≡ stream_spelling (map deletion keys.now)) }
 {
     let mut bytes = Vec::new(alloc);

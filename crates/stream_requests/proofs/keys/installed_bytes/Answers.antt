@@ -1,8 +1,8 @@
 use Rattle.std.proofs.Common.{rules, ◌≡◌, ◌<◌, ◌+◌, ◌++◌, ◌∷◌, [], ℕ, List, length, get_or, take, ap, sym, ◌∙◌, arith}
 use Rattle.std.proofs.lemmas.List.{take_more}
 use Rattle.keyspace.specs.declared.value.Value.{Value}
-use Rattle.replica_rows.proofs.SpellingLemmas.{one_more_written}
-use Rattle.replica_rows.proofs.writes.installed_bytes.Goals as goal
+use Rattle.stream_requests.proofs.SpellingLemmas.{one_more_written}
+use Rattle.stream_requests.proofs.keys.installed_bytes.Goals as goal
 
 pub loop-place-preserved : goal.loop-place-preserved
 loop-place-preserved g c =
@@ -11,6 +11,6 @@ loop-place-preserved g c =
     let pair = c.index-pairs-place.result in
     let within : place < length pairs = omega (arith, c.loop-place-test.true) in
     let is : pair ≡ get_or pairs place pair = search rules in
-    one_more_written c.args.node.now.keyspace (take place pairs) (take (place + 1) pairs) pair c.key.result.now c.key-in-loop-place.result.now c.value.result.now c.is_there_behind-is_there.result
+    one_more_written (g.S.Store.contents c.args.store.now) (take place pairs) (take (place + 1) pairs) pair c.key.result.now c.key-in-loop-place.result.now c.value.result.now c.is_there_behind-is_there.result
     c.loop-place.bytes.items _ (take_more pairs place pair within ∙ ap (λ (last : List ℕ × Value). take place pairs ++ last ∷ []) (sym is))
     c.key.ensures c.is_there_behind-is_there.ensures c.key-in-loop-place.ensures c.value.ensures c.in_ok-append_rebuilding.ensures c.loop-place.invariant

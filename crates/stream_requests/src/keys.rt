@@ -1,0 +1,59 @@
+//! What is written for keys that come with a copy, and for those that leave with their slots.
+ghost use Rattle.std.specs.Prelude.{◌≡◌, ◌||◌, IfOk, filter, is_some, map, nat_eq};
+ghost use Rattle.std.specs.Cmp.Lexicographic.{pointwise};
+ghost use Rattle.std.specs.List.{list_any};
+ghost use Rattle.std.specs.FinMap as fin_map;
+ghost use Rattle.node_step.specs.Streams.{deletion, written_by_pairs};
+ghost use Rattle.resp2.specs.Stream.{stream_spelling};
+ghost use Rattle.slot_pairs.specs.Several.{is_in_one};
+
+use crate::spelling::{append_rebuilding, deletions_bytes};
+use byte_string::ByteString;
+use key_slot::Slot;
+use keyspace::{Pair, Store};
+use slot_pairs::keys_in_slots;
+use slot_store::SlotParts;
+use std::alloc::{AllocError, Global};
+
+/// The requests that make all keys of a copy in a store, one after another, each behind the deletion of what is there.
+pub fn installed_bytes<S: Store>(
+    alloc: Global,
+    store: &S,
+    pairs: &[Pair],
+) -> Result<Vec<u8>, AllocError>
+    ensures { IfOk result (λ bytes. bytes.items ≡ stream_spelling (written_by_pairs (S.contents store.now) pairs.now)) }
+{
+    let mut bytes = Vec::new(alloc);
+    for place in 0..pairs.len() {
+        let pair = &pairs[place];
+        let is_there = is_there_behind(store, &pairs[..place], pair.key());
+        append_rebuilding(&mut bytes, pair.key(), pair.value(), is_there)?;
+    }
+    Ok(bytes)
+}
+
+// Whether the key is there once these pairs are.
+fn is_there_behind<S: Store>(store: &S, pairs: &[Pair], key: &ByteString) -> bool
+    ensures { result ≡ (is_some (fin_map.get (S.contents store.now) key.now) || list_any (λ pair. pointwise nat_eq pair.0 key.now) pairs.now) }
+{
+    store.get(key).is_some() || has_key(pairs, key)
+}
+
+// Whether one of the pairs is at the key.
+fn has_key(pairs: &[Pair], key: &ByteString) -> bool
+    ensures { result ≡ list_any (λ pair. pointwise nat_eq pair.0 key.now) pairs.now }
+{
+    pairs.iter().any(|pair| pair.key() == key)
+}
+
+/// The deletions of all keys that a store has in these slots.
+pub fn cleared_bytes<S: SlotParts>(
+    alloc: Global,
+    store: &S,
+    slots: &[Slot],
+) -> Result<Vec<u8>, AllocError>
+    ensures { IfOk result (λ bytes. bytes.items ≡ stream_spelling (map deletion (filter (is_in_one slots.now) (fin_map.keys (S.contents store.now))))) }
+{
+    let keys = keys_in_slots(alloc, store, slots)?;
+    deletions_bytes(alloc, keys.as_slice())
+}
