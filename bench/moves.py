@@ -26,8 +26,8 @@ from watching import PATIENCE, percentile, playing, watch
 KEYS, ROUNDS, AT_ONCE = 10_000, 5, 8
 # The last slot of the first master, of two.
 LAST = 8191
-# How many slots move while a client of each master is watched, with how many keys each, and for how many seconds it is watched before that.
-MANY, FEW, BEFORE = 500, 20, 3
+# How many slots move while a client of each master is watched, with how many keys each, for how many seconds it is watched before that, and how often.
+MANY, FEW, BEFORE, WATCHES = 500, 20, 3, 5
 # A key of each master, in a slot that stays.
 STAYING = (b"b", b"a")
 
@@ -45,16 +45,16 @@ def moves(report):
     report.row(f"A slot of {KEYS:,} keys, seconds", *[spread(it, "{:.3f}") for it in alone])
     report.row(f"{AT_ONCE} such slots at once, seconds", *[spread(it, "{:.3f}") for it in together])
     report.say(f"\n## Requests while {MANY} slots move")
-    report.say(f"\nOne `rcluster reshard` moves {MANY} slots with {FEW} keys each to the other master, and another one moves them back. A client at each master sets a key of a slot that stays, one request after another. Milliseconds that 99 of 100 requests take at most, of those in {BEFORE} seconds before and of those meanwhile.")
+    report.say(f"\nOne `rcluster reshard` moves {MANY} slots with {FEW} keys each to the other master, and another one moves them back. A client at each master sets a key of a slot that stays, one request after another. Milliseconds that 99 of 100 requests take at most, of those in {BEFORE} seconds before and of those meanwhile; medians of {WATCHES} servers that are started in turn, with the least and the most in brackets.")
     report.table("What", *servers.WAYS)
-    watched_all = [watched(options) for options in servers.WAYS.values()]
-    for what, form, values in [
-        ("Seconds, there and back", "{:.2f}", [it.took for it in watched_all]),
-        ("Before", "{:.3f}", [it.before for it in watched_all]),
-        ("Meanwhile", "{:.3f}", [it.meanwhile for it in watched_all]),
-        ("Quotient", "{:.2f}", [it.meanwhile / it.before for it in watched_all]),
+    rounds = [[watched(options) for options in servers.WAYS.values()] for _ in range(WATCHES)]
+    for what, form, figure in [
+        ("Seconds, there and back", "{:.2f}", lambda it: it.took),
+        ("Before", "{:.3f}", lambda it: it.before),
+        ("Meanwhile", "{:.3f}", lambda it: it.meanwhile),
+        ("Quotient", "{:.2f}", lambda it: it.meanwhile / it.before),
     ]:
-        report.row(what, *map(form.format, values))
+        report.row(what, *[spread([figure(it) for it in each], form) for each in zip(*rounds)])
 
 
 def spread(figures, form):
