@@ -40,8 +40,8 @@ pub fn add_written<S: SlotParts + SlotKeys, T: Stream>(
     add(node, bytes, None, draft)
 }
 
-/// The same of a request that was answered, if it is a write that was executed without an error. It is written in its own words, so replicas
-/// get these with the piece.
+/// The same of a request that was answered, if it is a write that was executed without an error: it is written in its own words. The pieces
+/// have its bytes alone, because to give back memory that another thread took costs more than to read them.
 #[tactic(auto, using(crate::proofs::AddingLemmas::request_not_written, crate::proofs::AddingLemmas::request_is_written, crate::proofs::AddingLemmas::no_offset_for_request))]
 pub fn add_request<S: SlotParts + SlotKeys, T: Stream>(
     node: &NodeParts<S, T>,
@@ -59,7 +59,7 @@ pub fn add_request<S: SlotParts + SlotKeys, T: Stream>(
         return Ok(());
     }
     let bytes = request_bytes(node.alloc, words.as_slice())?;
-    add(node, bytes, Some(words), draft)?;
+    add(node, bytes, None, draft)?;
     Ok(())
 }
 
