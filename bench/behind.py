@@ -9,10 +9,8 @@ in one process, and those of Redis are a process each. It needs Debian's redis-s
 """
 
 import contextlib
-import json
 import statistics
 import sys
-import tempfile
 
 import load
 import servers
@@ -45,8 +43,8 @@ def compare(report, name, count, changes):
     report.table("Bytes of a value", "Served by", "SETs a second", "of Redis", "p50, ms", "p99, ms", "of Redis'", "slowest, ms", "of Redis'", "MiB")
     for size in SIZES:
         with contextlib.ExitStack() as stack:
-            ours = {name: stack.enter_context(masters_with_replicas(count, options, **changes)) for name, options in servers.WAYS.items()}
-            ports = {name: server.ports for name, server in ours.items()}
+            ours = {name: stack.enter_context(servers.with_replicas(count, *options, **changes)) for name, options in servers.WAYS.items()}
+            ports = {name: server.ports[:count] for name, server in ours.items()}
             ports["Redis"] = [stack.enter_context(redis_with_replica()).port for _ in range(count)]
             seen = [{name: written(each, size) for name, each in ports.items()} for _ in range(ROUNDS)]
             for name in ports:
@@ -65,22 +63,6 @@ def written(ports, size):
     begun = [load.start(port, ["SET", "{%s}__rand_int__" % tag if len(ports) > 1 else "__rand_int__", "x" * size], COUNT, KEYS, PIPELINE, size, CONNECTIONS, THREADS) for port, tag in zip(ports, TAGS)]
     told = [load.latencies_of(it) for it in begun]
     return {"rate": sum(it["rate"] for it in told), **{what: max(it[what] for it in told) for what in ("p50", "p99", "max")}}
-
-
-def masters_with_replicas(count, options, tick_ms=100, **changes):
-    """So many masters that share the slots, and a replica of each."""
-    first = servers.free_ports(2 * count)
-    nodes = [{"id": "%040x" % it, "host": "127.0.0.1", "port": first + it} for it in range(2 * count)]
-    masters, replicas = nodes[:count], nodes[count:]
-    for number, (master, replica) in enumerate(zip(masters, replicas)):
-        master["slots"] = [[(16384 * number + count - 1) // count, (16384 * (number + 1) + count - 1) // count - 1]]
-        replica["replica_of"] = master["id"]
-    described = {"tick_ms": tick_ms, "node_timeout": 1000, "nodes": nodes, "voters": [it["id"] for it in masters], **changes}
-    with tempfile.NamedTemporaryFile("w", suffix=".json", prefix="bench-", delete=False) as file:
-        json.dump(described, file)
-    server = servers.Server("rcluster", [servers.PROGRAM, "serve", "--config", file.name, *options], first)
-    server.ports = [it["port"] for it in masters]
-    return server
 
 
 if __name__ == "__main__":

@@ -46,7 +46,7 @@ def compare(report):
     report.say(f"\n{COUNT:,} SETs over {KEYS:,} keys, values of {SIZE} bytes, from {CONNECTIONS} connections with pipelines of {PIPELINE}, and {PROCESSORS} processes that count. Medians of {ROUNDS} rounds.")
     report.table("Served by", "SETs a second, alone", "beside the other work", "of alone", "The other work, of what it does alone", "Processors that the server takes, alone", "beside")
     with contextlib.ExitStack() as stack:
-        ours = {name: stack.enter_context(servers.rcluster(*options, program=servers.PROGRAM)) for name, options in servers.WAYS.items()}
+        ours = {name: stack.enter_context(servers.rcluster(*options)) for name, options in servers.WAYS.items()}
         served = {**ours, "Redis": stack.enter_context(servers.redis())}
         for server in served.values():
             load.benchmark(server.port, "set", 3 * KEYS, KEYS, 16, SIZE, 20)

@@ -7,13 +7,11 @@ A failover lasts from the end of a master to the first write that the promoted n
 there. A client asks the replica each millisecond. It needs Debian's redis-server and redis-tools. The report goes to the output, and to FILE.
 """
 
-import json
 import signal
 import socket
 import statistics
 import subprocess
 import sys
-import tempfile
 import time
 
 import servers
@@ -54,26 +52,14 @@ def spread(times):
 
 def ours_after(tick_ms):
     """How many milliseconds a failover takes."""
-    with six_nodes(tick_ms) as server, connect(server.ports[MASTER]) as client, connect(server.ports[REPLICA]) as replica:
+    # The clients connect before the master is stopped.
+    stop = f"{MASTER}@{max(STOP, 1000 // tick_ms)}"
+    cluster = servers.with_replicas(3, "--stop", stop, tick_ms=tick_ms, node_timeout=NODE_TIMEOUT)
+    with cluster as server, connect(server.ports[MASTER]) as client, connect(server.ports[REPLICA]) as replica:
         client.sendall(SET)
         while client.recv(100):
             pass
         return 1000 * seconds_until_served(replica)
-
-
-def six_nodes(tick_ms):
-    """Three masters with a replica each, of which one is stopped."""
-    ports = [servers.free_port() for _ in range(6)]
-    nodes = [{"id": "%040x" % it, "host": "127.0.0.1", "port": port} for it, port in enumerate(ports)]
-    for master, replica, slots in zip(nodes, nodes[3:], servers.THIRDS):
-        master["slots"], replica["replica_of"] = [slots], master["id"]
-    with tempfile.NamedTemporaryFile("w", suffix=".json", prefix="bench-", delete=False) as file:
-        json.dump({"tick_ms": tick_ms, "node_timeout": NODE_TIMEOUT, "nodes": nodes, "voters": [it["id"] for it in nodes[:3]]}, file)
-    # The clients connect before the master is stopped.
-    stop = max(STOP, 1000 // tick_ms)
-    server = servers.Server("rcluster", [servers.PROGRAM, "serve", "--config", file.name, "--stop", f"{MASTER}@{stop}"], ports[0])
-    server.ports = ports
-    return server
 
 
 def connect(port):

@@ -9,12 +9,10 @@ again a millisecond later what is to be tried again. It needs Debian's redis-ser
 """
 
 import contextlib
-import json
 import multiprocessing
 import socket
 import statistics
 import sys
-import tempfile
 import threading
 import time
 
@@ -82,21 +80,8 @@ def spread(times):
 
 
 def ours(tick_ms, options):
-    with six_nodes(tick_ms, options) as server:
+    with servers.with_replicas(3, *options, tick_ms=tick_ms, node_timeout=NODE_TIMEOUT, backlog=16 << 20) as server:
         return Handover(server.ports[MASTER], server.ports[REPLICA], [server.ports[it] for it in OTHERS])
-
-
-def six_nodes(tick_ms, options):
-    """Three masters with a replica each."""
-    ports = [servers.free_port() for _ in range(6)]
-    nodes = [{"id": "%040x" % it, "host": "127.0.0.1", "port": port} for it, port in enumerate(ports)]
-    for master, replica, slots in zip(nodes, nodes[3:], servers.THIRDS):
-        master["slots"], replica["replica_of"] = [slots], master["id"]
-    with tempfile.NamedTemporaryFile("w", suffix=".json", prefix="bench-", delete=False) as file:
-        json.dump({"tick_ms": tick_ms, "node_timeout": NODE_TIMEOUT, "backlog": 16 << 20, "nodes": nodes, "voters": [it["id"] for it in nodes[:3]]}, file)
-    server = servers.Server("rcluster", [servers.PROGRAM, "serve", "--config", file.name, *options], ports[0])
-    server.ports = ports
-    return server
 
 
 def theirs(ports):

@@ -52,7 +52,7 @@ def three_masters(report):
 
 def our_servers(stack, make):
     """One of these clusters for each way in which clients are served, until the stack ends."""
-    return {name: stack.enter_context(make(*options, program=servers.PROGRAM)) for name, options in servers.WAYS.items()}
+    return {name: stack.enter_context(make(*options)) for name, options in servers.WAYS.items()}
 
 
 def fill(ports, prefixes):

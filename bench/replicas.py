@@ -10,12 +10,10 @@ output, and to FILE.
 """
 
 import contextlib
-import json
 import re
 import statistics
 import subprocess
 import sys
-import tempfile
 import time
 
 import load
@@ -44,7 +42,7 @@ def rates(report):
     report.say(f"\n{KEYS:,} keys, values of {SIZE} bytes. Rates and milliseconds are medians of {ROUNDS} rounds, and so are the quotients by Redis in the same round.")
     report.table("Connections", "Pipeline", "Command", "Served by", "Requests a second", "of Redis", "p50, ms", "p99, ms", "slowest, ms")
     with contextlib.ExitStack() as stack:
-        ports = {name: stack.enter_context(pair_of_nodes(options)).port for name, options in servers.WAYS.items()}
+        ports = {name: stack.enter_context(servers.with_replicas(1, *options)).port for name, options in servers.WAYS.items()}
         ports["Redis"] = stack.enter_context(redis_with_replica()).port
         for port in ports.values():
             load.benchmark(port, "set", 3 * KEYS, KEYS, 16, SIZE, 20)
@@ -55,17 +53,6 @@ def rates(report):
                     rate, p50, p99, slowest = (statistics.median(each[name][what] for each in rounds) for what in ("rate", "p50", "p99", "max"))
                     of_redis = statistics.median(each[name]["rate"] / each["Redis"]["rate"] for each in rounds)
                     report.row(connections, pipeline, command, name, f"{rate:,.0f}", f"{of_redis:.2f}", f"{p50:.2f}", f"{p99:.2f}", f"{slowest:.1f}")
-
-
-def pair_of_nodes(options, tick_ms=100, under=()):
-    """A master with all slots, and its replica."""
-    ports = [servers.free_port() for _ in range(2)]
-    nodes = [{"id": "%040x" % it, "host": "127.0.0.1", "port": port} for it, port in enumerate(ports)]
-    nodes[0]["slots"] = [[0, 16383]]
-    nodes[1]["replica_of"] = nodes[0]["id"]
-    with tempfile.NamedTemporaryFile("w", suffix=".json", prefix="bench-", delete=False) as file:
-        json.dump({"tick_ms": tick_ms, "node_timeout": 1000, "nodes": nodes, "voters": [nodes[0]["id"]]}, file)
-    return servers.Server("rcluster", [servers.PROGRAM, "serve", "--config", file.name, *options], ports[0], under)
 
 
 @contextlib.contextmanager
@@ -92,7 +79,7 @@ def lags(report):
 
 
 def lag_at_the_end(options, quiet):
-    with pair_of_nodes(("--ticks", str(TICKS), "--log", *options), TICK_MS) as server:
+    with servers.with_replicas(1, "--ticks", str(TICKS), "--log", *options, tick_ms=TICK_MS) as server:
         begun = time.monotonic()
         sending = load.start(server.port, "set", 100_000_000, KEYS, 16, SIZE, 20)
         if quiet:
@@ -113,7 +100,7 @@ def costs(report):
     report.say("\n## Instructions of a SET")
     report.say(f"\nOne connection, pipelines of 16, {COUNTED_KEYS:,} random keys that are there, values of {COUNTED_SIZE} bytes, counted by valgrind. What a replica in the same process does counts, too.")
     report.table("Nodes", "Instructions")
-    for name, make in (("a master alone", servers.rcluster), ("a master and its replica", lambda under: pair_of_nodes((), under=under))):
+    for name, make in (("a master alone", servers.rcluster), ("a master and its replica", lambda under: servers.with_replicas(1, under=under))):
         report.row(name, f"{(counted(make, 2) - counted(make, 1)) / COUNTED:,.0f}")
 
 
@@ -133,7 +120,7 @@ def memory(report):
     report.say(f"\nResident memory in MiB, at the start and after each tenth of {MANY:,} SETs over {FEW_KEYS:,} keys.")
     report.table("Served by", "At the start", *[f"{MANY // LOOKS * it:,}" for it in range(1, LOOKS + 1)])
     for name, options in servers.WAYS.items():
-        with pair_of_nodes(options) as server:
+        with servers.with_replicas(1, *options) as server:
             sizes = [server.resident_bytes()]
             for _ in range(LOOKS):
                 load.benchmark(server.port, "set", MANY // LOOKS, FEW_KEYS, 16, SIZE, 20)

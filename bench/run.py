@@ -317,13 +317,19 @@ def measure(words, title, *parts):
     words, out = without_out(words)
     if words:
         servers.PROGRAM = os.path.abspath(words[0])
-    report = Report()
-    report.say(f"# {time.strftime('%-d %B %Y')}, {title}")
-    report.say(f"\n{machine()}; Redis {servers.redis_version()} beside it; load at the start {os.getloadavg()[0]:.1f}.")
+    report = begin(title)
     for part in parts:
         part(report)
     report.say(f"\nLoad at the end {os.getloadavg()[0]:.1f}.")
     report.write(out)
+
+
+def begin(*titles):
+    """A report whose first lines say of which day it is, what it is about, and what it is measured on."""
+    report = Report()
+    report.say("# " + ", ".join([time.strftime("%-d %B %Y"), *titles]))
+    report.say(f"\n{machine()}; Redis {servers.redis_version()} beside it; load at the start {os.getloadavg()[0]:.1f}.")
+    return report
 
 
 def without_out(words):
@@ -341,9 +347,7 @@ def main(words):
     if any(word not in PARTS for word in wanted):
         print(__doc__, file=sys.stderr)
         return 2
-    report = Report()
-    report.say(f"# {time.strftime('%-d %B %Y')}")
-    report.say(f"\n{machine()}; Redis {servers.redis_version()} beside it; load at the start {os.getloadavg()[0]:.1f}.")
+    report = begin()
     for word in wanted:
         PARTS[word](report, scale)
     report.write(out)

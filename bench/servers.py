@@ -41,11 +41,12 @@ def free_ports(count):
 
 
 class Server:
-    """A server that runs until the `with` ends."""
+    """A server that runs until the `with` ends. The temporary file of its configuration, if it has one, is removed then."""
 
-    def __init__(self, name, words, port, under=()):
+    def __init__(self, name, words, port, under=(), file=None):
         self.name = name
         self.port = port
+        self.file = file
         self.process = subprocess.Popen(
             [*under, *words], stdout=subprocess.DEVNULL, stderr=subprocess.PIPE, text=True
         )
@@ -67,6 +68,8 @@ class Server:
     def __exit__(self, *_):
         self.process.send_signal(signal.SIGTERM)
         self.said = self.process.communicate(timeout=PATIENCE)[1]
+        if self.file:
+            self.file.close()
 
     def processor_seconds(self):
         with open(f"/proc/{self.process.pid}/stat", encoding="utf-8") as file:
@@ -85,32 +88,43 @@ class Server:
             return int(re.search(rf"{name}:\s+(\d+) kB", file.read())[1]) * 1024
 
 
-def rcluster(*options, under=(), program=PROGRAM):
-    """Returns one node that owns all slots."""
-    return cluster_of([[0, 16383]], options, under, program)
+def rcluster(*options, under=(), program=None):
+    """Returns one node that owns all slots, of this program or of `PROGRAM`."""
+    return cluster_of(masters(1), options, under, program)
 
 
-# The slots of three masters that share them evenly.
-THIRDS = [[0, 5460], [5461, 10922], [10923, 16383]]
-
-
-def three_masters(*options, program=PROGRAM):
+def three_masters(*options):
     """Returns three nodes with a third of the slots each; their ports are `ports`."""
-    return cluster_of(THIRDS, options, (), program)
+    return cluster_of(masters(3), options)
 
 
-def cluster_of(ranges, options, under, program=PROGRAM):
-    ports = [free_port() for _ in ranges]
-    nodes = [
-        {"id": "%040x" % number, "host": "127.0.0.1", "port": port, "slots": [slots]}
-        for number, (port, slots) in enumerate(zip(ports, ranges))
-    ]
-    voters = [node["id"] for node in nodes]
-    file = tempfile.NamedTemporaryFile("w", suffix=".json", prefix="bench-", delete=False)
-    with file:
-        json.dump({"tick_ms": 10000, "node_timeout": 20, "nodes": nodes, "voters": voters}, file)
-    server = Server("rcluster", [program, "serve", "--config", file.name, *options], ports[0], under)
-    server.ports = ports
+def with_replicas(count, *options, under=(), **settings):
+    """Returns so many masters that share the slots, and behind them a replica of each; their ports are `ports`. The settings are those of the
+    configuration.
+    """
+    replicas = [{"replica_of": id_of(number)} for number in range(count)]
+    return cluster_of([*masters(count), *replicas], options, under, **{"tick_ms": 100, "node_timeout": 1000, **settings})
+
+
+def masters(count):
+    """What the configuration says of so many masters that share the slots evenly."""
+    bounds = [round(16384 * number / count) for number in range(count + 1)]
+    return [{"slots": [[first, behind - 1]]} for first, behind in zip(bounds, bounds[1:])]
+
+
+def id_of(number):
+    return "%040x" % number
+
+
+def cluster_of(roles, options, under=(), program=None, tick_ms=10000, node_timeout=20, **settings):
+    first = free_ports(len(roles))
+    nodes = [{"id": id_of(number), "host": "127.0.0.1", "port": first + number, **role} for number, role in enumerate(roles)]
+    voters = [node["id"] for node in nodes if "slots" in node]
+    file = tempfile.NamedTemporaryFile("w", suffix=".json", prefix="bench-")
+    json.dump({"tick_ms": tick_ms, "node_timeout": node_timeout, "nodes": nodes, "voters": voters, **settings}, file)
+    file.flush()
+    server = Server("rcluster", [program or PROGRAM, "serve", "--config", file.name, *options], first, under, file)
+    server.ports = [node["port"] for node in nodes]
     return server
 
 

@@ -34,7 +34,7 @@ def main(words):
 
 def all_servers():
     """Returns what makes each server, by its name."""
-    ours = {name: functools.partial(servers.rcluster, *options, program=servers.PROGRAM) for name, options in servers.WAYS.items()}
+    ours = {name: functools.partial(servers.rcluster, *options) for name, options in servers.WAYS.items()}
     return {**ours, "Redis": servers.redis}
 
 
@@ -96,9 +96,8 @@ def crowd(port, count):
         client.connect_ex(("127.0.0.1", port))
         clients.append(client)
     for client in clients:
+        # What is sent waits until the client is connected, and no longer than this.
         client.settimeout(servers.PATIENCE)
-        while client.connect_ex(("127.0.0.1", port)) not in (0, 106):
-            pass
         client.sendall(PING)
     for client in clients:
         assert client.recv(len(PONG), socket.MSG_WAITALL) == PONG

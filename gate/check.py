@@ -14,7 +14,7 @@ import time
 import kit
 from processes import end_in_order, started
 from processor_time import ProcessorTime, ended_seconds
-from quick_check import build_programs, is_run_right
+from quick_check import build_programs, is_run_right, run_side_by_side, say_of_script
 from report import Progress, known_seconds
 from sources import PROGRAM, ROOT, crate_names, note_built, program_of, unproved_program
 from wrong import try_wrong_bodies
@@ -57,7 +57,7 @@ def check(words):
     passed, failed = pass_crates(words)
     if not failed:
         note_built(program_of(PROGRAM), PROGRAM)
-    are_well = [run_script(program_of, *it) for it in SCRIPTS]
+    are_well = [run_script(words_of(program_of, *it)) for it in SCRIPTS]
     passed, failed = passed + are_well.count(True), failed + are_well.count(False)
     print(f"in {time.monotonic() - begun:.0f} s on {os.cpu_count()} cores, {ended_seconds():.0f} s of a processor")
     print(f"{passed} passed, {failed} failed")
@@ -73,7 +73,8 @@ def check_quickly():
         if it not in built:
             print(f"{it}: it isn't built, so each script that runs it has FAILED", flush=True)
     are_well = [it in built and is_run_right(it) for it in programs]
-    are_well += [it[1] in (None, *built) and run_script(unproved_program, *it) for it in SCRIPTS]
+    may_run = [it for it in SCRIPTS if it[1] in (None, *built)]
+    are_well += [False] * (len(SCRIPTS) - len(may_run)) + run_side_by_side([words_of(unproved_program, *it) for it in may_run])
     print(f"in {time.monotonic() - begun:.0f} s on {os.cpu_count()} cores")
     print(f"{are_well.count(True)} passed, {are_well.count(False)} failed; nothing was proved")
     return 0 if all(are_well) else 1
@@ -105,14 +106,18 @@ def pass_crates(words):
         return report.passed, max(report.failed, int(gate.wait() != 0)) + report.bad_edits
 
 
-def run_script(place, script, program, *options):
-    """Runs a test script with the program that lies in that place, and returns whether all is well."""
+def run_script(words):
+    """Runs a test script, and returns whether all is well."""
     begun = time.monotonic()
-    words = [script, *options]
-    with started([*words, *([place(program)] if program else [])], by=signal.SIGINT) as running:
+    with started(words, by=signal.SIGINT) as running:
         is_well = running.wait() == 0
-    print(f"{' '.join(words)}: {'passed' if is_well else 'FAILED'} in {time.monotonic() - begun:.0f} s", flush=True)
+    say_of_script(words, is_well, begun)
     return is_well
+
+
+def words_of(place, script, program, *options):
+    """Returns the words that run a test script with the program that lies in that place."""
+    return [script, *options, *([place(program)] if program else [])]
 
 
 if __name__ == "__main__":

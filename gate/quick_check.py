@@ -1,10 +1,12 @@
-"""Builds programs without their proofs, and runs each as the kit's gate runs it."""
+"""Builds programs without their proofs, runs each as the kit's gate runs it, and runs test scripts side by side."""
 
 import contextlib
 import os
 import shutil
+import signal
 import subprocess
 import sys
+import tempfile
 import time
 
 from processes import started, temporary_folder
@@ -15,6 +17,10 @@ BUILD = os.path.join(ROOT, "gate", "quick_build.py")
 MOST_BUILDS = 2
 # How long a program may run, in seconds.
 PATIENCE = 120
+# How many test scripts run at once: one for two processors, because some look at what is done in time.
+MOST_SCRIPTS = max(1, (os.cpu_count() or 1) // 2)
+# These take longest, so they begin first.
+LONG_SCRIPT = "tests/on_a_socket/run"
 
 
 def build_programs(crates):
@@ -62,3 +68,28 @@ def text_in(folder, name):
             return file.read()
     except FileNotFoundError:
         return b""
+
+
+def run_side_by_side(scripts):
+    """Runs test scripts, each by its words, and returns whether all is well with each. What one of them prints is shown as it ends."""
+    left, running, are_well = sorted(scripts, key=lambda it: it[0] != LONG_SCRIPT), [], []
+    with contextlib.ExitStack() as ending:
+        while left or running:
+            while left and len(running) < MOST_SCRIPTS:
+                words, printed = left.pop(0), ending.enter_context(tempfile.TemporaryFile("w+"))
+                how = {"stdout": printed, "stderr": subprocess.STDOUT}
+                running.append((ending.enter_context(started(words, by=signal.SIGINT, **how)), words, printed, time.monotonic()))
+            time.sleep(0.2)
+            for script, words, printed, begun in [it for it in running if it[0].poll() is not None]:
+                printed.seek(0)
+                print(printed.read(), end="")
+                are_well.append(script.returncode == 0)
+                say_of_script(words, are_well[-1], begun)
+            running = [it for it in running if it[0].returncode is None]
+    return are_well
+
+
+def say_of_script(words, is_well, begun):
+    """Says how a test script ended, by its words up to the program that it runs."""
+    named = " ".join(it for it in words if not os.path.isabs(it))
+    print(f"{named}: {'passed' if is_well else 'FAILED'} in {time.monotonic() - begun:.0f} s", flush=True)

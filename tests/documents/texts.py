@@ -3,6 +3,8 @@
 import os
 import re
 
+import sources
+
 ROOT = os.path.dirname(os.path.dirname(os.path.dirname(os.path.abspath(__file__))))
 WORD = re.compile(r"[A-Za-z_]\w*")
 # From there to the end of a line a comment stands.
@@ -42,12 +44,9 @@ def files_below(folder):
 
 
 def libraries(known={}):
-    """The libraries that files of each crate cite, by crates.txt."""
+    """The libraries that files of each crate cite, by crates.txt, lowest first."""
     if not known:
-        for line in text("crates.txt").split("\n"):
-            if line and not line.startswith("#"):
-                crate, cited = line.split(":")
-                known[crate.split()[0]] = cited.split()
+        known.update(sources.libraries())
     return known
 
 

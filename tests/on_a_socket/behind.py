@@ -10,21 +10,20 @@ import clusters
 from clusters import ports_of
 from following import keys_at
 from program import Server
-from wire import PATIENCE, connect, playing, slot_of, spelled
+from wire import OK, PATIENCE, ask, connect, playing, slot_of, spelled
 
 KEYS = 100_000
 # How many clients write for how many seconds, each so many requests at once.
 CLIENTS, WRITING, BATCH = 4, 2, 16
 # A slot whose keys are compared.
 COMPARED = slot_of(b"0")
-OK = b"+OK\r\n"
 
 
 def play(judge):
     cluster = clusters.with_replicas(1, 1, backlog=64, node_timeout=1000000)
     master, replica = ports_of(cluster)
     with Server(cluster):
-        write(master, range(KEYS))
+        judge.equal("whether all keys were set", write(master, range(KEYS)), True)
         ended = threading.Event()
         answered = [[] for _ in range(CLIENTS)]
         with playing([functools.partial(write_until, master, ended, each) for each in answered]):
@@ -42,14 +41,11 @@ def write_until(port, ended, answered):
     """Writes batches, and notes of each whether it was answered."""
     while not ended.is_set():
         answered.append(False)
-        write(port, range(BATCH))
-        answered[-1] = True
+        answered[-1] = write(port, range(BATCH))
 
 
 def write(port, keys):
-    """Sets all these keys at once, and takes the replies."""
+    """Sets all these keys at once, and returns whether each request was answered by OK."""
+    requests, replies = b"".join(spelled(b"SET", b"%d" % key, b"v" * 100) for key in keys), OK * len(keys)
     with connect(port) as client:
-        client.sendall(b"".join(spelled(b"SET", b"%d" % key, b"v" * 100) for key in keys))
-        left = len(OK) * len(keys)
-        while left:
-            left -= len(client.recv(left))
+        return ask(client, requests, replies) == replies

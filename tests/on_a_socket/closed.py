@@ -1,7 +1,7 @@
-"""The program with standard input, output or error closed when it starts.
+"""The program with standard input, output or error closed when it starts, or with a standard error that is full.
 
 No socket and no file gets one of their descriptors: what can't be printed goes to no node, and is told as such. A closed standard input is one
-without a line.
+without a line. Where standard error can't be written, the code and the status still tell of a failure.
 """
 
 import subprocess
@@ -13,6 +13,7 @@ from program import PATIENCE, Server
 from wire import OK, spelled, talk
 
 WORDS = ("SET", "foo", "v")
+NO_FILE = ("simulate", "--config", "/nonexistent", "--script", "/nonexistent")
 
 
 def play(judge):
@@ -32,6 +33,10 @@ def play(judge):
         judge.equal("all three closed: the node serves", talk(ports[2], spelled(b"GET", b"foo")), b"$1\r\nv\r\n")
     status, output, errors = run(">&-", "serve", "--masters", "1", "--port", "0", "--ticks", "3")
     judge.equal("a server with a closed output", (status, output, errors[-6:]), (1, b"", b" (F4)\n"))
+    for what, closing in (("a closed standard error", "2>&-"), ("a full standard error", "2>/dev/full")):
+        judge.equal(f"{what}: a file that isn't there", run(closing, *NO_FILE), (1, b"fault F1\n", b""))
+        judge.equal(f"{what}: a server without a source", run(closing, "serve"), (2, b"", b""))
+        judge.equal(f"{what}: a word that is no option", run(closing, "serve", "--nothing"), (2, b"", b""))
 
 
 def run(closing, *words):

@@ -23,12 +23,12 @@ from program import PATIENCE, Server
 from resharding import reshard_patiently
 from wire import NIL, OK, PING, PONG, array, ask, bulk, connect, spelled, talk
 
-LINE = re.compile(rb"rcluster: (\d+\.\d{3}) node (\d+): a client isn't served, since (.*)\n")
+LINE = re.compile(rb"rcluster: (\d+\.\d{3}) node (\d+): a client isn't served, because (.*)\n")
 OF_A_SLOT = re.compile(rb"rcluster: (\d+\.\d{3}) (node \d+: slot \d+ (?:arrived from node \d+, keys|left for node \d+, keys deleted): \d+)\n")
 OF_A_HANDOVER = re.compile(rb"rcluster: (\d+\.\d{3}) (node \d+: (?:hands over to|noted that|promoted in place of) node \d+[^\n]*)\n")
 MISSING = re.compile(rb"rcluster: \d+\.\d{3} lines that are missing before this one: (\d+)\n")
 NOT_STARTED = re.compile(
-    rb"rcluster: \d+\.\d{3} node \d+: a thread isn't started, since the system starts no thread\n"
+    rb"rcluster: \d+\.\d{3} node \d+: a thread isn't started, because the system starts no thread\n"
     rb"rcluster: a node's thread can't be started \(F3\)\n"
 )
 NO_DESCRIPTOR, NO_THREAD = b"no descriptor is left", b"the system starts no thread"

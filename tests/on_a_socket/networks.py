@@ -30,7 +30,10 @@ WRONG = (
     (b"1 0 pass*1000000 lose\n", b"line 1 is wrong: a link has at most 1000000 acts"),
     (b"0 1 \xff\n", b"the text isn't UTF-8"),
 )
-CHANCES = ("seed=", "seed=1,lose=5", "seed=1,lose=60%,hold=41%", "seed=1,delay=5%", "seed=1,acts=1000001")
+CHANCES = ("seed=", "seed=1,lose=5", "seed=1,lose=60%,hold=41%", "seed=1,delay=5%", "seed=1,acts=1000001", "acts=100,lose", "loose=5%")
+# Numbers without a seed, and the verdict of a run, which stands behind the addresses of the nodes.
+SEEDLESS = ("lose=5%,hold=5%", "lose=5%,acts=100", "acts=100")
+AUDITED = re.compile(rb"\naudit ok [0-9]+\n\Z")
 
 # Networks, each as its acts are told.
 NETWORKS = (
@@ -67,7 +70,10 @@ def play_words(judge):
     for text, why in WRONG:
         status, output, error = run(*words, "acts", files={"acts": text})
         judge.true(f"{text[:40]}: refused", status == 2 and not output and why in error, repr((status, output, error)))
-    judge.equal("numbers without a seed", run(*words, "lose=5%,hold=5%"), (0, b"", b""))
+    for text in SEEDLESS:
+        judge.equal(f"{text}: taken", run(*words, text), (0, b"", b""))
+    status, output, error = run("serve", "--masters", "2", "--port", "0", "--ticks", "3", "--network", SEEDLESS[1])
+    judge.true(f"{SEEDLESS[1]}: served", status == 0 and AUDITED.search(output), repr((status, output, error)))
     judge.equal("a file that isn't there", run(*words, "acts")[:2], (1, b"fault F1\n"))
     judge.equal("a file that says nothing", run(*words, "acts", files={"acts": b""}), (0, b"", b""))
 

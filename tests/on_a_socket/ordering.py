@@ -49,7 +49,7 @@ def play_stop(judge):
         judge.true("an order: the node refuses clients", refuses_in_time(ports[STOPPED]), "it doesn't")
         judge.equal("an order: its end is told", told(server, rb"rcluster: \d+\.\d{3} node (\d+): is stopped\n"), [b"%d" % STOPPED])
         told_wrong = told(server, rb'rcluster: "([^\n]*)" is no order: there are `status`, and `stop N` with the number of a node from 0 to 5\n')
-        judge.equal("lines that are no orders are told", told_wrong, [*WRONG[:7], b"?", b"\\\\"])
+        judge.equal("lines that are no orders are told", told_wrong, [*WRONG[:7], rb"\xff", b"\\\\"])
         end_input(server)
         redirected = moved(slot_of(b"foo"), ports[REPLICA])
         judge.true("an order: the replica takes the place", in_time(lambda: talk(ports[0], spelled(b"GET", b"foo")) == redirected), "it doesn't")

@@ -9,7 +9,7 @@ import clusters
 from clusters import ports_of
 from following import keys_at
 from program import Server
-from wire import PATIENCE, connect, playing, slot_of, spelled
+from wire import OK, PATIENCE, ask, connect, playing, slot_of, spelled
 
 # So many clients write so many batches each, over so many keys with values of so many bytes.
 CLIENTS, BATCHES, BATCH, KEYS, LENGTH = 8, 1_000, 16, 40_000, 1000
@@ -17,7 +17,6 @@ CLIENTS, BATCHES, BATCH, KEYS, LENGTH = 8, 1_000, 16, 40_000, 1000
 ROOM = 64 << 20
 # A slot whose keys are compared.
 COMPARED = slot_of(b"0")
-OK = b"+OK\r\n"
 
 
 def play(judge):
@@ -26,8 +25,7 @@ def play(judge):
     master, replica = ports_of(cluster)
     with Server(cluster) as server:
         begun = most_memory(server)
-        with playing([functools.partial(write, master, number) for number in range(CLIENTS)]):
-            pass
+        write_all(judge, "a master with a replica", master)
         judge.most("bytes that a master and its replica took at most, both copies of the keys and the room apart", most_memory(server) - begun - 2 * copy - ROOM, 0)
         last = time.monotonic() + PATIENCE
         while keys_at(master, COMPARED) != keys_at(replica, COMPARED) and time.monotonic() < last:
@@ -40,23 +38,28 @@ def memory_of(judge, cluster):
     (port,) = ports_of(cluster)
     with Server(cluster) as server:
         begun = most_memory(server)
-        with playing([functools.partial(write, port, number) for number in range(CLIENTS)]):
-            pass
+        write_all(judge, "a master alone", port)
         taken = most_memory(server) - begun
     judge.least("bytes that the keys take at one node", taken, KEYS * LENGTH)
     return taken
 
 
-def write(port, number):
-    """Writes the batches of the client of that number. Each key is written by one client."""
-    share = KEYS // CLIENTS
+def write_all(judge, what, port):
+    """All clients write their batches at once, and each batch has to be answered."""
+    answered = []
+    with playing([functools.partial(write, port, number, answered) for number in range(CLIENTS)]):
+        pass
+    judge.equal(f"{what}: batches that were answered by OK", answered.count(True), CLIENTS * BATCHES)
+
+
+def write(port, number, answered):
+    """Writes the batches of the client of that number, and notes of each whether it was answered by OK. Each key is written by one client."""
+    share, replies = KEYS // CLIENTS, OK * BATCH
     with connect(port) as client:
         for batch in range(BATCHES):
             keys = [number * share + (batch * BATCH + place) % share for place in range(BATCH)]
-            client.sendall(b"".join(spelled(b"SET", b"%d" % key, b"%d" % batch + b"v" * LENGTH) for key in keys))
-            left = len(OK) * BATCH
-            while left:
-                left -= len(client.recv(left))
+            requests = b"".join(spelled(b"SET", b"%d" % key, b"%d" % batch + b"v" * LENGTH) for key in keys)
+            answered.append(ask(client, requests, replies) == replies)
 
 
 def most_memory(server):

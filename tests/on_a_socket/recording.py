@@ -2,7 +2,7 @@
 
 Each ticket has a line, in order, and as many as the audit counts. What clients were answered stands there with its reason. Each message that a node
 took stands in the line of the step that sent it, for that node and with the same words. A slot moves meanwhile, a master hands over, another one is
-stopped and its replica is promoted. The whole run can be drawn. A file that can't be written is refused before any node listens.
+stopped and its replica is promoted. The whole run can be drawn. A file that can't be written is refused before any address is printed.
 """
 
 import os
@@ -119,5 +119,5 @@ def play_refused(judge):
     judge.true("a record that finds no room: the verdict is printed", re.fullmatch(rb"node 0 127.0.0.1:\d+\naudit ok \d+\n", output), repr(output))
     judge.equal("a record that finds no room", (status, errors[-5:]), (1, b"(F4)\n"))
     status, output, errors = run("serve", "--masters", "1", "--port", "0", "--ticks", "5", "--record", "nowhere/run.record")
-    judge.equal("a file that can't be written: no node listens", (status, output), (1, b""))
+    judge.equal("a file that can't be written: no address is printed", (status, output), (1, b""))
     judge.equal("a file that can't be written: the sentence", errors, b"rcluster: nowhere/run.record can't be written: No such file or directory (os error 2) (F4)\n")

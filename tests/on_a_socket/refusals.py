@@ -74,7 +74,7 @@ def play_scripts(judge):
         (b"x" * 101, f"no step begins with \"{'x' * 100}..\": \"{'x' * 100}..\""),
     ]:
         came = program.run(*words, text=json.dumps(clusters.masters(1)), files={"script": b"tick 0\n" + line + b"\ntick 0\n"})
-        sentence = f"rcluster: script: line 2 is no step, since {said} (S2)\n"
+        sentence = f"rcluster: script: line 2 is no step, because {said} (S2)\n"
         judge.equal(f"a script with the line {line!r}", came, (1, b"fault S2\n", sentence.encode()))
 
 

@@ -3,8 +3,11 @@ use Rattle.std.proofs.Common.{◌≡◌, ◌==◌, ◌&&◌, ◌∙◌, ℕ, Boo
 use Rattle.std.specs.Prelude.{Contains, MatchBool, Result, Ok, Err}
 use Rattle.std.proofs.lemmas.List.Elements.{Contains-append_cases}
 use Rattle.bus.specs.declared.message.Body.{Body}
-use Rattle.bus.specs.declared.message.Body.TheVariants.{Copy, Ack, Drained, Claim, Report, Candidacy as Requested, Grant, Sync, Piece, Snapshot, Pause, Paused}
-use Rattle.bus.specs.declared.message.Handing.{Handing}
+use Rattle.bus.specs.declared.bodies.ElectionBody.TheVariants.{Candidacy as Requested, Grant, Pause, Paused}
+use Rattle.bus.specs.declared.bodies.SlotsBody.TheVariants.{Copy, Ack, Drained, Claim}
+use Rattle.bus.specs.declared.bodies.StreamBody.TheVariants.{Sync, Piece, Snapshot}
+use Rattle.bus.specs.declared.message.Body.TheVariants.{Slots, Stream, Election, Report}
+use Rattle.bus.specs.declared.bodies.Handing.{Handing}
 use Rattle.bus.specs.declared.message.Message.{Message}
 use Rattle.command_table.specs.Table.{command_of}
 use Rattle.command_table.specs.declared.command.ClusterCommand.{ClusterCommand}
@@ -148,26 +151,26 @@ voted_stays node (Some elected) = by_plan node.candidate.planned
     by_plan false = by_master (own_master node)
 
 taken_so_stays : (node : NodeState) (from : ℕ) (choice : Choice) (body : Body) → Stays node (taken_so node from choice body)
-taken_so_stays node from choice (Copy id pairs) = refl
-taken_so_stays node from choice (Ack id) = acknowledged_stays node id (acknowledged_keys (move_of node.moves id.slot) from id.number id.copy)
-taken_so_stays node from choice (Drained slot number epoch) = refl
-taken_so_stays node from choice (Claim slots replaced) = by_own (from == node.number) (merged node.table slots from)
+taken_so_stays node from choice (Slots (Copy id pairs)) = refl
+taken_so_stays node from choice (Slots (Ack id)) = acknowledged_stays node id (acknowledged_keys (move_of node.moves id.slot) from id.number id.copy)
+taken_so_stays node from choice (Slots (Drained slot number epoch)) = refl
+taken_so_stays node from choice (Slots (Claim slots replaced)) = by_own (from == node.number) (merged node.table slots from)
   where
     by_own : (own : Bool) (table : List (Option SlotEntry)) → (cond own (silent node) (claimed_by node table)).state.number ≡ node.number
     by_own true table = refl
     by_own false table = refl
 taken_so_stays node from choice (Report suspects) = refl
-taken_so_stays node from choice (Requested request) = refl
-taken_so_stays node from choice (Grant epoch) = voted_stays (record node { candidate = counted node.candidate (members_of node) from epoch }) (elected node.candidate (members_of node) from epoch)
-taken_so_stays node from choice (Sync sync) = synced_is (Stays node) node from sync refl refl
-taken_so_stays node from choice (Piece piece) = pieced_keeps (IsOfNumber node) node (λ stream keyspace. refl) from piece choice.follower
-taken_so_stays node from choice (Snapshot snapshot) = restored_keeps (IsOfNumber node) node (λ stream keyspace. refl) from snapshot
-taken_so_stays node from choice (Pause stream) = by_test (may_pause node from stream)
+taken_so_stays node from choice (Election (Requested request)) = refl
+taken_so_stays node from choice (Election (Grant epoch)) = voted_stays (record node { candidate = counted node.candidate (members_of node) from epoch }) (elected node.candidate (members_of node) from epoch)
+taken_so_stays node from choice (Stream (Sync sync)) = synced_is (Stays node) node from sync refl refl
+taken_so_stays node from choice (Stream (Piece piece)) = pieced_keeps (IsOfNumber node) node (λ stream keyspace. refl) from piece choice.follower
+taken_so_stays node from choice (Stream (Snapshot snapshot)) = restored_keeps (IsOfNumber node) node (λ stream keyspace. refl) from snapshot
+taken_so_stays node from choice (Election (Pause stream)) = by_test (may_pause node from stream)
   where
     by_test : (b : Bool) → (cond b (handing_over node from) (silent node)).state.number ≡ node.number
     by_test true = refl
     by_test false = refl
-taken_so_stays node from choice (Paused handing) = by_test (is_replica node && is_same handing.stream node.stream.held.id)
+taken_so_stays node from choice (Election (Paused handing)) = by_test (is_replica node && is_same handing.stream node.stream.held.id)
   where
     by_test : (b : Bool) → (cond b (record node { handover = noting node.handover handing }) node).number ≡ node.number
     by_test true = refl

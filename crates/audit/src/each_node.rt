@@ -24,9 +24,12 @@ pub(crate) fn put_in_order<T: OfNode + Drop>(
     count: usize,
     mut all: Vec<T>,
 ) -> Result<Option<Vec<T>>, AllocError>
-    ensures order { IfOk result (λ found. IfSome found (λ ordered. map T.node ordered.items ≡ range_with_len 0 count)) }
-    ensures same { IfOk result (λ found. IfSome found (λ ordered. IsPermutation all.items ordered.items)) }
-    ensures none { IfOk result (λ found. IfNone found (AreEachOnce count (map T.node all.items) → ⊥)) }
+    ensures order { IfOk result
+        (λ found. IfSome found (λ ordered. map T.node ordered.items ≡ range_with_len 0 count)) }
+    ensures same { IfOk result
+        (λ found. IfSome found (λ ordered. IsPermutation all.items ordered.items)) }
+    ensures none { IfOk result
+        (λ found. IfNone found (AreEachOnce count (map T.node all.items) → ⊥)) }
 {
     let mut ordered = Vec::with_capacity(alloc, count)?;
     for number in 0..count {

@@ -46,7 +46,8 @@ pub fn gather<K: Deployment>(
     requires table { id_of table.now ≡ K.table }
     requires seats { K.seats ≡ length K.config.nodes }
     ensures run { IfOk result (λ run. IsGathered K.config (parts_of cells.items) run) }
-    ensures stranger { IfErr result (λ fault. fault ≡ Stranger → HasStranger K.config (parts_of cells.items)) }
+    ensures stranger { IfErr result
+        (λ fault. fault ≡ Stranger → HasStranger K.config (parts_of cells.items)) }
 {
     if cells.is_empty() {
         return Err(AuditFault::Stranger);
@@ -66,8 +67,10 @@ fn merge<K: Deployment>(table: &Table, config: Config, taken: Taken) -> Result<W
     requires seats { K.seats ≡ length K.config.nodes }
     requires config { config ≡ K.config }
     requires taken { (parts : List PartView) × IsAllOf K.config K.table K.seats taken parts }
-    ensures run { IfOk result (λ run. (parts : List PartView) → IsAllOf K.config K.table K.seats taken parts → IsGathered K.config parts run) }
-    ensures stranger { IfErr result (λ fault. fault ≡ Stranger → (parts : List PartView) → IsAllOf K.config K.table K.seats taken parts → HasStranger K.config parts) }
+    ensures run { IfOk result (λ run. (parts : List PartView)
+        → IsAllOf K.config K.table K.seats taken parts → IsGathered K.config parts run) }
+    ensures stranger { IfErr result (λ fault. fault ≡ Stranger → (parts : List PartView)
+        → IsAllOf K.config K.table K.seats taken parts → HasStranger K.config parts) }
 {
     let _at_least_one = config.nodes();
     let Taken { journals, seats } = taken;

@@ -23,8 +23,10 @@ pub(crate) fn take_apart<K: Deployment>(
     mut parts: Vec<Part<K>>,
 ) -> Result<Option<Taken>, AllocError>
     requires { count ≡ length K.config.nodes }
-    ensures some { IfOk result (λ found. IfSome found (λ taken. AreTaken K.config K.table K.seats parts.items count taken.journals.items taken.seats.items [])) }
-    ensures none { IfOk result (λ found. IfNone found (AreEachOnce count (nodes_of parts.items) → ⊥)) }
+    ensures some { IfOk result (λ found. IfSome found
+        (λ taken. AreTaken K.config K.table K.seats parts.items count taken.journals.items taken.seats.items [])) }
+    ensures none { IfOk result
+        (λ found. IfNone found (AreEachOnce count (nodes_of parts.items) → ⊥)) }
 {
     let mut journals = Vec::with_capacity(alloc, count)?;
     let mut seats = Vec::with_capacity(alloc, count)?;

@@ -51,7 +51,8 @@ impl<K: Deployment> Part<K> {
     pub(crate) fn into_parts(self) -> (Vec<Entry>, Seat)
         ensures entries { result.0.items ≡ self.entries }
         ensures node { IsOfNode K.config self.node self.entries }
-        ensures seat { (drawn result.1 ≡ tickets_of self.entries) × (table_of result.1 ≡ K.table) × (seats_of result.1 ≡ K.seats) }
+        ensures seat { (drawn result.1 ≡ tickets_of self.entries) × (table_of result.1 ≡ K.table)
+            × (seats_of result.1 ≡ K.seats) }
     {
         let Part {
             node: _,

@@ -1,7 +1,7 @@
 //! Whether two messages are the same.
 ghost use Rattle.std.specs.Prelude.{◌≡◌, ◌≢◌, true, false};
 
-use bus::{Body, Handing, Message};
+use bus::{Body, ElectionBody, Handing, Message, SlotsBody, StreamBody};
 use hash::Hash;
 use keyspace::{Pair, Value};
 use slot_table::{Epoch, Run};
@@ -24,39 +24,73 @@ fn is_same_body(one: &Body, other: &Body) -> bool
     ensures differ { result ≡ false → one.now ≢ other.now }
 {
     match (one, other) {
+        (Body::Slots(body), Body::Slots(other)) => is_same_of_slots(body, other),
+        (Body::Stream(body), Body::Stream(other)) => is_same_of_stream(body, other),
+        (Body::Election(body), Body::Election(other)) => is_same_of_election(body, other),
+        (Body::Report(suspects), Body::Report(other)) => {
+            are_same_marks(suspects.as_slice(), other.as_slice())
+        }
+        _ => false,
+    }
+}
+
+fn is_same_of_slots(one: &SlotsBody, other: &SlotsBody) -> bool
+    ensures same { result ≡ true → one.now ≡ other.now }
+    ensures differ { result ≡ false → one.now ≢ other.now }
+{
+    match (one, other) {
         (
-            Body::Copy { id, pairs },
-            Body::Copy {
+            SlotsBody::Copy { id, pairs },
+            SlotsBody::Copy {
                 id: other_id,
                 pairs: other_pairs,
             },
         ) => id == other_id && are_same_pairs(pairs.as_slice(), other_pairs.as_slice()),
-        (Body::Ack(id), Body::Ack(other)) => id == other,
+        (SlotsBody::Ack(id), SlotsBody::Ack(other)) => id == other,
         (
-            Body::Drained {
+            SlotsBody::Drained {
                 slot,
                 number,
                 epoch,
             },
-            Body::Drained {
+            SlotsBody::Drained {
                 slot: other_slot,
                 number: other_number,
                 epoch: other_epoch,
             },
         ) => slot == other_slot && number == other_number && epoch == other_epoch,
-        (Body::Claim(claim, replaced), Body::Claim(other_claim, other_replaced)) => {
+        (SlotsBody::Claim(claim, replaced), SlotsBody::Claim(other_claim, other_replaced)) => {
             are_same_runs(claim.runs(), other_claim.runs()) && replaced == other_replaced
         }
-        (Body::Report(suspects), Body::Report(other)) => {
-            are_same_marks(suspects.as_slice(), other.as_slice())
+        _ => false,
+    }
+}
+
+fn is_same_of_stream(one: &StreamBody, other: &StreamBody) -> bool
+    ensures same { result ≡ true → one.now ≡ other.now }
+    ensures differ { result ≡ false → one.now ≢ other.now }
+{
+    match (one, other) {
+        (StreamBody::Sync(sync), StreamBody::Sync(other)) => sync == other,
+        (StreamBody::Piece(piece), StreamBody::Piece(other)) => is_same_piece(piece, other),
+        (StreamBody::Snapshot(snapshot), StreamBody::Snapshot(other)) => {
+            is_same_snapshot(snapshot, other)
         }
-        (Body::Candidacy(request), Body::Candidacy(other)) => request == other,
-        (Body::Grant(epoch), Body::Grant(other)) => epoch == other,
-        (Body::Sync(sync), Body::Sync(other)) => sync == other,
-        (Body::Piece(piece), Body::Piece(other)) => is_same_piece(piece, other),
-        (Body::Snapshot(snapshot), Body::Snapshot(other)) => is_same_snapshot(snapshot, other),
-        (Body::Pause(stream), Body::Pause(other)) => stream == other,
-        (Body::Paused(handing), Body::Paused(other)) => is_same_handing(handing, other),
+        _ => false,
+    }
+}
+
+fn is_same_of_election(one: &ElectionBody, other: &ElectionBody) -> bool
+    ensures same { result ≡ true → one.now ≡ other.now }
+    ensures differ { result ≡ false → one.now ≢ other.now }
+{
+    match (one, other) {
+        (ElectionBody::Candidacy(request), ElectionBody::Candidacy(other)) => request == other,
+        (ElectionBody::Grant(epoch), ElectionBody::Grant(other)) => epoch == other,
+        (ElectionBody::Pause(stream), ElectionBody::Pause(other)) => stream == other,
+        (ElectionBody::Paused(handing), ElectionBody::Paused(other)) => {
+            is_same_handing(handing, other)
+        }
         _ => false,
     }
 }

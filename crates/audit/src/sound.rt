@@ -1,5 +1,5 @@
 //! Whether what journals say of messages agrees.
-ghost use Rattle.std.specs.Prelude.{◌≡◌, ◌<◌, length, true, false, All, Contains};
+ghost use Rattle.std.specs.Prelude.{◌≡◌, true, false, All, Contains};
 ghost use Rattle.audit.specs.Merge.{AllAreSound, IsSound, WasSent, sent_in};
 
 use crate::journal::NodeJournal;

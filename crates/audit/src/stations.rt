@@ -39,8 +39,10 @@ pub fn gather_stations<K: Deployment, W: Web, E: PortEnd<Carried = Posted<K>>>(
 ) -> Result<WorldRun, AuditFault>
     requires table { id_of table.now ≡ K.table }
     requires seats { K.seats ≡ length K.config.nodes }
-    ensures run { IfOk result (λ run. IsGathered K.config (parts_of (cells_of stations.items)) run) }
-    ensures stranger { IfErr result (λ fault. fault ≡ Stranger → 0 < length K.config.nodes → AreEachOnce (length K.config.nodes) (nodes_of (parts_of (cells_of stations.items))) → ⊥) }
+    ensures run { IfOk result
+        (λ run. IsGathered K.config (parts_of (cells_of stations.items)) run) }
+    ensures stranger { IfErr result (λ fault. fault ≡ Stranger → 0 < length K.config.nodes
+        → AreEachOnce (length K.config.nodes) (nodes_of (parts_of (cells_of stations.items))) → ⊥) }
 {
     if stations.is_empty() {
         return Err(AuditFault::Stranger);
@@ -64,7 +66,8 @@ fn gather_in_order<K: Deployment, W: Web, E: PortEnd<Carried = Posted<K>>>(
     requires seats { K.seats ≡ length K.config.nodes }
     requires config { config ≡ K.config }
     requires order { AreInOrder (length K.config.nodes) stations.items }
-    ensures run { IfOk result (λ run. IsGathered K.config (parts_of (cells_of stations.items)) run) }
+    ensures run { IfOk result
+        (λ run. IsGathered K.config (parts_of (cells_of stations.items)) run) }
     ensures memory { IfErr result (λ fault. fault ≡ Memory) }
 {
     let count = config.nodes().len();
@@ -84,7 +87,8 @@ fn finish_all<K: Deployment, W: Web, E: PortEnd<Carried = Posted<K>>>(
     ensures parts { IfOk result (λ left. left.0.items ≡ parts_of (cells_of stations.items)) }
     ensures ends { IfOk result (λ left. left.1.items ≡ map ends_of stations.items) }
     ensures stations { IfOk result (λ _. All (IsStation W.links) stations.items) }
-    ensures cluster { IfOk result (λ _. All (λ station. station.cell.config ≡ K.config) stations.items) }
+    ensures cluster { IfOk result
+        (λ _. All (λ station. station.cell.config ≡ K.config) stations.items) }
 {
     let mut parts = Vec::with_capacity(alloc, stations.len())?;
     let mut all_ends = Vec::with_capacity(alloc, stations.len())?;
@@ -123,7 +127,8 @@ fn merge<K: Deployment>(table: &Table, config: Config, taken: Taken) -> WorldRun
     requires config { config ≡ K.config }
     requires taken { (parts : List PartView) × IsAllOf K.config K.table K.seats taken parts }
     requires sound { AllAreSound taken.journals.items }
-    ensures { (parts : List PartView) → IsAllOf K.config K.table K.seats taken parts → IsGathered K.config parts result }
+    ensures { (parts : List PartView) → IsAllOf K.config K.table K.seats taken parts
+        → IsGathered K.config parts result }
 {
     let _at_least_one = config.nodes();
     let Taken { journals, seats } = taken;

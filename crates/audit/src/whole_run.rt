@@ -36,7 +36,8 @@ impl Model for WorldRun {
 
     ghost Value = { RunView };
 
-    ghost view = { λ run. record { config = run.config; entries = merged run.tickets run.journals.items } };
+    ghost view = { λ run.
+        record { config = run.config; entries = merged run.tickets run.journals.items } };
 
     ghost invariant = { λ run. AreJournals run.config run.tickets run.journals.items };
 }
@@ -56,7 +57,8 @@ impl WorldRun {
 
     /// What the node with that number did, by rising ticket: its part of the run.
     pub fn journal(&self, node: NodeNo) -> Option<&[Entry]>
-        ensures some { IfSome result (λ entries. entries_of node self.now.entries ≡ map (placed node) entries.now) }
+        ensures some { IfSome result
+            (λ entries. entries_of node self.now.entries ≡ map (placed node) entries.now) }
         ensures none { IfNone result (length self.now.config.nodes ≤ node) }
     {
         Some(self.journals.get(node.index())?.entries())
@@ -70,8 +72,10 @@ impl WorldRun {
     pub fn steps(&self) -> u64
         ensures count { result ≡ length self.now.entries }
         ensures run { IsRun self.now.config self.now.entries }
-        ensures one_keyspace { KeepsAsking [] (until_promotion self.now.entries) → AreOfOneKeyspace (executed (until_promotion self.now.entries)) }
-        ensures settled { AreSettled (until_promotion self.now.entries) → AreOfOneKeyspace (executed (until_promotion self.now.entries)) }
+        ensures one_keyspace { KeepsAsking [] (until_promotion self.now.entries)
+            → AreOfOneKeyspace (executed (until_promotion self.now.entries)) }
+        ensures settled { AreSettled (until_promotion self.now.entries)
+            → AreOfOneKeyspace (executed (until_promotion self.now.entries)) }
         ensures one_master { HasOneMasterAnEpoch self.now.config.voters self.now.entries }
         ensures promoted_prefix { PromotionsGoOn self.now.config self.now.entries }
     {

@@ -156,7 +156,10 @@ impl PartialEq for ByteString {
     ghost laws = { partial_equiv_from_equiv nat_list_eq_equiv };
 
     fn eq(&self, other: &ByteString) -> bool {
-        self.as_slice() == other.as_slice()
+        match (&self.form, &other.form) {
+            (Form::Short(short), Form::Short(other)) => short.order(other).is_eq(),
+            _ => self.as_slice() == other.as_slice(),
+        }
     }
 }
 

@@ -8,12 +8,12 @@ use listener::SharedGate;
 use mio::Token;
 use slab::Slab;
 use std::alloc::{AllocError, Global};
-use std::collections::VecDeque;
 use std::io;
 use std::net::TcpStream;
 use std::rt::Clock;
 use std::sync::Wait;
 use std::time::Duration;
+use turn_queue::TurnQueue;
 
 // How many milliseconds pass at most before what wants memory is tried again where memory was refused.
 const PAUSE: u64 = 10;
@@ -42,12 +42,11 @@ struct ClientLoop<G: SharedGate> {
     alloc: Global,
     poller: Poller,
     clients: Slab<LoopClient<G>, Global>,
-    // The keys of those that have their turn, each once, and of those that wait for a reply. There is room for all in each list.
-    due: VecDeque<usize>,
-    listening: VecDeque<usize>,
-    // The keys of those that were told why their conversation ended, and are still read for a moment, in the order in which they began that.
-    // There is room for all here, too.
-    lingering: VecDeque<usize>,
+    // Those that have their turn, and those that wait for a reply. Each client has room in each queue.
+    due: TurnQueue,
+    listening: TurnQueue,
+    // Those that were told why their conversation ended, and are still read for a moment, in the order in which they began that.
+    lingering: TurnQueue,
     // How many of those that have their turn only wait for memory.
     starved: usize,
 }
@@ -73,9 +72,9 @@ impl<G: SharedGate> ClientLoop<G> {
             alloc,
             poller,
             clients: Slab::new(alloc),
-            due: VecDeque::new(alloc),
-            listening: VecDeque::new(alloc),
-            lingering: VecDeque::new(alloc),
+            due: TurnQueue::new(alloc),
+            listening: TurnQueue::new(alloc),
+            lingering: TurnQueue::new(alloc),
             starved: 0,
         }
     }
@@ -116,7 +115,7 @@ impl<G: SharedGate> ClientLoop<G> {
             match self.clients.get_mut(key) {
                 Some(client) => {
                     client.note_event(event);
-                    add_due(&mut self.due, key, client);
+                    self.due.add(key);
                 }
                 None => is_called |= event.token() == CALL,
             }
@@ -140,7 +139,7 @@ impl<G: SharedGate> ClientLoop<G> {
 
     // For how long the first of those is read that are still read for a moment.
     fn lingering_left<R: Clock>(&self, rt: &R) -> Option<Duration> {
-        let client = self.clients.get(*self.lingering.front()?)?;
+        let client = self.clients.get(self.lingering.front()?)?;
         Some(client.time_left(rt).unwrap_or(Duration::ZERO))
     }
 
@@ -179,19 +178,18 @@ impl<G: SharedGate> ClientLoop<G> {
         self.poller.register(stream, self.clients.vacant_key())
     }
 
-    fn add(&mut self, mut client: LoopClient<G>) -> Result<(), AllocError> {
-        let key = self.clients.vacant_key();
-        add_due(&mut self.due, key, &mut client);
-        let _key = self.clients.insert(client).map_err(AllocError::from)?;
+    fn add(&mut self, client: LoopClient<G>) -> Result<(), AllocError> {
+        let key = self.clients.insert(client).map_err(AllocError::from)?;
+        self.due.add(key);
         Ok(())
     }
 
-    // Makes room for one more client in all lists, so that none is full later.
+    // Makes room for one more client, in each queue, too.
     fn make_room(&mut self) -> Result<(), AllocError> {
-        let count = self.clients.len().saturating_add(1);
-        self.due.reserve(count)?;
-        self.listening.reserve(count)?;
-        self.lingering.reserve(count)?;
+        let key = self.clients.vacant_key();
+        self.due.make_room(key)?;
+        self.listening.make_room(key)?;
+        self.lingering.make_room(key)?;
         self.clients.reserve(1)
     }
 
@@ -205,10 +203,9 @@ impl<G: SharedGate> ClientLoop<G> {
                 continue;
             };
             client.listen(gate, is_closed);
-            client.is_listening = false;
             match client.is_parked() {
-                true => add_listening(&mut self.listening, key, client),
-                false => add_due(&mut self.due, key, client),
+                true => self.listening.add(key),
+                false => self.due.add(key),
             }
         }
         gate.release();
@@ -230,7 +227,7 @@ impl<G: SharedGate> ClientLoop<G> {
             if let Some(client) = self.clients.get_mut(*key) {
                 client.ask(self.alloc, gate);
                 is_awaited |= client.is_parked();
-                gate.let_others_in();
+                gate.give_way();
             }
         }
         match is_awaited {
@@ -263,7 +260,7 @@ impl<G: SharedGate> ClientLoop<G> {
     // Reads those no more that were read long enough. They have their turn, in which they are let go.
     fn end_lingering<R: Clock>(&mut self, rt: &R) {
         for _ in 0..self.lingering.len() {
-            let Some(key) = self.lingering.front().copied() else {
+            let Some(key) = self.lingering.front() else {
                 break;
             };
             let Some(client) = self.clients.get_mut(key) else {
@@ -273,8 +270,7 @@ impl<G: SharedGate> ClientLoop<G> {
                 break;
             }
             client.stop_lingering();
-            client.is_lingering = false;
-            add_due(&mut self.due, key, client);
+            self.due.add(key);
             let _first = self.lingering.pop_front();
         }
     }
@@ -282,7 +278,7 @@ impl<G: SharedGate> ClientLoop<G> {
     // Lets those go for whom nothing more is done.
     fn let_go<L: Register>(&mut self, register: &L) {
         for index in 0..self.due.len() {
-            let Some(key) = self.due.get(index).copied() else {
+            let Some(key) = self.due.get(index) else {
                 break;
             };
             if self.clients.get(key).is_some_and(|client| client.is_over()) {
@@ -295,37 +291,32 @@ impl<G: SharedGate> ClientLoop<G> {
         let Some(client) = self.clients.try_remove(key) else {
             return;
         };
-        if client.is_listening {
-            self.listening.retain(|other| *other != key);
-        }
-        if client.is_lingering {
-            self.lingering.retain(|other| *other != key);
-        }
+        self.listening.remove(key);
+        self.lingering.remove(key);
         self.poller.deregister(client.raw_fd());
         let number = client.number;
         drop(client);
         register.note_left(number);
     }
 
-    // Keeps those in the lists that go on at once, those that wait for a reply, and those that are still read for a moment.
+    // Keeps those in the queues that go on at once, those that wait for a reply, and those that are still read for a moment.
     fn settle(&mut self) {
         self.starved = 0;
         for _ in 0..self.due.len() {
             let Some(key) = self.due.pop_front() else {
                 break;
             };
-            let Some(client) = self.clients.get_mut(key) else {
+            let Some(client) = self.clients.get(key) else {
                 continue;
             };
             if client.is_parked() {
-                add_listening(&mut self.listening, key, client);
+                self.listening.add(key);
             }
             if client.is_leaving() {
-                add_lingering(&mut self.lingering, key, client);
+                self.lingering.add(key);
             }
-            client.is_due = false;
             if client.goes_on() {
-                add_due(&mut self.due, key, client);
+                self.due.add(key);
                 self.starved = self
                     .starved
                     .saturating_add(usize::from(client.is_starved()));
@@ -336,35 +327,6 @@ impl<G: SharedGate> ClientLoop<G> {
     // Whether all clients have left, and none waits in the inbox, which takes none from then on.
     fn is_alone<R: Wait>(&self, rt: &R, inbox: &Inbox<G::Asks>) -> bool {
         self.clients.is_empty() && inbox.close(rt)
-    }
-}
-
-// Gives a client its turn.
-fn add_due<G: SharedGate>(due: &mut VecDeque<usize>, key: usize, client: &mut LoopClient<G>) {
-    if !client.is_due {
-        client.is_due = due.push_back(key).is_ok();
-    }
-}
-
-// Has a client wait for a reply.
-fn add_listening<G: SharedGate>(
-    listening: &mut VecDeque<usize>,
-    key: usize,
-    client: &mut LoopClient<G>,
-) {
-    if !client.is_listening {
-        client.is_listening = listening.push_back(key).is_ok();
-    }
-}
-
-// Has a client be read for a moment that was told why its conversation ended.
-fn add_lingering<G: SharedGate>(
-    lingering: &mut VecDeque<usize>,
-    key: usize,
-    client: &mut LoopClient<G>,
-) {
-    if !client.is_lingering {
-        client.is_lingering = lingering.push_back(key).is_ok();
     }
 }
 

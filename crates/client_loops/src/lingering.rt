@@ -1,13 +1,14 @@
 //! A client that was told by a line why its conversation ended, and is still read for a moment.
 
 use listener::{ConnFault, Rest};
+use std::net::{Shutdown, TcpStream};
 use std::rt::Clock;
 use std::time::{Duration, Instant};
 
-// So many bytes of a client are read at most: twice those of the longest request.
+// How many bytes of a client are read at most: twice those of the longest request.
 const MOST_BYTES: usize = 33_554_432;
 
-// So many seconds a client is read at most. To send a request of 15 MiB takes as long at 25 million bits a second.
+// How many seconds a client is read at most. To send a request of 15 MiB takes as long at 25 million bits a second.
 const LONGEST: u64 = 5;
 
 /// Whether the last that a client reads is a line that tells it why the conversation ended.
@@ -22,7 +23,7 @@ pub fn is_told(ended: Result<Rest, ConnFault>) -> bool {
 
 /// For how long a client is still read that was told why its conversation ended, and how much of it. What it sends is forgotten.
 ///
-/// If its connection was closed while bytes of it are unread, the system would reset it at the client, which may still be sending and would then
+/// If its connection were closed while bytes of it were unread, the system would reset it at the client, which may still be sending and would then
 /// fail before it reads the line.
 #[derive(Clone, Copy)]
 pub struct Lingering {
@@ -32,8 +33,9 @@ pub struct Lingering {
 }
 
 impl Lingering {
-    /// From now on. There is None where there is no clock.
-    pub fn begin<R: Clock>(rt: &R) -> Option<Lingering> {
+    /// From now on. The client of the stream sees that nothing more comes. There is None where the system can't tell it that, or has no clock.
+    pub fn begin<R: Clock>(rt: &R, stream: &TcpStream) -> Option<Lingering> {
+        stream.shutdown(Shutdown::Write).ok()?;
         let begun = Instant::now(rt).ok()?;
         Some(Lingering {
             begun,
@@ -51,7 +53,7 @@ impl Lingering {
         }
     }
 
-    /// Notes that so many bytes were read, and says whether more may be.
+    /// Notes that this many bytes were read, and says whether more may be.
     pub fn note_read(&mut self, count: usize) -> bool {
         self.left = self.left.saturating_sub(count);
         self.left > 0

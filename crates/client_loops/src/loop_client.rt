@@ -9,13 +9,13 @@ use resp2::Counting;
 use std::alloc::Global;
 use std::io::Read;
 use std::mem;
-use std::net::{Shutdown, TcpStream};
+use std::net::TcpStream;
 use std::os::fd::{AsRawFd, RawFd};
 use std::rt::Clock;
 use std::sync::Arc;
 use std::time::Duration;
 
-// After so many of its requests the other clients have their turn.
+// After this many of its requests the other clients have their turn.
 const MOST_ANSWERED: u32 = 64;
 
 /// A client on a socket that doesn't wait.
@@ -35,12 +35,6 @@ pub(crate) struct LoopClient<G: SharedGate> {
     may_read: bool,
     // The client sends nothing more. The system tells of that once, so a short read isn't the last one.
     has_hung_up: bool,
-    /// It is in the list of those that have their turn.
-    pub(crate) is_due: bool,
-    /// It is in the list of those that wait for a reply.
-    pub(crate) is_listening: bool,
-    /// It is in the list of those that were told why their conversation ended, and are still read.
-    pub(crate) is_lingering: bool,
 }
 
 // It does what the derive would. Written out it is one call wherever a client is let go.
@@ -55,9 +49,6 @@ impl<G: SharedGate> Drop for LoopClient<G> {
             left: _,
             may_read: _,
             has_hung_up: _,
-            is_due: _,
-            is_listening: _,
-            is_lingering: _,
         } = self;
     }
 }
@@ -97,9 +88,6 @@ impl<G: SharedGate> LoopClient<G> {
             left: Left::Nothing,
             may_read: false,
             has_hung_up: false,
-            is_due: false,
-            is_listening: false,
-            is_lingering: false,
         }
     }
 
@@ -167,10 +155,10 @@ impl<G: SharedGate> LoopClient<G> {
 
     /// Has the node do what comes next: open the connection, answer some requests, or close the connection.
     pub(crate) fn ask(&mut self, alloc: Global, gate: &mut G) {
-        gate.exchange(&mut self.asks);
+        gate.swap_asks(&mut self.asks);
         self.answer(gate);
         self.change_stage(alloc, gate);
-        gate.exchange(&mut self.asks);
+        gate.swap_asks(&mut self.asks);
     }
 
     // Has the node answer some requests, if that is what comes next.
@@ -227,9 +215,9 @@ impl<G: SharedGate> LoopClient<G> {
         if !talk.is_parked() {
             return;
         }
-        gate.exchange(&mut self.asks);
+        gate.swap_asks(&mut self.asks);
         let heard = hear(talk, gate, is_closed);
-        gate.exchange(&mut self.asks);
+        gate.swap_asks(&mut self.asks);
         match heard {
             Ok(true) => self.next = Next::Answer,
             Ok(false) => {}
@@ -273,10 +261,7 @@ impl<G: SharedGate> LoopClient<G> {
 
     // What comes behind the last line: the client sees that nothing more comes, and is read for a moment.
     fn behind_line<R: Clock>(&self, rt: &R) -> Stage<G::Answer> {
-        if self.stream.shutdown(Shutdown::Write).is_err() {
-            return Stage::Over;
-        }
-        match Lingering::begin(rt) {
+        match Lingering::begin(rt, &*self.stream) {
             Some(lingering) => Stage::Leaving(lingering),
             None => Stage::Over,
         }
@@ -293,9 +278,13 @@ impl<G: SharedGate> LoopClient<G> {
 
     /// Whether there is more to be done for the client at once.
     pub(crate) fn goes_on(&self) -> bool {
+        if self.is_ended() {
+            return true;
+        }
+        if self.is_leaving() {
+            return self.may_read;
+        }
         match self.left {
-            _ if self.is_ended() => true,
-            _ if self.is_leaving() => self.may_read,
             Left::More | Left::NoMemory => true,
             Left::Blocked => false,
             Left::Nothing => match self.next {

@@ -7,10 +7,10 @@ use std::io;
 use std::net::{Net, TcpStream};
 use std::os::fd::{AsRawFd, RawFd};
 
-// So many bytes are read at most from a client in its turn. All clients are read into the same room.
+// How many bytes are read at most from a client in its turn. All clients are read into the same room.
 const READ_SIZE: usize = 65_536;
 
-// The system tells of so many clients at most before those have their turn.
+// Of how many clients the system tells at most before those have their turn.
 const MOST_EVENTS: usize = 256;
 
 /// By this the system tells that the thread was woken. No client has it as its number.

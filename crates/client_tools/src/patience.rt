@@ -16,7 +16,7 @@ pub(crate) struct Patience<'a, R: Drop> {
 }
 
 impl<'a, R: Eprint + Clock + Drop> Patience<'a, R> {
-    /// So many seconds.
+    /// At most this many seconds.
     pub(crate) fn new(rt: R, seen: &'a RefCell<Seen>, seconds: u64) -> Patience<'a, R> {
         Patience {
             rt,

@@ -85,8 +85,13 @@ impl Progress {
     /// Takes the line away.
     pub(crate) fn end<R: Eprint>(&mut self, rt: &R) {
         if self.is_there {
-            let _gone = eprint!(rt; "\r{:<70}\r", "");
+            clear_line(rt);
             self.is_there = false;
         }
     }
+}
+
+/// Takes away the line on a terminal that tells how far a run has come. No such line is longer than 70 characters.
+pub(crate) fn clear_line<R: Eprint>(rt: &R) {
+    let _gone = eprint!(rt; "\r{:<70}\r", "");
 }

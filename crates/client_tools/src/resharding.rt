@@ -24,7 +24,7 @@ use std::rt::Clock;
 use std::thread::sleep;
 use std::time::{Duration, Instant};
 
-// So many milliseconds a run rests behind a slot whose keys it moved. A copy keeps its target for some 50 microseconds, and so
+// How many milliseconds a run rests behind a slot whose keys it moved. A copy keeps its target for some 50 microseconds, and so
 // few requests of other clients meet one.
 const REST: u64 = 10;
 

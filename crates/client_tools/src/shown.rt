@@ -3,9 +3,10 @@
 use byte_string::ByteString;
 use std::fmt;
 
-// So many bytes of a text are shown, and so many words of a request.
+// How many bytes of a text are shown at most.
 const MOST_BYTES: usize = 100;
 
+// How many words of a request are shown at most.
 const MOST_WORDS: usize = 8;
 
 /// Bytes in printing characters, of which a sentence shows the first hundred.

@@ -9,7 +9,7 @@ use redirection::Address;
 use resp2::{Element, Reply};
 use std::alloc::{AllocError, Global};
 
-// So many elements are an entry: two headers, two slots, and a host, a port and an id.
+// How many elements an entry has: two headers, two slots, and a host, a port and an id.
 const ENTRY_LEN: usize = 7;
 
 /// Slots in a row that one master has.

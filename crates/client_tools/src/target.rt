@@ -8,7 +8,7 @@ use std::io::ErrorKind;
 use std::net::{Net, TcpStream, ToSocketAddrs};
 use std::time::Duration;
 
-// A target that takes a connection within so many seconds, or doesn't answer for so long, may be there.
+// How many seconds a run waits for a target to take a connection or to refuse it. One that does neither by then may be there.
 const PATIENCE: u64 = 1;
 
 /// Fails where the source is asked to move a key to a node that refuses connections. That is seen.

@@ -276,9 +276,9 @@ impl fmt::Display for Named<'_> {
     }
 }
 
-// `host:port`
+/// An address as `host:port`.
 #[derive(Clone, Copy)]
-struct Place<'a>(&'a Address);
+pub(crate) struct Place<'a>(pub(crate) &'a Address);
 
 impl fmt::Display for Place<'_> {
     fn fmt<W: fmt::Write>(&self, f: &mut fmt::Formatter<W>) -> fmt::Result {

@@ -1,6 +1,6 @@
 //! How long a run has waited, and what standard error is told of it.
 
-use crate::progress::Terminals;
+use crate::progress::{Terminals, clear_line};
 use crate::telling::Awaited;
 use crate::watched::Seen;
 use std::cell::RefCell;
@@ -8,7 +8,7 @@ use std::fmt::Display;
 use std::rt::Clock;
 use std::time::{Duration, Instant};
 
-// A wait is told for the first time after so many seconds.
+// After how many seconds a wait is told for the first time.
 const FIRST: u64 = 3;
 
 /// How long a run has waited since it last came on, and after how long a wait that is told next.
@@ -92,7 +92,7 @@ pub(crate) fn tell_wait_for<R: Eprint + Clock, W: Display + Drop>(
 fn tell<R: Eprint, W: Display + Drop>(rt: &R, terminals: Terminals, seconds: u64, awaited: W) {
     // The line on a terminal that tells how far the run has come is written anew behind this one.
     if terminals.has_errors {
-        let _gone = eprint!(rt; "\r{:<70}\r", "");
+        clear_line(rt);
     }
     let _told = eprintln!(rt; "rcluster: waiting for {seconds} seconds so far: {awaited}");
 }

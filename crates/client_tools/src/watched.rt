@@ -1,6 +1,7 @@
 //! A way to the nodes on which is seen what was asked last, of which node, and what came of it.
 
 use crate::shown::{Shown, ShownWords};
+use crate::telling::Place;
 use crate::waiting::Waiting;
 use byte_string::ByteString;
 use redirection::Address;
@@ -11,7 +12,7 @@ use std::cell::RefCell;
 use std::fmt::{Display, Write};
 use std::io;
 
-// A cluster has so many masters at most.
+// How many masters a cluster has at most.
 const MOST_MASTERS: usize = 16;
 
 /// What was asked last, and what was seen since the beginning. What there was no memory for is empty.
@@ -97,8 +98,7 @@ impl Seen {
     fn see_place(&mut self, address: &Address) {
         self.request.clear();
         self.error.clear();
-        let host = str::from_utf8(address.host().as_slice()).unwrap_or("");
-        note(&mut self.place, format_args!("{host}:{}", address.port()));
+        note(&mut self.place, Place(address));
     }
 
     fn see_request(&mut self, words: &Words) {

@@ -26,7 +26,8 @@ pub(crate) struct Timing {
     pub(crate) has_threads: bool,
 }
 
-/// Lets the time of the node of that number pass, of which nothing is asked yet, until the end or until all of its ticks are counted.
+/// Lets the time of the node of that number pass until the end, or until all of its ticks are counted. `asks` is what was asked of the node for
+/// this: nothing yet.
 pub(crate) fn pass_time<C: HoldsCell + Drop, R: Clock + Wait + Copy + Drop>(
     rt: R,
     cluster: &SharedCluster<C>,

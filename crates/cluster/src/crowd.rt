@@ -5,7 +5,7 @@ use std::time::Duration;
 // Threads that come to sleep so often in a second, as they wait for their node, are a crowd.
 const CROWD: u64 = 1_000;
 
-// For so many ticks they have to do so.
+// For how many ticks they have to do so.
 const TICKS: u32 = 10;
 
 /// Watches how often the threads of a node's clients sleep until the node is free, from tick to tick.

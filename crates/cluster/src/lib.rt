@@ -14,5 +14,4 @@ pub use server::{Course, Overseer, Place, ServeFault, serve_nodes};
 pub use shared_cluster::{
     Heard, Hearing, Incident, NodeStatus, NodeStop, Orders, Runtime, Shortage, Witness,
 };
-pub use shared_node::{Gate, SharedNode};
 pub use telling::Telling;

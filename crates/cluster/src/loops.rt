@@ -1,6 +1,6 @@
 //! The threads of a node that serve its clients in turn.
 
-use crate::threads::add;
+use crate::threads::Starting;
 use client_loops::{Inbox, Poller, PollerFault, Register, serve_clients};
 use mio::Waker;
 use node_cell::{Admission, Asks, HoldsCell};
@@ -12,34 +12,29 @@ use std::sync::Arc;
 use std::thread;
 use std::thread::JoinHandle;
 
-/// Starts so many threads that serve the clients of the node of that number in turn, adds them to those that are to be joined, and gives their
-/// inboxes.
-pub(crate) fn start_loops<C: HasLinks<R> + Drop + Send + 'static, R: Runtime>(
-    rt: R,
-    alloc: Global,
-    cluster: &Arc<SharedCluster<C>, Global>,
-    admission: &Arc<Admission<C::Cluster>, Global>,
-    number: usize,
-    count: usize,
-    threads: &mut Vec<JoinHandle<()>>,
-) -> Result<Vec<Arc<Inbox<Asks<C::Cluster>>, Global>>, Shortage>
+impl<'a, C: HasLinks<R> + Drop + Send + 'static, R: Runtime> Starting<'a, C, R>
 where
     C::Cluster: Send + Sync + 'static,
 {
-    let pollers = pollers_of(rt, alloc, cluster.node(number), count)?;
-    let mut inboxes = Vec::with_capacity(alloc, count)?;
-    for poller in pollers {
-        let inbox = Arc::new(alloc, Inbox::new(alloc)).map_err(AllocError::from)?;
-        add(
-            start_loop(rt, alloc, cluster, admission, number, &inbox, poller),
-            threads,
-        )?;
-        inboxes.push(inbox).map_err(AllocError::from)?;
+    /// Starts the threads that serve the clients of the node of that number in turn, if there are to be some, and gives their inboxes.
+    pub(crate) fn start_loops(
+        &mut self,
+        number: usize,
+    ) -> Result<Vec<Arc<Inbox<Asks<C::Cluster>>, Global>>, Shortage> {
+        let (rt, alloc, count) = (self.rt, self.alloc, self.times.loops());
+        let pollers = pollers_of(rt, alloc, self.cluster.node(number), count)?;
+        let mut inboxes = Vec::with_capacity(alloc, count)?;
+        for poller in pollers {
+            let inbox = Arc::new(alloc, Inbox::new(alloc)).map_err(AllocError::from)?;
+            let (cluster, admission) = (self.cluster, self.admission);
+            self.add(start_loop(rt, alloc, cluster, admission, number, &inbox, poller))?;
+            inboxes.push(inbox).map_err(AllocError::from)?;
+        }
+        Ok(inboxes)
     }
-    Ok(inboxes)
 }
 
-// The pollers of so many of these threads. The node has what wakes the threads before the first is started.
+// The pollers of this many threads. The node has what wakes the threads before the first is started.
 fn pollers_of<C: HoldsCell + Drop, R: Runtime>(
     rt: R,
     alloc: Global,

@@ -6,11 +6,11 @@ use node_cell::Asks;
 use resp2::Counting;
 use shared_cluster::{HasLinks, Mail, Runtime, SeeingGate, SharedCluster};
 use std::alloc::Global;
-use std::net::{Shutdown, TcpStream};
+use std::net::TcpStream;
 use std::rt::Clock;
 use std::sync::Arc;
 
-// So many bytes are read at once of a client that was told why its conversation ended. They lie on the stack of its thread.
+// How many bytes are read at once of a client that was told why its conversation ended. They lie on the stack of its thread.
 const ROOM: usize = 4_096;
 
 /// Serves one client, which has asked nothing yet, and is then done with the cluster. What ends the conversation concerns this client alone.
@@ -50,12 +50,9 @@ fn converse<C: HasLinks<R> + Drop, R: Runtime>(
 
 // Reads what a client goes on to send that was told why its conversation ended, for a moment, and forgets it.
 fn linger<R: Clock>(rt: &R, stream: &TcpStream) {
-    let Some(mut lingering) = Lingering::begin(rt) else {
+    let Some(mut lingering) = Lingering::begin(rt, stream) else {
         return;
     };
-    if stream.shutdown(Shutdown::Write).is_err() {
-        return;
-    }
     let mut room = [0u8; ROOM];
     for _ in 0..u64::MAX {
         let left = lingering.time_left(rt);

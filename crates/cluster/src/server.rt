@@ -6,7 +6,7 @@ ghost use Rattle.tickets.specs.Tickets.{IsFresh};
 
 use crate::clock::Timing;
 use crate::telling::Telling;
-use crate::threads::start_all;
+use crate::threads::Starting;
 use cluster_config::Config;
 use link_ends::{PortEnd, PortEnds};
 use links::{Station, Web};
@@ -137,9 +137,11 @@ where
     requires cluster { config.now ≡ K.config }
     requires places { length places.items ≡ length config.now.nodes }
     requires seats { All (λ place. IsFresh K.table K.seats place.seat) places.items }
-    requires links { AreLinkedFrom W.links (length config.now.nodes) 0 (map (λ place. place.ends) places.items) }
+    requires links { AreLinkedFrom W.links (length config.now.nodes) 0
+        (map (λ place. place.ends) places.items) }
     ensures count { IfOk result (λ stations. vec_len stations ≡ length places.items) }
-    ensures nodes { IfOk result (λ stations. map (λ station. station.cell.node) stations.items ≡ range_with_len 0 (length config.now.nodes)) }
+    ensures nodes { IfOk result (λ stations. map (λ station. station.cell.node) stations.items
+        ≡ range_with_len 0 (length config.now.nodes)) }
 {
     let admission = Arc::new(alloc, Admission::<K>::new(config)).map_err(AllocError::from)?;
     let nodes = nodes_at::<K, W, L, E>(alloc, config, places)?;
@@ -239,15 +241,23 @@ fn run<C: HasLinks<R> + Drop + Send + 'static, R: Runtime>(
 where
     C::Cluster: Send + Sync + 'static,
 {
-    // Without those that serve clients in turn, a node has three threads.
-    let mut threads = Vec::with_capacity(alloc, cluster.nodes.len().saturating_mul(3))?;
-    let started = start_all(rt, alloc, cluster, orders, admission, times, &mut threads);
-    match started {
+    let mut starting = Starting {
+        rt,
+        alloc,
+        cluster,
+        orders,
+        admission,
+        times,
+        // Without those that serve clients in turn, a node has three threads.
+        started: Vec::with_capacity(alloc, cluster.nodes.len().saturating_mul(3))?,
+    };
+    let outcome = starting.start_all();
+    match outcome {
         Ok(()) => cluster.stop.wait(&rt),
         Err(_) => cluster.stop.end(),
     }
-    end_all(&rt, cluster, threads);
-    started
+    end_all(&rt, cluster, starting.started);
+    outcome
 }
 
 // Ends all connections and all threads.
@@ -278,7 +288,8 @@ fn nodes_at<K: Deployment, W: Web, L: Log + Drop, E: PortEnd<Carried = Posted<K>
     requires cluster { config.now ≡ K.config }
     requires places { length places.items ≡ length config.now.nodes }
     requires seats { All (λ place. IsFresh K.table K.seats place.seat) places.items }
-    requires links { AreLinkedFrom W.links (length config.now.nodes) 0 (map (λ place. place.ends) places.items) }
+    requires links { AreLinkedFrom W.links (length config.now.nodes) 0
+        (map (λ place. place.ends) places.items) }
     ensures { IfOk result (λ nodes. vec_len nodes ≡ length places.items) }
 {
     let mut nodes = Vec::with_capacity(alloc, places.len())?;
@@ -296,7 +307,8 @@ fn add_nodes<K: Deployment, W: Web, L: Log + Drop, E: PortEnd<Carried = Posted<K
     requires cluster { config.now ≡ K.config }
     requires places { length places.items ≡ length config.now.nodes }
     requires seats { All (λ place. IsFresh K.table K.seats place.seat) places.items }
-    requires links { AreLinkedFrom W.links (length config.now.nodes) 0 (map (λ place. place.ends) places.items) }
+    requires links { AreLinkedFrom W.links (length config.now.nodes) 0
+        (map (λ place. place.ends) places.items) }
     requires none { vec_len nodes.old ≡ 0 }
     ensures { OnOk result (vec_len nodes.new ≡ length places.items) }
 {
@@ -364,7 +376,8 @@ fn stations_of<K: Deployment, W: Web, L: Log + Drop, E: PortEnd<Carried = Posted
     nodes: Vec<Node<Station<K, W, L, E>>>,
 ) -> Result<Vec<Station<K, W, L, E>>, ServeFault>
     ensures count { IfOk result (λ stations. vec_len stations ≡ vec_len nodes) }
-    ensures nodes { IfOk result (λ stations. map (λ station. station.cell.node) stations.items ≡ range_with_len 0 (vec_len nodes)) }
+    ensures nodes { IfOk result (λ stations.
+        map (λ station. station.cell.node) stations.items ≡ range_with_len 0 (vec_len nodes)) }
 {
     let mut stations = Vec::with_capacity(alloc, nodes.len())?;
     add_stations(nodes, &mut stations)?;
@@ -378,7 +391,8 @@ fn add_stations<K: Deployment, W: Web, L: Log + Drop, E: PortEnd<Carried = Poste
 ) -> Result<(), ServeFault>
     requires none { stations.old.items ≡ [] }
     ensures count { OnOk result (vec_len stations.new ≡ vec_len nodes) }
-    ensures nodes { OnOk result (map (λ station. station.cell.node) stations.new.items ≡ range_with_len 0 (vec_len nodes)) }
+    ensures nodes { OnOk result
+        (map (λ station. station.cell.node) stations.new.items ≡ range_with_len 0 (vec_len nodes)) }
 {
     for node in nodes {
         add_station(node, stations)?;
@@ -392,7 +406,8 @@ fn add_station<K: Deployment, W: Web, L: Log + Drop, E: PortEnd<Carried = Posted
     stations: &mut Vec<Station<K, W, L, E>>,
 ) -> Result<(), ServeFault>
     ensures count { OnOk result (vec_len stations.new ≡ vec_len stations.old + 1) }
-    ensures nodes { OnOk result (map (λ station. station.cell.node) stations.new.items ≡ map (λ station. station.cell.node) stations.old.items ++ vec_len stations.old ∷ []) }
+    ensures nodes { OnOk result (map (λ station. station.cell.node) stations.new.items
+        ≡ map (λ station. station.cell.node) stations.old.items ++ vec_len stations.old ∷ []) }
 {
     let station = station_of(node, stations.len())?;
     stations.push(station).map_err(AllocError::from)?;

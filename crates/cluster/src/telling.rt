@@ -13,7 +13,7 @@ pub enum Telling {
     Never,
     /// When somebody asks.
     WhenAsked,
-    /// When somebody asks, and after each so many ticks.
+    /// When somebody asks, and each time this many ticks have passed.
     Every(u64),
 }
 

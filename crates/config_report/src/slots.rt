@@ -66,7 +66,7 @@ fn read_slot(alloc: Global, value: Option<&Value>, place: Place<'_>) -> Result<S
     let number = value.and_then(number_in).unwrap_or(-1);
     let slot = u16::try_from(number).ok().and_then(Slot::new);
     slot.ok_or_else(|| {
-        let what = format_args!("{number} is no slot, since slots are from 0 to 16383");
+        let what = format_args!("{number} is no slot, because slots are from 0 to 16383");
         wrong(alloc, place, what)
     })
 }

@@ -182,6 +182,6 @@ fn has_arrived<K: Deployment, R: Wait>(
 ) -> bool {
     let mut cell = node.lock(rt);
     drop(cell.deliver(posted));
-    node.ring(&cell);
+    node.ring_for_replies(&cell);
     true
 }

@@ -1,8 +1,9 @@
 -- Votes and promotions, as a node drafts them.
 use Rattle.std.proofs.Common.{◌≡◌, ℕ, Bool, List, [], Some, ap, subst, ◌∙◌}
 use Rattle.bus.specs.declared.message.Body.{Body}
-use Rattle.bus.specs.declared.message.Body.TheVariants.{Claim}
-use Rattle.bus.specs.declared.message.Replaced.{Replaced}
+use Rattle.bus.specs.declared.bodies.SlotsBody.TheVariants.{Claim}
+use Rattle.bus.specs.declared.message.Body.TheVariants.{Slots}
+use Rattle.bus.specs.declared.bodies.Replaced.{Replaced}
 use Rattle.election.specs.declared.voter.VoteRequest.{VoteRequest}
 use Rattle.node_parts.specs.Drafts.{Drafts, Promotes}
 use Rattle.node_parts.specs.Succession.{promoting, replacement}
@@ -26,8 +27,8 @@ vote_drafted node request granted released bodies draft none words drafts =
 
 -- the messages of a promotion
 pub promotion_drafted : (node : NodeState) (succession : Succession) (replaced : Replaced) (bodies : List (ℕ × Body)) (draft : Draft) → replaced ≡ replacement node succession.master succession.epoch
-    → bodies ≡ to_all (others node) (Claim (runs_of (claim_at succession.table node.number)) (Some replaced)) → Promotes node (promoting node bodies succession) draft
+    → bodies ≡ to_all (others node) (Slots (Claim (runs_of (claim_at succession.table node.number)) (Some replaced))) → Promotes node (promoting node bodies succession) draft
     → Promotes node (promotion_to node succession.master succession.epoch succession.planned succession.table) draft
 promotion_drafted node succession replaced bodies draft place words promotes =
     subst (λ (sent : List (ℕ × Body)). Promotes node (promoting node sent succession) draft)
-    (words ∙ ap (λ (r : Replaced). to_all (others node) (Claim (runs_of (claim_at succession.table node.number)) (Some r))) place) promotes
+    (words ∙ ap (λ (r : Replaced). to_all (others node) (Slots (Claim (runs_of (claim_at succession.table node.number)) (Some r)))) place) promotes

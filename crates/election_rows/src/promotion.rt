@@ -8,7 +8,7 @@ ghost use Rattle.slot_table.specs.Claims.{is_above};
 ghost use Rattle.slot_table.specs.Runs.{runs_of};
 ghost use Rattle.slot_table.specs.Table.{claim_at};
 
-use bus::{Body, Replaced};
+use bus::{Body, Replaced, SlotsBody};
 use key_slot::Slot;
 use node_parts::{Draft, NodeParts, Succession};
 use repl_stream::Stream;
@@ -78,10 +78,10 @@ fn claims<S: SlotParts + SlotKeys, T: Stream>(
     table: &SlotTable,
     replaced: Replaced,
 ) -> Result<Vec<(NodeNo, Body)>, AllocError>
-    ensures { IfOk result (λ bodies. bodies.items ≡ to_all (others node.now) (Body.Claim (runs_of (claim_at table.now node.now.number)) (Some replaced))) }
+    ensures { IfOk result (λ bodies. bodies.items ≡ to_all (others node.now) (Body.Slots (SlotsBody.Claim (runs_of (claim_at table.now node.now.number)) (Some replaced)))) }
 {
     let claim = table.claim_of(node.alloc, node.number)?;
-    let claim = Body::Claim(claim, Some(replaced));
+    let claim = Body::Slots(SlotsBody::Claim(claim, Some(replaced)));
     let mut bodies = Vec::new(node.alloc);
     node.append_to_others(&claim, &mut bodies)?;
     Ok(bodies)

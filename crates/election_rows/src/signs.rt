@@ -5,7 +5,7 @@ ghost use Rattle.node_step.specs.Failing.{members_of};
 ghost use Rattle.node_step.specs.Orders.{claim_of, others, to_all};
 ghost use Rattle.node_step.specs.Ticks.{signs};
 
-use bus::{Body, Suspects};
+use bus::{Body, SlotsBody, Suspects};
 use node_parts::NodeParts;
 use repl_stream::Stream;
 use slot_store::{SlotKeys, SlotParts};
@@ -30,7 +30,7 @@ fn append_claims<S: SlotParts + SlotKeys, T: Stream>(
     node: &NodeParts<S, T>,
     bodies: &mut Vec<(NodeNo, Body)>,
 ) -> Result<(), AllocError>
-    ensures { OnOk result (bodies.new.items ≡ bodies.old.items ++ to_all (others node.now) (Body.Claim (claim_of node.now) node.now.replaced)) }
+    ensures { OnOk result (bodies.new.items ≡ bodies.old.items ++ to_all (others node.now) (Body.Slots (SlotsBody.Claim (claim_of node.now) node.now.replaced))) }
 {
     let claim = claim(node)?;
     node.append_to_others(&claim, bodies)?;
@@ -51,10 +51,10 @@ fn append_reports<S: SlotParts + SlotKeys, T: Stream>(
 
 // The slots of the node, and whose place it took.
 fn claim<S: SlotParts + SlotKeys, T: Stream>(node: &NodeParts<S, T>) -> Result<Body, AllocError>
-    ensures { IfOk result (λ body. body ≡ Body.Claim (claim_of node.now) node.now.replaced) }
+    ensures { IfOk result (λ body. body ≡ Body.Slots (SlotsBody.Claim (claim_of node.now) node.now.replaced)) }
 {
     let claim = node.table.claim_of(node.alloc, node.number)?;
-    Ok(Body::Claim(claim, node.election.replaced))
+    Ok(Body::Slots(SlotsBody::Claim(claim, node.election.replaced)))
 }
 
 // Whom it suspects.

@@ -8,7 +8,7 @@ ghost use Rattle.node_step.specs.Outcome.{silent};
 ghost use Rattle.node_step.specs.State.{own_master};
 ghost use Rattle.node_step.specs.Voting.{grant_to, requests_in, voters_of};
 
-use bus::{Body, Candidacy};
+use bus::{Body, Candidacy, ElectionBody};
 use election::VoteRequest;
 use node_parts::{Change, Draft, NodeParts};
 use node_step::Releases;
@@ -31,11 +31,11 @@ pub fn append_requests<S: SlotParts + SlotKeys, T: Stream>(
     let Some(master) = node.own_master() else {
         return Ok(());
     };
-    let request = Body::Candidacy(Candidacy {
+    let request = Body::Election(ElectionBody::Candidacy(Candidacy {
         epoch,
         master,
         planned: node.may_take_over(),
-    });
+    }));
     append_to_voters(node, &request, bodies)?;
     Ok(())
 }
@@ -88,7 +88,10 @@ fn grant_to(
 {
     let mut bodies = Vec::new(alloc);
     if granted {
-        bodies.push((request.candidate, Body::Grant(request.epoch)))?;
+        bodies.push((
+            request.candidate,
+            Body::Election(ElectionBody::Grant(request.epoch)),
+        ))?;
     }
     Ok(bodies)
 }

@@ -5,7 +5,10 @@ use Rattle.std.specs.FinMap as map
 use Rattle.std.specs.Ordering.{nat_cmp}
 use Rattle.std.specs.Prelude.{◌-◌, MatchBool, Result, Ok, Err, nat_lt, ⊤}
 use Rattle.bus.specs.declared.message.Body.{Body}
-use Rattle.bus.specs.declared.message.Body.TheVariants.{Copy, Ack, Drained, Claim, Report, Candidacy as Requested, Grant, Sync, Piece, Snapshot, Pause, Paused}
+use Rattle.bus.specs.declared.bodies.ElectionBody.TheVariants.{Candidacy as Requested, Grant, Pause, Paused}
+use Rattle.bus.specs.declared.bodies.SlotsBody.TheVariants.{Copy, Ack, Drained, Claim}
+use Rattle.bus.specs.declared.bodies.StreamBody.TheVariants.{Sync, Piece, Snapshot}
+use Rattle.bus.specs.declared.message.Body.TheVariants.{Slots, Stream, Election, Report}
 use Rattle.bus.specs.declared.message.Message.{Message}
 use Rattle.cluster_config.specs.Config.{ClusterConfig}
 use Rattle.command_table.specs.Table.{command_of}
@@ -71,7 +74,7 @@ use Rattle.slot_state.specs.declared.copy_id.CopyId.{CopyId}
 use Rattle.slot_table.specs.Claims.{merged}
 use Rattle.final_answers.proofs.OrderWords.{AsksWithin, words_within}
 use Rattle.node_step.specs.Handovers.{failover, handing_over, is_at_end, may_pause, noting}
-use Rattle.bus.specs.declared.message.Handing.{Handing}
+use Rattle.bus.specs.declared.bodies.Handing.{Handing}
 use Rattle.stream_values.specs.Stream.{is_same}
 use Rattle.slot_table.specs.declared.entry.SlotEntry.{SlotEntry}
 
@@ -343,23 +346,23 @@ elected_keeps P node (Some elected) silent_one promoted = by_plan node.candidate
     by_plan false = by_master (own_master node)
 
 taken_so_nameable : (node : NodeState) (from : ℕ) (choice : Choice) (body : Body) → HasNameable node → HasNameable (taken_so node from choice body).state
-taken_so_nameable node from choice (Copy id pairs) all =
+taken_so_nameable node from choice (Slots (Copy id pairs)) all =
     arrival_nameable node.moves id.slot (arrival_verdict (move_of node.moves id.slot) from id.number id.copy (keep_limits pairs)) all
-taken_so_nameable node from choice (Ack id) all = acknowledged_nameable node id (acknowledged_keys (move_of node.moves id.slot) from id.number id.copy) all
-taken_so_nameable node from choice (Drained slot number epoch) all = changed_nameable node.moves slot (note_drained from number epoch) (noted_same from number epoch) all
-taken_so_nameable node from choice (Claim slots replaced) all =
+taken_so_nameable node from choice (Slots (Ack id)) all = acknowledged_nameable node id (acknowledged_keys (move_of node.moves id.slot) from id.number id.copy) all
+taken_so_nameable node from choice (Slots (Drained slot number epoch)) all = changed_nameable node.moves slot (note_drained from number epoch) (noted_same from number epoch) all
+taken_so_nameable node from choice (Slots (Claim slots replaced)) all =
     either (λ (outcome : Outcome). HasNameable outcome.state) (from == node.number) (silent node) (claimed_by node (merged node.table slots from)) all
     (retained_nameable node.moves.running all _)
 taken_so_nameable node from choice (Report suspects) all = all
-taken_so_nameable node from choice (Requested request) all = all
-taken_so_nameable node from choice (Grant epoch) all =
+taken_so_nameable node from choice (Election (Requested request)) all = all
+taken_so_nameable node from choice (Election (Grant epoch)) all =
     elected_keeps (λ (outcome : Outcome). HasNameable outcome.state) _ (elected node.candidate (members_of node) from epoch) all (λ master won planned table. all)
-taken_so_nameable node from choice (Sync sync) all = synced_is (λ (outcome : Outcome). HasNameable outcome.state) node from sync all all
-taken_so_nameable node from choice (Piece piece) all = pieced_keeps HasNameable node (λ stream keyspace. all) from piece choice.follower
-taken_so_nameable node from choice (Snapshot snapshot) all = restored_keeps HasNameable node (λ stream keyspace. all) from snapshot
-taken_so_nameable node from choice (Pause stream) all =
+taken_so_nameable node from choice (Stream (Sync sync)) all = synced_is (λ (outcome : Outcome). HasNameable outcome.state) node from sync all all
+taken_so_nameable node from choice (Stream (Piece piece)) all = pieced_keeps HasNameable node (λ stream keyspace. all) from piece choice.follower
+taken_so_nameable node from choice (Stream (Snapshot snapshot)) all = restored_keeps HasNameable node (λ stream keyspace. all) from snapshot
+taken_so_nameable node from choice (Election (Pause stream)) all =
     either (λ (outcome : Outcome). HasNameable outcome.state) (may_pause node from stream) (handing_over node from) (silent node) all all
-taken_so_nameable node from choice (Paused handing) all =
+taken_so_nameable node from choice (Election (Paused handing)) all =
     either HasNameable (is_replica node && is_same handing.stream node.stream.held.id) (record node { handover = noting node.handover handing }) node all all
 
 taken_nameable : (node : NodeState) (from : ℕ) (choice : Choice) (body : Body) → HasNameable node → HasNameable (taken node from choice body).state

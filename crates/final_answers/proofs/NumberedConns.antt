@@ -4,7 +4,10 @@ use Rattle.std.proofs.Math.ListN.{get_or-map}
 use Rattle.std.proofs.lemmas.Bool.{cases_eq}
 use Rattle.std.specs.Prelude.{MatchBool, Result, Ok, Err}
 use Rattle.bus.specs.declared.message.Body.{Body}
-use Rattle.bus.specs.declared.message.Body.TheVariants.{Copy, Ack, Drained, Claim, Report, Candidacy as Requested, Grant, Sync, Piece, Snapshot, Pause, Paused}
+use Rattle.bus.specs.declared.bodies.ElectionBody.TheVariants.{Candidacy as Requested, Grant, Pause, Paused}
+use Rattle.bus.specs.declared.bodies.SlotsBody.TheVariants.{Copy, Ack, Drained, Claim}
+use Rattle.bus.specs.declared.bodies.StreamBody.TheVariants.{Sync, Piece, Snapshot}
+use Rattle.bus.specs.declared.message.Body.TheVariants.{Slots, Stream, Election, Report}
 use Rattle.bus.specs.declared.message.Message.{Message}
 use Rattle.command_table.specs.Table.{command_of}
 use Rattle.command_table.specs.declared.command.ClusterCommand.{ClusterCommand}
@@ -57,7 +60,7 @@ use Rattle.slot_table.specs.declared.entry.SlotEntry.{SlotEntry}
 use Rattle.smart_client.specs.Words.{numbered_words}
 use Rattle.world.proofs.Connected.{cases_conn, changed, changed_here, is_not_with, unchanged_there}
 use Rattle.node_step.specs.Handovers.{failover, handing_over, is_at_end, may_pause, noting}
-use Rattle.bus.specs.declared.message.Handing.{Handing}
+use Rattle.bus.specs.declared.bodies.Handing.{Handing}
 use Rattle.stream_values.specs.Stream.{is_same}
 
 -- its client said so, or it isn't open any more
@@ -248,27 +251,27 @@ elected_keeps P node (Some elected) silent_one promoted = by_plan node.candidate
     by_plan false = by_master (own_master node)
 
 taken_so_stays : (node : NodeState) (from : ℕ) (choice : Choice) (body : Body) → Stays node (taken_so node from choice body).state
-taken_so_stays node from choice (Copy id pairs) other is = is
-taken_so_stays node from choice (Ack id) other is = acknowledged_stays node id (acknowledged_keys (move_of node.moves id.slot) from id.number id.copy) other is
-taken_so_stays node from choice (Drained slot number epoch) other is = is
-taken_so_stays node from choice (Claim slots replaced) other is = by_own (from == node.number) (merged node.table slots from)
+taken_so_stays node from choice (Slots (Copy id pairs)) other is = is
+taken_so_stays node from choice (Slots (Ack id)) other is = acknowledged_stays node id (acknowledged_keys (move_of node.moves id.slot) from id.number id.copy) other is
+taken_so_stays node from choice (Slots (Drained slot number epoch)) other is = is
+taken_so_stays node from choice (Slots (Claim slots replaced)) other is = by_own (from == node.number) (merged node.table slots from)
   where
     by_own : (own : Bool) (table : List (Option SlotEntry)) → introduced_at (cond own (silent node) (claimed_by node table)).state.connections other ≡ true
     by_own true table = is
     by_own false table = all_freed_introduced node.connections _ other ∙ is
 taken_so_stays node from choice (Report suspects) other is = is
-taken_so_stays node from choice (Requested request) other is = is
-taken_so_stays node from choice (Grant epoch) other is =
+taken_so_stays node from choice (Election (Requested request)) other is = is
+taken_so_stays node from choice (Election (Grant epoch)) other is =
     elected_keeps (λ (o : Outcome). introduced_at o.state.connections other ≡ true) _ (elected node.candidate (members_of node) from epoch) is (λ master won planned table. is)
-taken_so_stays node from choice (Sync sync) other is = synced_is (λ (o : Outcome). Stays node o.state) node from sync (λ other is. is) (λ other is. is) other is
-taken_so_stays node from choice (Piece piece) other is = pieced_keeps (Stays node) node (λ stream keyspace other is. is) from piece choice.follower other is
-taken_so_stays node from choice (Snapshot snapshot) other is = restored_keeps (Stays node) node (λ stream keyspace other is. is) from snapshot other is
-taken_so_stays node from choice (Pause stream) other is = by_test (may_pause node from stream)
+taken_so_stays node from choice (Stream (Sync sync)) other is = synced_is (λ (o : Outcome). Stays node o.state) node from sync (λ other is. is) (λ other is. is) other is
+taken_so_stays node from choice (Stream (Piece piece)) other is = pieced_keeps (Stays node) node (λ stream keyspace other is. is) from piece choice.follower other is
+taken_so_stays node from choice (Stream (Snapshot snapshot)) other is = restored_keeps (Stays node) node (λ stream keyspace other is. is) from snapshot other is
+taken_so_stays node from choice (Election (Pause stream)) other is = by_test (may_pause node from stream)
   where
     by_test : (b : Bool) → introduced_at (cond b (handing_over node from) (silent node)).state.connections other ≡ true
     by_test true = is
     by_test false = is
-taken_so_stays node from choice (Paused handing) other is = by_test (is_replica node && is_same handing.stream node.stream.held.id)
+taken_so_stays node from choice (Election (Paused handing)) other is = by_test (is_replica node && is_same handing.stream node.stream.held.id)
   where
     by_test : (b : Bool) → introduced_at (cond b (record node { handover = noting node.handover handing }) node).connections other ≡ true
     by_test true = is

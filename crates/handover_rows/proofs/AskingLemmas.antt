@@ -1,7 +1,8 @@
 -- CLUSTER FAILOVER, as a node drafts it.
 use Rattle.std.proofs.Common.{◌≡◌, ℕ, List, [], ◌∷◌, Option, Some, None, sym, ap, subst, ◌∙◌}
 use Rattle.bus.specs.declared.message.Body.{Body}
-use Rattle.bus.specs.declared.message.Body.TheVariants.{Pause}
+use Rattle.bus.specs.declared.bodies.ElectionBody.TheVariants.{Pause}
+use Rattle.bus.specs.declared.message.Body.TheVariants.{Election}
 use Rattle.command_table.specs.declared.error_line.ErrorLine.TheVariants.{NotReplica}
 use Rattle.connections.specs.declared.conn.Conn.{Conn}
 use Rattle.node_parts.specs.Drafts.{Drafts}
@@ -22,7 +23,7 @@ module _ (node : NodeState) (conn : Conn) (draft : Draft) (reply : Reply) where
       (subst (λ (r : Reply). Drafts node (replied (using_up node conn) TakesOver r) draft) says drafts)
 
   -- a replica asks its own
-  pub asked : (master : ℕ) (bodies : List (ℕ × Body)) → own_master node ≡ Some master → reply ≡ done → bodies ≡ (master, Pause node.stream.held.id) ∷ []
+  pub asked : (master : ℕ) (bodies : List (ℕ × Body)) → own_master node ≡ Some master → reply ≡ done → bodies ≡ (master, Election (Pause node.stream.held.id)) ∷ []
       → Drafts node (replied_sending (wishing (using_up node conn)) TakesOver reply bodies) draft → Drafts node (failover (using_up node conn) (own_master node)) draft
   asked master bodies some says words drafts =
       subst (λ (m : Option ℕ). Drafts node (failover (using_up node conn) m) draft) (sym some)

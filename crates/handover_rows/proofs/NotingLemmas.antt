@@ -1,7 +1,7 @@
 -- What a master hands over, as a node drafts that it notes it.
 use Rattle.std.proofs.Common.{◌≡◌, ◌&&◌, Bool, true, false, cond, Some, sym, ap, subst, ◌∙◌}
 use Rattle.std.proofs.lemmas.Bool.{cond-false, cond-true}
-use Rattle.bus.specs.declared.message.Handing.{Handing}
+use Rattle.bus.specs.declared.bodies.Handing.{Handing}
 use Rattle.node_parts.specs.Becomes.{learning}
 use Rattle.node_parts.specs.Drafts.{Drafts}
 use Rattle.node_parts.specs.declared.draft.Draft.{Draft}

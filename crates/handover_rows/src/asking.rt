@@ -5,7 +5,7 @@ ghost use Rattle.node_step.specs.Handovers.{asked_again, failover};
 ghost use Rattle.node_step.specs.Requests.{using_up};
 ghost use Rattle.node_step.specs.State.{own_master};
 
-use bus::Body;
+use bus::{Body, ElectionBody};
 use command_table::ErrorLine;
 use connections::Conn;
 use node_parts::{Change, Draft, NodeParts, done, listed};
@@ -28,7 +28,7 @@ pub fn ask_master<S: SlotParts + SlotKeys, T: Stream>(
         node.tell(draft, conn, Why::TakesOver, ErrorLine::NotReplica.reply());
         return Ok(());
     };
-    let pause = Body::Pause(node.stream.id());
+    let pause = Body::Election(ElectionBody::Pause(node.stream.id()));
     let bodies = listed(node.alloc, Some((master, pause)))?;
     let change = Change::Wishes { conn };
     node.draft_reply_sending(draft, Why::TakesOver, done(), bodies, change);
@@ -46,7 +46,10 @@ pub fn append_pause<S: SlotParts + SlotKeys, T: Stream>(
         return Ok(());
     }
     if let Some(master) = node.own_master() {
-        bodies.push((master, Body::Pause(node.stream.id())))?;
+        bodies.push((
+            master,
+            Body::Election(ElectionBody::Pause(node.stream.id())),
+        ))?;
     }
     Ok(())
 }

@@ -4,7 +4,7 @@ ghost use Rattle.node_parts.specs.Drafts.{Drafts, HasNothing, bodies_of};
 ghost use Rattle.node_step.specs.Handovers.{asked_to_pause, handed_again, handed_to, handing_of, is_free_for, may_pause};
 ghost use Rattle.node_step.specs.Orders.{claim_of};
 
-use bus::{Body, Handing};
+use bus::{Body, ElectionBody, Handing};
 use node_parts::{Change, Draft, NodeParts, listed};
 use node_step::Releases;
 use repl_stream::Stream;
@@ -70,7 +70,7 @@ fn handed_to<S: SlotParts + SlotKeys, T: Stream>(
     if node.paused.is_some() && handing.slots.runs().is_empty() {
         return Ok(None);
     }
-    Ok(Some((replica, Body::Paused(handing))))
+    Ok(Some((replica, Body::Election(ElectionBody::Paused(handing)))))
 }
 
 /// Tells the replica once more behind these messages, if the node hands over to one and still has a slot.
@@ -85,7 +85,7 @@ pub fn append_paused<S: SlotParts + SlotKeys, T: Stream>(
     };
     let handing = handing(node)?;
     if !handing.slots.runs().is_empty() {
-        bodies.push((replica, Body::Paused(handing)))?;
+        bodies.push((replica, Body::Election(ElectionBody::Paused(handing))))?;
     }
     Ok(())
 }

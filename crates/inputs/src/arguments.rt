@@ -62,11 +62,11 @@ pub struct Service<'a> {
     pub host: Option<&'a str>,
     /// Whether each node keeps its journal in memory.
     pub records_journal: bool,
-    /// The path of the file to which it is written what the nodes did, or None where it is written nowhere.
+    /// The path of the file that gets what the nodes did, or None where that is written nowhere.
     pub record: Option<&'a str>,
-    /// Whether standard error is told what no client is.
+    /// Whether standard error is told what clients aren't told.
     pub is_logged: bool,
-    /// After how many ticks each it is told how the nodes are, or None where nobody wants to know.
+    /// How many ticks pass between two reports of how the nodes are, or None where nobody wants to know.
     pub status_ticks: Option<u64>,
     /// Whether orders are read from standard input.
     pub takes_orders: bool,

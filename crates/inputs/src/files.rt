@@ -94,5 +94,5 @@ fn end_of_line(text: &[u8]) -> usize
 fn report_line(alloc: Global, path: &str, number: u64, line: &[u8]) -> Result<String, AllocError> {
     let why = NoStep::of(line);
     let line = Shown(line);
-    format!(in alloc; "{path}: line {number} is no step, since {why}: \"{line}\"")
+    format!(in alloc; "{path}: line {number} is no step, because {why}: \"{line}\"")
 }

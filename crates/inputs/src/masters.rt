@@ -1,5 +1,4 @@
 //! A cluster of masters with as many replicas each, all on this machine. The masters share the slots evenly.
-ghost use Rattle.std.specs.Prelude.{◌≤◌};
 
 use crate::failure::{InputFailure, InputFault};
 use crate::verbs::FIRST_PORT;
@@ -8,11 +7,11 @@ use config_report::report;
 use std::alloc::{AllocError, Global};
 use std::fmt::Write;
 
-/// So many masters may be served without a file, and as many nodes in all.
-pub const MOST_MASTERS: u64 = 16;
+/// How many nodes may be served without a file at most, and so how many masters.
+pub const MOST_NODES: u64 = 16;
 
-/// A master has so many replicas at most: with more the nodes were too many.
-pub const MOST_REPLICAS: u64 = MOST_MASTERS - 1;
+/// How many replicas a master has at most: with more there would be too many nodes.
+pub const MOST_REPLICAS: u64 = MOST_NODES - 1;
 
 /// The greatest port.
 pub const LAST_PORT: u64 = 65_535;
@@ -88,10 +87,10 @@ pub fn cluster_of_masters(
 }
 
 fn wrong_number(masters: &Masters) -> Option<&'static str> {
-    if masters.count == 0 || masters.count > MOST_MASTERS {
+    if masters.count == 0 || masters.count > MOST_NODES {
         return Some("--masters takes a number from 1 to 16");
     }
-    if masters.nodes() > MOST_MASTERS {
+    if masters.nodes() > MOST_NODES {
         return Some("--masters and --replicas make more than 16 nodes");
     }
     if masters.first_port.saturating_add(masters.nodes()) > LAST_PORT + 1 {
@@ -165,6 +164,6 @@ fn write_slots(text: &mut String, number: u64, count: u64) -> Result<(), AllocEr
 // The first slot of the master of that number, or how many slots there are behind the last master. Each share is rounded, as
 // redis-cli does it.
 fn first_slot(number: u64, count: u64) -> u64 {
-    let count = count.clamp(1, MOST_MASTERS);
+    let count = count.clamp(1, MOST_NODES);
     (2 * 16384 * number.min(count) + count) / (2 * count)
 }

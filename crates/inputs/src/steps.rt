@@ -21,7 +21,7 @@ pub fn script_help(alloc: Global) -> Result<String, AllocError> {
         )?;
     }
     text.push_str(
-        "Nodes are numbered from 0, clients and messages from 1. One blank parts two words.\n\n",
+        "Nodes are numbered from 0, clients and messages from 1. One blank separates two words.\n\n",
     )?;
     text.push_str(AFTER_SIMULATE)?;
     Ok(text)

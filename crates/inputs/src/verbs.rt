@@ -1,6 +1,6 @@
 //! The verbs of the command line, and what stands behind each.
 
-use crate::masters::{LAST_PORT, MOST_MASTERS, MOST_REPLICAS};
+use crate::masters::{LAST_PORT, MOST_NODES, MOST_REPLICAS};
 
 /// How often a call begins again for TRYAGAIN where nothing is said.
 pub const FEW_TRIES: u64 = 100;
@@ -155,7 +155,7 @@ const MASTERS: Argument = Argument {
     help: "Serves M masters without a file, 1 to 16, which share the slots evenly; the hosts are 127.0.0.1",
     kind: Kind::Number {
         least: 1,
-        most: MOST_MASTERS,
+        most: MOST_NODES,
     },
 };
 
@@ -425,7 +425,7 @@ F3        memory was refused\n  \
 F4        the output can't be written, and so this code isn't either";
 
 const AFTER_CLI: &str = "\
-Words of a line are parted by blanks. In double quotes \\n \\r \\t \\b \\a \\\" \\\\ and \\xHH are one byte, in single quotes \\' is.\n\
+Words of a line are separated by blanks. In double quotes \\n \\r \\t \\b \\a \\\" \\\\ and \\xHH are one byte, in single quotes \\' is.\n\
 A line is read once the one before it is answered. An empty line is passed over.\n\n\
 Exit status:\n  \
 0  there is a reply to each command, which may be an error reply\n  \

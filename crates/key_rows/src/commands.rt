@@ -37,7 +37,9 @@ pub fn answer_on_keys<S: SlotParts + SlotKeys, T: Stream>(
 ) -> Result<(), AllocError>
     requires nothing { HasNothing node.now draft.old }
     requires plan { (keyspace : Keyspace) → committed keyspace draft.old.plan ≡ keyspace }
-    ensures { OnOk result (Drafts node.now (command_outcome (using_up node.now conn) connection.numbered command.now (decision_on node.now command.now connection.asking)) draft.new) }
+    ensures { OnOk result
+        (Drafts node.now (command_outcome (using_up node.now conn) connection.numbered command.now
+        (decision_on node.now command.now connection.asking)) draft.new) }
 {
     let (decision, slot) = decision(node, command, connection.asking)?;
     if decision.is_served() {
@@ -60,7 +62,8 @@ fn serve<S: SlotParts + SlotKeys, T: Stream>(
     requires place { IsPlaceOf slot (data_keys command.now) }
     requires nothing { HasNothing node.now draft.old }
     requires plan { (keyspace : Keyspace) → committed keyspace draft.old.plan ≡ keyspace }
-    ensures { OnOk result (Drafts node.now (served (using_up node.now conn) command.now decision) draft.new) }
+    ensures { OnOk result
+        (Drafts node.now (served (using_up node.now conn) command.now decision) draft.new) }
 {
     let place = place_of(&slot);
     let (reply, bodies) = execute(node, slot, place, command, &mut draft.plan)?;
@@ -82,8 +85,10 @@ fn execute<S: SlotParts + SlotKeys, T: Stream>(
     requires slot { IsPlaceOf slot (data_keys command.now) }
     requires place { IfSome slot (λ slot. place ≡ slot) }
     ensures reply { IfOk result (λ made. made.0 ≡ (exec node.now.keyspace command.now).reply) }
-    ensures after { OnOk result (IsCommittedInSlot place plan.new node.now.keyspace (exec node.now.keyspace command.now).after) }
-    ensures sent { IfOk result (λ made. made.1.items ≡ drained_by_command node.now (executed node.now command.now) (data_keys command.now)) }
+    ensures after { OnOk result (IsCommittedInSlot place plan.new node.now.keyspace
+        (exec node.now.keyspace command.now).after) }
+    ensures sent { IfOk result (λ made. made.1.items
+        ≡ drained_by_command node.now (executed node.now command.now) (data_keys command.now)) }
 {
     let reply = plan_in_slot(node, place, command, plan)?;
     let bodies = drained_by(node, slot, plan)?;
@@ -100,7 +105,8 @@ fn plan_in_slot<S: SlotParts + SlotKeys, T: Stream>(
     requires nothing { (keyspace : Keyspace) → committed keyspace plan.old ≡ keyspace }
     requires slot { All (λ key. hash_slot key ≡ slot) (data_keys command.now) }
     ensures reply { IfOk result (λ reply. reply ≡ (exec node.now.keyspace command.now).reply) }
-    ensures after { OnOk result (IsCommittedInSlot slot plan.new node.now.keyspace (exec node.now.keyspace command.now).after) }
+    ensures after { OnOk result (IsCommittedInSlot slot plan.new node.now.keyspace
+        (exec node.now.keyspace command.now).after) }
 {
     plan_command(node.alloc, node.store.part(slot), plan, command)
 }

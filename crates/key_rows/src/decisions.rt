@@ -34,7 +34,8 @@ pub(crate) fn decision<S: SlotParts + SlotKeys, T: Stream>(
     asking: Asking,
 ) -> Result<(Decision, Option<Slot>), AllocError>
     ensures decision { IfOk result (λ found. found.0 ≡ decision_on node.now command.now asking) }
-    ensures place { IfOk result (λ found. found.0 ≢ Decision.CrossSlot → IsPlaceOf found.1 (data_keys command.now)) }
+    ensures place { IfOk result
+        (λ found. found.0 ≢ Decision.CrossSlot → IsPlaceOf found.1 (data_keys command.now)) }
 {
     // A command with one key needs no list of keys.
     if let Some(key) = command.only_key() {
@@ -61,7 +62,14 @@ fn decision_on_key<S: SlotParts + SlotKeys, T: Stream>(
     asking: Asking,
 ) -> Decision
     requires { hash_slot key.now ≡ slot }
-    ensures { result ≡ decision node.now.table node.now.moves node.now.number (record { keys = key.now ∷ []; there = is_some (fin_map.get node.now.keyspace key.now) ∷ []; asking = asking; paused = is_some node.now.paused }) }
+    ensures { result ≡ decision node.now.table node.now.moves node.now.number
+        (record {
+          keys = key.now ∷ [];
+          there = is_some
+              (fin_map.get node.now.keyspace key.now) ∷ [];
+          asking = asking;
+          paused = is_some node.now.paused;
+        }) }
 {
     let at = node.standing(slot);
     let Some(running) = node.moves.get(slot) else {
@@ -85,7 +93,8 @@ fn decision_in_move<S: SlotParts + SlotKeys, T: Stream>(
     requires slot { IsSlotOf slot (data_keys command.now) }
     requires under_way { Some running.now ≡ move_of node.now.moves slot }
     ensures decision { IfOk result (λ made. made ≡ decision_on node.now command.now asking) }
-    ensures one_slot { IfOk result (λ made. made ≢ Decision.CrossSlot → All (λ key. hash_slot key ≡ slot) (data_keys command.now)) }
+    ensures one_slot { IfOk result (λ made.
+        made ≢ Decision.CrossSlot → All (λ key. hash_slot key ≡ slot) (data_keys command.now)) }
 {
     let words = command.key_words(node.alloc)?;
     let there = are_in(node.alloc, &node.store, words.as_slice())?;
@@ -100,7 +109,8 @@ pub(crate) fn refusal<S: SlotParts + SlotKeys, T: Stream>(
     decision: &Decision,
     connection: Connection,
 ) -> Result<Reply, AllocError>
-    ensures { IfOk result (λ reply. reply ≡ refusal node.now.config connection.numbered decision.now) }
+    ensures { IfOk result
+        (λ reply. reply ≡ refusal node.now.config connection.numbered decision.now) }
 {
     match decision {
         Decision::Serve | Decision::ServeImport { .. } => Ok(Reply::Null),
@@ -133,7 +143,8 @@ fn ask<S: SlotParts + SlotKeys, T: Stream>(
     to: NodeNo,
     number: Option<MoveNo>,
 ) -> Result<Reply, AllocError>
-    ensures { IfOk result (λ reply. reply ≡ ask_reply slot (slice_get node.now.config.nodes to) number) }
+    ensures { IfOk result
+        (λ reply. reply ≡ ask_reply slot (slice_get node.now.config.nodes to) number) }
 {
     let Some(to) = node.config.node(to) else {
         return Ok(ErrorLine::SlotDown.reply());
@@ -143,7 +154,8 @@ fn ask<S: SlotParts + SlotKeys, T: Stream>(
 
 // Whether the store has each of the keys.
 fn are_in<S: Store>(alloc: Global, store: &S, keys: &[&ByteString]) -> Result<Vec<bool>, AllocError>
-    ensures { IfOk result (λ there. there.items ≡ map (λ key. is_some (fin_map.get (S.contents store.now) key.now)) keys.now) }
+    ensures { IfOk result (λ there.
+        there.items ≡ map (λ key. is_some (fin_map.get (S.contents store.now) key.now)) keys.now) }
 {
     let mut there = Vec::with_capacity(alloc, keys.len())?;
     for key in keys {

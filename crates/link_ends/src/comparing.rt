@@ -24,7 +24,8 @@ pub fn compare_all<T: Drop, R: Wait + Drop>(ends: Vec<NodeEnds<T, R>>)
 fn compare_last<T: Drop, R: Wait + Drop>(others: &mut [NodeEnds<T, R>], last: NodeEnds<T, R>)
     requires { AreWired (length others.old + 1) (others.old ++ last ∷ []) }
     ensures wired { AreWired (length others.old) others.new }
-    ensures arrived { AllArrived (length others.old) others.new → AllArrived (length others.old + 1) (others.old ++ last ∷ []) }
+    ensures arrived { AllArrived (length others.old) others.new
+        → AllArrived (length others.old + 1) (others.old ++ last ∷ []) }
 {
     let mut last = last;
     compare_to_itself(last.take_last());

@@ -36,7 +36,8 @@ impl<T: Drop, R: Wait + Drop> Drop for LinkEnd<T, R> {
 impl<T: Drop, R: Wait + Drop> LinkEnd<T, R> {
     /// The end that sends by the one and receives by the other.
     pub fn new(rt: R, sender: Sender<T>, receiver: Receiver<T>) -> LinkEnd<T, R>
-        ensures { result ≡ record { to = sender.link; from = receiver.link; sent = sender.sent; received = receiver.received } }
+        ensures { result
+            ≡ record { to = sender.link; from = receiver.link; sent = sender.sent; received = receiver.received } }
     {
         LinkEnd {
             rt,
@@ -47,7 +48,8 @@ impl<T: Drop, R: Wait + Drop> LinkEnd<T, R> {
 
     /// Sends the message, or hands it back where 1,024 others wait.
     pub fn send(&mut self, message: T) -> Result<(), T>
-        ensures sent { OnOk result (self.new ≡ record self.old { sent = self.old.sent ++ message ∷ [] }) }
+        ensures sent { OnOk result
+            (self.new ≡ record self.old { sent = self.old.sent ++ message ∷ [] }) }
         ensures back { IfErr result (λ back. back ≡ message) }
         ensures unsent { OnErr result (self.new ≡ self.old) }
         ensures full { OnErr result (WasFull self.old.sent) }
@@ -64,7 +66,8 @@ impl<T: Drop, R: Wait + Drop> LinkEnd<T, R> {
 
     /// The first message that waits, if one does.
     pub fn try_receive(&mut self) -> Option<T>
-        ensures received { IfSome result (λ message. self.new ≡ record self.old { received = self.old.received ++ message ∷ [] }) }
+        ensures received { IfSome result (λ message.
+            self.new ≡ record self.old { received = self.old.received ++ message ∷ [] }) }
         ensures none { IfNone result (self.new ≡ self.old) }
     {
         self.receiver.try_receive(&self.rt)

@@ -28,9 +28,13 @@ impl<T> Model for Sender<T> {
 
     ghost Value = { SenderView T };
 
-    ghost view = { λ sender. record { link = sender.pass.table_id; sent = (known_to sender.pass).sent } };
+    ghost view = { λ sender.
+        record { link = sender.pass.table_id; sent = (known_to sender.pass).sent } };
 
-    ghost invariant = { λ sender. IsPassOf (arc_value sender.queue) sender.pass × (ruled_capacity (arc_value sender.queue) ≡ 1024) × ((known_to sender.pass).sends ≡ true) };
+    ghost invariant = { λ sender.
+        IsPassOf (arc_value sender.queue) sender.pass
+        × (ruled_capacity (arc_value sender.queue) ≡ 1024)
+        × ((known_to sender.pass).sends ≡ true) };
 }
 
 /// The end of a link at which messages of the type `T` are received.
@@ -48,9 +52,12 @@ impl<T> Model for Receiver<T> {
 
     ghost Value = { ReceiverView T };
 
-    ghost view = { λ receiver. record { link = receiver.pass.table_id; received = (known_to receiver.pass).received } };
+    ghost view = { λ receiver.
+        record { link = receiver.pass.table_id; received = (known_to receiver.pass).received } };
 
-    ghost invariant = { λ receiver. IsPassOf (arc_value receiver.queue) receiver.pass × ((known_to receiver.pass).receives ≡ true) };
+    ghost invariant = { λ receiver.
+        IsPassOf (arc_value receiver.queue) receiver.pass
+        × ((known_to receiver.pass).receives ≡ true) };
 }
 
 /// A link without a message: the end that sends, and the end that receives.
@@ -99,7 +106,8 @@ impl<T: Drop> Receiver<T> {
     /// The first message that waits, if one does.
     pub fn try_receive<R: Wait>(&mut self, rt: &R) -> Option<T>
         ensures link { self.new.link ≡ self.old.link }
-        ensures some { IfSome result (λ message. self.new.received ≡ self.old.received ++ message ∷ []) }
+        ensures some { IfSome result
+            (λ message. self.new.received ≡ self.old.received ++ message ∷ []) }
         ensures none { IfNone result (self.new.received ≡ self.old.received) }
     {
         self.queue.pop_as::<Receives, R>(rt, &mut self.pass)

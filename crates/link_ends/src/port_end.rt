@@ -29,7 +29,8 @@ pub trait PortEnd: Link + Drop {
 
     /// The next message, if there is one to be given.
     fn receive(&mut self) -> Option<Self::Carried>
-        ensures some { IfSome result (λ message. Gives (giving self.old) message (giving self.new)) }
+        ensures some { IfSome result
+            (λ message. Gives (giving self.old) message (giving self.new)) }
         ensures none { IfNone result (GivesNone (giving self.old) (giving self.new)) };
 
     /// How many messages were sent to the other end and not received there yet.

@@ -55,7 +55,8 @@ impl<T> Outcome<T, Known<T>> for Sends {
     ghost use Rattle.std.specs.Prelude.{◌≡◌, ◌++◌, ◌∷◌, []};
     ghost use Rattle.link_ends.specs.Rule.{known};
 
-    ghost then = { λ end message after. after ≡ known end.sends end.receives (end.sent ++ message ∷ []) end.received };
+    ghost then = { λ end message after.
+        after ≡ known end.sends end.receives (end.sent ++ message ∷ []) end.received };
 }
 
 impl<T> Lesson<T, Known<T>> for Sends {
@@ -71,7 +72,8 @@ impl<T> Outcome<T, Known<T>> for Receives {
     ghost use Rattle.std.specs.Prelude.{◌≡◌, ◌++◌, ◌∷◌, []};
     ghost use Rattle.link_ends.specs.Rule.{known};
 
-    ghost then = { λ end message after. after ≡ known end.sends end.receives end.sent (end.received ++ message ∷ []) };
+    ghost then = { λ end message after.
+        after ≡ known end.sends end.receives end.sent (end.received ++ message ∷ []) };
 }
 
 impl<T> Lesson<T, Known<T>> for Receives {

@@ -39,9 +39,11 @@ where
 
     ghost Value = { ShimView L L.Carried };
 
-    ghost view = { λ shim. record { inner = shim.inner; acts = shim.acts.all; coming = shim.coming.items } };
+    ghost view = { λ shim.
+        record { inner = shim.inner; acts = shim.acts.all; coming = shim.coming.items } };
 
-    ghost invariant = { λ shim. IsShim shim.acts (L.received shim.inner) shim.coming.items shim.held.items };
+    ghost invariant = { λ shim.
+        IsShim shim.acts (L.received shim.inner) shim.coming.items shim.held.items };
 }
 
 impl<L: Link + Drop> Drop for Shim<L>
@@ -78,7 +80,8 @@ where
     // What is coming, if something is.
     fn next_coming(&mut self) -> Option<L::Carried>
         ensures rest { self.new ≡ record self.old { coming = self.new.coming } }
-        ensures given { IfSome result (λ message. given_by L.received self.new ≡ given_by L.received self.old ++ message ∷ []) }
+        ensures given { IfSome result (λ message.
+            given_by L.received self.new ≡ given_by L.received self.old ++ message ∷ []) }
         ensures none { IfNone result ((self.new ≡ self.old) × (self.old.coming ≡ [])) }
     {
         let message = self.coming.pop_front()?;
@@ -93,8 +96,10 @@ where
     // The same, where all acts are done: then a message that is received is given.
     fn last_try(&mut self) -> Option<E::Carried>
         ensures received { HasReceived (E.giving self.old.inner).end (E.giving self.new.inner).end }
-        ensures given { IfSome result (λ message. given_by E.received self.new ≡ given_by E.received self.old ++ message ∷ []) }
-        ensures none { IfNone result ((given_by E.received self.new ≡ given_by E.received self.old) × (self.new.coming ≡ [])) }
+        ensures given { IfSome result (λ message.
+            given_by E.received self.new ≡ given_by E.received self.old ++ message ∷ []) }
+        ensures none { IfNone result ((given_by E.received self.new ≡ given_by E.received self.old)
+            × (self.new.coming ≡ [])) }
     {
         if let Some(message) = self.next_coming() {
             return Some(message);
@@ -157,11 +162,15 @@ where
 
     type Handle = E::Handle;
 
-    ghost giving = { λ shim. record { end = (E.giving shim.inner).end; given = given_by E.received shim } };
+    ghost giving = { λ shim.
+        record { end = (E.giving shim.inner).end; given = given_by E.received shim } };
 
     ghost as_link = { λ shim. refl };
 
-    ghost came = { λ shim message given. E.came shim.inner message (subst (λ all. Contains all message) (E.as_link shim.inner) (has_come shim.acts (E.received shim.inner) shim.coming message given)) };
+    ghost came = { λ shim message given.
+        E.came shim.inner message
+        (subst (λ all. Contains all message) (E.as_link shim.inner)
+        (has_come shim.acts (E.received shim.inner) shim.coming message given)) };
 
     fn post(&mut self, message: E::Carried) -> Result<(), E::Carried> {
         self.inner.post(message)

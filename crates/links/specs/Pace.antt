@@ -1,7 +1,9 @@
 -- Messages that wait for a link in greater numbers than they should (ours).
 use Rattle.std.specs.Prelude.{◌+◌, ◌||◌, ℕ, Bool, List, length, nat_lt, sum_by}
 use Rattle.bus.specs.declared.message.Body.{Body}
-use Rattle.bus.specs.declared.message.Body.TheVariants.{Copy, Piece}
+use Rattle.bus.specs.declared.bodies.SlotsBody.TheVariants.{Copy}
+use Rattle.bus.specs.declared.bodies.StreamBody.TheVariants.{Piece}
+use Rattle.bus.specs.declared.message.Body.TheVariants.{Slots, Stream}
 use Rattle.bus.specs.declared.message.Message.{Message}
 use Rattle.hash.specs.Size.{size_of}
 use Rattle.keyspace.specs.declared.value.Value.{Value}
@@ -19,8 +21,8 @@ pair_bytes pair = length pair.0 + value_bytes pair.1
 
 -- the bytes of a stream that a message brings, or those of keys that move. The keys of a snapshot aren't counted
 abbrev pub brought_bytes : Body → ℕ
-brought_bytes (Piece piece) = length piece.bytes
-brought_bytes (Copy id pairs) = sum_by pair_bytes pairs
+brought_bytes (Stream (Piece piece)) = length piece.bytes
+brought_bytes (Slots (Copy id pairs)) = sum_by pair_bytes pairs
 brought_bytes body = 0
 
 abbrev pub waiting_bytes : List Message → ℕ

@@ -1,8 +1,9 @@
 //! Messages that wait in greater numbers than they should.
-ghost use Rattle.std.specs.Prelude.{◌≡◌, ◌≤◌, ◌-◌, ◌||◌, length, nat_lt, sum_by, SomeIff};
+ghost use Rattle.std.specs.Prelude.{◌≡◌, ◌≤◌, ◌-◌, ◌||◌, nat_lt, sum_by, SomeIff};
+ghost use Rattle.bus.specs.declared.message.Body.TheVariants.{Slots, Stream as OfStream};
 ghost use Rattle.links.specs.Pace.{are_many, brought_bytes, pair_bytes, value_bytes, waiting_bytes};
 
-use bus::Body;
+use bus::{Body, SlotsBody, StreamBody};
 use keyspace::{Pair, Value};
 use node_cell::{Deployment, Posted};
 use std::collections::VecDeque;
@@ -35,30 +36,41 @@ fn are_long<K: Deployment>(waiting: &VecDeque<Posted<K>>) -> bool
 }
 
 // What is left of the room once a message has brought its bytes, or None where they are more.
-//
-// A snapshot has all keys of a node. They aren't counted, since they would be walked under the node's lock.
 fn room_after(room: u128, body: &Body) -> Option<u128>
     ensures { SomeIff result (brought_bytes body.now ≤ room) (room - brought_bytes body.now) }
 {
     match body {
-        Body::Piece(piece) => room.checked_sub(piece.bytes().len() as u128),
-        Body::Copy { pairs, .. } => room_after_pairs(room, pairs.as_slice()),
-        Body::Ack(_)
-        | Body::Drained { .. }
-        | Body::Claim(_, _)
-        | Body::Report(_)
-        | Body::Candidacy(_)
-        | Body::Grant(_)
-        | Body::Sync(_)
-        | Body::Snapshot(_)
-        | Body::Pause(_)
-        | Body::Paused(_) => Some(room),
+        Body::Slots(body) => room_after_slots(room, body),
+        Body::Stream(body) => room_after_stream(room, body),
+        Body::Election(_) | Body::Report(_) => Some(room),
+    }
+}
+
+fn room_after_slots(room: u128, body: &SlotsBody) -> Option<u128>
+    ensures { SomeIff result (brought_bytes (Slots body.now) ≤ room)
+        (room - brought_bytes (Slots body.now)) }
+{
+    match body {
+        SlotsBody::Copy { pairs, .. } => room_after_pairs(room, pairs.as_slice()),
+        SlotsBody::Ack(_) | SlotsBody::Drained { .. } | SlotsBody::Claim(_, _) => Some(room),
+    }
+}
+
+// A snapshot has all keys of a node. They aren't counted, since they would be walked under the node's lock.
+fn room_after_stream(room: u128, body: &StreamBody) -> Option<u128>
+    ensures { SomeIff result (brought_bytes (OfStream body.now) ≤ room)
+        (room - brought_bytes (OfStream body.now)) }
+{
+    match body {
+        StreamBody::Piece(piece) => room.checked_sub(piece.bytes().len() as u128),
+        StreamBody::Sync(_) | StreamBody::Snapshot(_) => Some(room),
     }
 }
 
 // The same for keys with their values. They share long strings, so their sum may pass what 128 bits hold: it isn't made.
 fn room_after_pairs(room: u128, pairs: &[Pair]) -> Option<u128>
-    ensures { SomeIff result (sum_by pair_bytes pairs.now ≤ room) (room - sum_by pair_bytes pairs.now) }
+    ensures { SomeIff result (sum_by pair_bytes pairs.now ≤ room)
+        (room - sum_by pair_bytes pairs.now) }
 {
     let mut left = room;
     for pair in pairs {

@@ -1,5 +1,5 @@
 //! A node's end of its link with another node, with the messages that found no room there yet.
-ghost use Rattle.std.specs.Prelude.{◌≡◌, ◌++◌, ◌∷◌, ◌⊎◌, [], true, false, IfNone, IfSome, IsTrue, OnErr, OnOk};
+ghost use Rattle.std.specs.Prelude.{◌≡◌, ◌⊎◌, [], true, false, IfNone, IfSome, IsTrue, OnErr, OnOk};
 ghost use Rattle.link_ends.specs.Halves.{WasFull};
 ghost use Rattle.links.specs.Pace.{are_many};
 ghost use Rattle.links.specs.Syncs.{is_sync};
@@ -8,7 +8,7 @@ ghost use Rattle.links.specs.Stations.{end_of, port_of};
 
 use crate::pace::are_many;
 use crate::sync_filter::{Progress, SyncFilter};
-use bus::Body;
+use bus::{Body, StreamBody};
 use link_ends::{Act, LinkEnd, PortEnd};
 use node_cell::{Deployment, Posted, Sending};
 use std::alloc::{AllocError, Global};
@@ -92,7 +92,8 @@ impl<K: Deployment, E: PortEnd<Carried = Posted<K>>> Port<K, E> {
     // Sends the first message that waits, if there is one and the link has room.
     fn send_first(&mut self) -> bool
         ensures sent { result ≡ true → HasSentOne self.old self.new }
-        ensures unsent { result ≡ false → (self.new ≡ self.old) × ((self.old.waiting ≡ []) ⊎ WasFull self.old.sent) }
+        ensures unsent { result ≡ false
+            → (self.new ≡ self.old) × ((self.old.waiting ≡ []) ⊎ WasFull self.old.sent) }
     {
         let Some(posted) = self.waiting.pop_front() else {
             return false;
@@ -126,7 +127,7 @@ impl<K: Deployment, E: PortEnd<Carried = Posted<K>>> Port<K, E> {
         ensures sync { result ≡ true → IsTrue (is_sync posted.now.body) }
     {
         match &posted.message().body {
-            Body::Sync(sync) => {
+            Body::Stream(StreamBody::Sync(sync)) => {
                 let progress = self.progress();
                 !self.filter.needs_answer(sync, &progress)
             }

@@ -46,7 +46,8 @@ impl<K: Deployment, W: Web, L: Log, E: PortEnd<Carried = Posted<K>>> Model for S
 
     ghost coded = { Prim.hlevel (codes, coded_state) };
 
-    ghost view = { λ station. record { cell = station.cell; ports = station.ports.items; unsorted = station.unsorted } };
+    ghost view = { λ station.
+        record { cell = station.cell; ports = station.ports.items; unsorted = station.unsorted } };
 
     ghost invariant = { λ station. IsStation W.links (record { cell = station.cell; ports = station.ports.items; unsorted = station.unsorted }) };
 }
@@ -102,7 +103,8 @@ impl<K: Deployment, W: Web, L: Log + Drop, E: PortEnd<Carried = Posted<K>>> Stat
     /// Receives the next message from the node with that number, if one has come, and delivers it to the cell. A sync of a replica that needs
     /// no answer is lost instead, as any message may be.
     pub fn receive(&mut self, from: usize) -> Option<Result<Entered<K>, NotTaken>>
-        ensures some { IfSome result (λ received. (message : Message) × Arrives self.old from message received self.new) }
+        ensures some { IfSome result
+            (λ received. (message : Message) × Arrives self.old from message received self.new) }
         ensures none { IfNone result ((self.new ≡ self.old) ⊎ GivesNone self.old from self.new) }
     {
         let port = self.ports.get_mut(from)?;
@@ -157,7 +159,9 @@ impl<K: Deployment, W: Web, L: Log + Drop, E: PortEnd<Carried = Posted<K>>> Stat
         ensures sends { OnlySends self.old self.new }
         ensures none { IfOk result (λ has_sent. has_sent ≡ false → SendsNothing self.old self.new) }
         ensures sorted { IfOk result (λ _. (self.new.unsorted ≡ []) × (self.new.cell.outbox ≡ [])) }
-        ensures left { IfOk result (λ _. (none : PortView) → to < length self.new.ports → ((port_at self.new.ports to none).waiting ≡ []) ⊎ WasFull (port_at self.new.ports to none).sent) }
+        ensures left { IfOk result (λ _. (none : PortView)
+            → to < length self.new.ports → ((port_at self.new.ports to none).waiting ≡ [])
+            ⊎ WasFull (port_at self.new.ports to none).sent) }
     {
         let sorted = self.sort(rt);
         let has_sent = self.send_to(to);
@@ -170,7 +174,9 @@ impl<K: Deployment, W: Web, L: Log + Drop, E: PortEnd<Carried = Posted<K>>> Stat
         ensures sends { OnlySends self.old self.new }
         ensures none { result ≡ false → SendsNothing self.old self.new }
         ensures cell { (self.new.cell ≡ self.old.cell) × (self.new.unsorted ≡ self.old.unsorted) }
-        ensures left { (none : PortView) → to < length self.new.ports → ((port_at self.new.ports to none).waiting ≡ []) ⊎ WasFull (port_at self.new.ports to none).sent }
+        ensures left { (none : PortView)
+            → to < length self.new.ports → ((port_at self.new.ports to none).waiting ≡ [])
+            ⊎ WasFull (port_at self.new.ports to none).sent }
     {
         to < self.ports.len() && self.ports[to].send_all()
     }

@@ -1,16 +1,10 @@
 -- A client's two streams, and what was asked of the node: before a call, and after it.
-use Rattle.std.specs.Prelude.{◌≡◌, ℕ, List, ◌++◌, Option, All, IfSome, MatchResult}
+use Rattle.std.specs.Prelude.{◌≡◌, ℕ, List, ◌++◌, Option, All}
 use Rattle.std.specs.Io.KnownBytes.{Appends}
 use Rattle.resp2.specs.Counting.{inner_of, failures_of, failed_of, HasRisen}
 use Rattle.resp2.specs.Writing.{AppendsBeginning}
 use Rattle.resp2.specs.declared.counting.Counting.{Counting}
-use Rattle.connections.specs.declared.conn.Conn.{Conn}
 use Rattle.node_gate.specs.Asks.{Asked}
-use Rattle.node_gate.specs.Asks.Asked.{asking, waiting}
-use Rattle.node_step.specs.declared.event.Event.{Event}
-use Rattle.step_fault.specs.declared.fault.StepFault.{StepFault}
-use Rattle.node_step.specs.declared.outputs.Outputs.{Outputs}
-use Rattle.resp_values.specs.declared.reply.Reply.{Reply}
 
 -- something before a call, and after it
 pub record Change (A : Type 0) : Type 0 where
@@ -19,6 +13,10 @@ pub record Change (A : Type 0) : Type 0 where
 
 abbrev pub change : {A : Type 0} → A → A → Change A
 change old new = record { old = old; new = new }
+
+-- the same of what this has
+abbrev pub change_of : {A B : Type 0} → (A → B) → A → A → Change B
+change_of part old new = change (part old) (part new)
 
 -- the bytes that a reader has left or a writer holds, where they are known; how many calls of it failed; and the bytes as the last of
 -- those left them
@@ -31,7 +29,7 @@ abbrev pub stream_of : {D : Type 0} → (D → Option (List ℕ)) → Counting D
 stream_of bytes counting = record { bytes = bytes (inner_of counting); failures = failures_of counting; at_failure = bytes (failed_of counting) }
 
 abbrev pub streams : {D : Type 0} → (D → Option (List ℕ)) → Counting D → Counting D → Change Stream
-streams bytes old new = change (stream_of bytes old) (stream_of bytes new)
+streams bytes = change_of (stream_of bytes)
 
 -- the bytes were written, and no call failed
 pub record Sends (out : Change Stream) (bytes : List ℕ) : Type 0 where
@@ -47,11 +45,6 @@ pub record FailsLast (old new : Stream) : Type 0 where
 pub record Fails (out : Change Stream) (bytes : List ℕ) : Type 0 where
   pub begun : AppendsBeginning out.old.bytes out.new.bytes bytes
   pub breaks : FailsLast out.old out.new
-
--- the gate may give these outputs for the event, or refuse it with this fault; and it may give this reply to a connection that waits
-abbrev pub IsAllowed : (Event → Outputs → Type 0) → (Event → StepFault → Type 0) → (Conn → Reply → Type 0) → Asked → Type 0
-IsAllowed may may_refuse may_give (asking event outcome) = MatchResult outcome (may event) (may_refuse event)
-IsAllowed may may_refuse may_give (waiting conn reply) = IfSome reply (may_give conn)
 
 -- this was asked of the node, in this order and nothing else, and each outcome is one that is allowed
 pub record Adds (allowed : Asked → Type 0) (asked : Change (List Asked)) (added : List Asked) : Type 0 where

@@ -85,9 +85,11 @@ pub(crate) fn flush<W: Write>(
     sent: &mut usize,
     writer: &mut Counting<W>,
 ) -> io::Result<()>
-    ensures ok { OnOk result (Sends (streams W.contents writer.old writer.new) (drop sent.old batch.old.items)) }
+    ensures ok { OnOk result
+        (Sends (streams W.contents writer.old writer.new) (drop sent.old batch.old.items)) }
     ensures empty { OnOk result ((batch.new.items ≡ []) × (sent.new ≡ 0)) }
-    ensures err { OnErr result (Fails (streams W.contents writer.old writer.new) (drop sent.old batch.old.items)) }
+    ensures err { OnErr result
+        (Fails (streams W.contents writer.old writer.new) (drop sent.old batch.old.items)) }
 {
     if let Some(rest) = batch.get(*sent..)
         && !rest.is_empty()
@@ -106,9 +108,11 @@ pub(crate) fn send_held<W: Write, S: Answered>(
     writer: &mut Counting<W>,
 ) -> io::Result<()>
     requires { batch.old.items ≡ [] }
-    ensures ok { OnOk result (Sends (streams W.contents writer.old writer.new) (held_bytes S.gave held.now)) }
+    ensures ok { OnOk result
+        (Sends (streams W.contents writer.old writer.new) (held_bytes S.gave held.now)) }
     ensures empty { OnOk result (batch.new.items ≡ []) }
-    ensures err { OnErr result (Fails (streams W.contents writer.old writer.new) (held_bytes S.gave held.now)) }
+    ensures err { OnErr result
+        (Fails (streams W.contents writer.old writer.new) (held_bytes S.gave held.now)) }
 {
     match held {
         Held::Step(step) => match step.response() {
@@ -128,9 +132,11 @@ pub(crate) fn send_alone<W: Write>(
     writer: &mut Counting<W>,
 ) -> io::Result<()>
     requires { batch.old.items ≡ [] }
-    ensures ok { OnOk result (Sends (streams W.contents writer.old writer.new) (reply_spelling reply.now)) }
+    ensures ok { OnOk result
+        (Sends (streams W.contents writer.old writer.new) (reply_spelling reply.now)) }
     ensures empty { OnOk result (batch.new.items ≡ []) }
-    ensures err { OnErr result (Fails (streams W.contents writer.old writer.new) (reply_spelling reply.now)) }
+    ensures err { OnErr result
+        (Fails (streams W.contents writer.old writer.new) (reply_spelling reply.now)) }
 {
     // A reply of many parts is one write where it is short, and not one for each part.
     if fits_in(reply, batch) {
@@ -145,10 +151,13 @@ pub(crate) fn write_once<W: Write>(
     sent: &mut usize,
     writer: &mut Counting<W>,
 ) -> Result<Wrote, ConnFault>
-    ensures put { OnOk result (Puts (streams W.contents writer.old writer.new) (change (drop sent.old batch.old.items) (drop sent.new batch.new.items)) []) }
-    ensures wrote { IfOk result (λ wrote. Writes wrote (streams W.contents writer.old writer.new) (change (drop sent.old batch.old.items) (drop sent.new batch.new.items))) }
+    ensures put { OnOk result (Puts (streams W.contents writer.old writer.new)
+        (change (drop sent.old batch.old.items) (drop sent.new batch.new.items)) []) }
+    ensures wrote { IfOk result (λ wrote. Writes wrote (streams W.contents writer.old writer.new)
+        (change (drop sent.old batch.old.items) (drop sent.new batch.new.items))) }
     ensures fault { IfErr result (λ fault. fault ≡ ConnFault.Writer) }
-    ensures err { OnErr result (Fails (streams W.contents writer.old writer.new) (drop sent.old batch.old.items)) }
+    ensures err { OnErr result
+        (Fails (streams W.contents writer.old writer.new) (drop sent.old batch.old.items)) }
 {
     let rest = rest_of(batch.as_slice(), *sent);
     if rest.is_empty() {
@@ -175,10 +184,13 @@ fn write_on<W: Write>(
     writer: &mut Counting<W>,
 ) -> Result<Wrote, ConnFault>
     requires { drop sent.old batch.old.items ≢ [] }
-    ensures put { OnOk result (Puts (streams W.contents writer.old writer.new) (change (drop sent.old batch.old.items) (drop sent.new batch.new.items)) []) }
-    ensures wrote { IfOk result (λ wrote. Writes wrote (streams W.contents writer.old writer.new) (change (drop sent.old batch.old.items) (drop sent.new batch.new.items))) }
+    ensures put { OnOk result (Puts (streams W.contents writer.old writer.new)
+        (change (drop sent.old batch.old.items) (drop sent.new batch.new.items)) []) }
+    ensures wrote { IfOk result (λ wrote. Writes wrote (streams W.contents writer.old writer.new)
+        (change (drop sent.old batch.old.items) (drop sent.new batch.new.items))) }
     ensures fault { IfErr result (λ fault. fault ≡ ConnFault.Writer) }
-    ensures err { OnErr result (Fails (streams W.contents writer.old writer.new) (drop sent.old batch.old.items)) }
+    ensures err { OnErr result
+        (Fails (streams W.contents writer.old writer.new) (drop sent.old batch.old.items)) }
 {
     match flush(batch, sent, writer) {
         Ok(()) => Ok(Wrote::Some),

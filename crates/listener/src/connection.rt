@@ -1,10 +1,9 @@
 //! A connection from its beginning to its end, served by a thread of its own.
-ghost use Rattle.std.specs.Prelude.{◌≡◌, ◌≢◌, ◌<◌, ◌++◌, ◌∷◌, [], List, ℕ, vec_len, length, Err, None, Some, IfOk, IfErr, IfSome, IfNone, OnOk, OnErr};
+ghost use Rattle.std.specs.Prelude.{◌≡◌, ◌≢◌, ◌<◌, [], vec_len, length, Err, None, Some, IfOk, IfErr, IfSome, IfNone, OnOk, OnErr};
 ghost use Rattle.listener.specs.Conversation.{IsRest, Serves, Tells, line_of};
-ghost use Rattle.listener.specs.Progress.{Answers, Halts, IsOfAnswering, Stops, Talks};
-ghost use Rattle.listener.specs.Streams.{Adds, Fails, IsAllowed, Sends, Stream, change, stream_of, streams};
-ghost use Rattle.listener.specs.Turns.{HasRoom, Hears, IsParked, Leaves, Reads, ReadsNot, desk_of, farewell_of, waiting_of};
-ghost use Rattle.node_gate.specs.Asks.Asked.{waiting};
+ghost use Rattle.listener.specs.Progress.{Answers, Halts, IsOfAnswering, Stops};
+ghost use Rattle.listener.specs.Streams.{Fails, Sends, Stream, change_of, stream_of, streams};
+ghost use Rattle.listener.specs.Turns.{HasRoom, Leaves, Reads, ReadsNot, desk_of, farewell_of, waiting_of};
 
 use crate::farewell::Farewell;
 use crate::fault::ConnFault;
@@ -29,8 +28,9 @@ pub fn serve_conn<R: Read, W: Write, G: NodeGate>(
     reader: &mut Counting<R>,
     writer: &mut Counting<W>,
 ) -> Result<(), ConnFault>
-    ensures { Serves (IsAllowed G.may G.may_refuse G.may_give) (change (G.asked gate.old) (G.asked gate.new))
-        (streams R.remaining reader.old reader.new) (streams W.contents writer.old writer.new) result }
+    ensures { Serves G.allowed
+        (change_of G.asked gate.old gate.new) (streams R.remaining reader.old reader.new)
+        (streams W.contents writer.old writer.new) result }
 {
     let over = talk(alloc, gate, reader, writer);
     tell(over, writer)
@@ -50,8 +50,9 @@ fn talk<R: Read, W: Write, G: NodeGate>(
     reader: &mut Counting<R>,
     writer: &mut Counting<W>,
 ) -> Over<G::Answer>
-    ensures { Leaves (IsAllowed G.may G.may_refuse G.may_give) (change (G.asked gate.old) (G.asked gate.new))
-        (streams R.remaining reader.old reader.new) (streams W.contents writer.old writer.new) result.ended
+    ensures { Leaves G.allowed
+        (change_of G.asked gate.old gate.new) (streams R.remaining reader.old reader.new)
+        (streams W.contents writer.old writer.new) result.ended
         (farewell_of G.Answer.gave result.farewell) }
 {
     let Ok(mut input) = Input::new(alloc) else {
@@ -90,7 +91,7 @@ fn converse<R: Read, W: Write, G: NodeGate>(
     requires begins { (talk.old.requests.pending ≡ []) × (talk.old.requests.fault ≡ None) }
     requires empty { waiting_of G.Answer.gave talk.old.outgoing ≡ [] }
     requires free { HasRoom talk.old.outgoing }
-    ensures stops { Stops (IsAllowed G.may G.may_refuse G.may_give) talk.old.conn result (streams R.remaining reader.old reader.new)
+    ensures stops { Stops G.allowed talk.old.conn result (streams R.remaining reader.old reader.new)
         (desk_of G.Answer.gave (G.asked gate.old) talk.old (stream_of W.contents writer.old))
         (desk_of G.Answer.gave (G.asked gate.new) talk.new (stream_of W.contents writer.new)) }
     ensures same { talk.new.conn ≡ talk.old.conn }
@@ -122,8 +123,10 @@ fn read_some<R: Read, S: Answered + Drop>(
     reader: &mut Counting<R>,
 ) -> Result<usize, ConnFault>
     requires { 0 < length room.old }
-    ensures read { IfOk result (λ count. Reads (streams R.remaining reader.old reader.new) count talk.old.requests talk.new.requests) }
-    ensures failed { IfErr result (λ fault. ReadsNot (streams R.remaining reader.old reader.new) fault) }
+    ensures read { IfOk result (λ count. Reads
+        (streams R.remaining reader.old reader.new) count talk.old.requests talk.new.requests) }
+    ensures failed { IfErr result
+        (λ fault. ReadsNot (streams R.remaining reader.old reader.new) fault) }
     ensures kept { OnErr result (talk.new.requests ≡ talk.old.requests) }
     ensures same { (talk.new.conn ≡ talk.old.conn) × (talk.new.outgoing ≡ talk.old.outgoing) }
 {
@@ -142,12 +145,12 @@ fn answer_all<W: Write, G: NodeGate>(
 ) -> Result<Rest, ConnFault>
     requires sound { talk.old.requests.fault ≡ None }
     requires room { HasRoom talk.old.outgoing }
-    ensures answered { OnOk result (Answers (IsAllowed G.may G.may_refuse G.may_give) talk.old.conn
+    ensures answered { OnOk result (Answers G.allowed talk.old.conn
         (desk_of G.Answer.gave (G.asked gate.old) talk.old (stream_of W.contents writer.old))
         (desk_of G.Answer.gave (G.asked gate.new) talk.new (stream_of W.contents writer.new))) }
     ensures rest { IfOk result (λ rest. IsRest rest talk.new.requests.pending) }
     ensures here { OnOk result (talk.new.outgoing.held ≢ Held.Parked) }
-    ensures halts { IfErr result (λ fault. Halts (IsAllowed G.may G.may_refuse G.may_give) talk.old.conn (Err fault)
+    ensures halts { IfErr result (λ fault. Halts G.allowed talk.old.conn (Err fault)
         (desk_of G.Answer.gave (G.asked gate.old) talk.old (stream_of W.contents writer.old))
         (desk_of G.Answer.gave (G.asked gate.new) talk.new (stream_of W.contents writer.new))) }
     ensures fault { IfErr result IsOfAnswering }
@@ -172,14 +175,21 @@ fn take_turn<G: NodeGate>(
 ) -> Result<Option<Rest>, ConnFault>
     requires sound { talk.old.requests.fault ≡ None }
     requires room { HasRoom talk.old.outgoing }
-    ensures answered { OnOk result ((out : Stream) → Answers (IsAllowed G.may G.may_refuse G.may_give) talk.old.conn
-        (desk_of G.Answer.gave (G.asked gate.old) talk.old out) (desk_of G.Answer.gave (G.asked gate.new) talk.new out)) }
-    ensures rest { IfOk result (λ found. IfSome found (λ rest. IsRest rest talk.new.requests.pending)) }
-    ensures shorter { IfOk result (λ found. IfNone found (length talk.new.requests.pending < length talk.old.requests.pending)) }
+    ensures answered { OnOk result ((out : Stream)
+        → Answers G.allowed talk.old.conn
+        (desk_of G.Answer.gave (G.asked gate.old) talk.old out)
+        (desk_of G.Answer.gave (G.asked gate.new) talk.new out)) }
+    ensures rest { IfOk result
+        (λ found. IfSome found (λ rest. IsRest rest talk.new.requests.pending)) }
+    ensures shorter { IfOk result (λ found.
+        IfNone found (length talk.new.requests.pending < length talk.old.requests.pending)) }
     ensures here { OnOk result (talk.new.outgoing.held ≢ Held.Parked) }
-    ensures good { IfOk result (λ found. found ≢ Some Rest.BadByte → talk.new.requests.fault ≡ None) }
-    ensures halts { IfErr result (λ fault. (out : Stream) → Halts (IsAllowed G.may G.may_refuse G.may_give) talk.old.conn (Err fault)
-        (desk_of G.Answer.gave (G.asked gate.old) talk.old out) (desk_of G.Answer.gave (G.asked gate.new) talk.new out)) }
+    ensures good { IfOk result
+        (λ found. found ≢ Some Rest.BadByte → talk.new.requests.fault ≡ None) }
+    ensures halts { IfErr result (λ fault. (out : Stream)
+        → Halts G.allowed talk.old.conn (Err fault)
+        (desk_of G.Answer.gave (G.asked gate.old) talk.old out)
+        (desk_of G.Answer.gave (G.asked gate.new) talk.new out)) }
     ensures fault { IfErr result IsOfAnswering }
     ensures sound { OnErr result (talk.new.requests.fault ≡ None) }
     ensures same { talk.new.conn ≡ talk.old.conn }
@@ -203,10 +213,12 @@ fn write_out<W: Write, G: NodeGate>(
     writer: &mut Counting<W>,
 ) -> io::Result<()>
     ensures asked { G.asked gate.new ≡ G.asked gate.old }
-    ensures ok { OnOk result (Sends (streams W.contents writer.old writer.new) (waiting_of G.Answer.gave talk.old.outgoing)) }
+    ensures ok { OnOk result (Sends (streams W.contents writer.old writer.new)
+        (waiting_of G.Answer.gave talk.old.outgoing)) }
     ensures empty { OnOk result (waiting_of G.Answer.gave talk.new.outgoing ≡ []) }
     ensures room { OnOk result (talk.old.outgoing.held ≢ Held.Parked → HasRoom talk.new.outgoing) }
-    ensures err { OnErr result (Fails (streams W.contents writer.old writer.new) (waiting_of G.Answer.gave talk.old.outgoing)) }
+    ensures err { OnErr result (Fails (streams W.contents writer.old writer.new)
+        (waiting_of G.Answer.gave talk.old.outgoing)) }
     ensures same { (talk.new.conn ≡ talk.old.conn) × (talk.new.requests ≡ talk.old.requests) }
 {
     gate.release();
@@ -218,9 +230,10 @@ fn tell<S: Answered + Drop, W: Write>(
     over: Over<S>,
     writer: &mut Counting<W>,
 ) -> Result<(), ConnFault>
-    ensures told { over.ended ≢ Err ConnFault.Writer
-        → Tells result over.ended (streams W.contents writer.old writer.new) (farewell_of S.gave over.farewell) }
-    ensures silent { over.ended ≡ Err ConnFault.Writer → (result ≡ Err ConnFault.Writer) × (writer.new ≡ writer.old) }
+    ensures told { over.ended ≢ Err ConnFault.Writer → Tells result over.ended
+        (streams W.contents writer.old writer.new) (farewell_of S.gave over.farewell) }
+    ensures silent { over.ended ≡ Err ConnFault.Writer
+        → (result ≡ Err ConnFault.Writer) × (writer.new ≡ writer.old) }
 {
     let Over {
         ended,

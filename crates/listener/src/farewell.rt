@@ -2,7 +2,7 @@
 ghost use Rattle.std.specs.Prelude.{◌≡◌, ◌++◌, [], Err, IfOk, IfErr, OnOk, OnErr};
 ghost use Rattle.listener.specs.Conversation.{line_of};
 ghost use Rattle.listener.specs.Progress.{Puts};
-ghost use Rattle.listener.specs.Streams.{Fails, Sends, change, streams};
+ghost use Rattle.listener.specs.Streams.{Fails, Sends, change_of, streams};
 ghost use Rattle.listener.specs.Turns.{Accounts, IsLeftBy, farewell_of, line_bytes, waiting_of};
 
 use crate::batch::Wrote;
@@ -57,10 +57,13 @@ impl<S: Answered + Drop> Farewell<S> {
 
     /// Sends some of it by one write, and says what is left. An error is that the writer failed: its count has risen.
     pub fn finish<W: Write>(&mut self, writer: &mut Counting<W>) -> Result<Left, ConnFault>
-        ensures put { OnOk result (Puts (streams W.contents writer.old writer.new) (change (farewell_of S.gave self.old) (farewell_of S.gave self.new)) []) }
-        ensures left { IfOk result (λ left. Accounts left (streams W.contents writer.old writer.new) (change (farewell_of S.gave self.old) (farewell_of S.gave self.new))) }
+        ensures put { OnOk result (Puts (streams W.contents writer.old writer.new)
+            (change_of (farewell_of S.gave) self.old self.new) []) }
+        ensures left { IfOk result (λ left. Accounts left (streams W.contents writer.old writer.new)
+            (change_of (farewell_of S.gave) self.old self.new)) }
         ensures fault { IfErr result (λ fault. fault ≡ ConnFault.Writer) }
-        ensures err { OnErr result (Fails (streams W.contents writer.old writer.new) (farewell_of S.gave self.old)) }
+        ensures err { OnErr result
+            (Fails (streams W.contents writer.old writer.new) (farewell_of S.gave self.old)) }
     {
         self.settle();
         let wrote = self.outgoing.write_some(writer)?;
@@ -82,8 +85,10 @@ impl<S: Answered + Drop> Farewell<S> {
 
     /// Sends all of it, however long the writer takes.
     pub(crate) fn write_out<W: Write>(&mut self, writer: &mut Counting<W>) -> io::Result<()>
-        ensures ok { OnOk result (Sends (streams W.contents writer.old writer.new) (farewell_of S.gave self.old)) }
-        ensures err { OnErr result (Fails (streams W.contents writer.old writer.new) (farewell_of S.gave self.old)) }
+        ensures ok { OnOk result
+            (Sends (streams W.contents writer.old writer.new) (farewell_of S.gave self.old)) }
+        ensures err { OnErr result
+            (Fails (streams W.contents writer.old writer.new) (farewell_of S.gave self.old)) }
     {
         self.outgoing.write_out(writer)?;
         send_line(self.line, writer)
@@ -93,7 +98,8 @@ impl<S: Answered + Drop> Farewell<S> {
 // Writes the line, if there is one.
 fn send_line<W: Write>(line: Option<ErrorLine>, writer: &mut Counting<W>) -> io::Result<()>
     ensures ok { OnOk result (Sends (streams W.contents writer.old writer.new) (line_bytes line)) }
-    ensures err { OnErr result (Fails (streams W.contents writer.old writer.new) (line_bytes line)) }
+    ensures err { OnErr result
+        (Fails (streams W.contents writer.old writer.new) (line_bytes line)) }
 {
     match line {
         Some(line) => send_reply(&line.reply(), writer),

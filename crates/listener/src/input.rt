@@ -12,7 +12,7 @@ const MOST: usize = 16_384;
 // How much the room grows and shrinks at once.
 const FACTOR: usize = 4;
 
-// So many reads in a row that need less make it shrink.
+// How many reads in a row that need less make it shrink.
 const PATIENCE: u32 = 16;
 
 /// Room for what one read gives. It grows where reads fill it, and shrinks again where they give little.

@@ -1,6 +1,5 @@
 //! What turns make together.
 ghost use Rattle.listener.specs.InTurns.{TurnsMakeAConversation};
-ghost use Rattle.listener.specs.Streams.{IsAllowed};
 
 use node_gate::NodeGate;
 
@@ -8,5 +7,5 @@ use node_gate::NodeGate;
 /// order, and for nothing else; and what its client is sent, and then what waits for it, are the replies to just these, and at last the line
 /// of what ended the conversation. Each outcome is one that the gate may give.
 pub fn turns_make_a_conversation<G: NodeGate>()
-    ensures { TurnsMakeAConversation (IsAllowed G.may G.may_refuse G.may_give) }
+    ensures { TurnsMakeAConversation G.allowed }
 {}

@@ -12,7 +12,7 @@ use std::io::{ErrorKind, Read};
 /// What one read gave.
 #[derive(Clone, Copy, PartialEq, Eq, Debug)]
 pub enum Came {
-    /// So many bytes, one at least.
+    /// This many bytes, one at least.
     Bytes(usize),
     /// The client sends nothing more.
     End,
@@ -24,9 +24,11 @@ pub enum Came {
 
 /// Reads once, and says what came into the room. The reader may be one that doesn't wait.
 pub fn read_once<R: Read>(reader: &mut Counting<R>, room: &mut [u8]) -> Result<Came, ConnFault>
-    ensures came { IfOk result (λ came. Gives came (streams R.remaining reader.old reader.new) room.new) }
+    ensures came { IfOk result
+        (λ came. Gives came (streams R.remaining reader.old reader.new) room.new) }
     ensures fault { IfErr result (λ fault. fault ≡ ConnFault.Reader) }
-    ensures kept { OnErr result (Keeps (R.remaining reader.old.inner) (R.remaining reader.new.inner)) }
+    ensures kept { OnErr result
+        (Keeps (R.remaining reader.old.inner) (R.remaining reader.new.inner)) }
     ensures risen { OnErr result (HasRisen reader.old.failures reader.new.failures) }
 {
     match reader.read(room) {

@@ -1,12 +1,10 @@
 //! Requests on a connection: read and asked, one after another.
-ghost use Rattle.std.specs.Prelude.{◌≡◌, ◌≢◌, ◌⊎◌, ◌<◌, ◌≤◌, ◌++◌, ◌∷◌, [], List, ℕ, length, Err, None, IfOk, IfErr, OnErr, MatchBool};
+ghost use Rattle.std.specs.Prelude.{◌≡◌, ◌≢◌, ◌⊎◌, ◌<◌, ◌++◌, ◌∷◌, [], List, ℕ, length, Err, None, IfOk, IfErr, OnErr, MatchBool};
 ghost use Rattle.resp_values.specs.Request.{IsRequest, request_spelling};
-ghost use Rattle.resp2.specs.Stream.{IsUnfinished};
 ghost use Rattle.node_gate.specs.Asks.{outcome_of, IsOwn};
 ghost use Rattle.node_gate.specs.Asks.Asked.{asking};
-ghost use Rattle.listener.specs.Conversation.{IsSpoilt};
 ghost use Rattle.listener.specs.Progress.{Answers, Halts, IsOfAnswering, desk};
-ghost use Rattle.listener.specs.Streams.{Adds, IsAllowed, Stream, change};
+ghost use Rattle.listener.specs.Streams.{Adds, Stream, change_of};
 ghost use Rattle.listener.specs.Turns.{EndsTurn, HasRoom, Parks, Turns, waiting_of};
 
 use crate::fault::ConnFault;
@@ -49,12 +47,13 @@ pub(crate) fn answer_some<S: Answered + Drop, G: NodeGate<Answer = S>>(
     outgoing: &mut Outgoing<S>,
 ) -> Result<Next, ConnFault>
     requires { outgoing.old.held ≢ Held.Parked }
-    ensures turns { IfOk result (λ next. (out : Stream) → Turns (IsAllowed G.may G.may_refuse G.may_give) conn next
+    ensures turns { IfOk result (λ next. (out : Stream) → Turns G.allowed conn next
         (desk (G.asked gate.old) requests.old.pending (waiting_of S.gave outgoing.old) out)
         (desk (G.asked gate.new) requests.new.pending (waiting_of S.gave outgoing.new) out)) }
     ensures ends { IfOk result (λ next. EndsTurn next requests.old requests.new outgoing.new) }
-    ensures goes_on { IfOk result (λ next. HasRoom outgoing.old → 0 < most → (next ≡ Next.Write) ⊎ (next ≡ Next.Answer) → length requests.new.pending < length requests.old.pending) }
-    ensures halts { IfErr result (λ fault. (out : Stream) → Halts (IsAllowed G.may G.may_refuse G.may_give) conn (Err fault)
+    ensures goes_on { IfOk result (λ next. HasRoom outgoing.old → 0 < most → (next ≡ Next.Write)
+        ⊎ (next ≡ Next.Answer) → length requests.new.pending < length requests.old.pending) }
+    ensures halts { IfErr result (λ fault. (out : Stream) → Halts G.allowed conn (Err fault)
         (desk (G.asked gate.old) requests.old.pending (waiting_of S.gave outgoing.old) out)
         (desk (G.asked gate.new) requests.new.pending (waiting_of S.gave outgoing.new) out)) }
     ensures fault { IfErr result IsOfAnswering }
@@ -90,16 +89,22 @@ fn answer_request<S: Answered + Drop, G: NodeGate<Answer = S>>(
 ) -> Result<bool, ConnFault>
     requires request { IsRequest words }
     requires room { HasRoom outgoing.old }
-    ensures answered { IfOk result (λ has_come. (behind : List ℕ) (out : Stream) → MatchBool has_come
-        (Answers (IsAllowed G.may G.may_refuse G.may_give) conn
-        (desk (G.asked gate.old) (request_spelling words ++ behind) (waiting_of S.gave outgoing.old) out)
+    ensures answered { IfOk result (λ has_come. (behind : List ℕ) (out : Stream)
+        → MatchBool has_come
+        (Answers G.allowed conn
+        (desk (G.asked gate.old) (request_spelling words ++ behind)
+        (waiting_of S.gave outgoing.old) out)
         (desk (G.asked gate.new) behind (waiting_of S.gave outgoing.new) out))
-        (Parks (IsAllowed G.may G.may_refuse G.may_give) conn
-        (desk (G.asked gate.old) (request_spelling words ++ behind) (waiting_of S.gave outgoing.old) out)
+        (Parks G.allowed conn
+        (desk (G.asked gate.old) (request_spelling words ++ behind)
+        (waiting_of S.gave outgoing.old) out)
         (desk (G.asked gate.new) behind (waiting_of S.gave outgoing.new) out))) }
-    ensures held { IfOk result (λ has_come. MatchBool has_come (outgoing.new.held ≢ Held.Parked) (outgoing.new.held ≡ Held.Parked)) }
-    ensures halts { IfErr result (λ fault. (behind pending : List ℕ) (out : Stream) → Halts (IsAllowed G.may G.may_refuse G.may_give) conn (Err fault)
-        (desk (G.asked gate.old) (request_spelling words ++ behind) (waiting_of S.gave outgoing.old) out)
+    ensures held { IfOk result (λ has_come.
+        MatchBool has_come (outgoing.new.held ≢ Held.Parked) (outgoing.new.held ≡ Held.Parked)) }
+    ensures halts { IfErr result (λ fault. (behind pending : List ℕ) (out : Stream)
+        → Halts G.allowed conn (Err fault)
+        (desk (G.asked gate.old) (request_spelling words ++ behind)
+        (waiting_of S.gave outgoing.old) out)
         (desk (G.asked gate.new) pending (waiting_of S.gave outgoing.new) out)) }
     ensures fault { IfErr result IsOfAnswering }
 {
@@ -119,7 +124,7 @@ fn answer_request<S: Answered + Drop, G: NodeGate<Answer = S>>(
 /// Asks the node once, and lets others ask it.
 pub(crate) fn ask_alone<G: NodeGate>(gate: &mut G, event: Event) -> Result<G::Answer, StepFault>
     requires { IsOwn event }
-    ensures { Adds (IsAllowed G.may G.may_refuse G.may_give) (change (G.asked gate.old) (G.asked gate.new))
+    ensures { Adds G.allowed (change_of G.asked gate.old gate.new)
         (asking event (outcome_of G.Answer.gave result) ∷ []) }
 {
     let answer = ask_node(gate, event);
@@ -131,7 +136,7 @@ pub(crate) fn ask_alone<G: NodeGate>(gate: &mut G, event: Event) -> Result<G::An
 #[inline(always)]
 fn ask_node<G: NodeGate>(gate: &mut G, event: Event) -> Result<G::Answer, StepFault>
     requires { IsOwn event }
-    ensures { Adds (IsAllowed G.may G.may_refuse G.may_give) (change (G.asked gate.old) (G.asked gate.new))
+    ensures { Adds G.allowed (change_of G.asked gate.old gate.new)
         (asking event (outcome_of G.Answer.gave result) ∷ []) }
 {
     gate.step(event)

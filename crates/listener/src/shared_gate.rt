@@ -19,19 +19,20 @@ pub trait SharedGate: NodeGate {
     ghost asked_by: { Self.Asks → List Asked };
 
     /// Changes places with the conversation that asked this: from now on that one has the gate, and the node with it.
-    fn exchange(&mut self, asks: &mut Self::Asks)
+    fn swap_asks(&mut self, asks: &mut Self::Asks)
         ensures comes { Self.asked self.new ≡ asked_by asks.old }
         ensures goes { asked_by asks.new ≡ Self.asked self.old };
 
     /// Takes the reply to the connection, whose last request was answered with [`Parked`](node_step::Response::Parked), if the node has
     /// it by now. The node is kept until others are let in.
     fn look(&mut self, conn: Conn) -> Option<Reply>
-        ensures heard { IfSome result (λ reply. Self.asked self.new ≡ Self.asked self.old ++ waiting conn (Some reply) ∷ []) }
-        ensures given { IfSome result (λ reply. Self.may_give conn reply) }
+        ensures heard { IfSome result
+            (λ reply. Self.asked self.new ≡ Self.asked self.old ++ waiting conn (Some reply) ∷ []) }
+        ensures allowed { IfSome result (λ reply. Self.allowed (waiting conn (Some reply))) }
         ensures none { result ≡ None → Self.asked self.new ≡ Self.asked self.old };
 
     /// Lets others ask the node, if many steps were made since the last time.
-    fn let_others_in(&mut self)
+    fn give_way(&mut self)
         ensures { Self.asked self.new ≡ Self.asked self.old };
 
     /// Lets others ask the node. What steps left is still to be sent.

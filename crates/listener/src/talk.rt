@@ -4,7 +4,7 @@ ghost use Rattle.node_gate.specs.Asks.Asked.{waiting};
 ghost use Rattle.resp_values.specs.Reply.{reply_spelling};
 ghost use Rattle.listener.specs.Conversation.{line_of};
 ghost use Rattle.listener.specs.Progress.{Closes, Halts, IsOfAnswering, Opens, Puts, Refuses};
-ghost use Rattle.listener.specs.Streams.{Adds, Fails, IsAllowed, Sends, Stream, change, streams};
+ghost use Rattle.listener.specs.Streams.{Adds, Fails, Sends, Stream, change_of, streams};
 ghost use Rattle.listener.specs.Turns.{Accounts, EndsTurn, HasRoom, Hears, IsParked, ReadsNot, ReadsOnce, Turns, desk_of, farewell_of, waiting_of};
 
 use crate::farewell::Farewell;
@@ -36,11 +36,14 @@ pub struct Talk<S> {
 impl<S: Answered + Drop> Talk<S> {
     /// Opens a connection at the node.
     pub fn begin<G: NodeGate<Answer = S>>(alloc: Global, gate: &mut G) -> Result<Talk<S>, ConnFault>
-        ensures opened { IfOk result (λ talk. Opens (IsAllowed G.may G.may_refuse G.may_give) (change (G.asked gate.old) (G.asked gate.new)) talk.conn) }
-        ensures unread { IfOk result (λ talk. (talk.requests.pending ≡ []) × (talk.requests.fault ≡ None)) }
+        ensures opened { IfOk result
+            (λ talk. Opens G.allowed (change_of G.asked gate.old gate.new) talk.conn) }
+        ensures unread { IfOk result
+            (λ talk. (talk.requests.pending ≡ []) × (talk.requests.fault ≡ None)) }
         ensures empty { IfOk result (λ talk. waiting_of S.gave talk.outgoing ≡ []) }
         ensures room { IfOk result (λ talk. HasRoom talk.outgoing) }
-        ensures refused { IfErr result (λ fault. Refuses (IsAllowed G.may G.may_refuse G.may_give) (change (G.asked gate.old) (G.asked gate.new)) fault) }
+        ensures refused { IfErr result
+            (λ fault. Refuses G.allowed (change_of G.asked gate.old gate.new) fault) }
     {
         let conn = open(gate)?;
         Ok(Talk {
@@ -63,8 +66,11 @@ impl<S: Answered + Drop> Talk<S> {
         reader: &mut Counting<R>,
         room: &mut [u8],
     ) -> Result<Came, ConnFault>
-        ensures read { IfOk result (λ came. ReadsOnce came (streams R.remaining reader.old reader.new) (length room.new) self.old.requests self.new.requests) }
-        ensures failed { IfErr result (λ fault. ReadsNot (streams R.remaining reader.old reader.new) fault) }
+        ensures read { IfOk result (λ came.
+            ReadsOnce came (streams R.remaining reader.old reader.new)
+            (length room.new) self.old.requests self.new.requests) }
+        ensures failed { IfErr result
+            (λ fault. ReadsNot (streams R.remaining reader.old reader.new) fault) }
         ensures kept { OnErr result (self.new.requests ≡ self.old.requests) }
         ensures same { (self.new.conn ≡ self.old.conn) × (self.new.outgoing ≡ self.old.outgoing) }
     {
@@ -77,7 +83,8 @@ impl<S: Answered + Drop> Talk<S> {
 
     /// Takes bytes that the client sent. An error is that there is no memory for them.
     pub(crate) fn read(&mut self, bytes: &[u8]) -> Result<(), ConnFault>
-        ensures took { OnOk result ((self.new.requests.pending ≡ self.old.requests.pending ++ bytes.now) × (self.new.requests.fault ≡ self.old.requests.fault)) }
+        ensures took { OnOk result ((self.new.requests.pending ≡ self.old.requests.pending
+            ++ bytes.now) × (self.new.requests.fault ≡ self.old.requests.fault)) }
         ensures refused { OnErr result (self.new.requests ≡ self.old.requests) }
         ensures fault { IfErr result (λ fault. fault ≡ ConnFault.Memory) }
         ensures same { (self.new.conn ≡ self.old.conn) × (self.new.outgoing ≡ self.old.outgoing) }
@@ -97,16 +104,24 @@ impl<S: Answered + Drop> Talk<S> {
         gate: &mut G,
         most: u32,
     ) -> Result<Next, ConnFault>
-        ensures parked { IsParked self.old → (result ≡ Ok Next.Hear) × (self.new ≡ self.old) × (gate.new ≡ gate.old) }
-        ensures turns { self.old.outgoing.held ≢ Held.Parked → IfOk result (λ next. (out : Stream) → Turns (IsAllowed G.may G.may_refuse G.may_give) self.old.conn next
-            (desk_of S.gave (G.asked gate.old) self.old out) (desk_of S.gave (G.asked gate.new) self.new out)) }
-        ensures ends { IfOk result (λ next. self.old.outgoing.held ≢ Held.Parked → EndsTurn next self.old.requests self.new.requests self.new.outgoing) }
-        ensures goes_on { IfOk result (λ next. HasRoom self.old.outgoing → 0 < most → (next ≡ Next.Write) ⊎ (next ≡ Next.Answer)
+        ensures parked { IsParked self.old
+            → (result ≡ Ok Next.Hear) × (self.new ≡ self.old) × (gate.new ≡ gate.old) }
+        ensures turns { self.old.outgoing.held ≢ Held.Parked → IfOk result (λ next. (out : Stream)
+            → Turns G.allowed self.old.conn next
+            (desk_of S.gave (G.asked gate.old) self.old out)
+            (desk_of S.gave (G.asked gate.new) self.new out)) }
+        ensures ends { IfOk result (λ next. self.old.outgoing.held ≢ Held.Parked
+            → EndsTurn next self.old.requests self.new.requests self.new.outgoing) }
+        ensures goes_on { IfOk result (λ next.
+            HasRoom self.old.outgoing → 0 < most → (next ≡ Next.Write) ⊎ (next ≡ Next.Answer)
             → length self.new.requests.pending < length self.old.requests.pending) }
-        ensures halts { IfErr result (λ fault. (out : Stream) → Halts (IsAllowed G.may G.may_refuse G.may_give) self.old.conn (Err fault)
-            (desk_of S.gave (G.asked gate.old) self.old out) (desk_of S.gave (G.asked gate.new) self.new out)) }
+        ensures halts { IfErr result (λ fault. (out : Stream)
+            → Halts G.allowed self.old.conn (Err fault)
+            (desk_of S.gave (G.asked gate.old) self.old out)
+            (desk_of S.gave (G.asked gate.new) self.new out)) }
         ensures fault { IfErr result IsOfAnswering }
-        ensures sound { OnErr result (self.old.requests.fault ≡ None → self.new.requests.fault ≡ None) }
+        ensures sound { OnErr result
+            (self.old.requests.fault ≡ None → self.new.requests.fault ≡ None) }
         ensures same { self.new.conn ≡ self.old.conn }
     {
         if self.is_parked() {
@@ -124,10 +139,12 @@ impl<S: Answered + Drop> Talk<S> {
     /// Takes the reply that comes later, if the node has it by now, and says whether it has.
     pub fn listen<G: SharedGate<Answer = S>>(&mut self, gate: &mut G) -> bool
         requires { IsParked self.old }
-        ensures heard { result ≡ true → Hears (IsAllowed G.may G.may_refuse G.may_give) self.old.conn (change (G.asked gate.old) (G.asked gate.new))
-            (change (waiting_of S.gave self.old.outgoing) (waiting_of S.gave self.new.outgoing)) }
+        ensures heard { result ≡ true
+            → Hears G.allowed self.old.conn (change_of G.asked gate.old gate.new)
+            (change_of (waiting_of S.gave) self.old.outgoing self.new.outgoing) }
         ensures here { result ≡ true → self.new.outgoing.held ≢ Held.Parked }
-        ensures none { result ≡ false → (self.new ≡ self.old) × (G.asked gate.new ≡ G.asked gate.old) }
+        ensures none { result ≡ false
+            → (self.new ≡ self.old) × (G.asked gate.new ≡ G.asked gate.old) }
         ensures same { (self.new.conn ≡ self.old.conn) × (self.new.requests ≡ self.old.requests) }
     {
         let Some(reply) = gate.look(self.conn) else {
@@ -140,10 +157,12 @@ impl<S: Answered + Drop> Talk<S> {
     /// Waits for the reply that comes later. A fault is that none will come any more.
     pub fn wait<G: NodeGate<Answer = S>>(&mut self, gate: &mut G) -> Result<(), ConnFault>
         requires { IsParked self.old }
-        ensures heard { OnOk result (Hears (IsAllowed G.may G.may_refuse G.may_give) self.old.conn (change (G.asked gate.old) (G.asked gate.new))
-            (change (waiting_of S.gave self.old.outgoing) (waiting_of S.gave self.new.outgoing))) }
+        ensures heard { OnOk result
+            (Hears G.allowed self.old.conn (change_of G.asked gate.old gate.new)
+            (change_of (waiting_of S.gave) self.old.outgoing self.new.outgoing)) }
         ensures here { OnOk result (self.new.outgoing.held ≢ Held.Parked) }
-        ensures none { OnErr result (Adds (IsAllowed G.may G.may_refuse G.may_give) (change (G.asked gate.old) (G.asked gate.new)) (waiting self.old.conn None ∷ [])) }
+        ensures none { OnErr result (Adds G.allowed (change_of G.asked gate.old gate.new)
+            (waiting self.old.conn None ∷ [])) }
         ensures kept { OnErr result (self.new ≡ self.old) }
         ensures fault { IfErr result (λ fault. fault ≡ ConnFault.Unanswered) }
         ensures same { (self.new.conn ≡ self.old.conn) × (self.new.requests ≡ self.old.requests) }
@@ -158,7 +177,8 @@ impl<S: Answered + Drop> Talk<S> {
     /// Puts the reply that came later behind those that wait.
     pub(crate) fn hear(&mut self, reply: Reply)
         requires { IsParked self.old }
-        ensures put { waiting_of S.gave self.new.outgoing ≡ waiting_of S.gave self.old.outgoing ++ reply_spelling reply }
+        ensures put { waiting_of S.gave self.new.outgoing
+            ≡ waiting_of S.gave self.old.outgoing ++ reply_spelling reply }
         ensures here { self.new.outgoing.held ≢ Held.Parked }
         ensures same { (self.new.conn ≡ self.old.conn) × (self.new.requests ≡ self.old.requests) }
     {
@@ -167,12 +187,16 @@ impl<S: Answered + Drop> Talk<S> {
 
     /// Sends some of the replies by one write, and says what is left. An error is that the writer failed: its count has risen.
     pub fn finish<W: Write>(&mut self, writer: &mut Counting<W>) -> Result<Left, ConnFault>
-        ensures put { OnOk result (Puts (streams W.contents writer.old writer.new) (change (waiting_of S.gave self.old.outgoing) (waiting_of S.gave self.new.outgoing)) []) }
-        ensures left { IfOk result (λ left. Accounts left (streams W.contents writer.old writer.new) (change (waiting_of S.gave self.old.outgoing) (waiting_of S.gave self.new.outgoing))) }
-        ensures parked { (IsParked self.old → IsParked self.new) × (self.old.outgoing.held ≢ Held.Parked → self.new.outgoing.held ≢ Held.Parked) }
+        ensures put { OnOk result (Puts (streams W.contents writer.old writer.new)
+            (change_of (waiting_of S.gave) self.old.outgoing self.new.outgoing) []) }
+        ensures left { IfOk result (λ left. Accounts left (streams W.contents writer.old writer.new)
+            (change_of (waiting_of S.gave) self.old.outgoing self.new.outgoing)) }
+        ensures parked { (IsParked self.old → IsParked self.new)
+            × (self.old.outgoing.held ≢ Held.Parked → self.new.outgoing.held ≢ Held.Parked) }
         ensures same { (self.new.conn ≡ self.old.conn) × (self.new.requests ≡ self.old.requests) }
         ensures fault { IfErr result (λ fault. fault ≡ ConnFault.Writer) }
-        ensures err { OnErr result (Fails (streams W.contents writer.old writer.new) (waiting_of S.gave self.old.outgoing)) }
+        ensures err { OnErr result (Fails (streams W.contents writer.old writer.new)
+            (waiting_of S.gave self.old.outgoing)) }
     {
         let wrote = self.outgoing.write_some(writer)?;
         Ok(self.outgoing.left_by(wrote))
@@ -180,10 +204,13 @@ impl<S: Answered + Drop> Talk<S> {
 
     /// Sends all replies that wait, however long the writer takes.
     pub(crate) fn write_out<W: Write>(&mut self, writer: &mut Counting<W>) -> io::Result<()>
-        ensures ok { OnOk result (Sends (streams W.contents writer.old writer.new) (waiting_of S.gave self.old.outgoing)) }
+        ensures ok { OnOk result (Sends (streams W.contents writer.old writer.new)
+            (waiting_of S.gave self.old.outgoing)) }
         ensures empty { OnOk result (waiting_of S.gave self.new.outgoing ≡ []) }
-        ensures room { OnOk result (self.old.outgoing.held ≢ Held.Parked → HasRoom self.new.outgoing) }
-        ensures err { OnErr result (Fails (streams W.contents writer.old writer.new) (waiting_of S.gave self.old.outgoing)) }
+        ensures room { OnOk result
+            (self.old.outgoing.held ≢ Held.Parked → HasRoom self.new.outgoing) }
+        ensures err { OnErr result (Fails (streams W.contents writer.old writer.new)
+            (waiting_of S.gave self.old.outgoing)) }
         ensures same { (self.new.conn ≡ self.old.conn) × (self.new.requests ≡ self.old.requests) }
     {
         self.outgoing.write_out(writer)
@@ -196,8 +223,9 @@ impl<S: Answered + Drop> Talk<S> {
         gate: &mut G,
         ended: Result<Rest, ConnFault>,
     ) -> Farewell<S>
-        ensures closed { Closes (IsAllowed G.may G.may_refuse G.may_give) (change (G.asked gate.old) (G.asked gate.new)) self.conn }
-        ensures waits { farewell_of S.gave result ≡ waiting_of S.gave self.outgoing ++ line_of ended }
+        ensures closed { Closes G.allowed (change_of G.asked gate.old gate.new) self.conn }
+        ensures waits { farewell_of S.gave result
+            ≡ waiting_of S.gave self.outgoing ++ line_of ended }
     {
         close(gate, self.conn);
         Farewell::of(self.outgoing, ended)
@@ -206,8 +234,9 @@ impl<S: Answered + Drop> Talk<S> {
 
 // A new connection at the node.
 fn open<G: NodeGate>(gate: &mut G) -> Result<Conn, ConnFault>
-    ensures ok { IfOk result (λ conn. Opens (IsAllowed G.may G.may_refuse G.may_give) (change (G.asked gate.old) (G.asked gate.new)) conn) }
-    ensures err { IfErr result (λ fault. Refuses (IsAllowed G.may G.may_refuse G.may_give) (change (G.asked gate.old) (G.asked gate.new)) fault) }
+    ensures ok { IfOk result (λ conn. Opens G.allowed (change_of G.asked gate.old gate.new) conn) }
+    ensures err { IfErr result
+        (λ fault. Refuses G.allowed (change_of G.asked gate.old gate.new) fault) }
 {
     let step = ask_alone(gate, Event::Open)?;
     let Response::Opened(conn) = step.response() else {
@@ -218,7 +247,7 @@ fn open<G: NodeGate>(gate: &mut G) -> Result<Conn, ConnFault>
 
 // Closes the connection. Where the node refuses, it stays open there.
 fn close<G: NodeGate>(gate: &mut G, conn: Conn)
-    ensures { Closes (IsAllowed G.may G.may_refuse G.may_give) (change (G.asked gate.old) (G.asked gate.new)) conn }
+    ensures { Closes G.allowed (change_of G.asked gate.old gate.new) conn }
 {
     let _step = ask_alone(gate, Event::Close(conn));
 }

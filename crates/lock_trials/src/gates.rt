@@ -85,11 +85,7 @@ impl<'n, G: NodeGate, R: Wait> NodeGate for HoldingGate<'n, G, R> {
 
     ghost asked = { λ holding. G.asked holding.gate };
 
-    ghost may = { G.may };
-
-    ghost may_refuse = { G.may_refuse };
-
-    ghost may_give = { G.may_give };
+    ghost allowed = { G.allowed };
 
     fn step(&mut self, event: Event) -> Result<G::Answer, StepFault> {
         if !matches!(&event, Event::Request(_, _)) {
@@ -133,11 +129,7 @@ impl<'n, G: NodeGate> NodeGate for TellingGate<'n, G> {
 
     ghost asked = { λ telling. G.asked telling.gate };
 
-    ghost may = { G.may };
-
-    ghost may_refuse = { G.may_refuse };
-
-    ghost may_give = { G.may_give };
+    ghost allowed = { G.allowed };
 
     fn step(&mut self, event: Event) -> Result<G::Answer, StepFault> {
         let is_request = matches!(&event, Event::Request(_, _));
@@ -186,11 +178,7 @@ impl<'n, G: NodeGate, R: Wait> NodeGate for OneLockGate<'n, G, R> {
 
     ghost asked = { λ one. G.asked one.gate };
 
-    ghost may = { G.may };
-
-    ghost may_refuse = { G.may_refuse };
-
-    ghost may_give = { G.may_give };
+    ghost allowed = { G.allowed };
 
     fn step(&mut self, event: Event) -> Result<G::Answer, StepFault> {
         let _all = self.lock.lock(&self.rt);

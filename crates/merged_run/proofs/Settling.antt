@@ -6,8 +6,11 @@ use Rattle.std.specs.FinMap as map
 use Rattle.std.specs.Ordering.{nat_cmp}
 use Rattle.std.specs.Prelude.{MatchBool, Result, Ok, Err, is_some, slice_get, slice_set}
 use Rattle.bus.specs.declared.message.Body.{Body}
-use Rattle.bus.specs.declared.message.Body.TheVariants.{Copy, Ack, Drained, Claim, Report, Candidacy as Requested, Grant, Sync, Piece, Snapshot, Pause, Paused}
-use Rattle.bus.specs.declared.message.Handing.{Handing}
+use Rattle.bus.specs.declared.bodies.ElectionBody.TheVariants.{Candidacy as Requested, Grant, Pause, Paused}
+use Rattle.bus.specs.declared.bodies.SlotsBody.TheVariants.{Copy, Ack, Drained, Claim}
+use Rattle.bus.specs.declared.bodies.StreamBody.TheVariants.{Sync, Piece, Snapshot}
+use Rattle.bus.specs.declared.message.Body.TheVariants.{Slots, Stream, Election, Report}
+use Rattle.bus.specs.declared.bodies.Handing.{Handing}
 use Rattle.bus.specs.declared.message.Message.{Message}
 use Rattle.cluster_config.specs.Config.{ClusterConfig}
 use Rattle.command_table.specs.Table.{command_of}
@@ -304,18 +307,18 @@ module _ (node : NodeState) (settled : IsSettled node.moves) where
       by_test false = settled
 
   taken_so_settled : (from : ℕ) (choice : Choice) (body : Body) → IsSettled (taken_so node from choice body).state.moves
-  taken_so_settled from choice (Copy id pairs) = arrival_settled id.slot _
-  taken_so_settled from choice (Ack id) = ack_settled id (acknowledged_keys (move_of node.moves id.slot) from id.number id.copy)
-  taken_so_settled from choice (Drained slot number epoch) = changed_settled node.moves settled slot (note_drained from number epoch) (noted_kind from number epoch)
-  taken_so_settled from choice (Claim slots replaced) = claim_settled (from == node.number) _
+  taken_so_settled from choice (Slots (Copy id pairs)) = arrival_settled id.slot _
+  taken_so_settled from choice (Slots (Ack id)) = ack_settled id (acknowledged_keys (move_of node.moves id.slot) from id.number id.copy)
+  taken_so_settled from choice (Slots (Drained slot number epoch)) = changed_settled node.moves settled slot (note_drained from number epoch) (noted_kind from number epoch)
+  taken_so_settled from choice (Slots (Claim slots replaced)) = claim_settled (from == node.number) _
   taken_so_settled from choice (Report suspects) = settled
-  taken_so_settled from choice (Requested request) = settled
-  taken_so_settled from choice (Grant epoch) = grant_settled _ (elected node.candidate (members_of node) from epoch)
-  taken_so_settled from choice (Sync sync) = synced_is (λ (o : Outcome). IsSettled o.state.moves) node from sync settled settled
-  taken_so_settled from choice (Piece piece) = pieced_keeps (λ (s : NodeState). IsSettled s.moves) node (λ stream keyspace. settled) from piece choice.follower
-  taken_so_settled from choice (Snapshot snapshot) = restored_keeps (λ (s : NodeState). IsSettled s.moves) node (λ stream keyspace. settled) from snapshot
-  taken_so_settled from choice (Pause stream) = pause_settled from stream
-  taken_so_settled from choice (Paused handing) = noting_settled handing
+  taken_so_settled from choice (Election (Requested request)) = settled
+  taken_so_settled from choice (Election (Grant epoch)) = grant_settled _ (elected node.candidate (members_of node) from epoch)
+  taken_so_settled from choice (Stream (Sync sync)) = synced_is (λ (o : Outcome). IsSettled o.state.moves) node from sync settled settled
+  taken_so_settled from choice (Stream (Piece piece)) = pieced_keeps (λ (s : NodeState). IsSettled s.moves) node (λ stream keyspace. settled) from piece choice.follower
+  taken_so_settled from choice (Stream (Snapshot snapshot)) = restored_keeps (λ (s : NodeState). IsSettled s.moves) node (λ stream keyspace. settled) from snapshot
+  taken_so_settled from choice (Election (Pause stream)) = pause_settled from stream
+  taken_so_settled from choice (Election (Paused handing)) = noting_settled handing
 
   taken_settled : (from : ℕ) (choice : Choice) (body : Body) → IsSettled (taken node from choice body).state.moves
   taken_settled from choice body =

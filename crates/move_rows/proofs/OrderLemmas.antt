@@ -5,7 +5,8 @@ use Rattle.std.specs.Prelude.{slice_set}
 use Rattle.std.specs.Cmp.{nat_cmp_total, unsigned_tied}
 use Rattle.std.specs.FinMap as map
 use Rattle.bus.specs.declared.message.Body.{Body}
-use Rattle.bus.specs.declared.message.Body.TheVariants.{Claim, Drained}
+use Rattle.bus.specs.declared.bodies.SlotsBody.TheVariants.{Claim, Drained}
+use Rattle.bus.specs.declared.message.Body.TheVariants.{Slots}
 use Rattle.connections.specs.declared.conn.Conn.{Conn}
 use Rattle.resp_values.specs.declared.reply.Reply.{Reply}
 use Rattle.keyspace.specs.declared.plans.Plan.{Plan}
@@ -40,7 +41,7 @@ use Rattle.node_step.specs.declared.response.Why.TheVariants.{Ends, Imports, Mig
 -- a slot that begins to leave goes to the node of the order
 pub begins_drained : (node : NodeState) (slot to number : ℕ)
     → drained_at_start (with_moves node (after_migrate node.moves slot (migrate.Begins to number))) slot (migrate.Begins to number)
-    ≡ cond (has_keys node.keyspace slot) [] ((to, Drained slot number (slot_epoch node slot)) ∷ [])
+    ≡ cond (has_keys node.keyspace slot) [] ((to, Slots (Drained slot number (slot_epoch node slot))) ∷ [])
 begins_drained node slot to number =
     ap (λ (move : Option Move). cond (has_keys node.keyspace slot) [] (drained_by slot (slot_epoch node slot) move))
     (map.get-insert nat_cmp_total node.moves.running slot (Leaves to number 0 None) slot
@@ -140,15 +141,15 @@ module _ (old : NodeState) (conn : Conn) (order : Order) (plan : Plan) where
 -- an import that ends in the new epoch is answered with the claim
 pub end_drafted : (old : NodeState) (conn : Conn) (slot drained epoch : ℕ) (claim : List (Run ℕ)) (reply : Reply) (bodies : List (ℕ × Body)) (draft : Draft)
     → epoch ≡ new_epoch old slot drained → new_epoch old slot drained < 2 ^ 64
-    → claim ≡ runs_of (claim_at (slice_set old.table slot (Some (record { epoch = epoch; owner = old.number }))) old.number) → reply ≡ done → bodies ≡ to_all (others old) (Claim claim old.replaced)
+    → claim ≡ runs_of (claim_at (slice_set old.table slot (Some (record { epoch = epoch; owner = old.number }))) old.number) → reply ≡ done → bodies ≡ to_all (others old) (Slots (Claim claim old.replaced))
     → ((after : NodeState) → after ≡ ending (at_epoch old epoch) conn slot epoch → Drafts old (replied_sending after (Ends (IsOver drained)) reply bodies) draft)
     → Gives old conn slot (IsOver drained) draft
 end_drafted old conn slot drained epoch claim reply bodies draft next below runs replies words drafts =
     let after = with_slot (using_up old conn) slot epoch in
-    let said : Drafts old (replied_sending after (Ends (IsOver drained)) done (to_all (others old) (Claim (claim_of after) old.replaced))) draft =
-    subst (λ (sent : List (ℕ × Body)). Drafts old (replied_sending after (Ends (IsOver drained)) done sent) draft) (words ∙ ap (λ (runs : List (Run ℕ)). to_all (others old) (Claim runs old.replaced)) runs)
+    let said : Drafts old (replied_sending after (Ends (IsOver drained)) done (to_all (others old) (Slots (Claim (claim_of after) old.replaced)))) draft =
+    subst (λ (sent : List (ℕ × Body)). Drafts old (replied_sending after (Ends (IsOver drained)) done sent) draft) (words ∙ ap (λ (runs : List (Run ℕ)). to_all (others old) (Slots (Claim runs old.replaced))) runs)
     (subst (λ r. Drafts old (replied_sending after (Ends (IsOver drained)) r bodies) draft) replies (drafts after refl)) in
     record {
       epoch = lt-ltb (new_epoch old slot drained) (2 ^ 64) below;
-      drafts = subst (λ e. Drafts old (replied_sending (with_slot (using_up old conn) slot e) (Ends (IsOver drained)) done (to_all (others old) (Claim (claim_of (with_slot (using_up old conn) slot e)) old.replaced))) draft) next said;
+      drafts = subst (λ e. Drafts old (replied_sending (with_slot (using_up old conn) slot e) (Ends (IsOver drained)) done (to_all (others old) (Slots (Claim (claim_of (with_slot (using_up old conn) slot e)) old.replaced)))) draft) next said;
     }

@@ -1,7 +1,8 @@
 -- Copies that are sent, and connections that wait for them.
 use Rattle.std.proofs.Common.{◌≡◌, ℕ, List, [], ◌∷◌, Option, Some, sym, subst, ◌∙◌}
 use Rattle.bus.specs.declared.message.Body.{Body}
-use Rattle.bus.specs.declared.message.Body.TheVariants.{Copy}
+use Rattle.bus.specs.declared.bodies.SlotsBody.TheVariants.{Copy}
+use Rattle.bus.specs.declared.message.Body.TheVariants.{Slots}
 use Rattle.connections.specs.declared.conn.Conn.{Conn}
 use Rattle.connections.specs.declared.conn.Wait.{Wait}
 use Rattle.migrate.proofs.Verdicts.{copies_freeze}
@@ -20,7 +21,7 @@ use Rattle.slot_state.specs.declared.running.Move.TheVariants.{Leaves}
 
 -- the copy that is outstanding is sent, and its connection waits
 pub sends_copy : (old node : NodeState) (conn : Conn) (keys : List (List ℕ)) (to : ℕ) (wait : Wait) (bodies : List (ℕ × Body)) (draft : Draft) → move_of node.moves wait.id.slot ≡ Some (Leaves to wait.id.number wait.id.copy (Some keys))
-    → bodies ≡ (to, Copy wait.id (pairs_at node.keyspace keys)) ∷ [] → Drafts old (parking (waiting_so node conn wait) bodies) draft
+    → bodies ≡ (to, Slots (Copy wait.id (pairs_at node.keyspace keys))) ∷ [] → Drafts old (parking (waiting_so node conn wait) bodies) draft
     → Drafts old (sending node conn wait.id wait.ticks) draft
 sends_copy old node conn keys to wait bodies draft leaves words drafts =
     subst (λ (sent : List (ℕ × Body)). Drafts old (parking (waiting_so node conn wait) sent) draft)

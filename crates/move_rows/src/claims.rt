@@ -19,7 +19,7 @@ use stream_requests::cleared_bytes;
 
 /// Learns the slots of another node. Those that it takes from this one leave with their keys. It gives the requests that this writes.
 #[inline(never)]
-pub fn take_claim<S: SlotParts + SlotKeys, T: Stream>(
+pub(crate) fn take_claim<S: SlotParts + SlotKeys, T: Stream>(
     node: &NodeParts<S, T>,
     from: NodeNo,
     taken: &Claim,
@@ -27,7 +27,8 @@ pub fn take_claim<S: SlotParts + SlotKeys, T: Stream>(
 ) -> Result<Vec<u8>, AllocError>
     requires { HasNothing node.now draft.old }
     ensures draft { OnOk result (Drafts node.now (claim node.now from taken.now) draft.new) }
-    ensures written { IfOk result (λ bytes. bytes.items ≡ stream_spelling (written_by_claim node.now from taken.now)) }
+    ensures written { IfOk result
+        (λ bytes. bytes.items ≡ stream_spelling (written_by_claim node.now from taken.now)) }
 {
     if from == node.number {
         node.draft_change(draft, Change::Nothing);
@@ -51,7 +52,8 @@ fn lost_to<S: SlotParts + SlotKeys, T: Stream>(
     claim: &Claim,
 ) -> Result<Vec<Slot>, AllocError>
     requires { from ≢ node.now.number }
-    ensures { IfOk result (λ lost. (slot : ℕ) → list_any (λ other. other == slot) lost.items ≡ is_lost node.now (merged node.now.table claim.now from) slot) }
+    ensures { IfOk result (λ lost. (slot : ℕ) → list_any (λ other. other == slot) lost.items
+        ≡ is_lost node.now (merged node.now.table claim.now from) slot) }
 {
     let changes = node.table.changes(node.alloc, from, claim)?;
     let mut lost = Vec::new(node.alloc);

@@ -15,7 +15,7 @@ ghost use Rattle.node_step.specs.Streams.{written_by_ack, written_by_copy};
 ghost use Rattle.resp2.specs.Stream.{stream_spelling};
 ghost use Rattle.slot_state.specs.Moves.{move_of};
 
-use bus::Body;
+use bus::{Body, SlotsBody};
 use byte_string::ByteString;
 use connections::Waiting;
 use key_slot::Slot;
@@ -31,7 +31,7 @@ use std::alloc::{AllocError, Global};
 use stream_requests::{deletions_bytes, installed_bytes};
 
 /// Installs a copy that arrives, or only acknowledges it again, and gives the requests that it writes.
-pub fn take_copy<S: SlotParts + SlotKeys, T: Stream>(
+pub(crate) fn take_copy<S: SlotParts + SlotKeys, T: Stream>(
     node: &NodeParts<S, T>,
     from: NodeNo,
     id: CopyId,
@@ -40,8 +40,10 @@ pub fn take_copy<S: SlotParts + SlotKeys, T: Stream>(
 ) -> Result<Vec<u8>, AllocError>
     requires { HasNothing node.now draft.old }
     ensures draft { OnOk result (Drafts node.now (arrival node.now from id pairs.now) draft.new) }
-    ensures written { IfOk result (λ bytes. bytes.items ≡ stream_spelling (written_by_copy node.now.keyspace pairs.now
-        (arrival_verdict (move_of node.now.moves id.slot) from id.number id.copy (keep_limits pairs.now)))) }
+    ensures written { IfOk result (λ bytes.
+        bytes.items ≡ stream_spelling (written_by_copy node.now.keyspace pairs.now
+        (arrival_verdict (move_of node.now.moves id.slot) from id.number id.copy
+        (keep_limits pairs.now)))) }
 {
     let CopyId { slot, number, copy } = id;
     let fits = pairs_fit(pairs);
@@ -70,7 +72,8 @@ pub fn take_copy<S: SlotParts + SlotKeys, T: Stream>(
 
 // The plan that puts all pairs. Long values share their bytes with the message.
 fn plan_of(alloc: Global, pairs: &[Pair]) -> Result<Plan, AllocError>
-    ensures { IfOk result (λ plan. (keyspace : Keyspace) → committed keyspace plan ≡ with_copied keyspace pairs.now) }
+    ensures { IfOk result
+        (λ plan. (keyspace : Keyspace) → committed keyspace plan ≡ with_copied keyspace pairs.now) }
 {
     let mut copied = Vec::with_capacity(alloc, pairs.len())?;
     for pair in pairs {
@@ -80,7 +83,7 @@ fn plan_of(alloc: Global, pairs: &[Pair]) -> Result<Plan, AllocError>
 }
 
 /// Deletes the keys whose copy was installed, answers those who wait for that, and gives the requests that it writes.
-pub fn take_ack<S: SlotParts + SlotKeys, T: Stream>(
+pub(crate) fn take_ack<S: SlotParts + SlotKeys, T: Stream>(
     node: &NodeParts<S, T>,
     from: NodeNo,
     id: CopyId,
@@ -88,8 +91,8 @@ pub fn take_ack<S: SlotParts + SlotKeys, T: Stream>(
 ) -> Result<Vec<u8>, AllocError>
     requires { HasNothing node.now draft.old }
     ensures draft { OnOk result (Drafts node.now (acknowledgement node.now from id) draft.new) }
-    ensures written { IfOk result (λ bytes. bytes.items ≡ stream_spelling
-        (written_by_ack (acknowledged_keys (move_of node.now.moves id.slot) from id.number id.copy))) }
+    ensures written { IfOk result (λ bytes. bytes.items ≡ stream_spelling (written_by_ack
+        (acknowledged_keys (move_of node.now.moves id.slot) from id.number id.copy))) }
 {
     let CopyId { slot, number, copy } = id;
     let Some(keys) = acknowledged_keys(node.moves.get(slot), from, number, copy) else {
@@ -148,7 +151,7 @@ pub(crate) fn is_among(keys: &[ByteString], key: &ByteString) -> bool
 }
 
 /// Notes that a slot is drained that comes to this node.
-pub fn take_drained<S: SlotParts + SlotKeys, T: Stream>(
+pub(crate) fn take_drained<S: SlotParts + SlotKeys, T: Stream>(
     node: &NodeParts<S, T>,
     from: NodeNo,
     slot: Slot,
@@ -173,7 +176,10 @@ fn acknowledgement(verdict: ArrivalVerdict, to: NodeNo, id: CopyId) -> Option<(N
     ensures { bodies_of result ≡ ack_by to id verdict }
 {
     match verdict {
-        ArrivalVerdict::Installs | ArrivalVerdict::Repeats => Some((to, Body::Ack(id))),
+        ArrivalVerdict::Installs | ArrivalVerdict::Repeats => Some((
+            to,
+            Body::Slots(SlotsBody::Ack(id)),
+        )),
         ArrivalVerdict::Ignored => None,
     }
 }

@@ -3,13 +3,13 @@
 
 mod claims;
 mod copies;
+mod messages;
 mod migrations;
 mod nodes;
 mod orders;
 mod ticks;
 
-pub use claims::take_claim;
-pub use copies::{take_ack, take_copy, take_drained};
+pub use messages::take_of_slots;
 pub use migrations::migrate_keys;
 pub use nodes::{node_at, node_with_id};
 pub use orders::obey;

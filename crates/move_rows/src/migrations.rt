@@ -2,7 +2,8 @@
 ghost use Rattle.std.specs.Prelude.{◌≡◌, ◌++◌, [], IfOk, OnOk, Err, Some, true, false};
 ghost use Rattle.std.specs.List.{cons_option};
 ghost use Rattle.std.specs.Option.{option_copied};
-ghost use Rattle.bus.specs.declared.message.Body.TheVariants.{Copy};
+ghost use Rattle.bus.specs.declared.bodies.SlotsBody.TheVariants.{Copy};
+ghost use Rattle.bus.specs.declared.message.Body.TheVariants.{Slots};
 ghost use Rattle.migrate.specs.Sending.{copy_verdict, frozen};
 ghost use Rattle.move_rows.specs.Naming.{with_named};
 ghost use Rattle.node_parts.specs.Drafts.{Drafts, HasNothing, bodies_of};
@@ -15,7 +16,7 @@ ghost use Rattle.slot_state.specs.Moves.{move_of};
 ghost use Rattle.slot_state.specs.declared.running.Move.TheVariants.{Leaves};
 
 use crate::copies::is_among;
-use bus::Body;
+use bus::{Body, SlotsBody};
 use byte_string::ByteString;
 use command_table::ErrorLine;
 use connections::{Conn, Wait};
@@ -42,9 +43,13 @@ pub fn migrate_keys<S: SlotParts + SlotKeys, T: Stream>(
     draft: &mut Draft,
 ) -> Result<(), StepFault>
     requires { HasNothing node.now draft.old }
-    ensures draft { OnOk result (Drafts node.now (copy_outcome (using_up node.now conn) conn (first_slot named.now) (those_there node.now.keyspace named.now) ticks (copy_verdict_on node.now named.now target)) draft.new) }
-    ensures number { OnOk result (has_copy_number (copy_verdict_on node.now named.now target) ≡ true) }
-    ensures exhausted { result ≡ Err Exhausted → has_copy_number (copy_verdict_on node.now named.now target) ≡ false }
+    ensures draft { OnOk result (Drafts node.now (copy_outcome (using_up node.now conn) conn
+        (first_slot named.now) (those_there node.now.keyspace named.now) ticks
+        (copy_verdict_on node.now named.now target)) draft.new) }
+    ensures number { OnOk result
+        (has_copy_number (copy_verdict_on node.now named.now target) ≡ true) }
+    ensures exhausted { result ≡ Err Exhausted
+        → has_copy_number (copy_verdict_on node.now named.now target) ≡ false }
 {
     let slot = first_slot(named);
     if has_other_slot(slot, named) {
@@ -68,9 +73,13 @@ fn migrate_those<S: SlotParts + SlotKeys, T: Stream>(
     draft: &mut Draft,
 ) -> Result<(), StepFault>
     requires { HasNothing node.now draft.old }
-    ensures draft { OnOk result (Drafts node.now (copy_outcome (using_up node.now conn) conn slot keys ticks (copy_verdict (move_of node.now.moves slot) target keys)) draft.new) }
-    ensures number { OnOk result (has_copy_number (copy_verdict (move_of node.now.moves slot) target keys) ≡ true) }
-    ensures exhausted { result ≡ Err Exhausted → has_copy_number (copy_verdict (move_of node.now.moves slot) target keys) ≡ false }
+    ensures draft { OnOk result
+        (Drafts node.now (copy_outcome (using_up node.now conn) conn slot keys ticks
+        (copy_verdict (move_of node.now.moves slot) target keys)) draft.new) }
+    ensures number { OnOk result
+        (has_copy_number (copy_verdict (move_of node.now.moves slot) target keys) ≡ true) }
+    ensures exhausted { result ≡ Err Exhausted
+        → has_copy_number (copy_verdict (move_of node.now.moves slot) target keys) ≡ false }
 {
     let verdict = copy_verdict(node.moves.get(slot), target, keys.as_slice());
     match verdict {
@@ -157,7 +166,8 @@ fn send_again<S: SlotParts + SlotKeys, T: Stream>(
     draft: &mut Draft,
 ) -> Result<(), AllocError>
     requires { HasNothing node.now draft.old }
-    ensures { OnOk result (Drafts node.now (sending (using_up node.now conn) conn wait.id wait.ticks) draft.new) }
+    ensures { OnOk result
+        (Drafts node.now (sending (using_up node.now conn) conn wait.id wait.ticks) draft.new) }
 {
     let id = wait.id;
     let body = outstanding(node, id.slot, node.moves.get(id.slot))?;
@@ -175,9 +185,11 @@ fn send_copy<S: SlotParts + SlotKeys, T: Stream>(
     wait: Wait,
     draft: &mut Draft,
 ) -> Result<(), AllocError>
-    requires leaves { move_of (frozen node.now.moves wait.id.slot wait.id.copy keys) wait.id.slot ≡ Some (Leaves to wait.id.number wait.id.copy (Some keys)) }
+    requires leaves { move_of (frozen node.now.moves wait.id.slot wait.id.copy keys) wait.id.slot
+        ≡ Some (Leaves to wait.id.number wait.id.copy (Some keys)) }
     requires nothing { HasNothing node.now draft.old }
-    ensures { OnOk result (Drafts node.now (sending (with_moves (using_up node.now conn) (frozen node.now.moves wait.id.slot wait.id.copy keys)) conn wait.id wait.ticks) draft.new) }
+    ensures { OnOk result (Drafts node.now (sending (with_moves (using_up node.now conn)
+        (frozen node.now.moves wait.id.slot wait.id.copy keys)) conn wait.id wait.ticks) draft.new) }
 {
     let body = copy_of(node, to, wait.id, keys.as_slice())?;
     let bodies = listed(node.alloc, Some(body))?;
@@ -191,7 +203,8 @@ fn outstanding<S: SlotParts + SlotKeys, T: Stream>(
     slot: Slot,
     running: Option<&Move>,
 ) -> Result<Option<(NodeNo, Body)>, AllocError>
-    ensures { IfOk result (λ body. bodies_of body ≡ outstanding node.now.keyspace slot (option_copied running.entry)) }
+    ensures { IfOk result (λ body.
+        bodies_of body ≡ outstanding node.now.keyspace slot (option_copied running.entry)) }
 {
     match running {
         Some(
@@ -220,10 +233,10 @@ pub(crate) fn copy_of<S: SlotParts + SlotKeys, T: Stream>(
     id: CopyId,
     keys: &[ByteString],
 ) -> Result<(NodeNo, Body), AllocError>
-    ensures { IfOk result (λ body. body ≡ (to, Copy id (pairs_at node.now.keyspace keys.now))) }
+    ensures { IfOk result (λ body. body ≡ (to, Slots (Copy id (pairs_at node.now.keyspace keys.now)))) }
 {
     let pairs = Pairs::new(node.alloc, pairs_at(node, keys)?)?;
-    Ok((to, Body::Copy { id, pairs }))
+    Ok((to, Body::Slots(SlotsBody::Copy { id, pairs })))
 }
 
 // The keys that are there, with their values. Long values share their bytes with the store.
@@ -246,7 +259,8 @@ fn add_pair(
     key: &ByteString,
     value: Option<&Value>,
 ) -> Result<(), AllocError>
-    ensures { OnOk result (pairs.new.items ≡ pairs.old.items ++ cons_option (pair_with key.now (option_copied value.entry)) []) }
+    ensures { OnOk result (pairs.new.items
+        ≡ pairs.old.items ++ cons_option (pair_with key.now (option_copied value.entry)) []) }
 {
     if let Some(value) = value {
         pairs.push(Pair::new(key.clone()?, value.clone()?))?;

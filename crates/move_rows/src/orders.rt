@@ -13,7 +13,7 @@ ghost use Rattle.slot_state.specs.Moves.{last_move_of, move_of};
 ghost use Rattle.slot_table.specs.Runs.{runs_of};
 ghost use Rattle.slot_table.specs.Table.{claim_at};
 
-use bus::Body;
+use bus::{Body, SlotsBody};
 use command_table::{ErrorLine, SlotOrder};
 use connections::Conn;
 use key_slot::Slot;
@@ -36,8 +36,10 @@ pub fn obey<S: SlotParts + SlotKeys, T: Stream>(
     draft: &mut Draft,
 ) -> Result<(), StepFault>
     requires { HasNothing node.now draft.old }
-    ensures obeys { OnOk result (Obeys node.now conn named.slot order named.node named.number draft.new) }
-    ensures exhausted { result ≡ Err Exhausted → has_order_number node.now named.slot order named.node named.number ≡ false }
+    ensures obeys { OnOk result
+        (Obeys node.now conn named.slot order named.node named.number draft.new) }
+    ensures exhausted { result ≡ Err Exhausted
+        → has_order_number node.now named.slot order named.node named.number ≡ false }
 {
     match order {
         SlotOrder::Importing => {
@@ -57,7 +59,8 @@ fn import<S: SlotParts + SlotKeys, T: Stream>(
     draft: &mut Draft,
 )
     requires { HasNothing node.now draft.old }
-    ensures { Drafts node.now (importing (using_up node.now conn) order.slot order.node order.number) draft.new }
+    ensures { Drafts node.now
+        (importing (using_up node.now conn) order.slot order.node order.number) draft.new }
 {
     let verdict = import_verdict(node, &order);
     let reply = import_reply(&verdict);
@@ -70,7 +73,9 @@ fn import_verdict<S: SlotParts + SlotKeys, T: Stream>(
     node: &NodeParts<S, T>,
     order: &Order,
 ) -> ImportVerdict
-    ensures { result ≡ import_verdict (standing node.now order.now.slot) (move_of node.now.moves order.now.slot) (last_move_of node.now.moves order.now.slot) order.now.node order.now.number }
+    ensures { result
+        ≡ import_verdict (standing node.now order.now.slot) (move_of node.now.moves order.now.slot)
+        (last_move_of node.now.moves order.now.slot) order.now.node order.now.number }
 {
     let at = node.standing(order.slot);
     node.moves.import_verdict(at, *order)
@@ -84,7 +89,8 @@ fn migrate_slot<S: SlotParts + SlotKeys, T: Stream>(
     draft: &mut Draft,
 ) -> Result<(), AllocError>
     requires { HasNothing node.now draft.old }
-    ensures { OnOk result (Drafts node.now (migrating (using_up node.now conn) order.slot order.node order.number) draft.new) }
+    ensures { OnOk result (Drafts node.now
+        (migrating (using_up node.now conn) order.slot order.node order.number) draft.new) }
 {
     let verdict = migrate_verdict(node, &order);
     let reply = migrate_reply(&verdict);
@@ -101,7 +107,9 @@ fn migrate_verdict<S: SlotParts + SlotKeys, T: Stream>(
     node: &NodeParts<S, T>,
     order: &Order,
 ) -> MigrateVerdict
-    ensures { result ≡ migrate_verdict (standing node.now order.now.slot) (move_of node.now.moves order.now.slot) (last_move_of node.now.moves order.now.slot) order.now.node order.now.number }
+    ensures { result
+        ≡ migrate_verdict (standing node.now order.now.slot) (move_of node.now.moves order.now.slot)
+        (last_move_of node.now.moves order.now.slot) order.now.node order.now.number }
 {
     let at = node.standing(order.slot);
     node.moves.migrate_verdict(at, *order)
@@ -113,7 +121,8 @@ fn drained_at_start<S: SlotParts + SlotKeys, T: Stream>(
     slot: Slot,
     verdict: &MigrateVerdict,
 ) -> Option<(NodeNo, Body)>
-    ensures { bodies_of result ≡ drained_at_start (with_moves node.now (after_migrate node.now.moves slot verdict.now)) slot verdict.now }
+    ensures { bodies_of result ≡ drained_at_start
+        (with_moves node.now (after_migrate node.now.moves slot verdict.now)) slot verdict.now }
 {
     match *verdict {
         MigrateVerdict::Begins { to, number } => drained_for(node, slot, to, number),
@@ -133,7 +142,8 @@ fn drained_for<S: SlotParts + SlotKeys, T: Stream>(
     to: NodeNo,
     number: MoveNo,
 ) -> Option<(NodeNo, Body)>
-    ensures { bodies_of result ≡ if has_keys node.now.keyspace slot then [] else (to, Body.Drained slot number (slot_epoch node.now slot)) ∷ [] }
+    ensures { bodies_of result ≡ if has_keys node.now.keyspace slot then [] else
+        (to, Body.Slots (SlotsBody.Drained slot number (slot_epoch node.now slot))) ∷ [] }
 {
     if node.store.count_in_slot(slot) > 0 {
         return None;
@@ -141,11 +151,11 @@ fn drained_for<S: SlotParts + SlotKeys, T: Stream>(
     let epoch = node.slot_epoch(slot);
     Some((
         to,
-        Body::Drained {
+        Body::Slots(SlotsBody::Drained {
             slot,
             number,
             epoch,
-        },
+        }),
     ))
 }
 
@@ -157,8 +167,10 @@ fn give_slot<S: SlotParts + SlotKeys, T: Stream>(
     draft: &mut Draft,
 ) -> Result<(), StepFault>
     requires { HasNothing node.now draft.old }
-    ensures gives { OnOk result (Gives node.now conn order.slot (ending_verdict node.now order.slot order.node order.number) draft.new) }
-    ensures exhausted { result ≡ Err Exhausted → has_epoch node.now order.slot (ending_verdict node.now order.slot order.node order.number) ≡ false }
+    ensures gives { OnOk result (Gives node.now conn order.slot
+        (ending_verdict node.now order.slot order.node order.number) draft.new) }
+    ensures exhausted { result ≡ Err Exhausted → has_epoch node.now order.slot
+        (ending_verdict node.now order.slot order.node order.number) ≡ false }
 {
     let slot = order.slot;
     let verdict = node_verdict(node, order);
@@ -198,7 +210,8 @@ fn next_epoch<S: SlotParts + SlotKeys, T: Stream>(
     slot: Slot,
     drained: Epoch,
 ) -> Option<Epoch>
-    ensures { SomeIff result (new_epoch node.now slot drained < 2 ^ 64) (new_epoch node.now slot drained) }
+    ensures { SomeIff result (new_epoch node.now slot drained < 2 ^ 64)
+        (new_epoch node.now slot drained) }
 {
     epoch_after_import(node.election.current_epoch, drained, node.slot_epoch(slot))
 }
@@ -212,12 +225,13 @@ fn end_of_import<S: SlotParts + SlotKeys, T: Stream>(
     epoch: Epoch,
     draft: &mut Draft,
 ) -> Result<(), AllocError>
-    requires epoch { (epoch ≡ new_epoch node.now slot drained) × (new_epoch node.now slot drained < 2 ^ 64) }
+    requires epoch { (epoch ≡ new_epoch node.now slot drained)
+        × (new_epoch node.now slot drained < 2 ^ 64) }
     requires nothing { HasNothing node.now draft.old }
     ensures { OnOk result (Gives node.now conn slot (NodeVerdict.Ends drained) draft.new) }
 {
     let claim = claim_with(node, slot, epoch)?;
-    let claim = Body::Claim(claim, node.election.replaced);
+    let claim = Body::Slots(SlotsBody::Claim(claim, node.election.replaced));
     let mut bodies = Vec::new(node.alloc);
     node.append_to_others(&claim, &mut bodies)?;
     let why = Why::Ends(NodeVerdict::Ends { drained });
@@ -232,7 +246,8 @@ fn claim_with<S: SlotParts + SlotKeys, T: Stream>(
     slot: Slot,
     epoch: Epoch,
 ) -> Result<Claim, AllocError>
-    ensures { IfOk result (λ claim. claim ≡ runs_of (claim_at (slice_set node.now.table slot (Some (record { epoch = epoch; owner = node.now.number }))) node.now.number)) }
+    ensures { IfOk result (λ claim. claim ≡ runs_of (claim_at (slice_set node.now.table slot
+        (Some (record { epoch = epoch; owner = node.now.number }))) node.now.number)) }
 {
     let owner = node.number;
     node.table

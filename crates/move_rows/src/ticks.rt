@@ -20,7 +20,8 @@ use std::alloc::AllocError;
 pub fn sent_again<S: SlotParts + SlotKeys, T: Stream>(
     node: &NodeParts<S, T>,
 ) -> Result<Vec<(NodeNo, Body)>, AllocError>
-    ensures { IfOk result (λ bodies. bodies.items ≡ flat_map (sent_again node.now) (running_moves node.now.moves)) }
+    ensures { IfOk result
+        (λ bodies. bodies.items ≡ flat_map (sent_again node.now) (running_moves node.now.moves)) }
 {
     let mut bodies = Vec::new(node.alloc);
     for (slot, running) in node.moves.iter() {

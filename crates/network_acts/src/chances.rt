@@ -8,17 +8,15 @@ use rand_core::Rng;
 use rand_pcg::Pcg32;
 use std::alloc::{AllocError, Global};
 
-// How the text begins.
-const SEED: &str = "seed=";
-
-// So many messages of a link have acts where nothing is said.
+// How many messages of a link have acts where nothing is said.
 const FEW_ACTS: u64 = 10_000;
 
 const MOST_ACTS: u64 = 1_000_000;
 
-// A message is given so many times more at most, and held for so many others.
+// How many times more than once a message comes at most.
 const MOST_REPEATS: u32 = 3;
 
+// For how many others a message is held at most.
 const MOST_HELD: u32 = 8;
 
 /// How likely each act is, in percent. What is left is passed.
@@ -31,9 +29,35 @@ struct Chances {
     acts: u64,
 }
 
-/// Whether the text tells chances, and not the path of a file: it begins with a seed, or ends with a percentage.
+/// What a part of the text is about.
+#[derive(Clone, Copy)]
+enum Part {
+    Seed,
+    Lose,
+    Repeat,
+    Hold,
+    Acts,
+}
+
+impl Part {
+    fn named(name: &str) -> Option<Part> {
+        match name {
+            "seed" => Some(Part::Seed),
+            "lose" => Some(Part::Lose),
+            "repeat" => Some(Part::Repeat),
+            "hold" => Some(Part::Hold),
+            "acts" => Some(Part::Acts),
+            _ => None,
+        }
+    }
+}
+
+/// Whether the text tells chances, and not the path of a file: it begins with the name of one of their parts, or ends with a percentage.
 pub fn is_by_chance(text: &str) -> bool {
-    text.starts_with(SEED) || text.ends_with('%')
+    match text.split_once('=') {
+        Some((name, _)) if Part::named(name).is_some() => true,
+        _ => text.ends_with('%'),
+    }
 }
 
 /// Acts for the links of so many nodes, made up from `seed=N,lose=5%,repeat=5%,hold=5%,acts=N`. Each part may be missing: then the seed is 0,
@@ -96,13 +120,12 @@ fn chances_in(text: &str) -> Option<Chances> {
 
 fn take(part: &str, chances: &mut Chances) -> Option<()> {
     let (name, value) = part.split_once('=')?;
-    match name {
-        "seed" => chances.seed = count_in(value.as_bytes())?,
-        "lose" => chances.lose = percent_in(value)?,
-        "repeat" => chances.repeat = percent_in(value)?,
-        "hold" => chances.hold = percent_in(value)?,
-        "acts" => chances.acts = count_in(value.as_bytes())?,
-        _ => return None,
+    match Part::named(name)? {
+        Part::Seed => chances.seed = count_in(value.as_bytes())?,
+        Part::Lose => chances.lose = percent_in(value)?,
+        Part::Repeat => chances.repeat = percent_in(value)?,
+        Part::Hold => chances.hold = percent_in(value)?,
+        Part::Acts => chances.acts = count_in(value.as_bytes())?,
     }
     Some(())
 }

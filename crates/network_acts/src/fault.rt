@@ -9,7 +9,7 @@ pub enum ActsFault {
     /// Memory was refused.
     Memory,
     /// The line of this number, from 1 on, is wrong.
-    Line(usize, NoAct),
+    Line(usize, LineFault),
     /// It isn't UTF-8.
     NotUtf8,
     /// It isn't `seed=N` with `lose`, `repeat` and `hold` in percent, of 100 at most together, and `acts`.
@@ -18,11 +18,11 @@ pub enum ActsFault {
 
 /// What is wrong with a line.
 #[derive(Clone, Copy, PartialEq, Eq, Debug)]
-pub enum NoAct {
+pub enum LineFault {
     /// It doesn't begin with the numbers of two nodes of the cluster.
-    NoNodes,
+    Nodes,
     /// A word behind these is no act.
-    NoAct,
+    Act,
     /// There are more than a million acts.
     TooMany,
 }
@@ -33,18 +33,18 @@ impl From<AllocError> for ActsFault {
     }
 }
 
-impl fmt::Display for NoAct {
+impl fmt::Display for LineFault {
     fn fmt<W: fmt::Write>(&self, f: &mut fmt::Formatter<W>) -> fmt::Result {
         match self {
-            NoAct::NoNodes => write!(
+            LineFault::Nodes => write!(
                 f,
                 "it doesn't begin with the numbers of two nodes, of the one that sends and of the one that receives"
             ),
-            NoAct::NoAct => write!(
+            LineFault::Act => write!(
                 f,
                 "an act is pass, lose, repeat=N or hold=N, with N from 1 to 1000000, and may end with *COUNT"
             ),
-            NoAct::TooMany => write!(f, "a link has at most 1000000 acts"),
+            LineFault::TooMany => write!(f, "a link has at most 1000000 acts"),
         }
     }
 }

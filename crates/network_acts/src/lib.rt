@@ -6,5 +6,5 @@ mod fault;
 mod text;
 
 pub use chances::{chance_acts, is_by_chance};
-pub use fault::{ActsFault, NoAct};
+pub use fault::{ActsFault, LineFault};
 pub use text::text_acts;

@@ -1,6 +1,6 @@
 //! What a bad network does, as a text says it.
 
-use crate::fault::{ActsFault, NoAct};
+use crate::fault::{ActsFault, LineFault};
 use command_table::{count_in, positive_in};
 use link_ends::Act;
 use std::alloc::{AllocError, Global};
@@ -37,7 +37,7 @@ pub(crate) fn no_acts(alloc: Global, nodes: usize) -> Result<Vec<Vec<Act>>, Allo
 // Why a line can't be read.
 enum Wrong {
     Memory,
-    Line(NoAct),
+    Line(LineFault),
 }
 
 impl Wrong {
@@ -64,7 +64,7 @@ fn read_line(line: &str, nodes: usize, all: &mut [Vec<Act>]) -> Result<(), Wrong
     let to = node_in(words.next(), nodes)?;
     let link = to.saturating_mul(nodes).saturating_add(from);
     let Some(acts) = all.get_mut(link) else {
-        return Err(Wrong::Line(NoAct::NoNodes));
+        return Err(Wrong::Line(LineFault::Nodes));
     };
     for word in words {
         add(word, acts)?;
@@ -75,7 +75,7 @@ fn read_line(line: &str, nodes: usize, all: &mut [Vec<Act>]) -> Result<(), Wrong
 fn node_in(word: Option<&str>, nodes: usize) -> Result<usize, Wrong> {
     match word.and_then(|word| count_in(word.as_bytes())) {
         Some(number) if number < nodes as u64 => Ok(number as usize),
-        _ => Err(Wrong::Line(NoAct::NoNodes)),
+        _ => Err(Wrong::Line(LineFault::Nodes)),
     }
 }
 
@@ -87,7 +87,7 @@ fn add(word: &str, acts: &mut Vec<Act>) -> Result<(), Wrong> {
     };
     let act = act_in(name)?;
     if (acts.len() as u64).saturating_add(u64::from(count)) > MOST {
-        return Err(Wrong::Line(NoAct::TooMany));
+        return Err(Wrong::Line(LineFault::TooMany));
     }
     for _ in 0..count {
         acts.push(act).map_err(AllocError::from)?;
@@ -102,7 +102,7 @@ fn act_in(name: &str) -> Result<Act, Wrong> {
         _ => match name.split_once('=') {
             Some(("repeat", number)) => Ok(Act::Repeat(number_in(number)?)),
             Some(("hold", number)) => Ok(Act::Hold(number_in(number)?)),
-            _ => Err(Wrong::Line(NoAct::NoAct)),
+            _ => Err(Wrong::Line(LineFault::Act)),
         },
     }
 }
@@ -111,6 +111,6 @@ fn act_in(name: &str) -> Result<Act, Wrong> {
 fn number_in(text: &str) -> Result<u32, Wrong> {
     match positive_in(text.as_bytes()) {
         Some(number) if number <= MOST => Ok(number as u32),
-        _ => Err(Wrong::Line(NoAct::NoAct)),
+        _ => Err(Wrong::Line(LineFault::Act)),
     }
 }

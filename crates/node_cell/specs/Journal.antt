@@ -1,7 +1,8 @@
 -- The journal of a node: what it did, in order, each step under the ticket that was drawn for it.
-use Rattle.std.specs.Prelude.{◌≡◌, ◌<◌, ◌≤◌, ◌^◌, ◌⊎◌, ℕ, nat_lt, Bool, true, false, List, [], ◌∷◌, ◌++◌, map, length, All}
+use Rattle.std.specs.Prelude.{◌≡◌, ◌<◌, ◌≤◌, ◌^◌, ◌⊎◌, ℕ, nat_lt, Bool, true, false, List, [], ◌∷◌, ◌++◌, Result, map, length, All}
 use Rattle.std.specs.List.{Contains, flat_map}
 use Rattle.cluster_config.specs.Config.{ClusterConfig}
+use Rattle.node_gate.specs.Asks.{outcome_of}
 use Rattle.node_step.specs.Numbers.{NoNumberLeft}
 use Rattle.node_step.specs.State.{NodeState, first_state}
 use Rattle.node_step.specs.Step.{NodeStep}
@@ -26,6 +27,10 @@ no_cluster = record { tick_ms = 0; node_timeout = 0; backlog = 0; nodes = []; vo
 pub record EnteredView : Type 0 where
   pub event : Event
   pub outputs : Outputs
+
+-- what came of an event, by the step that was entered
+abbrev pub outcome_entered : Result EnteredView StepFault → Result Outputs StepFault
+outcome_entered = outcome_of (λ entered. entered.outputs)
 
 -- a cell: the cluster's configuration, which node it is, its state, its journal, the replies to connections that waited and the
 -- messages to other nodes that nobody has taken yet
@@ -68,6 +73,10 @@ Leads old (Skipped ticket) new = new ≡ old
 abbrev pub IsHistory : NodeState → List Entry → NodeState → Type 0
 IsHistory first [] last = last ≡ first
 IsHistory first (entry ∷ entries) last = (next : NodeState) × Leads first entry next × IsHistory next entries last
+
+-- the cell's journal leads from its node's first state to its state
+abbrev pub HasHistory : CellView → Type 0
+HasHistory cell = IsHistory (first_state cell.config cell.node) cell.journal cell.state
 
 -- a node of the cluster comes to the state from its first one, by the steps of the journal
 pub record IsReachable (config : ClusterConfig) (journal : List Entry) (state : NodeState) : Type 0 where

@@ -1,11 +1,10 @@
 //! What was asked of a node through one gate.
 ghost use Rattle.std.specs.Prelude.{◌≡◌, ◌<◌, ◌++◌, ◌∷◌, [], length, None, Some, IfOk, IfErr, IfNone, IfSome};
 ghost use Rattle.node_cell.specs.Asks.{noted};
-ghost use Rattle.node_gate.specs.Asks.{outcome_of, IsOwn};
+ghost use Rattle.node_gate.specs.Asks.{IsOwn};
 ghost use Rattle.node_gate.specs.Asks.Asked.{asking, waiting};
 ghost use Rattle.node_step.specs.Released.{reply_to, without_reply_to};
-ghost use Rattle.node_step.specs.State.{first_state};
-ghost use Rattle.node_cell.specs.Journal.{Enters, IsGiven, IsHistory, IsRefused};
+ghost use Rattle.node_cell.specs.Journal.{Enters, HasHistory, IsGiven, IsRefused, outcome_entered};
 
 use crate::cell::NodeCell;
 use crate::deployment::Deployment;
@@ -89,10 +88,10 @@ impl<K: Deployment> Asks<K> {
         event: Event,
     ) -> Result<Entered<K>, StepFault>
         requires own { IsOwn event }
-        ensures asked { self.new ≡ self.old ++ asking event (outcome_of (λ entered. entered.outputs) result) ∷ [] }
+        ensures asked { self.new ≡ self.old ++ asking event (outcome_entered result) ∷ [] }
         ensures cluster { cell.old.config ≡ K.config }
         ensures number { cell.old.node < length cell.old.config.nodes }
-        ensures history { IsHistory (first_state cell.old.config cell.old.node) cell.old.journal cell.old.state }
+        ensures history { HasHistory cell.old }
         ensures ok { IfOk result (λ entered. Enters cell.old event entered cell.new) }
         ensures err { IfErr result (λ fault. IsRefused cell.old event fault cell.new) }
     {
@@ -106,14 +105,17 @@ impl<K: Deployment> Asks<K> {
 
     /// Takes the first reply that waits at the node for the connection, and notes that it came.
     pub fn take_reply<L: Log>(&mut self, cell: &mut NodeCell<K, L>, conn: Conn) -> Option<Reply>
-        ensures came { IfSome result (λ reply. self.new ≡ self.old ++ waiting conn (Some reply) ∷ []) }
+        ensures came { IfSome result
+            (λ reply. self.new ≡ self.old ++ waiting conn (Some reply) ∷ []) }
         ensures none { IfNone result (self.new ≡ self.old) }
         ensures cluster { cell.old.config ≡ K.config }
         ensures number { cell.old.node < length cell.old.config.nodes }
-        ensures history { IsHistory (first_state cell.old.config cell.old.node) cell.old.journal cell.old.state }
-        ensures given { IfSome result (λ reply. IsGiven cell.old.journal (record { conn = conn; reply = reply })) }
+        ensures history { HasHistory cell.old }
+        ensures given { IfSome result
+            (λ reply. IsGiven cell.old.journal (record { conn = conn; reply = reply })) }
         ensures reply { result ≡ reply_to conn cell.old.undelivered }
-        ensures left { cell.new ≡ record cell.old { undelivered = without_reply_to conn cell.old.undelivered } }
+        ensures left { cell.new
+            ≡ record cell.old { undelivered = without_reply_to conn cell.old.undelivered } }
     {
         let found = cell.take_reply(conn);
         if found.is_some() {
@@ -141,7 +143,7 @@ impl<K: Deployment> Asks<K> {
 
 // What came of an event, as it is noted.
 fn note_of<K: Deployment>(event: Snapshot<Event>, answered: &Result<Entered<K>, StepFault>) -> Note
-    ensures { noted result ≡ asking event.value (outcome_of (λ entered. entered.outputs) answered.now) }
+    ensures { noted result ≡ asking event.value (outcome_entered answered.now) }
 {
     match answered {
         Ok(entered) => Note::Stepped(event, Snapshot::of(entered.gave())),

@@ -1,15 +1,14 @@
 //! A node with its journal and its seat at the tickets.
-ghost use Rattle.std.specs.Prelude.{◌≡◌, ◌<◌, ◌==◌, ◌++◌, ◌∷◌, [], All, length, not, true, Err, IfOk, IfErr, IfNone, IfSome, OnErr, OnOk, vec_len, vec_capacity};
+ghost use Rattle.std.specs.Prelude.{◌≡◌, ◌<◌, ◌==◌, ◌++◌, [], All, length, not, true, Err, IfOk, IfErr, IfNone, IfSome, OnErr, OnOk, vec_len, vec_capacity};
 ghost use Rattle.std.specs.VecDeque.{deque_len, deque_capacity};
 ghost use Rattle.std.specs.List.{list_any};
 ghost use Rattle.tickets.specs.Tickets.{drawn, table_of, seats_of, IsFresh};
 ghost use Rattle.node_step.specs.State.{first_state};
-ghost use Rattle.node_step.specs.Step.{NodeStep};
 ghost use Rattle.step_fault.specs.declared.fault.StepFault.TheVariants.{Exhausted};
 ghost use Rattle.node_step.specs.Released.{reply_to, without_reply_to};
 ghost use Rattle.node_cell.specs.Undelivered.{joined, undelivered_after};
 ghost use Rattle.node_step.specs.declared.event.Event.TheVariants.{Deliver};
-ghost use Rattle.node_cell.specs.Journal.{Advances, Enters, IsGiven, IsHistory, IsNotTaken, IsReachable, IsRefused, IsSent, Makes, Rises, Skips, comes_in_time, tickets_of};
+ghost use Rattle.node_cell.specs.Journal.{Advances, Enters, HasHistory, IsGiven, IsNotTaken, IsReachable, IsRefused, IsSent, Makes, Rises, Skips, comes_in_time, tickets_of};
 ghost use Rattle.node_gate.specs.Asks.{IsOwn};
 
 use crate::delivery::DeliveryFault;
@@ -42,7 +41,7 @@ pub struct NodeCell<K: Deployment, L: Log> {
 }
 
 impl<K: Deployment, L: Log> Model for NodeCell<K, L> {
-    ghost use Rattle.std.specs.Prelude.{◌≡◌, ◌<◌, ℕ, All, length};
+    ghost use Rattle.std.specs.Prelude.{◌≡◌, ◌<◌, All, length};
     ghost use Rattle.node_step.specs.CodedState.{coded_state};
     ghost use Rattle.std.specs.Coded.{codes};
     ghost use Rattle.tickets.specs.Tickets.{drawn, table_of, seats_of};
@@ -88,7 +87,8 @@ impl<K: Deployment, L: Log> NodeCell<K, L> {
         requires cluster { config.now ≡ K.config }
         requires number { node < length config.now.nodes }
         requires seat { IsFresh K.table K.seats seat }
-        ensures { IfOk result (λ cell. cell ≡ record { config = config.now; node = node; state = first_state config.now node; journal = []; undelivered = []; outbox = [] }) }
+        ensures { IfOk result
+            (λ cell. cell ≡ record { config = config.now; node = node; state = first_state config.now node; journal = []; undelivered = []; outbox = [] }) }
     {
         let core = Core::begin(alloc, config.clone()?, node)?;
         Ok(NodeCell {
@@ -109,7 +109,7 @@ impl<K: Deployment, L: Log> NodeCell<K, L> {
         requires own { IsOwn event }
         ensures cluster { self.old.config ≡ K.config }
         ensures number { self.old.node < length self.old.config.nodes }
-        ensures history { IsHistory (first_state self.old.config self.old.node) self.old.journal self.old.state }
+        ensures history { HasHistory self.old }
         ensures ok { IfOk result (λ entered. Enters self.old event entered self.new) }
         ensures err { IfErr result (λ fault. IsRefused self.old event fault self.new) }
     {
@@ -136,7 +136,7 @@ impl<K: Deployment, L: Log> NodeCell<K, L> {
     fn take_event(&mut self, event: Event) -> Result<Entered<K>, DeliveryFault>
         ensures cluster { self.old.config ≡ K.config }
         ensures number { self.old.node < length self.old.config.nodes }
-        ensures history { IsHistory (first_state self.old.config self.old.node) self.old.journal self.old.state }
+        ensures history { HasHistory self.old }
         ensures ok { IfOk result (λ entered. Enters self.old event entered self.new) }
         ensures err { IfErr result (λ fault. IsNotTaken self.old event fault self.new) }
     {
@@ -188,10 +188,12 @@ impl<K: Deployment, L: Log> NodeCell<K, L> {
     pub(crate) fn take_reply(&mut self, conn: Conn) -> Option<Reply>
         ensures cluster { self.old.config ≡ K.config }
         ensures number { self.old.node < length self.old.config.nodes }
-        ensures history { IsHistory (first_state self.old.config self.old.node) self.old.journal self.old.state }
-        ensures given { IfSome result (λ reply. IsGiven self.old.journal (record { conn = conn; reply = reply })) }
+        ensures history { HasHistory self.old }
+        ensures given { IfSome result
+            (λ reply. IsGiven self.old.journal (record { conn = conn; reply = reply })) }
         ensures reply { result ≡ reply_to conn self.old.undelivered }
-        ensures left { self.new ≡ record self.old { undelivered = without_reply_to conn self.old.undelivered } }
+        ensures left { self.new
+            ≡ record self.old { undelivered = without_reply_to conn self.old.undelivered } }
     {
         take_reply_to(&mut self.undelivered, conn)
     }
@@ -221,12 +223,14 @@ impl<K: Deployment, L: Log> NodeCell<K, L> {
 
     /// The configuration, the node's number, its log and its seat.
     pub fn finish(self) -> (Config, NodeNo, L, Seat)
-        ensures parts { (result.0 ≡ self.config) × (result.1 ≡ self.node) × (L.entries result.2 ≡ self.journal) }
+        ensures parts { (result.0 ≡ self.config) × (result.1 ≡ self.node)
+            × (L.entries result.2 ≡ self.journal) }
         ensures cluster { self.config ≡ K.config }
         ensures number { self.node < length self.config.nodes }
-        ensures history { IsHistory (first_state self.config self.node) self.journal self.state }
+        ensures history { HasHistory self }
         ensures rises { Rises (tickets_of self.journal) }
-        ensures seat { (drawn result.3 ≡ tickets_of self.journal) × (table_of result.3 ≡ K.table) × (seats_of result.3 ≡ K.seats) }
+        ensures seat { (drawn result.3 ≡ tickets_of self.journal) × (table_of result.3 ≡ K.table)
+            × (seats_of result.3 ≡ K.seats) }
     {
         let NodeCell {
             config,
@@ -249,7 +253,8 @@ fn make_room<K: Deployment, L: Log>(
     outbox: &mut VecDeque<Sending<K>>,
 ) -> Result<(), AllocError>
     ensures room { OnOk result (L.has_room log.new) }
-    ensures undelivered_room { OnOk result (vec_len undelivered.new < vec_capacity undelivered.new) }
+    ensures undelivered_room { OnOk result
+        (vec_len undelivered.new < vec_capacity undelivered.new) }
     ensures outbox_room { OnOk result (deque_len outbox.new < deque_capacity outbox.new) }
     ensures log { L.entries log.new ≡ L.entries log.old }
     ensures undelivered { undelivered.new.items ≡ undelivered.old.items }
@@ -286,12 +291,18 @@ fn advance<K: Deployment, L: Log>(
     requires undelivered { vec_len undelivered.old < vec_capacity undelivered.old }
     requires outbox { deque_len outbox.old < deque_capacity outbox.old }
     ensures entered { Advances core.old (L.entries log.old) ticket core.new (L.entries log.new) }
-    ensures ok { IfOk result (λ entered. Makes core.old (L.entries log.old) ticket event entered core.new (L.entries log.new)) }
-    ensures undelivered { IfOk result (λ entered. joined undelivered.new.items ≡ undelivered_after event (joined undelivered.old.items) entered.outputs.released) }
-    ensures outbox { IfOk result (λ entered. joined outbox.new.items ≡ joined outbox.old.items ++ entered.outputs.sent) }
-    ensures err { IfErr result (λ fault. Skips core.old (L.entries log.old) ticket event fault core.new (L.entries log.new)) }
-    ensures given { All (IsGiven (L.entries log.old)) (joined undelivered.old.items) → All (IsGiven (L.entries log.new)) (joined undelivered.new.items) }
-    ensures rest { OnErr result ((joined undelivered.new.items ≡ joined undelivered.old.items) × (joined outbox.new.items ≡ joined outbox.old.items)) }
+    ensures ok { IfOk result (λ entered.
+        Makes core.old (L.entries log.old) ticket event entered core.new (L.entries log.new)) }
+    ensures undelivered { IfOk result (λ entered. joined undelivered.new.items
+        ≡ undelivered_after event (joined undelivered.old.items) entered.outputs.released) }
+    ensures outbox { IfOk result
+        (λ entered. joined outbox.new.items ≡ joined outbox.old.items ++ entered.outputs.sent) }
+    ensures err { IfErr result (λ fault.
+        Skips core.old (L.entries log.old) ticket event fault core.new (L.entries log.new)) }
+    ensures given { All (IsGiven (L.entries log.old)) (joined undelivered.old.items)
+        → All (IsGiven (L.entries log.new)) (joined undelivered.new.items) }
+    ensures rest { OnErr result ((joined undelivered.new.items ≡ joined undelivered.old.items)
+        × (joined outbox.new.items ≡ joined outbox.old.items)) }
 {
     let asked = Snapshot::of(&event);
     match core.step::<L>(ticket, &event) {

@@ -25,9 +25,12 @@ impl<K: Deployment> Model for Entered<K> {
 
     ghost Value = { EnteredView };
 
-    ghost view = { λ entered. record { event = entered.event.value; outputs = entered.outputs.value } };
+    ghost view = { λ entered.
+        record { event = entered.event.value; outputs = entered.outputs.value } };
 
-    ghost invariant = { λ entered. (entered.ticket ≡ entered.outputs.value.ticket) × (entered.response ≡ entered.outputs.value.response) };
+    ghost invariant = { λ entered.
+        (entered.ticket ≡ entered.outputs.value.ticket)
+        × (entered.response ≡ entered.outputs.value.response) };
 }
 
 impl<K: Deployment> Entered<K> {

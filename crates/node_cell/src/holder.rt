@@ -1,10 +1,9 @@
 //! What conversations ask, behind the lock of their node.
 ghost use Rattle.std.specs.Prelude.{◌≡◌, ◌<◌, ◌==◌, ◌++◌, ◌∷◌, [], length, not, Some, IfOk, IfErr, IfNone, IfSome};
-ghost use Rattle.node_cell.specs.Journal.{Enters, IsGiven, IsHistory, IsRefused};
-ghost use Rattle.node_gate.specs.Asks.{outcome_of, IsOwn};
+ghost use Rattle.node_cell.specs.Journal.{Enters, HasHistory, IsGiven, IsRefused, outcome_entered};
+ghost use Rattle.node_gate.specs.Asks.{IsOwn};
 ghost use Rattle.node_gate.specs.Asks.Asked.{asking, waiting};
 ghost use Rattle.node_step.specs.Released.{reply_to, without_reply_to};
-ghost use Rattle.node_step.specs.State.{first_state};
 
 use crate::asks::Asks;
 use crate::cell::NodeCell;
@@ -30,23 +29,29 @@ pub trait HoldsCell {
         event: Event,
     ) -> Result<Entered<Self::Cluster>, StepFault>
         requires own { IsOwn event }
-        ensures asked { asks.new ≡ asks.old ++ asking event (outcome_of (λ entered. entered.outputs) result) ∷ [] }
+        ensures asked { asks.new ≡ asks.old ++ asking event (outcome_entered result) ∷ [] }
         ensures cluster { (cell self.old).config ≡ Self.Cluster.config }
         ensures number { (cell self.old).node < length (cell self.old).config.nodes }
-        ensures history { IsHistory (first_state (cell self.old).config (cell self.old).node) (cell self.old).journal (cell self.old).state }
+        ensures history { HasHistory (cell self.old) }
         ensures ok { IfOk result (λ entered. Enters (cell self.old) event entered (cell self.new)) }
-        ensures err { IfErr result (λ fault. IsRefused (cell self.old) event fault (cell self.new)) };
+        ensures err { IfErr result
+            (λ fault. IsRefused (cell self.old) event fault (cell self.new)) };
 
     /// Takes the first reply that waits for the connection, as [`Asks::take_reply`] takes it.
     fn take_reply(&mut self, asks: &mut Asks<Self::Cluster>, conn: Conn) -> Option<Reply>
-        ensures came { IfSome result (λ reply. asks.new ≡ asks.old ++ waiting conn (Some reply) ∷ []) }
+        ensures came { IfSome result
+            (λ reply. asks.new ≡ asks.old ++ waiting conn (Some reply) ∷ []) }
         ensures none { IfNone result (asks.new ≡ asks.old) }
         ensures cluster { (cell self.old).config ≡ Self.Cluster.config }
         ensures number { (cell self.old).node < length (cell self.old).config.nodes }
-        ensures history { IsHistory (first_state (cell self.old).config (cell self.old).node) (cell self.old).journal (cell self.old).state }
-        ensures given { IfSome result (λ reply. IsGiven (cell self.old).journal (record { conn = conn; reply = reply })) }
+        ensures history { HasHistory (cell self.old) }
+        ensures given { IfSome result
+            (λ reply. IsGiven (cell self.old).journal (record { conn = conn; reply = reply })) }
         ensures reply { result ≡ reply_to conn (cell self.old).undelivered }
-        ensures left { cell self.new ≡ record (cell self.old) { undelivered = without_reply_to conn (cell self.old).undelivered } };
+        ensures left { cell self.new ≡ record (cell self.old) {
+          undelivered = without_reply_to conn
+              (cell self.old).undelivered;
+        } };
 
     /// The node as its last step left it.
     fn core(&self) -> &Core

@@ -128,7 +128,8 @@ impl<K: Deployment> Sending<K> {
 
     /// The node that the first message that is left is for.
     pub fn first_to(&self) -> Option<NodeNo>
-        ensures some { IfSome result (λ to. (first : Sent) × (rest : List Sent) × (self.now ≡ first ∷ rest) × (first.to ≡ to)) }
+        ensures some { IfSome result (λ to.
+            (first : Sent) × (rest : List Sent) × (self.now ≡ first ∷ rest) × (first.to ≡ to)) }
         ensures none { IfNone result (self.now ≡ []) }
     {
         Some(self.messages.front()?.to)

@@ -11,7 +11,8 @@ use resp_values::Reply;
 #[inline(always)]
 pub(crate) fn add_released(undelivered: &mut Vec<Releases>, event: &Event, released: Releases)
     requires { vec_len undelivered.old < vec_capacity undelivered.old }
-    ensures { joined undelivered.new.items ≡ undelivered_after event.now (joined undelivered.old.items) released }
+    ensures { joined undelivered.new.items
+        ≡ undelivered_after event.now (joined undelivered.old.items) released }
 {
     if let Event::Close(conn) = event {
         forget_replies_to(undelivered, *conn);
@@ -35,7 +36,8 @@ fn add(undelivered: &mut Vec<Releases>, released: Releases)
 /// Takes out the first reply to the connection.
 pub(crate) fn take_reply_to(undelivered: &mut Vec<Releases>, conn: Conn) -> Option<Reply>
     ensures reply { result ≡ reply_to conn (joined undelivered.old.items) }
-    ensures left { joined undelivered.new.items ≡ without_reply_to conn (joined undelivered.old.items) }
+    ensures left { joined undelivered.new.items
+        ≡ without_reply_to conn (joined undelivered.old.items) }
 {
     let at = place_for(undelivered.as_slice(), conn)?;
     let reply = undelivered[at].take(conn);
@@ -74,7 +76,8 @@ fn is_some(part: &Releases) -> bool
 
 // Drops the replies to the connection.
 fn forget_replies_to(undelivered: &mut Vec<Releases>, conn: Conn)
-    ensures room { vec_len undelivered.old < vec_capacity undelivered.old → vec_len undelivered.new < vec_capacity undelivered.new }
+    ensures room { vec_len undelivered.old < vec_capacity undelivered.old
+        → vec_len undelivered.new < vec_capacity undelivered.new }
     ensures others { joined undelivered.new.items ≡ of_others conn (joined undelivered.old.items) }
 {
     for at in 0..undelivered.len() {

@@ -1,6 +1,7 @@
 -- Messages by which a replica follows its master's stream.
 use Rattle.std.proofs.Common.{◌≡◌, ℕ, refl, ap, arith}
-use Rattle.bus.specs.declared.message.Body.TheVariants.{Piece, Snapshot}
+use Rattle.bus.specs.declared.bodies.StreamBody.TheVariants.{Piece, Snapshot}
+use Rattle.bus.specs.declared.message.Body.TheVariants.{Stream}
 use Rattle.node_core.specs.Comes.{MayBeTaken}
 use Rattle.node_parts.specs.Drafts.{Comes}
 use Rattle.node_step.specs.Outcome.{no_outputs, silent}
@@ -13,7 +14,7 @@ use Rattle.stream_values.specs.declared.snapshot.Snapshot.{Snapshot as Whole}
 
 module _ (ticket : ℕ) (node : NodeState) (from : ℕ) (outputs : Outputs) (new : NodeState) (none : outputs ≡ no_outputs ticket) where
   -- a piece may make what it made, and nothing comes out
-  pub piece_comes : (piece : PieceView) → Follows node from piece new → Comes ticket (MayBeTaken node from (Piece piece)) outputs new
+  pub piece_comes : (piece : PieceView) → Follows node from piece new → Comes ticket (MayBeTaken node from (Stream (Piece piece))) outputs new
   piece_comes piece follows = record {
     outcome = silent new;
     may = record {
@@ -26,7 +27,7 @@ module _ (ticket : ℕ) (node : NodeState) (from : ℕ) (outputs : Outputs) (new
   }
 
   -- a snapshot is restored, and nothing comes out
-  pub snapshot_comes : (snapshot : Whole) → new ≡ (restored_by node from snapshot).state → Comes ticket (MayBeTaken node from (Snapshot snapshot)) outputs new
+  pub snapshot_comes : (snapshot : Whole) → new ≡ (restored_by node from snapshot).state → Comes ticket (MayBeTaken node from (Stream (Snapshot snapshot))) outputs new
   snapshot_comes snapshot is = record {
     outcome = silent new;
     may = record {

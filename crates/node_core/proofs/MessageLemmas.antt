@@ -1,80 +1,87 @@
--- Messages that are taken by a draft.
-use Rattle.std.proofs.Common.{◌≡◌, ◌==◌, ℕ, Bool, true, false, not, List, Option, true≢false, refl, sym, ap, subst, ◌∙◌}
+-- Messages by their kinds, and the whole step.
+use Rattle.std.proofs.Common.{◌≡◌, ◌==◌, ℕ, Bool, true, false, not, List, true≢false, refl, sym, subst, ◌∙◌, arith}
 use Rattle.std.proofs.lemmas.Bool.{cond-false, cond-true, not-false, not-true}
+use Rattle.bus.specs.declared.bodies.ElectionBody.TheVariants.{Pause, Paused}
+use Rattle.bus.specs.declared.bodies.Handing.{Handing}
+use Rattle.bus.specs.declared.bodies.SlotsBody.{SlotsBody}
+use Rattle.bus.specs.declared.bodies.StreamBody.TheVariants.{Sync}
 use Rattle.bus.specs.declared.message.Body.{Body}
-use Rattle.bus.specs.declared.message.Body.TheVariants.{Copy, Ack, Drained, Claim, Report, Candidacy, Grant, Sync, Piece, Snapshot, Pause, Paused}
+use Rattle.bus.specs.declared.message.Body.TheVariants.{Slots, Stream, Election, Report}
 use Rattle.bus.specs.declared.message.Message.{Message}
-use Rattle.bus.specs.declared.message.Replaced.{Replaced}
-use Rattle.node_core.specs.Comes.{MayBeTaken, choosing, is_drafted_body, taken_by_draft}
+use Rattle.node_core.specs.Comes.{MayBeTaken, choosing}
+use Rattle.node_core.proofs.VoteLemmas.{just_drafted}
 use Rattle.node_parts.proofs.ChangeLemmas.{made_comes}
 use Rattle.node_parts.specs.Drafts.{Comes, Drafts, IsDraftOf, Records, stamped_draft}
 use Rattle.node_parts.specs.Making.{IsApplied}
 use Rattle.node_parts.specs.declared.draft.Draft.{Draft}
-use Rattle.node_step.specs.Claiming.{claim}
-use Rattle.node_step.specs.Messages.{Choice, MayMake, ready, taken, taken_so, written_by_message}
-use Rattle.node_step.specs.Outcome.{Outcome, no_outputs, silent}
-use Rattle.node_step.specs.Replicas.{follower_of}
+use Rattle.node_step.specs.Handovers.{asked_to_pause, told_of_handing}
+use Rattle.node_step.specs.Messages.{ready, taken, taken_of_slots, written_by_slots}
+use Rattle.node_step.specs.Outcome.{no_outputs, silent}
+use Rattle.node_step.specs.Replicas.{synced}
 use Rattle.node_step.specs.State.{NodeState}
 use Rattle.node_step.specs.Step.{NodeStep}
-use Rattle.node_step.specs.Streams.{with_written}
 use Rattle.node_step.specs.declared.event.Event.TheVariants.{Deliver}
 use Rattle.node_step.specs.declared.outputs.Outputs.{Outputs}
-use Rattle.slot_table.specs.declared.runs.Run.{Run}
+use Rattle.stream_values.specs.declared.stream_id.StreamId.{StreamId}
+use Rattle.stream_values.specs.declared.sync.Sync.{Sync as Asked}
 
-by_draft : (node : NodeState) (from : ℕ) (choice : Choice) (body : Body) → is_drafted_body body ≡ true → taken_by_draft node from body ≡ taken_so node from choice body
-by_draft node from choice (Copy id pairs) is = refl
-by_draft node from choice (Ack id) is = refl
-by_draft node from choice (Drained slot number epoch) is = refl
-by_draft node from choice (Claim slots replaced) is = refl
-by_draft node from choice (Report suspects) is = refl
-by_draft node from choice (Sync sync) is = refl
-by_draft node from choice (Pause stream) is = refl
-by_draft node from choice (Paused handing) is = refl
-by_draft node from choice (Candidacy request) is = absurd (true≢false (sym is))
-by_draft node from choice (Grant epoch) is = absurd (true≢false (sym is))
-by_draft node from choice (Piece piece) is = absurd (true≢false (sym is))
-by_draft node from choice (Snapshot snapshot) is = absurd (true≢false (sym is))
+-- ---- a message by its kind
 
-makes_none : (node : NodeState) (from : ℕ) (body : Body) → is_drafted_body body ≡ true → MayMake node from body (follower_of node)
-makes_none node from (Copy id pairs) is = tt
-makes_none node from (Ack id) is = tt
-makes_none node from (Drained slot number epoch) is = tt
-makes_none node from (Claim slots replaced) is = tt
-makes_none node from (Report suspects) is = tt
-makes_none node from (Sync sync) is = tt
-makes_none node from (Pause stream) is = tt
-makes_none node from (Paused handing) is = tt
-makes_none node from (Candidacy request) is = tt
-makes_none node from (Grant epoch) is = tt
-makes_none node from (Piece piece) is = absurd (true≢false (sym is))
-makes_none node from (Snapshot snapshot) is = tt
-
--- what is drafted may come, with what it writes
-pub drafted_to_be_taken : (node : NodeState) (from : ℕ) (body : Body) (draft : Draft) → is_drafted_body body ≡ true
-    → Records node (taken_by_draft node from body) (written_by_message node from body) draft → IsDraftOf node (MayBeTaken node from body) draft
-drafted_to_be_taken node from body draft is records = record {
-  outcome = taken_by_draft node from body;
-  requests = written_by_message node from body;
+-- what is said of slots may come, with what it writes
+pub slots_drafted : (node : NodeState) (from : ℕ) (body : SlotsBody) (draft : Draft) → Records node (taken_of_slots node from body) (written_by_slots node from body) draft
+    → IsDraftOf node (MayBeTaken node from (Slots body)) draft
+slots_drafted node from body draft records = record {
+  outcome = taken_of_slots node from body;
+  requests = written_by_slots node from body;
   may_come = λ dropped within. record {
     choice = choosing node dropped;
-    may_choose = record { follower = makes_none node from body is; dropped = within };
-    comes_to = ap (λ (outcome : Outcome). with_written outcome (written_by_message node from body) dropped) (by_draft node from (choosing node dropped) body is);
+    may_choose = record { follower = tt; dropped = within };
+    comes_to = refl;
   };
   records = records;
 }
 
 -- and it comes once the draft is made
-pub drafted_taken : (ticket : ℕ) (node : NodeState) (from : ℕ) (body : Body) (draft : Draft) (outputs : Outputs) (new : NodeState) → IsDraftOf node (MayBeTaken node from body) draft
-    → outputs ≡ stamped_draft node ticket draft → IsApplied node draft new → Comes ticket (MayBeTaken node from body) outputs new
-drafted_taken ticket node from body draft outputs new is are applied = made_comes ticket node (MayBeTaken node from body) draft outputs new is are applied
+pub slots_taken : (ticket : ℕ) (node : NodeState) (from : ℕ) (body : SlotsBody) (draft : Draft) (outputs : Outputs) (new : NodeState)
+    → IsDraftOf node (MayBeTaken node from (Slots body)) draft → outputs ≡ stamped_draft node ticket draft → IsApplied node draft new
+    → Comes ticket (MayBeTaken node from (Slots body)) outputs new
+slots_taken ticket node from body draft outputs new is are applied = made_comes ticket node (MayBeTaken node from (Slots body)) draft outputs new is are applied
 
--- each body, by its row
-module _ (node : NodeState) (from : ℕ) (said : Body) (draft : Draft) where
-  takes : (body : Body) → said ≡ body → Drafts node (taken_by_draft node from body) draft → Drafts node (taken_by_draft node from said) draft
-  takes body is drafts = subst (λ b. Drafts node (taken_by_draft node from b) draft) (sym is) drafts
+-- of a report nothing comes any more
+pub report_noted : (ticket : ℕ) (node : NodeState) (from : ℕ) (said : Body) (suspects : List Bool) (outputs : Outputs) (new : NodeState) → said ≡ Report suspects
+    → outputs ≡ no_outputs ticket → new ≡ node → Comes ticket (MayBeTaken node from said) outputs new
+report_noted ticket node from said suspects outputs new is none same =
+    subst (λ (body : Body). Comes ticket (MayBeTaken node from body) outputs new) (sym is)
+    (record {
+      outcome = silent node;
+      may = record {
+        choice = choosing node 0;
+        may_choose = record { follower = tt; dropped = omega arith };
+        comes_to = refl;
+      };
+      outputs_are = none;
+      state = same;
+    })
 
-  pub takes_claim : (slots : List (Run ℕ)) (replaced : Option Replaced) → said ≡ Claim slots replaced → Drafts node (claim node from slots) draft → Drafts node (taken_by_draft node from said) draft
-  takes_claim slots replaced is drafts = takes (Claim slots replaced) is drafts
+-- a draft of one outcome, which writes nothing
+module _ (ticket : ℕ) (node : NodeState) (from : ℕ) (draft : Draft) where
+  sync_may : (sync : Asked) → MayBeTaken node from (Stream (Sync sync)) (synced node from sync)
+  sync_may sync = record { choice = choosing node 0; may_choose = record { follower = tt; dropped = omega arith }; comes_to = refl }
+
+  pub sync_drafted : (sync : Asked) → Drafts node (synced node from sync) draft → IsDraftOf node (MayBeTaken node from (Stream (Sync sync))) draft
+  sync_drafted sync drafts = just_drafted node (MayBeTaken node from (Stream (Sync sync))) (synced node from sync) draft (sync_may sync) drafts
+
+  pause_may : (stream : StreamId) → MayBeTaken node from (Election (Pause stream)) (asked_to_pause node from stream)
+  pause_may stream = record { choice = choosing node 0; may_choose = record { follower = tt; dropped = omega arith }; comes_to = refl }
+
+  pub pause_drafted : (stream : StreamId) → Drafts node (asked_to_pause node from stream) draft → IsDraftOf node (MayBeTaken node from (Election (Pause stream))) draft
+  pause_drafted stream drafts = just_drafted node (MayBeTaken node from (Election (Pause stream))) (asked_to_pause node from stream) draft (pause_may stream) drafts
+
+  paused_may : (handing : Handing) → MayBeTaken node from (Election (Paused handing)) (told_of_handing node handing)
+  paused_may handing = record { choice = choosing node 0; may_choose = record { follower = tt; dropped = omega arith }; comes_to = refl }
+
+  pub paused_drafted : (handing : Handing) → Drafts node (told_of_handing node handing) draft → IsDraftOf node (MayBeTaken node from (Election (Paused handing))) draft
+  paused_drafted handing drafts = just_drafted node (MayBeTaken node from (Election (Paused handing))) (told_of_handing node handing) draft (paused_may handing) drafts
 
 -- ---- what was heard, and the whole step
 

@@ -1,9 +1,10 @@
 -- Votes, as a node takes them.
 use Rattle.std.proofs.Common.{◌≡◌, ℕ, Bool, true, false, cond, [], Option, Some, None, refl, sym, ap, subst, ◌∙◌, arith}
 use Rattle.std.proofs.lemmas.Option.{none-some}
-use Rattle.bus.specs.declared.message.Body.TheVariants.{Grant, Candidacy}
-use Rattle.bus.specs.declared.message.Handing.{Handing}
-use Rattle.bus.specs.declared.message.Candidacy.{Candidacy as Asked}
+use Rattle.bus.specs.declared.bodies.ElectionBody.TheVariants.{Grant, Candidacy}
+use Rattle.bus.specs.declared.message.Body.TheVariants.{Election}
+use Rattle.bus.specs.declared.bodies.Handing.{Handing}
+use Rattle.bus.specs.declared.bodies.Candidacy.{Candidacy as Asked}
 use Rattle.election.specs.Electing.{counted, elected}
 use Rattle.election.specs.Voting.{after_request, may_grant}
 use Rattle.election.specs.declared.running.Elected.{Elected}
@@ -29,7 +30,7 @@ just_drafted node May outcome draft may drafts =
 module _ (ticket : ℕ) (old voted : NodeState) (from : ℕ) (request : Asked) (granted : Bool) (draft : Draft)
     (grants : granted ≡ may_grant old.voter (members_of old) old.health old.current_epoch (request_of from request))
     (votes : voted ≡ record old { voter = after_request old.voter (request_of from request) granted }) where
-  may_vote : MayBeTaken old from (Candidacy request) (record (silent voted) { sent = grant_to (request_of from request) granted })
+  may_vote : MayBeTaken old from (Election (Candidacy request)) (record (silent voted) { sent = grant_to (request_of from request) granted })
   may_vote = record {
     choice = choosing old 0;
     may_choose = record { follower = tt; dropped = omega arith };
@@ -39,17 +40,17 @@ module _ (ticket : ℕ) (old voted : NodeState) (from : ℕ) (request : Asked) (
   }
 
   pub vote_drafted : Drafts voted (record (silent voted) { sent = grant_to (request_of from request) granted }) draft
-      → IsDraftOf voted (MayBeTaken old from (Candidacy request)) draft
-  vote_drafted drafts = just_drafted voted (MayBeTaken old from (Candidacy request)) (record (silent voted) { sent = grant_to (request_of from request) granted }) draft may_vote drafts
+      → IsDraftOf voted (MayBeTaken old from (Election (Candidacy request))) draft
+  vote_drafted drafts = just_drafted voted (MayBeTaken old from (Election (Candidacy request))) (record (silent voted) { sent = grant_to (request_of from request) granted }) draft may_vote drafts
 
   pub vote_taken : (outputs : Outputs) (new : NodeState) → Drafts voted (record (silent voted) { sent = grant_to (request_of from request) granted }) draft
-      → outputs ≡ stamped_draft voted ticket draft → IsApplied voted draft new → Comes ticket (MayBeTaken old from (Candidacy request)) outputs new
-  vote_taken outputs new drafts are applied = made_comes ticket voted (MayBeTaken old from (Candidacy request)) draft outputs new (vote_drafted drafts) are applied
+      → outputs ≡ stamped_draft voted ticket draft → IsApplied voted draft new → Comes ticket (MayBeTaken old from (Election (Candidacy request))) outputs new
+  vote_taken outputs new drafts are applied = made_comes ticket voted (MayBeTaken old from (Election (Candidacy request))) draft outputs new (vote_drafted drafts) are applied
 
 -- a vote for this node
 module _ (ticket : ℕ) (old after : NodeState) (from epoch : ℕ) (wins : Option Elected) (is : wins ≡ elected old.candidate (members_of old) from epoch)
     (counts : after ≡ record old { candidate = counted old.candidate (members_of old) from epoch }) where
-  may_count : (outcome : Outcome) → outcome ≡ if_elected after wins → MayBeTaken old from (Grant epoch) outcome
+  may_count : (outcome : Outcome) → outcome ≡ if_elected after wins → MayBeTaken old from (Election (Grant epoch)) outcome
   may_count outcome comes = record {
     choice = choosing old 0;
     may_choose = record { follower = tt; dropped = omega arith };
@@ -57,13 +58,13 @@ module _ (ticket : ℕ) (old after : NodeState) (from epoch : ℕ) (wins : Optio
   }
 
   -- it elects nobody
-  pub only_counted : (outputs : Outputs) (new : NodeState) → wins ≡ None → outputs ≡ no_outputs ticket → new ≡ after → Comes ticket (MayBeTaken old from (Grant epoch)) outputs new
+  pub only_counted : (outputs : Outputs) (new : NodeState) → wins ≡ None → outputs ≡ no_outputs ticket → new ≡ after → Comes ticket (MayBeTaken old from (Election (Grant epoch))) outputs new
   only_counted outputs new none are same =
       record { outcome = silent after; may = may_count (silent after) (sym (ap (if_elected after) none)); outputs_are = are; state = same }
 
   -- it elects this node
   pub promoted_by_vote : (outputs : Outputs) (new : NodeState) (won : Elected) → wins ≡ Some won → Comes ticket (IsJust (if_elected after (Some (record { epoch = won.epoch })))) outputs new
-      → Comes ticket (MayBeTaken old from (Grant epoch)) outputs new
+      → Comes ticket (MayBeTaken old from (Election (Grant epoch))) outputs new
   promoted_by_vote outputs new won some comes =
       record { outcome = comes.outcome; may = may_count comes.outcome (comes.may ∙ sym (ap (if_elected after) some)); outputs_are = comes.outputs_are; state = comes.state }
 

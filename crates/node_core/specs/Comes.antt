@@ -1,7 +1,6 @@
 -- What comes of an event, as the parts of a node say it of themselves.
-use Rattle.std.specs.Prelude.{◌≡◌, ℕ, Bool, true, false, List, Result}
+use Rattle.std.specs.Prelude.{◌≡◌, ℕ, true, List, Result}
 use Rattle.bus.specs.declared.message.Body.{Body}
-use Rattle.bus.specs.declared.message.Body.TheVariants.{Candidacy, Grant, Piece, Snapshot}
 use Rattle.command_table.specs.Table.{command_of}
 use Rattle.command_table.specs.declared.command.Command.{Command}
 use Rattle.command_table.specs.declared.fault.CommandFault.{CommandFault}
@@ -10,27 +9,15 @@ use Rattle.resp_values.specs.Request.{IsRequest}
 use Rattle.node_parts.specs.Drafts.{Drafts, Records}
 use Rattle.node_parts.specs.declared.draft.Draft.{Draft}
 use Rattle.node_step.specs.Requests.{has_number, request_outcome, using_up}
-use Rattle.node_step.specs.Messages.{Choice, MayChoose, taken, taken_so}
+use Rattle.node_step.specs.Messages.{Choice, MayChoose, taken}
 use Rattle.node_step.specs.Outcome.{Outcome}
 use Rattle.node_step.specs.Replicas.{follower_of}
 use Rattle.node_step.specs.State.{NodeState}
 use Rattle.node_step.specs.Step.{written}
 
--- a message is taken by a draft: all but those of streams and of elections
-abbrev pub is_drafted_body : Body → Bool
-is_drafted_body (Candidacy request) = false
-is_drafted_body (Grant epoch) = false
-is_drafted_body (Piece piece) = false
-is_drafted_body (Snapshot snapshot) = false
-is_drafted_body other = true
-
 -- nothing is chosen but how many bytes are kept no longer
 abbrev pub choosing : NodeState → ℕ → Choice
 choosing old dropped = record { follower = follower_of old; dropped = dropped }
-
--- what comes of such a message but for what is written
-abbrev pub taken_by_draft : NodeState → ℕ → Body → Outcome
-taken_by_draft node from body = taken_so node from (choosing node 0) body
 
 -- what may come of a message of that node that was heard
 pub record MayBeTaken (node : NodeState) (from : ℕ) (body : Body) (outcome : Outcome) : Type 0 where

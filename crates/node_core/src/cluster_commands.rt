@@ -36,7 +36,8 @@ pub(crate) fn answer_about_cluster<S: SlotParts + SlotKeys, T: Stream>(
 ) -> Result<(), StepFault>
     requires { HasNothing node.now draft.old }
     ensures answer { OnOk result (AnswersSo node.now conn (Ok (Cluster command.now)) draft.new) }
-    ensures exhausted { result ≡ Err Exhausted → has_number (using_up node.now conn) (Ok (Cluster command.now)) ≡ false }
+    ensures exhausted { result ≡ Err Exhausted
+        → has_number (using_up node.now conn) (Ok (Cluster command.now)) ≡ false }
 {
     match command {
         ClusterCommand::SetSlot {
@@ -103,7 +104,8 @@ fn number_asks<S: SlotParts + SlotKeys, T: Stream>(
     draft: &mut Draft,
 )
     requires { HasNothing node.now draft.old }
-    ensures { Drafts node.now (replied (with_numbers (using_up node.now conn) conn) Told done) draft.new }
+    ensures { Drafts node.now
+        (replied (with_numbers (using_up node.now conn) conn) Told done) draft.new }
 {
     node.draft_reply(draft, Why::Told, done(), Change::Numbers { conn });
 }
@@ -116,7 +118,8 @@ fn allow<S: SlotParts + SlotKeys, T: Stream>(
     draft: &mut Draft,
 )
     requires { HasNothing node.now draft.old }
-    ensures { Drafts node.now (replied (at_connection (using_up node.now conn) conn (λ (connection : Connection). record connection { asking = asking })) Told done) draft.new }
+    ensures { Drafts node.now (replied (at_connection (using_up node.now conn) conn
+        (λ (connection : Connection). record connection { asking = asking })) Told done) draft.new }
 {
     node.draft_reply(draft, Why::Told, done(), Change::Allows { conn, asking });
 }

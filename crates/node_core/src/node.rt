@@ -40,7 +40,6 @@ pub struct NodeCore<S: SlotParts + SlotKeys, T: Stream> {
 pub type Core = NodeCore<SlotStore, Backlog>;
 
 impl<S: SlotParts + SlotKeys, T: Stream> Model for NodeCore<S, T> {
-    ghost use Rattle.std.specs.Prelude.{ℕ};
     ghost use Rattle.node_step.specs.CodedState.{coded_state};
     ghost use Rattle.node_step.specs.State.{NodeState};
 
@@ -174,10 +173,12 @@ impl<S: SlotParts + SlotKeys + Replaces, T: Stream> NodeCore<S, T> {
         conn: Conn,
         words: &Words,
     ) -> Result<(Outputs, K::Record), StepFault>
-        ensures step { IfOk result (λ made. NodeStep ticket self.old (Event.Request conn words.now) made.0 self.new) }
+        ensures step { IfOk result
+            (λ made. NodeStep ticket self.old (Event.Request conn words.now) made.0 self.new) }
         ensures recorded { IfOk result (λ made. K.recorded made.1 ≡ made.0) }
         ensures err { OnErr result (self.new ≡ self.old) }
-        ensures exhausted { result ≡ Err Exhausted → NoNumberLeft self.old (Event.Request conn words.now) }
+        ensures exhausted { result ≡ Err Exhausted
+            → NoNumberLeft self.old (Event.Request conn words.now) }
     {
         // A draft is large, and has a place of its own at each end of a function that lets it go. So this function has one end.
         let mut draft = self.parts.blank();
@@ -195,10 +196,12 @@ impl<S: SlotParts + SlotKeys + Replaces, T: Stream> NodeCore<S, T> {
     ) -> Result<(Outputs, K::Record), StepFault>
         requires nothing { HasNothing self.old draft.old }
         requires plan { (keyspace : Keyspace) → committed keyspace draft.old.plan ≡ keyspace }
-        ensures step { IfOk result (λ made. NodeStep ticket self.old (Event.Request conn words.now) made.0 self.new) }
+        ensures step { IfOk result
+            (λ made. NodeStep ticket self.old (Event.Request conn words.now) made.0 self.new) }
         ensures recorded { IfOk result (λ made. K.recorded made.1 ≡ made.0) }
         ensures err { OnErr result (self.new ≡ self.old) }
-        ensures exhausted { result ≡ Err Exhausted → NoNumberLeft self.old (Event.Request conn words.now) }
+        ensures exhausted { result ≡ Err Exhausted
+            → NoNumberLeft self.old (Event.Request conn words.now) }
     {
         request(&self.parts, conn, words, draft)?;
         Ok(self.parts.make::<K>(ticket, draft)?)
@@ -211,10 +214,12 @@ impl<S: SlotParts + SlotKeys + Replaces, T: Stream> NodeCore<S, T> {
         ticket: u64,
         message: &Message,
     ) -> Result<(Outputs, K::Record), StepFault>
-        ensures step { IfOk result (λ made. NodeStep ticket self.old (Event.Deliver message.now) made.0 self.new) }
+        ensures step { IfOk result
+            (λ made. NodeStep ticket self.old (Event.Deliver message.now) made.0 self.new) }
         ensures recorded { IfOk result (λ made. K.recorded made.1 ≡ made.0) }
         ensures err { OnErr result (self.new ≡ self.old) }
-        ensures exhausted { result ≡ Err Exhausted → NoNumberLeft self.old (Event.Deliver message.now) }
+        ensures exhausted { result ≡ Err Exhausted
+            → NoNumberLeft self.old (Event.Deliver message.now) }
     {
         if message.to != self.parts.number {
             return Ok(plain::<K>(ticket, Response::Nothing));

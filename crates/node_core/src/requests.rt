@@ -35,8 +35,10 @@ pub(crate) fn request<S: SlotParts + SlotKeys, T: Stream>(
 ) -> Result<(), StepFault>
     requires nothing { HasNothing node.now draft.old }
     requires plan { (keyspace : Keyspace) → committed keyspace draft.old.plan ≡ keyspace }
-    ensures draft { OnOk result (IsDraftOf node.now (MayCome node.now (Event.Request conn words.now)) draft.new) }
-    ensures exhausted { result ≡ Err Exhausted → NoNumberLeft node.now (Event.Request conn words.now) }
+    ensures draft { OnOk result
+        (IsDraftOf node.now (MayCome node.now (Event.Request conn words.now)) draft.new) }
+    ensures exhausted { result ≡ Err Exhausted
+        → NoNumberLeft node.now (Event.Request conn words.now) }
 {
     let Some(connection) = node.connections.get(conn) else {
         return Ok(());
@@ -59,9 +61,10 @@ fn answer<S: SlotParts + SlotKeys, T: Stream>(
     requires nothing { HasNothing node.now draft.old }
     requires plan { (keyspace : Keyspace) → committed keyspace draft.old.plan ≡ keyspace }
     ensures answer { OnOk result (AnswersAndWrites node.now conn words.now draft.new) }
-    ensures exhausted { result ≡ Err Exhausted → NoNumberLeft node.now (Event.Request conn words.now) }
+    ensures exhausted { result ≡ Err Exhausted
+        → NoNumberLeft node.now (Event.Request conn words.now) }
 {
-    // Who reads the words knows that they are a request.
+    // Reading them tells the proof that they keep the limits of a request.
     let _words = words.as_slice();
     let is_write = answer_words(node, conn, connection, words, draft)?;
     add_request(node, words, is_write, draft)?;
@@ -82,7 +85,8 @@ fn answer_words<S: SlotParts + SlotKeys, T: Stream>(
     requires plan { (keyspace : Keyspace) → committed keyspace draft.old.plan ≡ keyspace }
     ensures write { IfOk result (λ is_write. is_write ≡ is_written (command_of words.now)) }
     ensures answer { OnOk result (AnswersSo node.now conn (command_of words.now) draft.new) }
-    ensures exhausted { result ≡ Err Exhausted → has_number (using_up node.now conn) (command_of words.now) ≡ false }
+    ensures exhausted { result ≡ Err Exhausted
+        → has_number (using_up node.now conn) (command_of words.now) ≡ false }
 {
     let command = match parse(words) {
         Ok(Command::Data(command)) => command,

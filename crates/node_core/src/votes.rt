@@ -1,6 +1,7 @@
-//! Messages of elections.
+//! What another node says of an election or a handover.
 ghost use Rattle.std.specs.Prelude.{◌≡◌, ◌≢◌, Err, IfOk, OnErr, Some};
-ghost use Rattle.bus.specs.declared.message.Body.TheVariants.{Grant, Candidacy as Asks};
+ghost use Rattle.bus.specs.declared.bodies.ElectionBody.TheVariants.{Candidacy as Asks, Grant, Pause, Paused};
+ghost use Rattle.bus.specs.declared.message.Body.TheVariants.{Election};
 ghost use Rattle.node_core.specs.Comes.{MayBeTaken, IsJust};
 ghost use Rattle.node_parts.specs.Drafts.{Comes};
 ghost use Rattle.node_parts.specs.Electing.{KeepsRest};
@@ -8,24 +9,86 @@ ghost use Rattle.node_step.specs.Promotion.{handed_promotion, promotion};
 ghost use Rattle.node_step.specs.Voting.{if_elected};
 ghost use Rattle.step_fault.specs.declared.fault.StepFault.TheVariants.{Exhausted};
 
-use bus::Candidacy;
+use bus::{Candidacy, ElectionBody, Handing};
 use election::VoteRequest;
 use election_rows::{promote, promote_by_plan, write_vote};
+use handover_rows::{hand_over, note_handing};
 use node_parts::{NodeParts, plain};
 use node_step::{Outputs, Recorder, Response, StepFault};
 use repl_stream::Stream;
 use slot_store::{SlotKeys, SlotParts};
 use slot_table::{Epoch, NodeNo};
+use stream_values::StreamId;
 
-/// Takes the request of a node for this one's vote.
+/// Takes what that node says.
+pub(crate) fn take_of_election<S: SlotParts + SlotKeys, T: Stream, K: Recorder>(
+    node: &mut NodeParts<S, T>,
+    ticket: u64,
+    from: NodeNo,
+    body: &ElectionBody,
+) -> Result<(Outputs, K::Record), StepFault>
+    ensures taken { IfOk result
+        (λ made. Comes ticket (MayBeTaken node.old from (Election body.now)) made.0 node.new) }
+    ensures recorded { IfOk result (λ made. K.recorded made.1 ≡ made.0) }
+    ensures err { OnErr result (KeepsRest node.old node.new) }
+    ensures exhausted { result ≢ Err Exhausted }
+{
+    match body {
+        ElectionBody::Candidacy(request) => ask_for_vote::<S, T, K>(node, ticket, from, request),
+        ElectionBody::Grant(epoch) => count_vote::<S, T, K>(node, ticket, from, *epoch),
+        ElectionBody::Pause(stream) => pause::<S, T, K>(node, ticket, from, *stream),
+        ElectionBody::Paused(handing) => note::<S, T, K>(node, ticket, from, handing),
+    }
+}
+
+// A replica wants this node, its master, to hand over.
+#[tactic(auto, using(crate::proofs::MessageLemmas::pause_drafted, node_parts::proofs::ChangeLemmas::draft_can_be_made, node_parts::proofs::ChangeLemmas::made_comes))]
+fn pause<S: SlotParts + SlotKeys, T: Stream, K: Recorder>(
+    node: &mut NodeParts<S, T>,
+    ticket: u64,
+    from: NodeNo,
+    stream: StreamId,
+) -> Result<(Outputs, K::Record), StepFault>
+    ensures taken { IfOk result
+        (λ made. Comes ticket (MayBeTaken node.old from (Election (Pause stream))) made.0 node.new) }
+    ensures recorded { IfOk result (λ made. K.recorded made.1 ≡ made.0) }
+    ensures err { OnErr result (node.new ≡ node.old) }
+    ensures exhausted { result ≢ Err Exhausted }
+{
+    let mut draft = node.blank();
+    hand_over(node, from, stream, &mut draft)?;
+    Ok(node.make::<K>(ticket, &mut draft)?)
+}
+
+// The own master tells what it hands over.
+#[tactic(auto, using(crate::proofs::MessageLemmas::paused_drafted, node_parts::proofs::ChangeLemmas::draft_can_be_made, node_parts::proofs::ChangeLemmas::made_comes))]
+fn note<S: SlotParts + SlotKeys, T: Stream, K: Recorder>(
+    node: &mut NodeParts<S, T>,
+    ticket: u64,
+    from: NodeNo,
+    handing: &Handing,
+) -> Result<(Outputs, K::Record), StepFault>
+    ensures taken { IfOk result (λ made.
+        Comes ticket (MayBeTaken node.old from (Election (Paused handing.now))) made.0 node.new) }
+    ensures recorded { IfOk result (λ made. K.recorded made.1 ≡ made.0) }
+    ensures err { OnErr result (node.new ≡ node.old) }
+    ensures exhausted { result ≢ Err Exhausted }
+{
+    let mut draft = node.blank();
+    note_handing(node, handing, &mut draft)?;
+    Ok(node.make::<K>(ticket, &mut draft)?)
+}
+
+// Takes the request of a node for this one's vote.
 #[tactic(auto, using(crate::proofs::VoteLemmas::vote_taken, crate::proofs::VoteLemmas::vote_drafted, node_parts::proofs::ChangeLemmas::draft_can_be_made))]
-pub(crate) fn ask_for_vote<S: SlotParts + SlotKeys, T: Stream, K: Recorder>(
+fn ask_for_vote<S: SlotParts + SlotKeys, T: Stream, K: Recorder>(
     node: &mut NodeParts<S, T>,
     ticket: u64,
     from: NodeNo,
     request: &Candidacy,
 ) -> Result<(Outputs, K::Record), StepFault>
-    ensures taken { IfOk result (λ made. Comes ticket (MayBeTaken node.old from (Asks request.now)) made.0 node.new) }
+    ensures taken { IfOk result
+        (λ made. Comes ticket (MayBeTaken node.old from (Election (Asks request.now))) made.0 node.new) }
     ensures recorded { IfOk result (λ made. K.recorded made.1 ≡ made.0) }
     ensures err { OnErr result (KeepsRest node.old node.new) }
     ensures exhausted { result ≢ Err Exhausted }
@@ -42,14 +105,15 @@ pub(crate) fn ask_for_vote<S: SlotParts + SlotKeys, T: Stream, K: Recorder>(
     Ok(node.make::<K>(ticket, &mut draft)?)
 }
 
-/// Counts the vote of a node for this one, which may elect it.
-pub(crate) fn count_vote<S: SlotParts + SlotKeys, T: Stream, K: Recorder>(
+// Counts the vote of a node for this one, which may elect it.
+fn count_vote<S: SlotParts + SlotKeys, T: Stream, K: Recorder>(
     node: &mut NodeParts<S, T>,
     ticket: u64,
     from: NodeNo,
     epoch: Epoch,
 ) -> Result<(Outputs, K::Record), StepFault>
-    ensures taken { IfOk result (λ made. Comes ticket (MayBeTaken node.old from (Grant epoch)) made.0 node.new) }
+    ensures taken { IfOk result
+        (λ made. Comes ticket (MayBeTaken node.old from (Election (Grant epoch))) made.0 node.new) }
     ensures recorded { IfOk result (λ made. K.recorded made.1 ≡ made.0) }
     ensures err { OnErr result (KeepsRest node.old node.new) }
     ensures exhausted { result ≢ Err Exhausted }
@@ -66,7 +130,8 @@ fn promoted<S: SlotParts + SlotKeys, T: Stream, K: Recorder>(
     ticket: u64,
     epoch: Epoch,
 ) -> Result<(Outputs, K::Record), StepFault>
-    ensures promoted { IfOk result (λ made. Comes ticket (IsJust (if_elected node.old (Some (record { epoch = epoch })))) made.0 node.new) }
+    ensures promoted { IfOk result (λ made. Comes ticket
+        (IsJust (if_elected node.old (Some (record { epoch = epoch })))) made.0 node.new) }
     ensures recorded { IfOk result (λ made. K.recorded made.1 ≡ made.0) }
     ensures err { OnErr result (node.new ≡ node.old) }
     ensures exhausted { result ≢ Err Exhausted }
@@ -89,7 +154,8 @@ fn promoted_in_place<S: SlotParts + SlotKeys, T: Stream, K: Recorder>(
     master: NodeNo,
     epoch: Epoch,
 ) -> Result<(Outputs, K::Record), StepFault>
-    ensures promoted { IfOk result (λ made. Comes ticket (IsJust (promotion node.old epoch (Some master))) made.0 node.new) }
+    ensures promoted { IfOk result
+        (λ made. Comes ticket (IsJust (promotion node.old epoch (Some master))) made.0 node.new) }
     ensures recorded { IfOk result (λ made. K.recorded made.1 ≡ made.0) }
     ensures err { OnErr result (node.new ≡ node.old) }
     ensures exhausted { result ≢ Err Exhausted }
@@ -107,7 +173,8 @@ fn promoted_by_plan<S: SlotParts + SlotKeys, T: Stream, K: Recorder>(
     master: NodeNo,
     epoch: Epoch,
 ) -> Result<(Outputs, K::Record), StepFault>
-    ensures promoted { IfOk result (λ made. Comes ticket (IsJust (handed_promotion node.old epoch (Some master) node.old.handover.note)) made.0 node.new) }
+    ensures promoted { IfOk result (λ made. Comes ticket (IsJust
+        (handed_promotion node.old epoch (Some master) node.old.handover.note)) made.0 node.new) }
     ensures recorded { IfOk result (λ made. K.recorded made.1 ≡ made.0) }
     ensures err { OnErr result (node.new ≡ node.old) }
     ensures exhausted { result ≢ Err Exhausted }

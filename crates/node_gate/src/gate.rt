@@ -1,5 +1,5 @@
 //! How the threads of connections reach a node.
-ghost use Rattle.std.specs.Prelude.{◌≡◌, ◌++◌, ◌∷◌, [], IfOk, IfErr, IfSome};
+ghost use Rattle.std.specs.Prelude.{◌≡◌, ◌++◌, ◌∷◌, [], IfOk};
 ghost use Rattle.node_gate.specs.Asks.{outcome_of, IsOwn};
 ghost use Rattle.node_gate.specs.Asks.Asked.{asking, waiting};
 
@@ -28,36 +28,27 @@ pub trait NodeGate {
     type Answer: Answered + Drop;
 
     ghost use Rattle.std.specs.Prelude.{List};
-    ghost use Rattle.node_step.specs.declared.event.Event.{Event as NodeEvent};
-    ghost use Rattle.node_step.specs.declared.outputs.Outputs.{Outputs as NodeOutputs};
-    ghost use Rattle.step_fault.specs.declared.fault.StepFault.{StepFault as Refusal};
-    ghost use Rattle.connections.specs.declared.conn.Conn.{Conn as Connection};
-    ghost use Rattle.resp_values.specs.declared.reply.Reply.{Reply as Given};
     ghost use Rattle.node_gate.specs.Asks.{Asked};
 
     ghost asked: { Self → List Asked };
 
-    ghost may: { NodeEvent → NodeOutputs → Type 0 };
-
-    ghost may_refuse: { NodeEvent → Refusal → Type 0 };
-
-    ghost may_give: { Connection → Given → Type 0 };
+    ghost allowed: { Asked → Type 0 };
 
     /// Makes the node's step for an event that is no message: the answer is for this event, and one that the node may give.
     ///
     /// Memory and Exhausted leave the node as it was, and come where the node may refuse the event so.
     fn step(&mut self, event: Event) -> Result<Self::Answer, StepFault>
         requires own { IsOwn event }
-        ensures asked { asked self.new ≡ asked self.old ++ asking event (outcome_of Self.Answer.gave result) ∷ [] }
+        ensures asked { asked self.new
+            ≡ asked self.old ++ asking event (outcome_of Self.Answer.gave result) ∷ [] }
         ensures event { IfOk result (λ answer. Self.Answer.event answer ≡ event) }
-        ensures may { IfOk result (λ answer. may event (Self.Answer.gave answer)) }
-        ensures refused { IfErr result (λ fault. may_refuse event fault) };
+        ensures allowed { allowed (asking event (outcome_of Self.Answer.gave result)) };
 
     /// Waits for the reply to the connection, whose last request was answered with [`Parked`](Response::Parked): a reply that the
     /// node may give to it, or None where none will come. Others may ask the node meanwhile.
     fn wait(&mut self, conn: Conn) -> Option<Reply>
         ensures asked { asked self.new ≡ asked self.old ++ waiting conn result ∷ [] }
-        ensures given { IfSome result (λ reply. may_give conn reply) };
+        ensures allowed { allowed (waiting conn result) };
 
     /// Lets others ask the node. A step may keep them waiting until then, so it is called before anything is waited for.
     fn release(&mut self)

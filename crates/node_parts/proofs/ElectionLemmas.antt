@@ -1,8 +1,8 @@
 -- What elections are about, and the rest of a node.
 use Rattle.std.proofs.Common.{◌≡◌, ◌==◌, ℕ, List, Bool, true, false, Option, Some, None, cond, refl, sym, ap, ◌∙◌}
-use Rattle.bus.specs.declared.message.Handing.{Handing}
+use Rattle.bus.specs.declared.bodies.Handing.{Handing}
 use Rattle.bus.specs.declared.message.Message.{Message}
-use Rattle.bus.specs.declared.message.Replaced.{Replaced}
+use Rattle.bus.specs.declared.bodies.Replaced.{Replaced}
 use Rattle.election.specs.Health.{Candidate, no_candidate}
 use Rattle.node_parts.specs.Electing.{KeepsRest, election_of, with_election}
 use Rattle.node_parts.specs.Noting.{note_dropped, note_of_former, with_note, without_master}

@@ -2,7 +2,7 @@
 use Rattle.std.specs.Prelude.{◌≡◌, ◌==◌, ℕ, not, List, Option, Some, None, slice_set}
 use Rattle.std.specs.FinMap as fin_map
 use Rattle.std.specs.List.{list_any}
-use Rattle.bus.specs.declared.message.Handing.{Handing}
+use Rattle.bus.specs.declared.bodies.Handing.{Handing}
 use Rattle.connections.specs.Connections.{all_freed}
 use Rattle.connections.specs.declared.conn.Conn.{Conn}
 use Rattle.connections.specs.declared.conn.Connection.{Connection}

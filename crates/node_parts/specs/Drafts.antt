@@ -3,6 +3,7 @@ use Rattle.std.specs.Prelude.{◌≡◌, ℕ, List, [], ◌∷◌, Option, Some,
 use Rattle.resp2.specs.Stream.{stream_spelling}
 use Rattle.bus.specs.declared.message.Body.{Body}
 use Rattle.node_parts.specs.Becomes.{Becomes}
+use Rattle.node_parts.specs.declared.change.Change.{Change}
 use Rattle.node_parts.specs.declared.change.Change.TheVariants.{Nothing as Unchanged}
 use Rattle.node_parts.specs.declared.draft.Draft.{Draft}
 use Rattle.node_parts.specs.Succession.{promoted_by, succeeded_by}
@@ -28,6 +29,10 @@ pub record Drafts (old : NodeState) (outcome : Outcome) (draft : Draft) : Type 0
   pub written : draft.written.items ≡ []
   pub stays : draft.succession ≡ None
   pub state : Becomes (at_epoch old draft.epoch) draft.plan draft.change outcome.state
+
+-- whatever state the change may lead to, the draft is one of the outcome that goes with it
+abbrev pub DraftsBy : NodeState → Draft → Change → (NodeState → Outcome) → Draft → Type 0
+DraftsBy node old change outcome new = (after : NodeState) → Becomes node old.plan change after → Drafts node (outcome after) new
 
 -- nothing comes out of the draft yet, in the node's epoch
 pub record HasNothing (old : NodeState) (draft : Draft) : Type 0 where

@@ -1,6 +1,6 @@
 -- What elections are about in a node, apart from the rest.
 use Rattle.std.specs.Prelude.{◌≡◌, ℕ, List, Option, None, length, take}
-use Rattle.bus.specs.declared.message.Replaced.{Replaced}
+use Rattle.bus.specs.declared.bodies.Replaced.{Replaced}
 use Rattle.election.specs.Health.{Candidate, Health, Voter, first_health, first_voter, no_candidate}
 use Rattle.node_parts.specs.declared.electing.ElectionState.{ElectionState}
 use Rattle.node_step.specs.State.{NodeState}

@@ -1,7 +1,7 @@
 -- What a replica noted of its master's handover, and drops where its master is another one.
 use Rattle.std.specs.Prelude.{ℕ, ◌==◌, Option, Some, None, if◌then◌else◌}
-use Rattle.bus.specs.declared.message.Handing.{Handing}
-use Rattle.bus.specs.declared.message.Replaced.{Replaced}
+use Rattle.bus.specs.declared.bodies.Handing.{Handing}
+use Rattle.bus.specs.declared.bodies.Replaced.{Replaced}
 use Rattle.election.specs.Health.{no_candidate}
 use Rattle.node_step.specs.Roles.{is_just, without_note}
 use Rattle.node_step.specs.State.{NodeState, own_master}

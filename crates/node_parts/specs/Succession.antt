@@ -1,7 +1,7 @@
 -- A replica takes the place of its master, as it is drafted.
 use Rattle.std.specs.Prelude.{ℕ, Bool, List, Option, Some, None}
 use Rattle.bus.specs.declared.message.Body.{Body}
-use Rattle.bus.specs.declared.message.Replaced.{Replaced}
+use Rattle.bus.specs.declared.bodies.Replaced.{Replaced}
 use Rattle.node_parts.specs.declared.succession.Succession.{Succession}
 use Rattle.node_step.specs.Outcome.{Outcome, silent}
 use Rattle.node_step.specs.Promotion.{in_place_of, own_stream}

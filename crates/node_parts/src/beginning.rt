@@ -18,7 +18,8 @@ pub(crate) fn begin<S: SlotParts + SlotKeys>(
     change: &Change,
 ) -> Result<(), AllocError>
     requires { CanBegin (S.contents store.old) moves.old plan.old change.now }
-    ensures begun { OnOk result (Begins (S.contents store.old) moves.old plan.old change.now (S.contents store.new) moves.new) }
+    ensures begun { OnOk result (Begins (S.contents store.old) moves.old plan.old change.now
+        (S.contents store.new) moves.new) }
     ensures keys { OnErr result (S.contents store.new ≡ S.contents store.old) }
     ensures moves { OnErr result (moves.new ≡ moves.old) }
 {

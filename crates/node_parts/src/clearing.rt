@@ -9,7 +9,8 @@ use slot_store::SlotParts;
 
 /// Removes all keys of these slots.
 pub(crate) fn clear_slots<S: SlotParts>(store: &mut S, slots: &[Slot])
-    ensures { S.contents store.new ≡ fin_map.retain_keys (S.contents store.old) (λ key. not (list_any (λ slot. slot == hash_slot key) slots.now)) }
+    ensures { S.contents store.new ≡ fin_map.retain_keys (S.contents store.old)
+        (λ key. not (list_any (λ slot. slot == hash_slot key) slots.now)) }
 {
     for slot in slots {
         store.clear_slot(*slot);

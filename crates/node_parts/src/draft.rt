@@ -1,11 +1,11 @@
 //! What a step gives, before its state changes.
-ghost use Rattle.std.specs.Prelude.{◌≡◌, [], IfOk, map};
+ghost use Rattle.std.specs.Prelude.{◌≡◌, IfOk, map};
 ghost use Rattle.connections.specs.Connections.{waiting};
 ghost use Rattle.connections.specs.Waiting.{test_of};
 ghost use Rattle.node_parts.specs.Becomes.{Becomes};
 ghost use Rattle.keyspace.specs.Keyspace.{Keyspace};
 ghost use Rattle.keyspace.specs.Plan.{committed};
-ghost use Rattle.node_parts.specs.Drafts.{Drafts, HasNothing, Promotes, at_epoch, bodies_of, parking};
+ghost use Rattle.node_parts.specs.Drafts.{Drafts, DraftsBy, HasNothing, Promotes, at_epoch, bodies_of, parking};
 ghost use Rattle.node_parts.specs.Succession.{promoting};
 ghost use Rattle.node_step.specs.Outcome.{release, replied, replied_sending, silent};
 ghost use Rattle.node_step.specs.Requests.{using_up};
@@ -65,7 +65,10 @@ impl Drop for Draft {
 impl Draft {
     #[inline(always)]
     fn put_reply(&mut self, why: Why, reply: Reply)
-        ensures { self.new ≡ record self.old { response = Response.Replied (record { why = why; reply = reply }) } }
+        ensures { self.new ≡ record self.old {
+          response = Response.Replied
+              (record { why = why; reply = reply });
+        } }
     {
         self.response = Response::Replied(Answer { why, reply });
     }
@@ -105,7 +108,7 @@ impl<S: SlotParts + SlotKeys, T: Stream> NodeParts<S, T> {
     /// Nothing comes out but the change.
     pub fn draft_change(&self, draft: &mut Draft, change: Change)
         requires { HasNothing self.now draft.old }
-        ensures { (after : NodeState) → Becomes self.now draft.old.plan change after → Drafts self.now (silent after) draft.new }
+        ensures { DraftsBy self.now draft.old change silent draft.new }
     {
         draft.put_change(change);
     }
@@ -121,7 +124,7 @@ impl<S: SlotParts + SlotKeys, T: Stream> NodeParts<S, T> {
     /// A reply comes out beside the change.
     pub fn draft_reply(&self, draft: &mut Draft, why: Why, reply: Reply, change: Change)
         requires { HasNothing self.now draft.old }
-        ensures { (after : NodeState) → Becomes self.now draft.old.plan change after → Drafts self.now (replied after why reply) draft.new }
+        ensures { DraftsBy self.now draft.old change (λ after. replied after why reply) draft.new }
     {
         draft.put_reply(why, reply);
         draft.put_change(change);
@@ -130,7 +133,8 @@ impl<S: SlotParts + SlotKeys, T: Stream> NodeParts<S, T> {
     /// The connection gets no reply before a copy is acknowledged, and these messages go out.
     pub fn draft_parked(&self, draft: &mut Draft, bodies: Vec<(NodeNo, Body)>, change: Change)
         requires { HasNothing self.now draft.old }
-        ensures { (after : NodeState) → Becomes self.now draft.old.plan change after → Drafts self.now (parking after bodies.items) draft.new }
+        ensures { DraftsBy self.now draft.old change
+            (λ after. parking after bodies.items) draft.new }
     {
         draft.response = Response::Parked;
         draft.put_bodies(bodies);
@@ -148,7 +152,8 @@ impl<S: SlotParts + SlotKeys, T: Stream> NodeParts<S, T> {
         change: Change,
     )
         requires { HasNothing self.now draft.old }
-        ensures { (after : NodeState) → Becomes self.now draft.old.plan change after → Drafts self.now (replied_sending after why reply bodies.items) draft.new }
+        ensures { DraftsBy self.now draft.old change
+            (λ after. replied_sending after why reply bodies.items) draft.new }
     {
         draft.put_reply(why, reply);
         draft.put_bodies(bodies);
@@ -166,7 +171,9 @@ impl<S: SlotParts + SlotKeys, T: Stream> NodeParts<S, T> {
         change: Change,
     )
         requires { HasNothing self.now draft.old }
-        ensures { (after : NodeState) → Becomes (at_epoch self.now epoch) draft.old.plan change after → Drafts self.now (replied_sending after why reply bodies.items) draft.new }
+        ensures { (after : NodeState)
+            → Becomes (at_epoch self.now epoch) draft.old.plan change after
+            → Drafts self.now (replied_sending after why reply bodies.items) draft.new }
     {
         draft.put_reply(why, reply);
         draft.put_bodies(bodies);
@@ -183,7 +190,8 @@ impl<S: SlotParts + SlotKeys, T: Stream> NodeParts<S, T> {
         change: Change,
     )
         requires { HasNothing self.now draft.old }
-        ensures { (after : NodeState) → Becomes self.now draft.old.plan change after → Drafts self.now (record (silent after) { released = released; sent = bodies.items }) draft.new }
+        ensures { DraftsBy self.now draft.old change (λ after.
+            record (silent after) { released = released; sent = bodies.items }) draft.new }
     {
         draft.released = released;
         draft.put_bodies(bodies);
@@ -206,7 +214,8 @@ impl<S: SlotParts + SlotKeys, T: Stream> NodeParts<S, T> {
 
     /// The reply to each connection that waits so.
     pub fn releases(&self, which: &Waiting, reply: &Reply) -> Result<Releases, AllocError>
-        ensures { IfOk result (λ released. released ≡ map (release reply.now) (waiting self.now.connections (test_of which.now))) }
+        ensures { IfOk result (λ released.
+            released ≡ map (release reply.now) (waiting self.now.connections (test_of which.now))) }
     {
         let waiting = self.connections.waiting(self.alloc, which)?;
         Releases::to_all(self.alloc, waiting.as_slice(), reply)

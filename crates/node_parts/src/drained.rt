@@ -4,7 +4,7 @@ ghost use Rattle.node_parts.specs.Drafts.{bodies_of};
 ghost use Rattle.node_step.specs.Slots.{drained, drained_if_empty, slot_epoch};
 
 use crate::parts::NodeParts;
-use bus::Body;
+use bus::{Body, SlotsBody};
 use key_slot::Slot;
 use repl_stream::Stream;
 use slot_state::Move;
@@ -29,11 +29,11 @@ impl<S: SlotParts + SlotKeys, T: Stream> NodeParts<S, T> {
         match self.moves.get(slot) {
             Some(Move::Leaves { to, number, .. }) => {
                 let epoch = self.slot_epoch(slot);
-                let body = Body::Drained {
+                let body = Body::Slots(SlotsBody::Drained {
                     slot,
                     number: *number,
                     epoch,
-                };
+                });
                 Some((*to, body))
             }
             _ => None,

@@ -12,7 +12,7 @@ ghost use Rattle.step_fault.specs.declared.fault.StepFault.TheVariants.{Exhauste
 
 use crate::masters::succeed;
 use crate::parts::NodeParts;
-use bus::{Body, Handing, Message, Replaced};
+use bus::{Body, Handing, Message, Replaced, SlotsBody};
 use election::{Candidate, Elected, Health, Members, VoteRequest, Voter, is_over, older_if_any};
 use repl_stream::Stream;
 use slot_store::{SlotKeys, SlotParts};
@@ -89,7 +89,8 @@ impl<S: SlotParts + SlotKeys, T: Stream> NodeParts<S, T> {
     /// It gives back what the own master hands over, where that is another one now, and so has told nothing.
     pub fn hear(&mut self, message: &Message) -> Option<Handing>
         ensures state { self.new ≡ ready self.old message.now }
-        ensures note { result ≡ note_dropped self.old message.now.from (replaced_in message.now.body) }
+        ensures note { result
+            ≡ note_dropped self.old message.now.from (replaced_in message.now.body) }
     {
         self.know(message.epoch);
         self.hear_from(message.from, &message.body);
@@ -118,19 +119,10 @@ impl<S: SlotParts + SlotKeys, T: Stream> NodeParts<S, T> {
     fn hear_from(&mut self, from: NodeNo, body: &Body)
         ensures { self.new ≡ hearing self.old from body.now }
     {
-        match body {
-            Body::Report(suspects) => self.election.health.on_report(from, suspects.row()),
-            Body::Copy { .. }
-            | Body::Ack(_)
-            | Body::Drained { .. }
-            | Body::Claim(_, _)
-            | Body::Candidacy(_)
-            | Body::Grant(_)
-            | Body::Sync(_)
-            | Body::Piece(_)
-            | Body::Snapshot(_)
-            | Body::Pause(_)
-            | Body::Paused(_) => self.election.health.on_message(from),
+        if let Body::Report(suspects) = body {
+            self.election.health.on_report(from, suspects.row());
+        } else {
+            self.election.health.on_message(from);
         }
     }
 
@@ -249,8 +241,10 @@ impl<S: SlotParts + SlotKeys, T: Stream> NodeParts<S, T> {
 
     /// Whether the node votes for the candidate, and then that is remembered.
     pub fn vote(&mut self, request: VoteRequest) -> bool
-        ensures granted { result ≡ may_grant self.old.voter (members_of self.old) self.old.health self.old.current_epoch request }
-        ensures state { self.new ≡ record self.old { voter = after_request self.old.voter request result } }
+        ensures granted { result ≡ may_grant self.old.voter
+            (members_of self.old) self.old.health self.old.current_epoch request }
+        ensures state { self.new
+            ≡ record self.old { voter = after_request self.old.voter request result } }
     {
         let members = self.members();
         let mut voter = self.election.voter;
@@ -274,7 +268,10 @@ impl<S: SlotParts + SlotKeys, T: Stream> NodeParts<S, T> {
     /// Counts the vote of a node for this one, and tells whether that elects it.
     pub fn count_vote(&mut self, from: NodeNo, epoch: Epoch) -> Option<Elected>
         ensures elected { result ≡ elected self.old.candidate (members_of self.old) from epoch }
-        ensures state { self.new ≡ record self.old { candidate = counted self.old.candidate (members_of self.old) from epoch } }
+        ensures state { self.new ≡ record self.old {
+          candidate = counted self.old.candidate
+              (members_of self.old) from epoch;
+        } }
     {
         let members = self.members();
         let mut candidate = self.election.candidate;
@@ -288,18 +285,9 @@ impl<S: SlotParts + SlotKeys, T: Stream> NodeParts<S, T> {
 fn replaced_in(body: &Body) -> Option<Replaced>
     ensures { result ≡ replaced_in body.now }
 {
-    match body {
-        Body::Claim(_, replaced) => *replaced,
-        Body::Copy { .. }
-        | Body::Ack(_)
-        | Body::Drained { .. }
-        | Body::Report(_)
-        | Body::Candidacy(_)
-        | Body::Grant(_)
-        | Body::Sync(_)
-        | Body::Piece(_)
-        | Body::Snapshot(_)
-        | Body::Pause(_)
-        | Body::Paused(_) => None,
+    if let Body::Slots(SlotsBody::Claim(_, replaced)) = body {
+        *replaced
+    } else {
+        None
     }
 }

@@ -68,7 +68,8 @@ impl<S: SlotParts + SlotKeys, T: Stream> NodeParts<S, T> {
 
     // The next request of the connection has this asking.
     fn allow(&mut self, conn: Conn, asking: Asking)
-        ensures { self.new ≡ at_connection (using_up self.old conn) conn (λ (connection : Connection). record connection { asking = asking }) }
+        ensures { self.new ≡ at_connection (using_up self.old conn) conn
+            (λ (connection : Connection). record connection { asking = asking }) }
     {
         self.connections.use_up(conn);
         self.connections.allow(conn, asking);
@@ -102,7 +103,8 @@ impl<S: SlotParts + SlotKeys, T: Stream> NodeParts<S, T> {
 
     // Freezes the keys, which are taken, and has the connection wait for the acknowledgement of their copy.
     fn freeze(&mut self, conn: Conn, keys: &mut Keys, wait: Wait)
-        ensures { self.new ≡ waiting_so (with_moves (using_up self.old conn) (frozen self.old.moves wait.id.slot wait.id.copy keys.old)) conn wait }
+        ensures { self.new ≡ waiting_so (with_moves (using_up self.old conn)
+            (frozen self.old.moves wait.id.slot wait.id.copy keys.old)) conn wait }
     {
         let keys = mem::replace(keys, Keys::new(Vec::new(self.alloc)));
         let id = wait.id;

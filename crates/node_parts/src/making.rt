@@ -71,7 +71,8 @@ fn recorded<K: Recorder>(outputs: Outputs) -> Result<(Outputs, K::Record), Alloc
 /// The outputs of a step that gives this response and nothing else, which take no memory.
 pub fn plain<K: Recorder>(ticket: u64, response: Response) -> (Outputs, K::Record)
     requires { HasNoReply response }
-    ensures outputs { result.0 ≡ record { ticket = ticket; response = response; released = []; sent = []; promoted = None } }
+    ensures outputs { result.0
+        ≡ record { ticket = ticket; response = response; released = []; sent = []; promoted = None } }
     ensures recorded { K.recorded result.1 ≡ result.0 }
 {
     let outputs = responded(ticket, response);
@@ -83,7 +84,8 @@ pub fn plain<K: Recorder>(ticket: u64, response: Response) -> (Outputs, K::Recor
 
 // The outputs of a step that gives this response and nothing else.
 fn responded(ticket: u64, response: Response) -> Outputs
-    ensures { result ≡ record { ticket = ticket; response = response; released = []; sent = []; promoted = None } }
+    ensures { result
+        ≡ record { ticket = ticket; response = response; released = []; sent = []; promoted = None } }
 {
     Outputs {
         ticket,

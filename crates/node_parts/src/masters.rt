@@ -21,7 +21,8 @@ pub(crate) fn first_masters(config: &Config) -> [Option<NodeNo>; 16]
 // The same, place by place.
 fn first_row(nodes: &[NodeConfig]) -> [Option<NodeNo>; 16]
     ensures whole { length result ≡ 16 }
-    ensures each { (place : ℕ) → place < 16 → slice_index_or result place None ≡ slice_index_or (first_masters nodes.now) place None }
+    ensures each { (place : ℕ) → place < 16
+        → slice_index_or result place None ≡ slice_index_or (first_masters nodes.now) place None }
 {
     let mut row = [None; 16];
     for place in 0..16 {

@@ -46,7 +46,7 @@ pub struct NodeParts<S: SlotParts + SlotKeys, T: Stream> {
 }
 
 impl<S: SlotParts + SlotKeys, T: Stream> Model for NodeParts<S, T> {
-    ghost use Rattle.std.specs.Prelude.{◌≡◌, ℕ, length, take};
+    ghost use Rattle.std.specs.Prelude.{◌≡◌, length, take};
     ghost use Rattle.node_step.specs.CodedState.{coded_state};
     ghost use Rattle.node_step.specs.State.{NodeState};
 
@@ -74,7 +74,8 @@ impl<S: SlotParts + SlotKeys, T: Stream> Model for NodeParts<S, T> {
 
     ghost use Rattle.node_step.specs.State.{kept_in};
 
-    ghost invariant = { λ parts. (length parts.table ≡ 16384) × (parts.stream.keeps ≡ kept_in parts.config) };
+    ghost invariant = { λ parts.
+        (length parts.table ≡ 16384) × (parts.stream.keeps ≡ kept_in parts.config) };
 }
 
 impl<S: SlotParts + SlotKeys + Drop, T: Stream + Drop> Drop for NodeParts<S, T> {
@@ -167,7 +168,8 @@ fn is_replica(node: &NodeConfig) -> bool
 
 // The stream with which the node of that number begins: its master's, or its own.
 fn first_id(config: &Config, number: NodeNo) -> StreamId
-    ensures { result ≡ first_id (slice_index_or (first_masters config.now.nodes) number None) number }
+    ensures { result
+        ≡ first_id (slice_index_or (first_masters config.now.nodes) number None) number }
 {
     StreamId {
         node: first_at(config.nodes(), number.index()).unwrap_or(number),

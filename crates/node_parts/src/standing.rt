@@ -57,7 +57,8 @@ impl<S: SlotParts + SlotKeys, T: Stream> NodeParts<S, T> {
 
     /// What the master hands over, if the node has all of its stream, and no begun write.
     pub fn handed_over(&self) -> Option<&Handing>
-        ensures { option_copied result ≡ if is_at_end self.now.stream self.now.handover.note then self.now.handover.note else None }
+        ensures { option_copied result
+            ≡ if is_at_end self.now.stream self.now.handover.note then self.now.handover.note else None }
     {
         let handing = self.note.as_ref()?;
         let is_at_end = handing.stream == self.stream.id()

@@ -17,7 +17,8 @@ impl<S: SlotParts + SlotKeys, T: Stream> NodeParts<S, T> {
         body: &Body,
         bodies: &mut Vec<(NodeNo, Body)>,
     ) -> Result<(), AllocError>
-        ensures { OnOk result (bodies.new.items ≡ bodies.old.items ++ to_all (others self.now) body.now) }
+        ensures { OnOk result
+            (bodies.new.items ≡ bodies.old.items ++ to_all (others self.now) body.now) }
     {
         for place in 0..self.config.nodes().len() {
             let to = NodeNo::new(place as u8).unwrap();

@@ -6,7 +6,9 @@ use Rattle.std.specs.FinMap as fin_map
 use Rattle.std.specs.List.{flat_map}
 use Rattle.std.specs.Prelude.{Result, Ok, Err, ⊤}
 use Rattle.bus.specs.declared.message.Body.{Body}
-use Rattle.bus.specs.declared.message.Body.TheVariants.{Copy, Ack, Drained, Claim, Pause}
+use Rattle.bus.specs.declared.bodies.ElectionBody.TheVariants.{Pause}
+use Rattle.bus.specs.declared.bodies.SlotsBody.TheVariants.{Copy, Ack, Drained, Claim}
+use Rattle.bus.specs.declared.message.Body.TheVariants.{Slots, Election}
 use Rattle.command_table.specs.Keys.{data_keys}
 use Rattle.command_table.specs.declared.command.ClusterCommand.{ClusterCommand}
 use Rattle.command_table.specs.declared.command.ClusterCommand.TheVariants as cluster
@@ -57,11 +59,11 @@ use Rattle.node_step.proofs.Copied.{HasPairs, pairs_have}
 
 -- a copy has the values that its keys have at the node
 abbrev pub IsOfSlots : NodeState → Body → Type 0
-IsOfSlots own (Copy id pairs) = HasPairs own.keyspace pairs
-IsOfSlots own (Ack id) = ⊤
-IsOfSlots own (Drained slot number epoch) = ⊤
-IsOfSlots own (Claim slots replaced) = ⊤
-IsOfSlots own (Pause stream) = ⊤
+IsOfSlots own (Slots (Copy id pairs)) = HasPairs own.keyspace pairs
+IsOfSlots own (Slots (Ack id)) = ⊤
+IsOfSlots own (Slots (Drained slot number epoch)) = ⊤
+IsOfSlots own (Slots (Claim slots replaced)) = ⊤
+IsOfSlots own (Election (Pause stream)) = ⊤
 IsOfSlots own other = ⊥
 
 -- all of these messages are such that this holds
@@ -104,7 +106,7 @@ module _ (own : NodeState) where
   drained_by_are : (slot epoch : ℕ) (move : Option Move) → AreAll (IsOfSlots own) (drained_by slot epoch move)
   drained_by_are slot epoch None = all_of_none (IsOfSlots own)
   drained_by_are slot epoch (Some (Comes from number last known)) = all_of_none (IsOfSlots own)
-  drained_by_are slot epoch (Some (Leaves to number copies frozen)) = all_of_one (IsOfSlots own) to (Drained slot number epoch) tt
+  drained_by_are slot epoch (Some (Leaves to number copies frozen)) = all_of_one (IsOfSlots own) to (Slots (Drained slot number epoch)) tt
 
   drained_if_empty_are : (node : NodeState) (slot : ℕ) → AreAll (IsOfSlots own) (drained_if_empty node slot)
   drained_if_empty_are node slot = all_of_if (IsOfSlots own) (has_keys node.keyspace slot) [] (drained node slot) (all_of_none (IsOfSlots own)) (drained_by_are slot (slot_epoch node slot) (move_of node.moves slot))
@@ -120,7 +122,7 @@ module _ (own : NodeState) where
   outstanding_are slot None = all_of_none (IsOfSlots own)
   outstanding_are slot (Some (Comes from number last known)) = all_of_none (IsOfSlots own)
   outstanding_are slot (Some (Leaves to number copies None)) = all_of_none (IsOfSlots own)
-  outstanding_are slot (Some (Leaves to number copies (Some keys))) = all_of_one (IsOfSlots own) to (Copy (copy_id slot number copies) (pairs_at own.keyspace keys)) (pairs_have own.keyspace keys)
+  outstanding_are slot (Some (Leaves to number copies (Some keys))) = all_of_one (IsOfSlots own) to (Slots (Copy (copy_id slot number copies) (pairs_at own.keyspace keys))) (pairs_have own.keyspace keys)
 
 move_sent_again : (node : NodeState) (move : ℕ × Move) → AreAll (IsOfSlots node) (sent_again node move)
 move_sent_again node (slot, Comes from number last known) = all_of_none (IsOfSlots node)
@@ -191,7 +193,7 @@ module _ (P : NodeState → Type 0) (node : NodeState)
 
   failover_does : (master : Option ℕ) → Does (failover node master)
   failover_does None = record { state = holds _ _ _ _ _ _ (omega arith) refl; sent = all_of_none (IsOfSlots node); promoted = refl }
-  failover_does (Some master) = record { state = holds _ _ _ _ _ _ (omega arith) refl; sent = all_of_one (IsOfSlots node) master (Pause node.stream.held.id) tt; promoted = refl }
+  failover_does (Some master) = record { state = holds _ _ _ _ _ _ (omega arith) refl; sent = all_of_one (IsOfSlots node) master (Election (Pause node.stream.held.id)) tt; promoted = refl }
 
   cluster_does : (conn : Conn) (which : ClusterCommand) → Does (cluster_outcome node conn which)
   cluster_does conn (cluster.KeySlot key) = record { state = holds _ _ _ _ _ _ (omega arith) refl; sent = all_of_none (IsOfSlots node); promoted = refl }
@@ -214,8 +216,8 @@ module _ (P : NodeState → Type 0) (node : NodeState)
 
   -- and the messages that slots are moved by
   arrived_does : (from : ℕ) (id : CopyId) (pairs : List (List ℕ × Value)) (verdict : ArrivalVerdict) → Does (arrived node from id pairs verdict)
-  arrived_does from id pairs Installs = record { state = holds _ _ _ _ _ _ (omega arith) refl; sent = all_of_one (IsOfSlots node) from (Ack id) tt; promoted = refl }
-  arrived_does from id pairs Repeats = record { state = holds _ _ _ _ _ _ (omega arith) refl; sent = all_of_one (IsOfSlots node) from (Ack id) tt; promoted = refl }
+  arrived_does from id pairs Installs = record { state = holds _ _ _ _ _ _ (omega arith) refl; sent = all_of_one (IsOfSlots node) from (Slots (Ack id)) tt; promoted = refl }
+  arrived_does from id pairs Repeats = record { state = holds _ _ _ _ _ _ (omega arith) refl; sent = all_of_one (IsOfSlots node) from (Slots (Ack id)) tt; promoted = refl }
   arrived_does from id pairs Ignored = record { state = holds _ _ _ _ _ _ (omega arith) refl; sent = all_of_none (IsOfSlots node); promoted = refl }
 
   pub arrival_is_of_slots : (from : ℕ) (id : CopyId) (pairs : List (List ℕ × Value)) → Does (arrival node from id pairs)

@@ -2,7 +2,8 @@
 use Rattle.std.proofs.Common.{◌≡◌, ℕ, Bool, cond, List, [], ◌∷◌, Option, Some, ap, ◌∙◌}
 use Rattle.std.proofs.lemmas.Cmp.{nat_cmp_total, eq_by_cmp_equiv}
 use Rattle.std.specs.FinMap as fin_map
-use Rattle.bus.specs.declared.message.Body.TheVariants.{Copy}
+use Rattle.bus.specs.declared.bodies.SlotsBody.TheVariants.{Copy}
+use Rattle.bus.specs.declared.message.Body.TheVariants.{Slots}
 use Rattle.keyspace.specs.Keyspace.{Keyspace}
 use Rattle.migrate.proofs.Verdicts.{copies_freeze}
 use Rattle.migrate.specs.Sending.{after_copy_order, copy_verdict, frozen}
@@ -15,7 +16,7 @@ use Rattle.node_step.proofs.Verdicts.{copy_is_again}
 
 -- the copy of the frozen keys is outstanding
 pub outstanding_is : (keyspace : Keyspace) (move : Option Move) (slot to number copy : ℕ) (keys : List (List ℕ)) → move ≡ Some (Leaves to number copy (Some keys))
-    → outstanding keyspace slot move ≡ (to, Copy (copy_id slot number copy) (pairs_at keyspace keys)) ∷ []
+    → outstanding keyspace slot move ≡ (to, Slots (Copy (copy_id slot number copy) (pairs_at keyspace keys))) ∷ []
 outstanding_is keyspace move slot to number copy keys leaves = ap (outstanding keyspace slot) leaves
 
 -- keys whose copy is sent again are frozen

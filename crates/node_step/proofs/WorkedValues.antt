@@ -4,8 +4,11 @@ use Rattle.std.specs.Prelude.{codes, replicate}
 use Rattle.std.specs.FinMap as fin_map
 use Rattle.std.specs.List.{range_with_len}
 use Rattle.bus.specs.declared.message.Body.{Body}
-use Rattle.bus.specs.declared.message.Body.TheVariants.{Claim, Grant, Pause, Paused, Report, Candidacy, Sync}
-use Rattle.bus.specs.declared.message.Handing.{Handing}
+use Rattle.bus.specs.declared.bodies.ElectionBody.TheVariants.{Grant, Pause, Paused, Candidacy}
+use Rattle.bus.specs.declared.bodies.SlotsBody.TheVariants.{Claim}
+use Rattle.bus.specs.declared.bodies.StreamBody.TheVariants.{Sync}
+use Rattle.bus.specs.declared.message.Body.TheVariants.{Slots, Stream, Election, Report}
+use Rattle.bus.specs.declared.bodies.Handing.{Handing}
 use Rattle.cluster_config.specs.Config.{ClusterConfig}
 use Rattle.cluster_config.specs.declared.config.Role.TheVariants.{Master, Replica}
 use Rattle.election.specs.Health.{first_health, first_voter, no_candidate}
@@ -66,33 +69,33 @@ abbrev second_tick : Outcome
 second_tick = ticked first_tick.state
 
 abbrev asked : Outcome
-asked = to_itself second_tick.state (Candidacy (record { epoch = 2; master = 0; planned = false }))
+asked = to_itself second_tick.state (Election (Candidacy (record { epoch = 2; master = 0; planned = false })))
 
 abbrev elected : Outcome
-elected = to_itself asked.state (Grant 2)
+elected = to_itself asked.state (Election (Grant 2))
 
 -- of all nodes that there may be the first alone is suspected
 abbrev suspects_master : Body
 suspects_master = Report (true ∷ replicate 15 false)
 
-first_signs : first_tick.sent ≡ (0, Claim (claim_of replica) None) ∷ (0, suspects_master) ∷ (0, Sync (record { stream = masters_stream; received = 27 })) ∷ []
+first_signs : first_tick.sent ≡ (0, Slots (Claim (claim_of replica) None)) ∷ (0, suspects_master) ∷ (0, Stream (Sync (record { stream = masters_stream; received = 27 }))) ∷ []
 first_signs = refl
 
 election_begins : second_tick.sent
-    ≡ (0, Claim (claim_of replica) None) ∷ (0, suspects_master) ∷ (0, Sync (record { stream = masters_stream; received = 27 })) ∷ (1, Candidacy (record { epoch = 2; master = 0; planned = false })) ∷ []
+    ≡ (0, Slots (Claim (claim_of replica) None)) ∷ (0, suspects_master) ∷ (0, Stream (Sync (record { stream = masters_stream; received = 27 }))) ∷ (1, Election (Candidacy (record { epoch = 2; master = 0; planned = false }))) ∷ []
 election_begins = refl
 
 in_next_epoch : second_tick.state.current_epoch ≡ 2
 in_next_epoch = refl
 
-votes : asked.sent ≡ (1, Grant 2) ∷ []
+votes : asked.sent ≡ (1, Election (Grant 2)) ∷ []
 votes = refl
 
 -- a second request of the epoch gets no vote
-votes_once : (to_itself asked.state (Candidacy (record { epoch = 2; master = 0; planned = false }))).sent ≡ []
+votes_once : (to_itself asked.state (Election (Candidacy (record { epoch = 2; master = 0; planned = false })))).sent ≡ []
 votes_once = refl
 
-takes_over : elected.sent ≡ (0, Claim (claim_of elected.state) (Some (record { master = 0; stream = record { node = 1; epoch = 2 }; offset = 27 }))) ∷ []
+takes_over : elected.sent ≡ (0, Slots (Claim (claim_of elected.state) (Some (record { master = 0; stream = record { node = 1; epoch = 2 }; offset = 27 })))) ∷ []
 takes_over = refl
 
 promoted_so : elected.promoted ≡ Some (record { stream = masters_stream; offset = 27; epoch = 2; planned = false })
@@ -129,7 +132,7 @@ from_master node body = delivered node (record { from = 0; to = 1; ticket = 6; e
 abbrev wishes : Outcome
 wishes = failover replica (own_master replica)
 
-asks_its_master : wishes.sent ≡ (0, Pause masters_stream) ∷ []
+asks_its_master : wishes.sent ≡ (0, Election (Pause masters_stream)) ∷ []
 asks_its_master = refl
 
 no_replica : (failover master (own_master master)).sent ≡ []
@@ -139,14 +142,14 @@ no_replica = refl
 abbrev hands : Outcome
 hands = handing_over master 1
 
-says_what : hands.sent ≡ (1, Paused (handing_of master)) ∷ []
+says_what : hands.sent ≡ (1, Election (Paused (handing_of master))) ∷ []
 says_what = refl
 
 hands_over : hands.state.paused ≡ Some 1
 hands_over = refl
 
 -- another stream is none of its own
-not_that_stream : (to_master master (Pause (record { node = 0; epoch = 3 }))).state.paused ≡ None
+not_that_stream : (to_master master (Election (Pause (record { node = 0; epoch = 3 })))).state.paused ≡ None
 not_that_stream = refl
 
 -- slot 0 alone
@@ -154,7 +157,7 @@ abbrev handed : Handing
 handed = record { stream = masters_stream; offset = 27; slots = record { slots = record { first = 0; last = 0 }; value = 1 } ∷ [] }
 
 abbrev noted : Outcome
-noted = from_master wishes.state (Paused handed)
+noted = from_master wishes.state (Election (Paused handed))
 
 has_noted : noted.state.handover ≡ record { asked = false; note = Some handed; begun = None }
 has_noted = refl
@@ -163,17 +166,17 @@ has_noted = refl
 abbrev planned_tick : Outcome
 planned_tick = ticked noted.state
 
-planned_election : planned_tick.sent ≡ (0, Claim (claim_of replica) None) ∷ (0, suspects_master) ∷ (0, Sync (record { stream = masters_stream; received = 27 })) ∷ (1, Candidacy (record { epoch = 2; master = 0; planned = true })) ∷ []
+planned_election : planned_tick.sent ≡ (0, Slots (Claim (claim_of replica) None)) ∷ (0, suspects_master) ∷ (0, Stream (Sync (record { stream = masters_stream; received = 27 }))) ∷ (1, Election (Candidacy (record { epoch = 2; master = 0; planned = true }))) ∷ []
 planned_election = refl
 
 abbrev planned_vote : Outcome
-planned_vote = to_itself planned_tick.state (Candidacy (record { epoch = 2; master = 0; planned = true }))
+planned_vote = to_itself planned_tick.state (Election (Candidacy (record { epoch = 2; master = 0; planned = true })))
 
-votes_for_it : planned_vote.sent ≡ (1, Grant 2) ∷ []
+votes_for_it : planned_vote.sent ≡ (1, Election (Grant 2)) ∷ []
 votes_for_it = refl
 
 abbrev succeeds : Outcome
-succeeds = to_itself planned_vote.state (Grant 2)
+succeeds = to_itself planned_vote.state (Election (Grant 2))
 
 succeeds_so : succeeds.promoted ≡ Some (record { stream = masters_stream; offset = 27; epoch = 2; planned = true })
 succeeds_so = refl
@@ -186,7 +189,7 @@ has_what_was_handed = refl
 
 -- where a byte is lacking, it stays a replica
 abbrev lacking : Outcome
-lacking = to_itself (record planned_vote.state { stream = record replica.stream { offset = 26 } }) (Grant 2)
+lacking = to_itself (record planned_vote.state { stream = record replica.stream { offset = 26 } }) (Election (Grant 2))
 
 lacks : lacking.promoted ≡ None
 lacks = refl

@@ -27,7 +27,8 @@ use Rattle.migrate.specs.declared.sending.CopyVerdict.TheVariants.{CrossSlot, Wr
 use Rattle.migrate.specs.declared.arriving.ArrivalVerdict.{ArrivalVerdict}
 use Rattle.migrate.specs.declared.arriving.ArrivalVerdict.TheVariants.{Ignored, Installs, Repeats}
 use Rattle.bus.specs.declared.message.Body.{Body}
-use Rattle.bus.specs.declared.message.Body.TheVariants.{Copy, Ack}
+use Rattle.bus.specs.declared.bodies.SlotsBody.TheVariants.{Copy, Ack}
+use Rattle.bus.specs.declared.message.Body.TheVariants.{Slots}
 use Rattle.connections.specs.Connections.{all_freed, waiting, with_change}
 use Rattle.connections.specs.Waiting.{is_for}
 use Rattle.node_step.specs.Outcome.{Outcome, error, release, replied, silent}
@@ -67,7 +68,7 @@ pairs_at keyspace keys = filter_map (λ key. pair_with key (fin_map.get keyspace
 
 -- the copy that is not acknowledged, of a slot with that move, for the node that the slot leaves to
 abbrev pub outstanding : Keyspace → ℕ → Option Move → List (ℕ × Body)
-outstanding keyspace slot (Some (Leaves to number copies (Some keys))) = (to, Copy (copy_id slot number copies) (pairs_at keyspace keys)) ∷ []
+outstanding keyspace slot (Some (Leaves to number copies (Some keys))) = (to, Slots (Copy (copy_id slot number copies) (pairs_at keyspace keys))) ∷ []
 outstanding keyspace slot (Some (Leaves to number copies None)) = []
 outstanding keyspace slot (Some (Comes from number last drained)) = []
 outstanding keyspace slot None = []
@@ -127,8 +128,8 @@ installed keyspace pairs Repeats = keyspace
 installed keyspace pairs Ignored = keyspace
 
 abbrev pub ack_by : ℕ → CopyId → ArrivalVerdict → List (ℕ × Body)
-ack_by from id Installs = (from, Ack id) ∷ []
-ack_by from id Repeats = (from, Ack id) ∷ []
+ack_by from id Installs = (from, Slots (Ack id)) ∷ []
+ack_by from id Repeats = (from, Slots (Ack id)) ∷ []
 ack_by from id Ignored = []
 
 abbrev pub arrived : NodeState → ℕ → CopyId → List (List ℕ × Value) → ArrivalVerdict → Outcome

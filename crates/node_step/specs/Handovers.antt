@@ -5,8 +5,9 @@ use Rattle.std.specs.FinMap as fin_map
 use Rattle.command_table.specs.declared.error_line.ErrorLine.TheVariants as line
 use Rattle.slot_table.specs.declared.runs.Run.{Run}
 use Rattle.bus.specs.declared.message.Body.{Body}
-use Rattle.bus.specs.declared.message.Body.TheVariants.{Pause, Paused}
-use Rattle.bus.specs.declared.message.Handing.{Handing}
+use Rattle.bus.specs.declared.bodies.ElectionBody.TheVariants.{Pause, Paused}
+use Rattle.bus.specs.declared.message.Body.TheVariants.{Election}
+use Rattle.bus.specs.declared.bodies.Handing.{Handing}
 use Rattle.stream_values.specs.Stream.{StreamView, is_same, is_whole}
 use Rattle.stream_values.specs.declared.stream_id.StreamId.{StreamId}
 use Rattle.node_step.specs.Orders.{claim_of, done}
@@ -23,11 +24,11 @@ wishing node = record node { handover = record node.handover { asked = is_none n
 
 abbrev pub failover : NodeState → Option ℕ → Outcome
 failover node None = replied node TakesOver (error line.NotReplica)
-failover node (Some master) = replied_sending (wishing node) TakesOver done ((master, Pause node.stream.held.id) ∷ [])
+failover node (Some master) = replied_sending (wishing node) TakesOver done ((master, Election (Pause node.stream.held.id)) ∷ [])
 
 -- and again at each tick
 abbrev pub asked_again : Bool → StreamId → Option ℕ → List (ℕ × Body)
-asked_again true stream (Some master) = (master, Pause stream) ∷ []
+asked_again true stream (Some master) = (master, Election (Pause stream)) ∷ []
 asked_again true stream None = []
 asked_again false stream master = []
 
@@ -54,11 +55,11 @@ handing_of node = record { stream = node.stream.held.id; offset = node.stream.of
 abbrev pub handed_again : NodeState → Option ℕ → List (Run ℕ) → List (ℕ × Body)
 handed_again node None slots = []
 handed_again node (Some replica) [] = []
-handed_again node (Some replica) (run ∷ runs) = (replica, Paused (handing_of node)) ∷ []
+handed_again node (Some replica) (run ∷ runs) = (replica, Election (Paused (handing_of node))) ∷ []
 
 -- and once in any case
 abbrev pub handed_to : NodeState → ℕ → Option ℕ → List (ℕ × Body)
-handed_to node replica None = (replica, Paused (handing_of node)) ∷ []
+handed_to node replica None = (replica, Election (Paused (handing_of node))) ∷ []
 handed_to node replica (Some other) = handed_again node (Some replica) (claim_of node)
 
 abbrev pub handing_over : NodeState → ℕ → Outcome

@@ -19,7 +19,8 @@ use Rattle.slot_state.specs.declared.migrating.MigrateVerdict.TheVariants as mig
 use Rattle.slot_state.specs.declared.ending.NodeVerdict.{NodeVerdict}
 use Rattle.slot_state.specs.declared.ending.NodeVerdict.TheVariants as ending
 use Rattle.bus.specs.declared.message.Body.{Body}
-use Rattle.bus.specs.declared.message.Body.TheVariants.{Claim as Claims}
+use Rattle.bus.specs.declared.bodies.SlotsBody.TheVariants.{Claim as Claims}
+use Rattle.bus.specs.declared.message.Body.TheVariants.{Slots}
 use Rattle.node_step.specs.Outcome.{Outcome, error, replied, replied_sending}
 use Rattle.node_step.specs.Slots.{drained_if_empty, slot_epoch}
 use Rattle.node_step.specs.State.{NodeState, standing}
@@ -112,7 +113,7 @@ claim_of node = runs_of (claim_at node.table node.number)
 -- by the verdict
 abbrev pub ending_outcome : NodeState → ℕ → NodeVerdict → Outcome
 ending_outcome node slot (ending.Ends drained) = let after = with_slot node slot (new_epoch node slot drained) in
-    replied_sending after (Ends (ending.Ends drained)) done (to_all (others node) (Claims (claim_of after) node.replaced))
+    replied_sending after (Ends (ending.Ends drained)) done (to_all (others node) (Slots (Claims (claim_of after) node.replaced)))
 ending_outcome node slot verdict = replied node (Ends verdict) (ending_reply verdict)
 
 abbrev pub ending_verdict : NodeState → ℕ → Option ℕ → Option ℕ → NodeVerdict

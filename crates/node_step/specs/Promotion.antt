@@ -5,8 +5,9 @@ use Rattle.slot_table.specs.Claims.{greater, in_epoch, merged}
 use Rattle.slot_table.specs.Table.{owner_in}
 use Rattle.slot_table.specs.declared.entry.SlotEntry.{SlotEntry}
 use Rattle.slot_table.specs.declared.runs.Run.{Run}
-use Rattle.bus.specs.declared.message.Body.TheVariants.{Claim}
-use Rattle.bus.specs.declared.message.Handing.{Handing}
+use Rattle.bus.specs.declared.bodies.SlotsBody.TheVariants.{Claim}
+use Rattle.bus.specs.declared.message.Body.TheVariants.{Slots}
+use Rattle.bus.specs.declared.bodies.Handing.{Handing}
 use Rattle.election.specs.Health.{no_candidate}
 use Rattle.stream_values.specs.Stream.{promoted as going_on}
 use Rattle.stream_values.specs.declared.stream_id.StreamId.{StreamId}
@@ -53,7 +54,7 @@ in_place_of node master epoch table = record node {
 -- all others get its claim
 abbrev pub promotion_to : NodeState → ℕ → ℕ → Bool → List (Option SlotEntry) → Outcome
 promotion_to node master epoch planned table = let after = in_place_of node master epoch table in record (silent after) {
-  sent = to_all (others node) (Claim (claim_of after) after.replaced);
+  sent = to_all (others node) (Slots (Claim (claim_of after) after.replaced));
   promoted = Some (record { stream = node.stream.held.id; offset = node.stream.offset; epoch = epoch; planned = planned });
 }
 

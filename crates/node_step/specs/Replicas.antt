@@ -13,7 +13,8 @@ use Rattle.stream_values.specs.declared.answer.SyncAnswer.TheVariants as answers
 use Rattle.stream_values.specs.declared.snapshot.Snapshot.{Snapshot as Whole}
 use Rattle.stream_values.specs.declared.sync.Sync.{Sync as Asked}
 use Rattle.bus.specs.declared.message.Body.{Body}
-use Rattle.bus.specs.declared.message.Body.TheVariants.{Piece, Snapshot, Sync}
+use Rattle.bus.specs.declared.bodies.StreamBody.TheVariants.{Piece, Snapshot, Sync}
+use Rattle.bus.specs.declared.message.Body.TheVariants.{Stream}
 use Rattle.node_step.specs.Outcome.{Outcome, silent}
 use Rattle.node_step.specs.Roles.{is_just}
 use Rattle.node_step.specs.State.{NodeState, is_replica, own_master}
@@ -23,13 +24,13 @@ use Rattle.node_step.specs.State.{NodeState, is_replica, own_master}
 -- at a tick, to its master
 abbrev pub sync_to : StreamView → Option ℕ → List (ℕ × Body)
 sync_to stream None = []
-sync_to stream (Some master) = (master, Sync (record { stream = stream.held.id; received = received stream })) ∷ []
+sync_to stream (Some master) = (master, Stream (Sync (record { stream = stream.held.id; received = received stream }))) ∷ []
 
 abbrev pub sync_answer : NodeState → ℕ → SyncAnswer → List (ℕ × Body)
 sync_answer node from answers.UpToDate = []
-sync_answer node from (answers.Piece piece) = (from, Piece piece) ∷ []
+sync_answer node from (answers.Piece piece) = (from, Stream (Piece piece)) ∷ []
 sync_answer node from answers.Snapshot =
-    (from, Snapshot (record { stream = node.stream.held.id; offset = node.stream.offset; pairs = fin_map.entries node.keyspace })) ∷ []
+    (from, Stream (Snapshot (record { stream = node.stream.held.id; offset = node.stream.offset; pairs = fin_map.entries node.keyspace }))) ∷ []
 
 -- a master answers any node, a replica none
 abbrev pub synced : NodeState → ℕ → Asked → Outcome

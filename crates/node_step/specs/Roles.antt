@@ -3,8 +3,9 @@
 use Rattle.std.specs.Prelude.{ℕ, ◌==◌, Bool, false, List, length, map, Option, Some, None, slice_index_or, slice_set, if◌then◌else◌}
 use Rattle.std.specs.List.{filter, range_with_len}
 use Rattle.bus.specs.declared.message.Body.{Body}
-use Rattle.bus.specs.declared.message.Body.TheVariants.{Claim}
-use Rattle.bus.specs.declared.message.Replaced.{Replaced}
+use Rattle.bus.specs.declared.bodies.SlotsBody.TheVariants.{Claim}
+use Rattle.bus.specs.declared.message.Body.TheVariants.{Slots}
+use Rattle.bus.specs.declared.bodies.Replaced.{Replaced}
 use Rattle.election.specs.Health.{no_candidate}
 use Rattle.node_step.specs.State.{Handover, NodeState, own_master}
 
@@ -42,7 +43,7 @@ with_master node former next = record node {
 
 -- whose place the sender of a claim took, if it was promoted
 abbrev pub replaced_in : Body → Option Replaced
-replaced_in (Claim slots replaced) = replaced
+replaced_in (Slots (Claim slots replaced)) = replaced
 replaced_in other = None
 
 -- a node learns nothing of its own promotion by a message

@@ -10,7 +10,8 @@ use Rattle.slot_state.specs.Moves.{move_of}
 use Rattle.slot_state.specs.declared.running.Move.{Move}
 use Rattle.slot_state.specs.declared.running.Move.TheVariants.{Leaves, Comes}
 use Rattle.bus.specs.declared.message.Body.{Body}
-use Rattle.bus.specs.declared.message.Body.TheVariants.{Drained}
+use Rattle.bus.specs.declared.bodies.SlotsBody.TheVariants.{Drained}
+use Rattle.bus.specs.declared.message.Body.TheVariants.{Slots}
 use Rattle.node_step.specs.State.{NodeState}
 
 -- the keys of the slot, in byte order
@@ -37,7 +38,7 @@ slot_epoch node slot = epoch_in_table (entry_at node.table slot)
 abbrev pub drained_by : ℕ → ℕ → Option Move → List (ℕ × Body)
 drained_by slot epoch None = []
 drained_by slot epoch (Some (Comes from number last drained)) = []
-drained_by slot epoch (Some (Leaves to number copies frozen)) = (to, Drained slot number epoch) ∷ []
+drained_by slot epoch (Some (Leaves to number copies frozen)) = (to, Slots (Drained slot number epoch)) ∷ []
 
 abbrev pub drained : NodeState → ℕ → List (ℕ × Body)
 drained node slot = drained_by slot (slot_epoch node slot) (move_of node.moves slot)

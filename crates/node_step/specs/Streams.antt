@@ -18,7 +18,8 @@ use Rattle.slot_table.specs.declared.entry.SlotEntry.{SlotEntry}
 use Rattle.slot_table.specs.declared.runs.Run.{Run}
 use Rattle.migrate.specs.declared.arriving.ArrivalVerdict.{ArrivalVerdict}
 use Rattle.migrate.specs.declared.arriving.ArrivalVerdict.TheVariants.{Installs}
-use Rattle.bus.specs.declared.message.Body.TheVariants.{Piece}
+use Rattle.bus.specs.declared.bodies.StreamBody.TheVariants.{Piece}
+use Rattle.bus.specs.declared.message.Body.TheVariants.{Stream}
 use Rattle.stream_values.specs.Stream.{end_of, written}
 use Rattle.node_step.specs.Claiming.{is_lost}
 use Rattle.node_step.specs.Orders.{to_all}
@@ -95,6 +96,6 @@ abbrev pub with_written : Outcome → Requests → ℕ → Outcome
 with_written outcome [] dropped = outcome
 with_written outcome (request ∷ requests) dropped = let bytes = stream_spelling (request ∷ requests) in let stream = outcome.state.stream in record outcome {
   sent = outcome.sent ++ to_all (replicas_of outcome.state.masters outcome.state.number)
-      (Piece (record { stream = stream.held.id; from = end_of stream.held; bytes = bytes; base = stream.former }));
+      (Stream (Piece (record { stream = stream.held.id; from = end_of stream.held; bytes = bytes; base = stream.former })));
   state = record outcome.state { stream = written dropped bytes stream };
 }

@@ -7,7 +7,8 @@ use Rattle.command_table.specs.declared.error_line.ErrorLine.TheVariants as line
 use Rattle.slot_state.specs.declared.running.Move.{Move}
 use Rattle.slot_state.specs.declared.running.Move.TheVariants.{Leaves, Comes}
 use Rattle.bus.specs.declared.message.Body.{Body}
-use Rattle.bus.specs.declared.message.Body.TheVariants.{Claim, Report}
+use Rattle.bus.specs.declared.bodies.SlotsBody.TheVariants.{Claim}
+use Rattle.bus.specs.declared.message.Body.TheVariants.{Slots, Report}
 use Rattle.connections.specs.Connections.{all_aged, all_freed, is_over, waiting}
 use Rattle.election.specs.Failing.{suspected}
 use Rattle.node_step.specs.Copies.{outstanding}
@@ -41,7 +42,7 @@ slots_tick node = record (silent (older node)) {
 
 -- which slots the node has, and whom it suspects: also nothing is a sign that it lives
 abbrev pub signs : NodeState → List (ℕ × Body)
-signs node = to_all (others node) (Claim (claim_of node) node.replaced) ++ to_all (others node) (Report (suspected node.health (members_of node)))
+signs node = to_all (others node) (Slots (Claim (claim_of node) node.replaced)) ++ to_all (others node) (Report (suspected node.health (members_of node)))
 
 -- behind that a replica tells its master how much of its stream it received, and may ask it to hand over; a master that does tells so; and
 -- an election begins, if it is due

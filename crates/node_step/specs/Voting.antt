@@ -3,8 +3,9 @@
 use Rattle.std.specs.Prelude.{ℕ, ◌*◌, Bool, true, false, List, [], ◌∷◌, filter, length, is_some, Option, Some, None, if◌then◌else◌}
 use Rattle.std.specs.List.{range_with_len}
 use Rattle.bus.specs.declared.message.Body.{Body}
-use Rattle.bus.specs.declared.message.Body.TheVariants.{Grant, Candidacy}
-use Rattle.bus.specs.declared.message.Candidacy.{Candidacy as Asked}
+use Rattle.bus.specs.declared.bodies.ElectionBody.TheVariants.{Grant, Candidacy}
+use Rattle.bus.specs.declared.message.Body.TheVariants.{Election}
+use Rattle.bus.specs.declared.bodies.Candidacy.{Candidacy as Asked}
 use Rattle.election.specs.Electing.{begun, begun_planned, counted, elected, is_due, is_over, next_epoch}
 use Rattle.election.specs.Health.{Candidate}
 use Rattle.election.specs.Members.{is_voter}
@@ -24,7 +25,7 @@ abbrev pub request_of : ℕ → Asked → VoteRequest
 request_of from request = record { candidate = from; epoch = request.epoch; master = request.master; planned = request.planned }
 
 abbrev pub grant_to : VoteRequest → Bool → List (ℕ × Body)
-grant_to request granted = if granted then (request.candidate, Grant request.epoch) ∷ [] else []
+grant_to request granted = if granted then (request.candidate, Election (Grant request.epoch)) ∷ [] else []
 
 abbrev pub voting : NodeState → VoteRequest → Bool → Outcome
 voting node request granted =
@@ -82,4 +83,4 @@ voters_of node = filter (is_voter (members_of node)) (range_with_len 0 (length n
 abbrev pub requests_in : NodeState → Option ℕ → Option ℕ → List (ℕ × Body)
 requests_in node None master = []
 requests_in node (Some epoch) None = []
-requests_in node (Some epoch) (Some master) = to_all (voters_of node) (Candidacy (record { epoch = epoch; master = master; planned = may_take_over node }))
+requests_in node (Some epoch) (Some master) = to_all (voters_of node) (Election (Candidacy (record { epoch = epoch; master = master; planned = may_take_over node })))

@@ -189,7 +189,8 @@ impl Messages {
         epoch: Epoch,
         bodies: Vec<(NodeNo, Body)>,
     ) -> Result<Messages, AllocError>
-        ensures sent { IfOk result (λ messages. messages ≡ map (stamped from ticket epoch) bodies.items) }
+        ensures sent { IfOk result
+            (λ messages. messages ≡ map (stamped from ticket epoch) bodies.items) }
         ensures none { bodies.items ≡ [] → IsOk result }
     {
         if bodies.is_empty() {

@@ -5,7 +5,7 @@ use hash::Hash;
 use key_map::KeyMap;
 use std::alloc::{AllocError, Global};
 
-/// So many fields, or keys, no longer lie in a list.
+// With this many fields, or keys, they no longer lie in a list.
 const MANY: u8 = 10;
 
 // The length of a field's value. So many of them as MANY don't lie in one block.

@@ -3,6 +3,9 @@ use Rattle.std.proofs.Common.{◌≡◌, ◌<◌, ◌==◌, ◌*◌, ℕ, List, 
 use Rattle.std.proofs.lemmas.Bool.{and_from, and_parts, both_ways, cases_eq, eq-eqb, eqb-true, lt-ltb, ltb-true}
 use Rattle.std.specs.Prelude.{◌&&◌, count_by, slice_index_or}
 use Rattle.bus.specs.declared.message.Body.{Body}
+use Rattle.bus.specs.declared.bodies.ElectionBody.TheVariants as of_election
+use Rattle.bus.specs.declared.bodies.SlotsBody.TheVariants as of_slots
+use Rattle.bus.specs.declared.bodies.StreamBody.TheVariants as of_stream
 use Rattle.bus.specs.declared.message.Body.TheVariants as body
 use Rattle.bus.specs.declared.message.Message.{Message}
 use Rattle.election.specs.Health.{Election}
@@ -14,25 +17,25 @@ use Rattle.one_master.specs.Stands.{AreSent}
 
 -- ---- one message
 
-granted_is : (said : Body) (epoch : ℕ) → grants said epoch ≡ true → said ≡ body.Grant epoch
-granted_is (body.Grant granted) epoch is = ap body.Grant (eqb-true granted epoch is)
-granted_is (body.Copy id pairs) epoch is = absurd (both_ways false refl is)
-granted_is (body.Ack id) epoch is = absurd (both_ways false refl is)
-granted_is (body.Drained slot number said) epoch is = absurd (both_ways false refl is)
-granted_is (body.Claim slots replaced) epoch is = absurd (both_ways false refl is)
+granted_is : (said : Body) (epoch : ℕ) → grants said epoch ≡ true → said ≡ body.Election (of_election.Grant epoch)
+granted_is (body.Election (of_election.Grant granted)) epoch is = ap (λ (said : ℕ). body.Election (of_election.Grant said)) (eqb-true granted epoch is)
+granted_is (body.Slots (of_slots.Copy id pairs)) epoch is = absurd (both_ways false refl is)
+granted_is (body.Slots (of_slots.Ack id)) epoch is = absurd (both_ways false refl is)
+granted_is (body.Slots (of_slots.Drained slot number said)) epoch is = absurd (both_ways false refl is)
+granted_is (body.Slots (of_slots.Claim slots replaced)) epoch is = absurd (both_ways false refl is)
 granted_is (body.Report suspects) epoch is = absurd (both_ways false refl is)
-granted_is (body.Candidacy request) epoch is = absurd (both_ways false refl is)
-granted_is (body.Sync sync) epoch is = absurd (both_ways false refl is)
-granted_is (body.Piece piece) epoch is = absurd (both_ways false refl is)
-granted_is (body.Snapshot snapshot) epoch is = absurd (both_ways false refl is)
-granted_is (body.Pause stream) epoch is = absurd (both_ways false refl is)
-granted_is (body.Paused handing) epoch is = absurd (both_ways false refl is)
+granted_is (body.Election (of_election.Candidacy request)) epoch is = absurd (both_ways false refl is)
+granted_is (body.Stream (of_stream.Sync sync)) epoch is = absurd (both_ways false refl is)
+granted_is (body.Stream (of_stream.Piece piece)) epoch is = absurd (both_ways false refl is)
+granted_is (body.Stream (of_stream.Snapshot snapshot)) epoch is = absurd (both_ways false refl is)
+granted_is (body.Election (of_election.Pause stream)) epoch is = absurd (both_ways false refl is)
+granted_is (body.Election (of_election.Paused handing)) epoch is = absurd (both_ways false refl is)
 
 -- what a vote is
 record IsVote (voter epoch candidate : ℕ) (message : Message) : Type 0 where
   from : message.from ≡ voter
   to : message.to ≡ candidate
-  body : message.body ≡ body.Grant epoch
+  body : message.body ≡ body.Election (of_election.Grant epoch)
 
 vote_parts : (voter epoch candidate : ℕ) (message : Message) → is_vote voter epoch candidate message ≡ true → IsVote voter epoch candidate message
 vote_parts voter epoch candidate message is =
@@ -41,7 +44,7 @@ vote_parts voter epoch candidate message is =
     record { from = eqb-true message.from voter ends.0; to = eqb-true message.to candidate ends.1; body = granted_is message.body epoch parts.1 }
 
 -- a vote that was sent was cast
-pub sent_is_cast : (sent : List Message) (message : Message) (epoch : ℕ) → Contains sent message → message.body ≡ body.Grant epoch → was_cast sent message.from epoch message.to ≡ true
+pub sent_is_cast : (sent : List Message) (message : Message) (epoch : ℕ) → Contains sent message → message.body ≡ body.Election (of_election.Grant epoch) → was_cast sent message.from epoch message.to ≡ true
 sent_is_cast sent message epoch among is =
     any_of (is_vote message.from epoch message.to) sent message among
     (and_from (message.from == message.from && message.to == message.to) (grants message.body epoch)
@@ -53,14 +56,14 @@ sent_is_cast sent message epoch among is =
 -- a vote among the messages of a step is its node's
 pub record IsOfStep (n : ℕ) (sent : List (ℕ × Body)) (voter epoch candidate : ℕ) : Type 0 where
   pub by : voter ≡ n
-  pub among : Contains sent (candidate, body.Grant epoch)
+  pub among : Contains sent (candidate, body.Election (of_election.Grant epoch))
 
 pub cast_now : (n ticket current : ℕ) (sent : List (ℕ × Body)) (voter epoch candidate : ℕ) → was_cast (map (stamped n ticket current) sent) voter epoch candidate ≡ true → IsOfStep n sent voter epoch candidate
 cast_now n ticket current sent voter epoch candidate is =
     let found = any_from (is_vote voter epoch candidate) (map (stamped n ticket current) sent) is in
     let vote = vote_parts voter epoch candidate found.it found.is in
     let source = from_map (stamped n ticket current) sent found.it found.among in
-    let same : source.0 ≡ (candidate, body.Grant epoch) =
+    let same : source.0 ≡ (candidate, body.Election (of_election.Grant epoch)) =
     ap₂ (λ (to : ℕ) (said : Body). (to, said)) (ap (λ (m : Message). m.to) source.2 ∙ vote.to) (ap (λ (m : Message). m.body) source.2 ∙ vote.body) in
     record {
       by = sym vote.from ∙ sym (ap (λ (m : Message). m.from) source.2);

@@ -3,8 +3,11 @@ use Rattle.std.proofs.Common.{◌≡◌, ◌<◌, ◌≤◌, ◌==◌, ℕ, List
 use Rattle.std.proofs.lemmas.Bool.{and_parts, eqb-true, ltb-true}
 use Rattle.std.specs.Prelude.{◌&&◌, ◌||◌, MatchBool, is_some, nat_le, nat_lt}
 use Rattle.bus.specs.declared.message.Body.{Body}
+use Rattle.bus.specs.declared.bodies.ElectionBody.TheVariants as of_election
+use Rattle.bus.specs.declared.bodies.SlotsBody.TheVariants as of_slots
+use Rattle.bus.specs.declared.bodies.StreamBody.TheVariants as of_stream
 use Rattle.bus.specs.declared.message.Body.TheVariants as body
-use Rattle.bus.specs.declared.message.Handing.{Handing}
+use Rattle.bus.specs.declared.bodies.Handing.{Handing}
 use Rattle.bus.specs.declared.message.Message.{Message}
 use Rattle.command_table.specs.Table.{command_of}
 use Rattle.connections.specs.Connections.{connection_at, may_ask}
@@ -135,12 +138,12 @@ module _ (voters : List ℕ) (sent : List Message) (n : ℕ) (node : NodeState) 
       }
     where
       grant_epoch : Body → ℕ
-      grant_epoch (body.Grant epoch) = epoch
+      grant_epoch (body.Election (of_election.Grant epoch)) = epoch
       grant_epoch other = 0
 
-      the_vote : (candidate epoch : ℕ) → Contains (grant_to request true) (candidate, body.Grant epoch) → (request.candidate ≡ candidate) × (request.epoch ≡ epoch)
+      the_vote : (candidate epoch : ℕ) → Contains (grant_to request true) (candidate, body.Election (of_election.Grant epoch)) → (request.candidate ≡ candidate) × (request.epoch ≡ epoch)
       the_vote candidate epoch among =
-          let same = contains_one (request.candidate, body.Grant request.epoch) (candidate, body.Grant epoch) among in
+          let same = contains_one (request.candidate, body.Election (of_election.Grant request.epoch)) (candidate, body.Election (of_election.Grant epoch)) among in
           (ap (λ (p : ℕ × Body). p.0) same, ap (λ (p : ℕ × Body). grant_epoch p.1) same)
 
   -- a node votes for this one
@@ -167,7 +170,7 @@ module _ (voters : List ℕ) (sent : List Message) (n : ℕ) (node : NodeState) 
           number = stands.number;
           voters_are = stands.voters_are;
           rises = omega arith;
-          votes = λ candidate epoch among. absurd (all_to_all IsNoVote (others counting) _ (λ epoch is. cc) candidate (body.Grant epoch) among epoch refl);
+          votes = λ candidate epoch among. absurd (all_to_all IsNoVote (others counting) _ (λ epoch is. cc) candidate (body.Election (of_election.Grant epoch)) among epoch refl);
           counted = tt;
           stays = λ was. master_now;
           promoted = λ promotion told. record {
@@ -208,17 +211,17 @@ module _ (voters : List ℕ) (sent : List Message) (n : ℕ) (node : NodeState) 
   -- an answer to a replica
   sync_sent : (from : ℕ) (answer : SyncAnswer) → AreAll IsNoVote (sync_answer node from answer)
   sync_sent from answers.UpToDate = all_of_none IsNoVote
-  sync_sent from (answers.Piece piece) = all_of_one IsNoVote from (body.Piece piece) (λ epoch is. cc)
+  sync_sent from (answers.Piece piece) = all_of_one IsNoVote from (body.Stream (of_stream.Piece piece)) (λ epoch is. cc)
   sync_sent from answers.Snapshot = all_of_one IsNoVote from _ (λ epoch is. cc)
 
   -- a master is asked to hand over, and a replica is told of it
   handed_again_sent : (replica : Option ℕ) (slots : List (Run ℕ)) → AreAll IsNoVote (handed_again node replica slots)
   handed_again_sent None slots = all_of_none IsNoVote
   handed_again_sent (Some replica) [] = all_of_none IsNoVote
-  handed_again_sent (Some replica) (run ∷ slots) = all_of_one IsNoVote replica (body.Paused (handing_of node)) (λ epoch is. cc)
+  handed_again_sent (Some replica) (run ∷ slots) = all_of_one IsNoVote replica (body.Election (of_election.Paused (handing_of node))) (λ epoch is. cc)
 
   handed_sent : (replica : ℕ) (paused : Option ℕ) → AreAll IsNoVote (handed_to node replica paused)
-  handed_sent replica None = all_of_one IsNoVote replica (body.Paused (handing_of node)) (λ epoch is. cc)
+  handed_sent replica None = all_of_one IsNoVote replica (body.Election (of_election.Paused (handing_of node))) (λ epoch is. cc)
   handed_sent replica (Some other) = handed_again_sent (Some replica) (claim_of node)
 
   pause_leaves : (from : ℕ) (stream : StreamId) → Leaves (asked_to_pause node from stream)
@@ -236,28 +239,28 @@ module _ (voters : List ℕ) (sent : List Message) (n : ℕ) (node : NodeState) 
       by_test false = nothing
 
   -- a row of messages
-  so_taken_leaves : (from : ℕ) (choice : Choice) (said : Body) → ((epoch : ℕ) → said ≡ body.Grant epoch → was_cast sent from epoch n ≡ true) → Leaves (taken_so node from choice said)
-  so_taken_leaves from choice (body.Copy id pairs) cast =
+  so_taken_leaves : (from : ℕ) (choice : Choice) (said : Body) → ((epoch : ℕ) → said ≡ body.Election (of_election.Grant epoch) → was_cast sent from epoch n ≡ true) → Leaves (taken_so node from choice said)
+  so_taken_leaves from choice (body.Slots (of_slots.Copy id pairs)) cast =
       of_slots voters sent n node stands _ _ (arrival_is_of_slots (IsStill node) node (λ keyspace table moves current handover connections known noted. record { number = refl; config = refl; voter = refl; election = inl refl; role = refl }) from id pairs)
-  so_taken_leaves from choice (body.Ack id) cast =
+  so_taken_leaves from choice (body.Slots (of_slots.Ack id)) cast =
       of_slots voters sent n node stands _ _ (acknowledgement_is_of_slots (IsStill node) node (λ keyspace table moves current handover connections known noted. record { number = refl; config = refl; voter = refl; election = inl refl; role = refl }) from id)
-  so_taken_leaves from choice (body.Drained slot number epoch) cast =
+  so_taken_leaves from choice (body.Slots (of_slots.Drained slot number epoch)) cast =
       of_slots voters sent n node stands _ _ (noted_is_of_slots (IsStill node) node (λ keyspace table moves current handover connections known noted. record { number = refl; config = refl; voter = refl; election = inl refl; role = refl }) from slot number epoch)
-  so_taken_leaves from choice (body.Claim slots replaced) cast =
+  so_taken_leaves from choice (body.Slots (of_slots.Claim slots replaced)) cast =
       of_slots voters sent n node stands _ _ (claim_is_of_slots (IsStill node) node (λ keyspace table moves current handover connections known noted. record { number = refl; config = refl; voter = refl; election = inl refl; role = refl }) from slots)
   so_taken_leaves from choice (body.Report suspects) cast = nothing
-  so_taken_leaves from choice (body.Candidacy request) cast = vote_leaves (request_of from request) _ refl
-  so_taken_leaves from choice (body.Grant epoch) cast = voted_leaves from epoch (cast epoch refl) _ refl
-  so_taken_leaves from choice (body.Sync sync) cast =
+  so_taken_leaves from choice (body.Election (of_election.Candidacy request)) cast = vote_leaves (request_of from request) _ refl
+  so_taken_leaves from choice (body.Election (of_election.Grant epoch)) cast = voted_leaves from epoch (cast epoch refl) _ refl
+  so_taken_leaves from choice (body.Stream (of_stream.Sync sync)) cast =
       synced_is Leaves node from sync nothing (quiet voters sent n node stands _ (record { number = refl; config = refl; voter = refl; election = inl refl; role = refl }) (sync_sent from (answer_to node.stream sync)) refl)
-  so_taken_leaves from choice (body.Piece piece) cast =
+  so_taken_leaves from choice (body.Stream (of_stream.Piece piece)) cast =
       quiet voters sent n node stands _ (pieced_keeps (IsStill node) node (λ stream keyspace. record { number = refl; config = refl; voter = refl; election = inl refl; role = refl }) from piece choice.follower) (all_of_none IsNoVote) refl
-  so_taken_leaves from choice (body.Snapshot snapshot) cast =
+  so_taken_leaves from choice (body.Stream (of_stream.Snapshot snapshot)) cast =
       quiet voters sent n node stands _ (restored_keeps (IsStill node) node (λ stream keyspace. record { number = refl; config = refl; voter = refl; election = inl refl; role = refl }) from snapshot) (all_of_none IsNoVote) refl
-  so_taken_leaves from choice (body.Pause stream) cast = pause_leaves from stream
-  so_taken_leaves from choice (body.Paused handing) cast = noting_leaves handing
+  so_taken_leaves from choice (body.Election (of_election.Pause stream)) cast = pause_leaves from stream
+  so_taken_leaves from choice (body.Election (of_election.Paused handing)) cast = noting_leaves handing
 
-  taken_leaves : (from : ℕ) (choice : Choice) (said : Body) → ((epoch : ℕ) → said ≡ body.Grant epoch → was_cast sent from epoch n ≡ true) → Leaves (taken node from choice said)
+  taken_leaves : (from : ℕ) (choice : Choice) (said : Body) → ((epoch : ℕ) → said ≡ body.Election (of_election.Grant epoch) → was_cast sent from epoch n ≡ true) → Leaves (taken node from choice said)
   taken_leaves from choice said cast =
       with_written_leaves voters sent n node.voter.last_vote (is_replica node) (taken_so node from choice said) (written_by_message node from said) choice.dropped (so_taken_leaves from choice said cast)
 
@@ -312,7 +315,7 @@ module _ (voters : List ℕ) (past : List Entry) (n : ℕ) (node : NodeState) (s
           (all_of_both IsNoVote _ _
           (all_of_both IsNoVote _ _
           (all_of_both IsNoVote _ _ (λ to said among. slots_no_vote node said (sent_again_are node to said among))
-          (all_of_both IsNoVote _ _ (all_to_all IsNoVote (others node) (body.Claim (claim_of node) node.replaced) (λ epoch is. cc))
+          (all_of_both IsNoVote _ _ (all_to_all IsNoVote (others node) (body.Slots (of_slots.Claim (claim_of node) node.replaced)) (λ epoch is. cc))
           (all_to_all IsNoVote (others node) (body.Report (suspected aged.health (members_of node))) (λ epoch is. cc))))
           (sync (own_master node)))
           (asks node.handover.asked (own_master node)))
@@ -331,7 +334,7 @@ module _ (voters : List ℕ) (past : List Entry) (n : ℕ) (node : NodeState) (s
         number = stands.number;
         voters_are = stands.voters_are;
         rises = omega arith;
-        votes = λ candidate epoch among. absurd (no_vote candidate (body.Grant epoch) among epoch refl);
+        votes = λ candidate epoch among. absurd (no_vote candidate (body.Election (of_election.Grant epoch)) among epoch refl);
         counted = begun_counts (may_take_over aged) epoch;
         stays = λ master. master;
         promoted = λ promotion is. cc;

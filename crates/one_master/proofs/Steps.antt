@@ -2,6 +2,7 @@
 use Rattle.std.proofs.Common.{◌≡◌, ◌≤◌, ◌++◌, ℕ, List, [], ◌∷◌, Bool, Option, Some, None, Contains, refl, sym, ap, subst, ◌∙◌, inl, inr, arith}
 use Rattle.std.proofs.lemmas.List.Elements.{Contains-append_cases}
 use Rattle.bus.specs.declared.message.Body.{Body}
+use Rattle.bus.specs.declared.bodies.ElectionBody.TheVariants as of_election
 use Rattle.bus.specs.declared.message.Body.TheVariants as body
 use Rattle.bus.specs.declared.message.Message.{Message}
 use Rattle.cluster_config.specs.Config.{ClusterConfig}
@@ -19,7 +20,7 @@ use Rattle.one_master.specs.Stands.{AreSent, NodeStands, StepStands}
 -- ---- no votes
 
 abbrev pub IsNoVote : Body → Type 0
-IsNoVote said = (epoch : ℕ) → said ≡ body.Grant epoch → ⊥
+IsNoVote said = (epoch : ℕ) → said ≡ body.Election (of_election.Grant epoch) → ⊥
 
 pub slots_no_vote : (own : NodeState) (said : Body) → IsOfSlots own said → IsNoVote said
 slots_no_vote own said of epoch is = subst (IsOfSlots own) is of
@@ -42,12 +43,12 @@ counted_still sent n old new (inl same) are = subst (AreSent sent n) (sym same) 
 counted_still sent n old new (inr over) are = subst (AreSent sent n) (sym over) tt
 
 -- what is written is no vote
-vote_before : (outcome : Outcome) (numbers : List ℕ) (said : Body) → IsNoVote said → (candidate epoch : ℕ) → Contains (outcome.sent ++ to_all numbers said) (candidate, body.Grant epoch)
-    → Contains outcome.sent (candidate, body.Grant epoch)
+vote_before : (outcome : Outcome) (numbers : List ℕ) (said : Body) → IsNoVote said → (candidate epoch : ℕ) → Contains (outcome.sent ++ to_all numbers said) (candidate, body.Election (of_election.Grant epoch))
+    → Contains outcome.sent (candidate, body.Election (of_election.Grant epoch))
 vote_before outcome numbers said no_vote candidate epoch among =
-    elim (Contains-append_cases outcome.sent (to_all numbers said) (candidate, body.Grant epoch) among) [
+    elim (Contains-append_cases outcome.sent (to_all numbers said) (candidate, body.Election (of_election.Grant epoch)) among) [
       | inl here ↦ here
-      | inr there ↦ absurd (all_to_all IsNoVote numbers said no_vote candidate (body.Grant epoch) there epoch refl)
+      | inr there ↦ absurd (all_to_all IsNoVote numbers said no_vote candidate (body.Election (of_election.Grant epoch)) there epoch refl)
     ]
 
 module _ (voters : List ℕ) (sent : List Message) (n : ℕ) where
@@ -71,7 +72,7 @@ module _ (voters : List ℕ) (sent : List Message) (n : ℕ) where
         number = after.number;
         voters_are = after.voters_are;
         rises = omega (arith, same_last);
-        votes = λ candidate epoch among. absurd (no_vote candidate (body.Grant epoch) among epoch refl);
+        votes = λ candidate epoch among. absurd (no_vote candidate (body.Election (of_election.Grant epoch)) among epoch refl);
         counted = after.counted;
         stays = λ master. still.role ∙ master;
         promoted = λ promotion is. absurd (promoted_none outcome.promoted promotion none is);
@@ -99,5 +100,5 @@ module _ (voters : List ℕ) (sent : List Message) (n : ℕ) where
     promoted = λ promotion is. let won = step.promoted promotion is in record { was = won.was; is = won.is; elected = won.elected };
   }
     where
-      before : (candidate epoch : ℕ) → Contains (with_written outcome (request ∷ requests) dropped).sent (candidate, body.Grant epoch) → Contains outcome.sent (candidate, body.Grant epoch)
+      before : (candidate epoch : ℕ) → Contains (with_written outcome (request ∷ requests) dropped).sent (candidate, body.Election (of_election.Grant epoch)) → Contains outcome.sent (candidate, body.Election (of_election.Grant epoch))
       before = vote_before outcome (replicas_of outcome.state.masters outcome.state.number) _ (λ epoch is. cc)

@@ -5,7 +5,8 @@ use Rattle.std.proofs.lemmas.List.Elements.{Contains-append_right, Contains-get_
 use Rattle.std.proofs.lemmas.List.Kept.{AllPairs-cons}
 use Rattle.std.specs.List.{AllPairs, cons_option}
 use Rattle.std.specs.Prelude.{option_map, slice_get, slice_index_or, slice_set}
-use Rattle.bus.specs.declared.message.Body.TheVariants.{Grant}
+use Rattle.bus.specs.declared.bodies.ElectionBody.TheVariants.{Grant}
+use Rattle.bus.specs.declared.message.Body.TheVariants.{Election}
 use Rattle.bus.specs.declared.message.Message.{Message}
 use Rattle.cluster_config.specs.Config.{ClusterConfig}
 use Rattle.node_step.specs.Outcome.{Outcome, silent, stamped}
@@ -54,7 +55,7 @@ module _ (voters : List ℕ) (past : List Entry) (nodes : List NodeState) (stand
 
     -- a vote is of this step, or was cast before
     cast_now_or_before : (voter epoch candidate : ℕ) → was_cast (sent_by (entry ∷ past)) voter epoch candidate ≡ true
-        → ((voter ≡ n) × Contains outcome.sent (candidate, Grant epoch)) ⊎ (was_cast (sent_by past) voter epoch candidate ≡ true)
+        → ((voter ≡ n) × Contains outcome.sent (candidate, Election (Grant epoch))) ⊎ (was_cast (sent_by past) voter epoch candidate ≡ true)
     cast_now_or_before voter epoch candidate cast =
         elim (any_cases (is_vote voter epoch candidate) (sent_in entry.deed) (sent_by past) cast) [
           | inl now ↦
@@ -114,7 +115,7 @@ module _ (voters : List ℕ) (past : List Entry) (nodes : List NodeState) (stand
               ]
         ]
       where
-        not_before : (epoch candidate other : ℕ) → Contains outcome.sent (candidate, Grant epoch) → was_cast (sent_by past) n epoch other ≡ true → ⊥
+        not_before : (epoch candidate other : ℕ) → Contains outcome.sent (candidate, Election (Grant epoch)) → was_cast (sent_by past) n epoch other ≡ true → ⊥
         not_before epoch candidate other now earlier =
             let later = (step.votes candidate epoch now).later in
             let known = (stands.each n before there).voted epoch other earlier in

@@ -1,6 +1,7 @@
 -- What holds of votes and elections along a run.
 use Rattle.std.specs.Prelude.{◌≡◌, ◌<◌, ◌≤◌, ℕ, ⊤, Bool, true, false, List, Contains, Option, Some, None, slice_get, slice_index_or}
-use Rattle.bus.specs.declared.message.Body.TheVariants.{Grant}
+use Rattle.bus.specs.declared.bodies.ElectionBody.TheVariants.{Grant}
+use Rattle.bus.specs.declared.message.Body.TheVariants.{Election as OfElection}
 use Rattle.bus.specs.declared.message.Message.{Message}
 use Rattle.election.specs.Health.{Election}
 use Rattle.node_step.specs.Outcome.{Outcome}
@@ -35,7 +36,7 @@ pub record Stands (voters : List ℕ) (past : List Entry) (nodes : List NodeStat
 pub record IsNewVote (last : ℕ) (outcome : Outcome) (candidate epoch : ℕ) : Type 0 where
   pub later : last < epoch
   pub remembered : epoch ≤ outcome.state.voter.last_vote
-  pub alone : (other : ℕ) → Contains outcome.sent (other, Grant epoch) → candidate ≡ other
+  pub alone : (other : ℕ) → Contains outcome.sent (other, OfElection (Grant epoch)) → candidate ≡ other
 
 -- a replica becomes a master, by the votes that it was sent
 pub record IsWon (voters : List ℕ) (sent : List Message) (n : ℕ) (replica : Bool) (outcome : Outcome) (promotion : Promotion) : Type 0 where
@@ -48,7 +49,7 @@ pub record StepStands (voters : List ℕ) (sent : List Message) (n last : ℕ) (
   pub number : outcome.state.number ≡ n
   pub voters_are : outcome.state.config.voters ≡ voters
   pub rises : last ≤ outcome.state.voter.last_vote
-  pub votes : (candidate epoch : ℕ) → Contains outcome.sent (candidate, Grant epoch) → IsNewVote last outcome candidate epoch
+  pub votes : (candidate epoch : ℕ) → Contains outcome.sent (candidate, OfElection (Grant epoch)) → IsNewVote last outcome candidate epoch
   pub counted : AreSent sent n outcome.state.candidate.election
   pub stays : replica ≡ false → is_replica outcome.state ≡ false
   pub promoted : (promotion : Promotion) → outcome.promoted ≡ Some promotion → IsWon voters sent n replica outcome promotion

@@ -3,8 +3,11 @@ use Rattle.std.proofs.Common.{◌≡◌, ◌≢◌, ◌⊎◌, ◌==◌, ◌&&�
 use Rattle.std.proofs.lemmas.Bool.{both_ways}
 use Rattle.std.specs.Prelude.{All, is_some, ⊤}
 use Rattle.bus.specs.declared.message.Body.{Body}
+use Rattle.bus.specs.declared.bodies.ElectionBody.TheVariants as of_election
+use Rattle.bus.specs.declared.bodies.SlotsBody.TheVariants as of_slots
+use Rattle.bus.specs.declared.bodies.StreamBody.TheVariants as of_stream
 use Rattle.bus.specs.declared.message.Body.TheVariants as body
-use Rattle.bus.specs.declared.message.Handing.{Handing}
+use Rattle.bus.specs.declared.bodies.Handing.{Handing}
 use Rattle.bus.specs.declared.message.Message.{Message}
 use Rattle.command_table.specs.Table.{command_of}
 use Rattle.connections.specs.Connections.{connection_at}
@@ -92,18 +95,18 @@ pub record StepStands (full more : FullStreams) (n : ℕ) (outcome : Outcome) : 
   pub begins : BeginsSo full outcome.state outcome.promoted
 
 slots_sound : (full : FullStreams) (own : NodeState) → CanBeMade own.keyspace → (said : Body) → IsOfSlots own said → IsSound full said
-slots_sound full own can (body.Copy id pairs) of = λ key value among. subst (IsLeft key) (of key value among) (can key)
-slots_sound full own can (body.Ack id) of = tt
-slots_sound full own can (body.Drained slot number epoch) of = tt
-slots_sound full own can (body.Claim slots replaced) of = tt
+slots_sound full own can (body.Slots (of_slots.Copy id pairs)) of = λ key value among. subst (IsLeft key) (of key value among) (can key)
+slots_sound full own can (body.Slots (of_slots.Ack id)) of = tt
+slots_sound full own can (body.Slots (of_slots.Drained slot number epoch)) of = tt
+slots_sound full own can (body.Slots (of_slots.Claim slots replaced)) of = tt
 slots_sound full own can (body.Report suspects) of = absurd of
-slots_sound full own can (body.Candidacy request) of = absurd of
-slots_sound full own can (body.Grant epoch) of = absurd of
-slots_sound full own can (body.Sync sync) of = absurd of
-slots_sound full own can (body.Piece piece) of = absurd of
-slots_sound full own can (body.Snapshot snapshot) of = absurd of
-slots_sound full own can (body.Pause stream) of = tt
-slots_sound full own can (body.Paused handing) of = absurd of
+slots_sound full own can (body.Election (of_election.Candidacy request)) of = absurd of
+slots_sound full own can (body.Election (of_election.Grant epoch)) of = absurd of
+slots_sound full own can (body.Stream (of_stream.Sync sync)) of = absurd of
+slots_sound full own can (body.Stream (of_stream.Piece piece)) of = absurd of
+slots_sound full own can (body.Stream (of_stream.Snapshot snapshot)) of = absurd of
+slots_sound full own can (body.Election (of_election.Pause stream)) of = tt
+slots_sound full own can (body.Election (of_election.Paused handing)) of = absurd of
 
 all_sound : (full : FullStreams) (own : NodeState) → CanBeMade own.keyspace → (sent : List (ℕ × Body)) → AreAll (IsOfSlots own) sent → AreAll (IsSound full) sent
 all_sound full own can sent are to said among = slots_sound full own can said (are to said among)
@@ -204,7 +207,7 @@ module _ (full : FullStreams) (n : ℕ) (node : NodeState) where
   -- ---- votes
 
   grant_said : (request : VoteRequest) (granted : Bool) → AreAll (IsSound full) (grant_to request granted)
-  grant_said request true = all_of_one (IsSound full) request.candidate (body.Grant request.epoch) tt
+  grant_said request true = all_of_one (IsSound full) request.candidate (body.Election (of_election.Grant request.epoch)) tt
   grant_said request false = all_of_none (IsSound full)
 
   vote_stands : NodeStands full n node → (request : VoteRequest) (granted : Bool) → StandsBy [] (voting node request granted)
@@ -307,10 +310,10 @@ module _ (full : FullStreams) (n : ℕ) (node : NodeState) where
   paused_again_said : (replica : Option ℕ) (slots : List (Run ℕ)) → AreAll (IsSound full) (handed_again node replica slots)
   paused_again_said None slots = all_of_none (IsSound full)
   paused_again_said (Some replica) [] = all_of_none (IsSound full)
-  paused_again_said (Some replica) (run ∷ slots) = all_of_one (IsSound full) replica (body.Paused (handing_of node)) tt
+  paused_again_said (Some replica) (run ∷ slots) = all_of_one (IsSound full) replica (body.Election (of_election.Paused (handing_of node))) tt
 
   handed_said : (replica : ℕ) (paused : Option ℕ) → AreAll (IsSound full) (handed_to node replica paused)
-  handed_said replica None = all_of_one (IsSound full) replica (body.Paused (handing_of node)) tt
+  handed_said replica None = all_of_one (IsSound full) replica (body.Election (of_election.Paused (handing_of node))) tt
   handed_said replica (Some other) = paused_again_said (Some replica) (claim_of node)
 
   pause_stands : NodeStands full n node → (from : ℕ) (stream : StreamId) → StandsBy [] (asked_to_pause node from stream)
@@ -333,29 +336,29 @@ module _ (full : FullStreams) (n : ℕ) (node : NodeState) where
 
   taken_stands : NodeStands full n node → (from : ℕ) (choice : Choice) (said : Body) → IsSound full said → MayChoose node from said choice → All IsRequest (written_by_message node from said)
       → StandsBy (written_by_message node from said) (taken node from choice said)
-  taken_stands stands from choice (body.Copy id pairs) sound may are =
+  taken_stands stands from choice (body.Slots (of_slots.Copy id pairs)) sound may are =
       let does = arrival_is_of_slots (λ s. ⊤) node (λ keyspace table moves current handover connections known noted. tt) from id pairs in
       node_writes stands _ _ does.promoted (arrival_leaves node from id pairs sound) (λ slotless. arrival_stays n node slotless from id pairs) (all_sound full node (node_can full n node stands) _ does.sent) are choice.dropped may.dropped
-  taken_stands stands from choice (body.Ack id) sound may are =
+  taken_stands stands from choice (body.Slots (of_slots.Ack id)) sound may are =
       let does = acknowledgement_is_of_slots (λ s. ⊤) node (λ keyspace table moves current handover connections known noted. tt) from id in
       node_writes stands _ _ does.promoted (acknowledgement_leaves node from id) (λ slotless. acknowledgement_stays n node slotless from id) (all_sound full node (node_can full n node stands) _ does.sent) are choice.dropped may.dropped
-  taken_stands stands from choice (body.Drained slot number epoch) sound may are =
+  taken_stands stands from choice (body.Slots (of_slots.Drained slot number epoch)) sound may are =
       node_stays stands _ refl (record { number = refl; role = refl; stream = refl; keyspace = refl }) (λ slotless. noted_stays n node slotless from slot number epoch) (all_of_none (IsSound full))
-  taken_stands stands from choice (body.Claim slots replaced) sound may are =
+  taken_stands stands from choice (body.Slots (of_slots.Claim slots replaced)) sound may are =
       let does = claim_is_of_slots (λ s. ⊤) node (λ keyspace table moves current handover connections known noted. tt) from slots in
       node_writes stands _ _ does.promoted (claim_leaves node from slots) (λ slotless. claim_stays n node slotless from slots) (all_sound full node (node_can full n node stands) _ does.sent) are choice.dropped may.dropped
   taken_stands stands from choice (body.Report suspects) sound may are = silent_stands node stands
-  taken_stands stands from choice (body.Candidacy request) sound may are =
+  taken_stands stands from choice (body.Election (of_election.Candidacy request)) sound may are =
       vote_stands stands (request_of from request) (may_grant node.voter (members_of node) node.health node.current_epoch (request_of from request))
-  taken_stands stands from choice (body.Grant epoch) sound may are =
+  taken_stands stands from choice (body.Election (of_election.Grant epoch)) sound may are =
       voted_stands stands (counted node.candidate (members_of node) from epoch) (elected node.candidate (members_of node) from epoch)
-  taken_stands stands from choice (body.Sync sync) sound may are = synced_stands stands from sync
-  taken_stands stands from choice (body.Piece piece) sound may are =
+  taken_stands stands from choice (body.Stream (of_stream.Sync sync)) sound may are = synced_stands stands from sync
+  taken_stands stands from choice (body.Stream (of_stream.Piece piece)) sound may are =
       silent_stands _ (if_followed stands _ from (is_just (own_master node) from) refl (λ replica own. piece_taken replica piece sound choice.follower (may.follower own) (verdict_on node.stream piece) refl))
-  taken_stands stands from choice (body.Snapshot snapshot) sound may are =
+  taken_stands stands from choice (body.Stream (of_stream.Snapshot snapshot)) sound may are =
       silent_stands _ (if_followed stands _ from (is_just (own_master node) from) refl (λ replica own. snapshot_taken replica snapshot sound))
-  taken_stands stands from choice (body.Pause stream) sound may are = pause_stands stands from stream
-  taken_stands stands from choice (body.Paused handing) sound may are = noting_stands stands handing
+  taken_stands stands from choice (body.Election (of_election.Pause stream)) sound may are = pause_stands stands from stream
+  taken_stands stands from choice (body.Election (of_election.Paused handing)) sound may are = noting_stands stands handing
 
 -- ---- events
 
@@ -432,7 +435,7 @@ module _ (full : FullStreams) (n : ℕ) (node : NodeState) (stands : NodeStands 
           (all_of_both (IsSound full) _ _
           (all_of_both (IsSound full) _ _
           (all_of_both (IsSound full) _ _ (all_sound full node (node_can full n node stands) _ (sent_again_are node))
-          (all_of_both (IsSound full) _ _ (all_to_all (IsSound full) (others node) (body.Claim (claim_of node) node.replaced) tt)
+          (all_of_both (IsSound full) _ _ (all_to_all (IsSound full) (others node) (body.Slots (of_slots.Claim (claim_of node) node.replaced)) tt)
           (all_to_all (IsSound full) (others node) (body.Report (suspected aged.health (members_of node))) tt)))
           (sync (own_master node)))
           (asks node.handover.asked (own_master node)))

@@ -6,8 +6,11 @@ use Rattle.std.specs.FinMap.{FinMap, nat_cmp-IsAntisymmetric}
 use Rattle.std.specs.Ordering.{eq_by_cmp, nat_cmp}
 use Rattle.std.specs.Prelude.{MatchBool, Result, Ok, Err, ⊤}
 use Rattle.bus.specs.declared.message.Body.{Body}
+use Rattle.bus.specs.declared.bodies.ElectionBody.TheVariants as of_election
+use Rattle.bus.specs.declared.bodies.SlotsBody.TheVariants as of_slots
+use Rattle.bus.specs.declared.bodies.StreamBody.TheVariants as of_stream
 use Rattle.bus.specs.declared.message.Body.TheVariants as body
-use Rattle.bus.specs.declared.message.Handing.{Handing}
+use Rattle.bus.specs.declared.bodies.Handing.{Handing}
 use Rattle.bus.specs.declared.message.Message.{Message}
 use Rattle.command_table.specs.Table.{command_of}
 use Rattle.command_table.specs.declared.command.ClusterCommand.{ClusterCommand}
@@ -274,19 +277,19 @@ elected_keeps node short (Some won) can = by_plan node.candidate.planned
     by_plan false = promotion_keeps node can short won.epoch (own_master node)
 
 body_keeps : (node : NodeState) → CanBeMade node.keyspace → IsKept node → (from : ℕ) (choice : Choice) (said : Body) → KeepsShort (taken_so node from choice said)
-body_keeps node can short from choice (body.Copy id pairs) =
+body_keeps node can short from choice (body.Slots (of_slots.Copy id pairs)) =
     arrived_keeps node can short from id pairs (arrival_verdict (move_of node.moves id.slot) from id.number id.copy (keep_limits pairs))
-body_keeps node can short from choice (body.Ack id) = acknowledged_keeps node can short id (acknowledged_keys (move_of node.moves id.slot) from id.number id.copy)
-body_keeps node can short from choice (body.Drained slot number epoch) = changed_short node.moves slot (note_drained from number epoch) (noted_short from number epoch) short
-body_keeps node can short from choice (body.Claim slots replaced) = claim_keeps node can short from slots
+body_keeps node can short from choice (body.Slots (of_slots.Ack id)) = acknowledged_keeps node can short id (acknowledged_keys (move_of node.moves id.slot) from id.number id.copy)
+body_keeps node can short from choice (body.Slots (of_slots.Drained slot number epoch)) = changed_short node.moves slot (note_drained from number epoch) (noted_short from number epoch) short
+body_keeps node can short from choice (body.Slots (of_slots.Claim slots replaced)) = claim_keeps node can short from slots
 body_keeps node can short from choice (body.Report suspects) = short
-body_keeps node can short from choice (body.Candidacy request) = short
-body_keeps node can short from choice (body.Grant epoch) = elected_keeps (record node { candidate = _ }) short (elected node.candidate (members_of node) from epoch) can
-body_keeps node can short from choice (body.Sync sync) = synced_is KeepsShort node from sync short short
-body_keeps node can short from choice (body.Piece piece) = pieced_keeps IsKept node (λ stream keyspace. short) from piece choice.follower
-body_keeps node can short from choice (body.Snapshot snapshot) = restored_keeps IsKept node (λ stream keyspace. short) from snapshot
-body_keeps node can short from choice (body.Pause stream) = pause_keeps node can short from stream
-body_keeps node can short from choice (body.Paused handing) = noting_keeps node can short handing
+body_keeps node can short from choice (body.Election (of_election.Candidacy request)) = short
+body_keeps node can short from choice (body.Election (of_election.Grant epoch)) = elected_keeps (record node { candidate = _ }) short (elected node.candidate (members_of node) from epoch) can
+body_keeps node can short from choice (body.Stream (of_stream.Sync sync)) = synced_is KeepsShort node from sync short short
+body_keeps node can short from choice (body.Stream (of_stream.Piece piece)) = pieced_keeps IsKept node (λ stream keyspace. short) from piece choice.follower
+body_keeps node can short from choice (body.Stream (of_stream.Snapshot snapshot)) = restored_keeps IsKept node (λ stream keyspace. short) from snapshot
+body_keeps node can short from choice (body.Election (of_election.Pause stream)) = pause_keeps node can short from stream
+body_keeps node can short from choice (body.Election (of_election.Paused handing)) = noting_keeps node can short handing
 
 -- ---- events
 

@@ -4,8 +4,12 @@ use Rattle.std.proofs.lemmas.Bool.{and_from, and_parts, eq-eqb, eqb-true, cases_
 use Rattle.std.proofs.lemmas.List.{same_lists, length-append, length-take, length-drop, get_or_append_left, get_or-take, get_or-drop, take-append-le}
 use Rattle.std.specs.Prelude.{⊤}
 use Rattle.bus.specs.declared.message.Body.{Body}
-use Rattle.bus.specs.declared.message.Body.TheVariants.{Piece, Snapshot}
+use Rattle.bus.specs.declared.bodies.ElectionBody.TheVariants as of_election
+use Rattle.bus.specs.declared.bodies.SlotsBody.TheVariants as of_slots
+use Rattle.bus.specs.declared.bodies.StreamBody.TheVariants as of_stream
+use Rattle.bus.specs.declared.bodies.StreamBody.TheVariants.{Piece, Snapshot}
 use Rattle.bus.specs.declared.message.Body.TheVariants as bodies
+use Rattle.bus.specs.declared.message.Body.TheVariants.{Slots, Stream, Election}
 use Rattle.keyspace.specs.Keyspace.{Keyspace, keyspace_of}
 use Rattle.keyspace.specs.Replay.{HasRequest}
 use Rattle.keyspace.specs.declared.value.Value.{Value}
@@ -119,41 +123,41 @@ HaveRequests pairs = (key : List ℕ) (value : Value) → Contains {X = List ℕ
 
 -- what a message says of streams is true, and the keys of a copy can be made with their values
 abbrev pub IsSound : FullStreams → Body → Type 0
-IsSound full (bodies.Copy id pairs) = HaveRequests pairs
-IsSound full (Piece piece) = IsTruePiece full piece
-IsSound full (Snapshot snapshot) = IsTrueSnapshot full snapshot
+IsSound full (bodies.Slots (of_slots.Copy id pairs)) = HaveRequests pairs
+IsSound full (Stream (Piece piece)) = IsTruePiece full piece
+IsSound full (Stream (Snapshot snapshot)) = IsTrueSnapshot full snapshot
 IsSound full other = ⊤
 
 pub sound_true : (full : FullStreams) (said : Body) → IsSound full said → IsTrueSaid full said
-sound_true full (bodies.Piece piece) sound = sound
-sound_true full (bodies.Snapshot snapshot) sound = sound
-sound_true full (bodies.Copy id pairs) sound = tt
-sound_true full (bodies.Ack id) sound = tt
-sound_true full (bodies.Drained slot number epoch) sound = tt
-sound_true full (bodies.Claim slots replaced) sound = tt
+sound_true full (bodies.Stream (of_stream.Piece piece)) sound = sound
+sound_true full (bodies.Stream (of_stream.Snapshot snapshot)) sound = sound
+sound_true full (bodies.Slots (of_slots.Copy id pairs)) sound = tt
+sound_true full (bodies.Slots (of_slots.Ack id)) sound = tt
+sound_true full (bodies.Slots (of_slots.Drained slot number epoch)) sound = tt
+sound_true full (bodies.Slots (of_slots.Claim slots replaced)) sound = tt
 sound_true full (bodies.Report suspects) sound = tt
-sound_true full (bodies.Candidacy request) sound = tt
-sound_true full (bodies.Grant epoch) sound = tt
-sound_true full (bodies.Sync sync) sound = tt
-sound_true full (bodies.Pause stream) sound = tt
-sound_true full (bodies.Paused handing) sound = tt
+sound_true full (bodies.Election (of_election.Candidacy request)) sound = tt
+sound_true full (bodies.Election (of_election.Grant epoch)) sound = tt
+sound_true full (bodies.Stream (of_stream.Sync sync)) sound = tt
+sound_true full (bodies.Election (of_election.Pause stream)) sound = tt
+sound_true full (bodies.Election (of_election.Paused handing)) sound = tt
 
 module _ (full more : FullStreams) (grows : Grows full more) where
   pub said_more : (said : Body) → IsSound full said → IsSound more said
-  said_more (bodies.Piece piece) is_true = piece_more full more grows piece is_true
-  said_more (bodies.Snapshot snapshot) is_true =
+  said_more (bodies.Stream (of_stream.Piece piece)) is_true = piece_more full more grows piece is_true
+  said_more (bodies.Stream (of_stream.Snapshot snapshot)) is_true =
       subst (λ (l : List ℕ). IsStateAt l snapshot.offset (keyspace_of snapshot.pairs)) (sym (grows.is snapshot.stream))
       (state_grown (full snapshot.stream) (grows.rest snapshot.stream) snapshot.offset (keyspace_of snapshot.pairs) is_true)
-  said_more (bodies.Copy id pairs) has = has
-  said_more (bodies.Ack id) is_true = tt
-  said_more (bodies.Drained slot number epoch) is_true = tt
-  said_more (bodies.Claim slots replaced) is_true = tt
+  said_more (bodies.Slots (of_slots.Copy id pairs)) has = has
+  said_more (bodies.Slots (of_slots.Ack id)) is_true = tt
+  said_more (bodies.Slots (of_slots.Drained slot number epoch)) is_true = tt
+  said_more (bodies.Slots (of_slots.Claim slots replaced)) is_true = tt
   said_more (bodies.Report suspects) is_true = tt
-  said_more (bodies.Candidacy request) is_true = tt
-  said_more (bodies.Grant epoch) is_true = tt
-  said_more (bodies.Sync sync) is_true = tt
-  said_more (bodies.Pause stream) is_true = tt
-  said_more (bodies.Paused handing) is_true = tt
+  said_more (bodies.Election (of_election.Candidacy request)) is_true = tt
+  said_more (bodies.Election (of_election.Grant epoch)) is_true = tt
+  said_more (bodies.Stream (of_stream.Sync sync)) is_true = tt
+  said_more (bodies.Election (of_election.Pause stream)) is_true = tt
+  said_more (bodies.Election (of_election.Paused handing)) is_true = tt
 
 -- ---- bytes behind one stream
 

@@ -6,6 +6,9 @@ use Rattle.std.specs.FinMap as fin_map
 use Rattle.std.specs.List.{AllByRecursion, list_any}
 use Rattle.std.specs.Prelude.{All, Result, filter}
 use Rattle.bus.specs.declared.message.Body.{Body}
+use Rattle.bus.specs.declared.bodies.ElectionBody.TheVariants as of_election
+use Rattle.bus.specs.declared.bodies.SlotsBody.TheVariants as of_slots
+use Rattle.bus.specs.declared.bodies.StreamBody.TheVariants as of_stream
 use Rattle.bus.specs.declared.message.Body.TheVariants as body
 use Rattle.command_table.specs.declared.command.Command.{Command}
 use Rattle.command_table.specs.declared.fault.CommandFault.{CommandFault}
@@ -130,16 +133,16 @@ claim_writes node can from runs = by_sender (from == node.number)
         (keys_short (fin_map.keys node.keyspace) (λ key among. key_there_short node.keyspace can key (fin_map.contains_key-keys node.keyspace key ∙ among)))
 
 pub message_writes : (full : FullStreams) (node : NodeState) → CanBeMade node.keyspace → HasShortFrozen node.moves → (from : ℕ) (said : Body) → IsSound full said → AreRequests (written_by_message node from said)
-message_writes full node can short from (body.Copy id pairs) sound =
+message_writes full node can short from (body.Slots (of_slots.Copy id pairs)) sound =
     copy_writes node.keyspace pairs sound (arrival_verdict (move_of node.moves id.slot) from id.number id.copy (keep_limits pairs))
-message_writes full node can short from (body.Ack id) sound = ack_writes (move_of node.moves id.slot) (short id.slot) from id.number id.copy
-message_writes full node can short from (body.Drained slot number epoch) sound = none_are
-message_writes full node can short from (body.Claim slots replaced) sound = claim_writes node can from slots
+message_writes full node can short from (body.Slots (of_slots.Ack id)) sound = ack_writes (move_of node.moves id.slot) (short id.slot) from id.number id.copy
+message_writes full node can short from (body.Slots (of_slots.Drained slot number epoch)) sound = none_are
+message_writes full node can short from (body.Slots (of_slots.Claim slots replaced)) sound = claim_writes node can from slots
 message_writes full node can short from (body.Report suspects) sound = none_are
-message_writes full node can short from (body.Candidacy request) sound = none_are
-message_writes full node can short from (body.Grant epoch) sound = none_are
-message_writes full node can short from (body.Sync sync) sound = none_are
-message_writes full node can short from (body.Piece piece) sound = none_are
-message_writes full node can short from (body.Snapshot snapshot) sound = none_are
-message_writes full node can short from (body.Pause stream) sound = none_are
-message_writes full node can short from (body.Paused handing) sound = none_are
+message_writes full node can short from (body.Election (of_election.Candidacy request)) sound = none_are
+message_writes full node can short from (body.Election (of_election.Grant epoch)) sound = none_are
+message_writes full node can short from (body.Stream (of_stream.Sync sync)) sound = none_are
+message_writes full node can short from (body.Stream (of_stream.Piece piece)) sound = none_are
+message_writes full node can short from (body.Stream (of_stream.Snapshot snapshot)) sound = none_are
+message_writes full node can short from (body.Election (of_election.Pause stream)) sound = none_are
+message_writes full node can short from (body.Election (of_election.Paused handing)) sound = none_are

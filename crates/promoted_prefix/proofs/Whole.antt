@@ -6,6 +6,7 @@ use Rattle.std.proofs.lemmas.List.{length-append, length-take, length-drop, get_
 use Rattle.std.proofs.lemmas.List.Elements.{All-append}
 use Rattle.std.specs.FinMap as fin_map
 use Rattle.std.specs.Prelude.{All, nat_le}
+use Rattle.bus.specs.declared.bodies.StreamBody.TheVariants as of_stream
 use Rattle.bus.specs.declared.message.Body.TheVariants as body
 use Rattle.keyspace.proofs.Applied.{same}
 use Rattle.keyspace.specs.Commands.{replay_from}
@@ -162,7 +163,7 @@ module _ (full : FullStreams) (n : ℕ) (node : NodeState) (has : HasWhole full 
   sent_so : (from : ℕ) (sync : Sync) (kept : Bool) → has_from node.stream.held sync.received ≡ kept → (own up_to_date : Bool)
       → AreAll (IsSound full) (sync_answer node from (cond (own && kept) (cond up_to_date answers.UpToDate (answers.Piece (piece_from node.stream sync.received))) answers.Snapshot))
   sent_so from sync true is true true = all_of_none (IsSound full)
-  sent_so from sync true is true false = all_of_one (IsSound full) from (body.Piece (piece_from node.stream sync.received)) (piece_true full n (follower_of node) has sync.received is)
+  sent_so from sync true is true false = all_of_one (IsSound full) from (body.Stream (of_stream.Piece (piece_from node.stream sync.received))) (piece_true full n (follower_of node) has sync.received is)
   sent_so from sync false is true up_to_date = snapshot from
   sent_so from sync true is false up_to_date = snapshot from
   sent_so from sync false is false up_to_date = snapshot from

@@ -2,7 +2,8 @@
 -- "Replica election and promotion").
 use Rattle.std.specs.Prelude.{◌≡◌, ◌≤◌, ⊤, ℕ, false, List, [], ◌∷◌, Contains, length, take, drop, slice_get, Option, Some, None}
 use Rattle.bus.specs.declared.message.Body.{Body}
-use Rattle.bus.specs.declared.message.Body.TheVariants.{Piece, Snapshot}
+use Rattle.bus.specs.declared.bodies.StreamBody.TheVariants.{Piece, Snapshot}
+use Rattle.bus.specs.declared.message.Body.TheVariants.{Stream}
 use Rattle.bus.specs.declared.message.Message.{Message}
 use Rattle.cluster_config.specs.Config.{ClusterConfig}
 use Rattle.stream_values.specs.Stream.{received}
@@ -53,8 +54,8 @@ pub record IsOnStream (full : FullStreams) (node : NodeState) : Type 0 where
 
 -- what a message says of streams is true
 abbrev pub IsTrueSaid : FullStreams → Body → Type 0
-IsTrueSaid full (Piece piece) = IsTruePiece full piece
-IsTrueSaid full (Snapshot snapshot) = IsTrueSnapshot full snapshot
+IsTrueSaid full (Stream (Piece piece)) = IsTruePiece full piece
+IsTrueSaid full (Stream (Snapshot snapshot)) = IsTrueSnapshot full snapshot
 IsTrueSaid full other = ⊤
 
 -- each node does, and each piece and each snapshot is true

@@ -24,7 +24,8 @@ pub fn fail(rt: &(impl Print + Eprint), fault: ProgramFault) -> io::Result<ExitC
 
 /// The end where the command line is wrong, as the sentence says.
 pub fn refuse(rt: &impl Eprint, wrong: &str) -> io::Result<ExitCode> {
-    eprintln!(rt; "error: {wrong}\n\nFor more information, try '--help'.")?;
+    // The status tells, too, so standard error may be closed or full.
+    let _told = eprintln!(rt; "error: {wrong}\n\nFor more information, try '--help'.");
     Ok(ExitCode::from(USAGE))
 }
 
@@ -48,9 +49,9 @@ pub fn explain_words(rt: &(impl Print + Eprint), error: &io::Error) -> io::Resul
     fail(rt, ProgramFault::Memory)
 }
 
-// The code goes to the output, and a sentence for people to standard error.
+// The code goes to the output, and a sentence for people to standard error, which may be closed or full.
 fn print_failure(rt: &(impl Print + Eprint), failure: &Failure) -> io::Result<ExitCode> {
-    eprintln!(rt; "{failure}")?;
+    let _told = eprintln!(rt; "{failure}");
     print_fault(rt, failure.fault)?;
     Ok(ExitCode::FAILURE)
 }

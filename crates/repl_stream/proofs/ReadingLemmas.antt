@@ -1,6 +1,5 @@
 -- What stands in front of received bytes.
-use Rattle.std.proofs.Common.{◌≡◌, ◌==◌, ◌-◌, ℕ, zero, suc, ◌≤◌, List, [], ◌∷◌, ◌++◌, length, take, drop, true, false, nat_eq, refl, sym, ap, subst, ◌∙◌, append-nil, append_assoc, lit≤, true≢false, arith}
-use Rattle.std.proofs.lemmas.Bool.{eqb-true}
+use Rattle.std.proofs.Common.{◌≡◌, ℕ, zero, suc, ◌≤◌, List, [], ◌∷◌, ◌++◌, length, take, drop, true, false, nat_eq, refl, sym, ap, subst, ◌∙◌, append_assoc, lit≤, true≢false, arith}
 use Rattle.std.proofs.Math.Seq.{drop-append_seam}
 use Rattle.std.proofs.lemmas.List.{take-append-drop}
 use Rattle.std.proofs.lemmas.List.Elements.{All-nil, All-push}
@@ -20,7 +19,6 @@ use Rattle.resp2.specs.declared.fault.Fault.TheVariants.{Memory, Protocol, TooLo
 use Rattle.resp_values.specs.Request.{IsRequest, KeepsLimits, request_spelling}
 use Rattle.resp_values.specs.declared.words.TheConstants.{MOST_WORD_BYTES}
 use Rattle.repl_stream.specs.Reading.{HandsOut, IsPlanned}
-use Rattle.stream_values.specs.Piece.{PieceView, news_in}
 use Rattle.stream_values.specs.Reading.{BeginsWithRequest}
 
 -- ---- requests without words
@@ -151,38 +149,3 @@ all_read keyspace bytes after rest are none = record {
   reads = record { each = are.each; spelled = are.spelled; begun = none };
   executed = are.executed;
 }
-
--- ---- one request whose words are at hand
-
-nothing_before : (place from : ℕ) → place ≡ from → place - from ≡ 0
-nothing_before place from here = omega (arith, here)
-
--- no request stands in front of nothing
-none_in_nothing : ¬ BeginsWithRequest []
-none_in_nothing begins =
-    let same = ap (λ (t : List ℕ). length t) begins.spelled in
-    let never : ⊥ = omega (arith, same) in never
-
-pub one_planned : (keyspace before after : Keyspace) (words : List (List ℕ)) (rest : List ℕ) → IsRequest words → before ≡ keyspace
-    → after ≡ (exec_words before words).after → rest ≡ [] → IsPlanned keyspace (request_spelling words) after rest
-one_planned keyspace before after words rest request same executed none = record {
-  requests = words ∷ [];
-  reads = record {
-    each = All-push IsRequest [] words (All-nil IsRequest) request;
-    spelled =
-        sym (append-nil (request_spelling words)) ∙ sym (append-nil (request_spelling words ++ []))
-        ∙ ap (λ (t : List ℕ). (request_spelling words ++ []) ++ t) (sym none);
-    begun = subst (λ (t : List ℕ). ¬ BeginsWithRequest t) (sym none) none_in_nothing;
-  };
-  executed = executed ∙ ap (λ (m : Keyspace). (exec_words m words).after) same;
-}
-
--- it is all that is new
-pub whole_news : (stayed news : List ℕ) (words : List (List ℕ)) (piece : PieceView) (place : ℕ)
-    → (length stayed == 0) ≡ true → place ≡ piece.from → news ≡ news_in piece place → piece.bytes ≡ request_spelling words
-    → request_spelling words ≡ stayed ++ news
-whole_news [] news words piece place none here are spelled =
-    sym (are ∙ ap (λ (k : ℕ). drop k piece.bytes) (nothing_before place piece.from here) ∙ spelled)
-whole_news (byte ∷ stayed) news words piece place none here are spelled =
-    let empty : length (byte ∷ stayed) ≡ 0 = eqb-true (length (byte ∷ stayed)) 0 none in
-    let never : ⊥ = omega (arith, empty) in absurd never

@@ -48,7 +48,8 @@ impl<T: Stream> Model for NodeStream<T> {
       keeps = T.keeps replica.stream;
     } };
 
-    ghost invariant = { λ replica. end_of (T.held replica.stream) ≡ replica.offset + length replica.partial.items };
+    ghost invariant = { λ replica.
+        end_of (T.held replica.stream) ≡ replica.offset + length replica.partial.items };
 }
 
 impl<T: Stream> NodeStream<T> {

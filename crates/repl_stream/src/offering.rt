@@ -1,16 +1,14 @@
 //! What a replica takes of its master's stream.
-ghost use Rattle.std.specs.Prelude.{◌≡◌, ◌+◌, ◌++◌, ◌<◌, ◌≤◌, ◌^◌, length, IfOk, IfErr, IfSome, OnOk, OnErr};
-ghost use Rattle.keyspace.specs.Plan.{committed};
+ghost use Rattle.std.specs.Prelude.{◌≡◌, ◌+◌, ◌<◌, ◌≤◌, ◌^◌, length, IfOk, IfErr, IfSome, OnOk, OnErr};
 ghost use Rattle.stream_values.specs.Piece.{TakesBehind, TakesPiece, common_end, end_by_base, news_in, verdict_on};
 ghost use Rattle.stream_values.specs.Piece.PieceVerdict.{Takes};
 ghost use Rattle.stream_values.specs.Stream.{received};
 ghost use Rattle.repl_stream.specs.Faults.{IsRefusedFor};
-ghost use Rattle.repl_stream.specs.Reading.{IsPlanned};
 
 use crate::fault::OfferFault;
 use crate::node_stream::NodeStream;
 use crate::parts::front;
-use crate::received::{Received, plan_request, read};
+use crate::received::read;
 use crate::stream::Stream;
 use keyspace::{Store, commit};
 use std::alloc::{AllocError, Global};
@@ -27,8 +25,10 @@ impl<T: Stream> NodeStream<T> {
         ensures taken { OnOk result (TakesPiece
             (record { stream = self.old.stream; keyspace = S.contents store.old }) piece.now
             (record { stream = self.new.stream; keyspace = S.contents store.new })) }
-        ensures refused { IfErr result (λ fault. IsRefusedFor fault (verdict_on self.old.stream piece.now)) }
-        ensures unchanged { OnErr result ((self.new.stream ≡ self.old.stream) × (S.contents store.new ≡ S.contents store.old)) }
+        ensures refused { IfErr result
+            (λ fault. IsRefusedFor fault (verdict_on self.old.stream piece.now)) }
+        ensures unchanged { OnErr result
+            ((self.new.stream ≡ self.old.stream) × (S.contents store.new ≡ S.contents store.old)) }
         ensures keeps { self.new.keeps ≡ self.old.keeps }
     {
         let place = self.judge(piece)?;
@@ -39,8 +39,10 @@ impl<T: Stream> NodeStream<T> {
     // Up to where what was received is of the piece's stream, if that isn't before the piece.
     fn judge(&self, piece: &Piece) -> Result<u64, OfferFault>
         ensures takes { IfOk result (λ place. verdict_on self.now.stream piece.now ≡ Takes place) }
-        ensures within { IfOk result (λ place. (piece.now.from ≤ place) × (self.now.stream.offset ≤ place) × (place ≤ received self.now.stream)) }
-        ensures refused { IfErr result (λ fault. IsRefusedFor fault (verdict_on self.now.stream piece.now)) }
+        ensures within { IfOk result (λ place. (piece.now.from ≤ place)
+            × (self.now.stream.offset ≤ place) × (place ≤ received self.now.stream)) }
+        ensures refused { IfErr result
+            (λ fault. IsRefusedFor fault (verdict_on self.now.stream piece.now)) }
     {
         let Some(place) = self.common_end(piece) else {
             return Err(OfferFault::OtherStream);
@@ -53,7 +55,8 @@ impl<T: Stream> NodeStream<T> {
 
     fn common_end(&self, piece: &Piece) -> Option<u64>
         ensures end { result ≡ common_end self.now.stream piece.now }
-        ensures within { IfSome result (λ place. (self.now.stream.offset ≤ place) × (place ≤ received self.now.stream)) }
+        ensures within { IfSome result
+            (λ place. (self.now.stream.offset ≤ place) × (place ≤ received self.now.stream)) }
     {
         if piece.stream() == self.id() {
             return Some(self.received());
@@ -63,7 +66,8 @@ impl<T: Stream> NodeStream<T> {
 
     fn end_by_base(&self, base: Option<Base>) -> Option<u64>
         ensures end { result ≡ end_by_base self.now.stream base }
-        ensures within { IfSome result (λ place. (self.now.stream.offset ≤ place) × (place ≤ received self.now.stream)) }
+        ensures within { IfSome result
+            (λ place. (self.now.stream.offset ≤ place) × (place ≤ received self.now.stream)) }
     {
         let base = base?;
         if base.stream != self.id() || base.end < self.offset {
@@ -85,12 +89,13 @@ impl<T: Stream> NodeStream<T> {
         ensures taken { OnOk result (TakesBehind place
             (record { stream = self.old.stream; keyspace = S.contents store.old }) piece.now
             (record { stream = self.new.stream; keyspace = S.contents store.new })) }
-        ensures err { OnErr result ((self.new.stream ≡ self.old.stream) × (S.contents store.new ≡ S.contents store.old)) }
+        ensures err { OnErr result
+            ((self.new.stream ≡ self.old.stream) × (S.contents store.new ≡ S.contents store.old)) }
         ensures keeps { self.new.keeps ≡ self.old.keeps }
     {
         let stayed = front(self.partial.as_slice(), place - self.offset);
         let news = news_of(piece, place);
-        let received = come_to(alloc, &*store, stayed, news, piece, place)?;
+        let received = read(alloc, &*store, stayed, news)?;
         self.stream.reserve(news.len())?;
         commit(alloc, store, received.plan)?;
         self.stream.cut_at(place, piece.stream());
@@ -99,28 +104,6 @@ impl<T: Stream> NodeStream<T> {
         self.partial = received.rest;
         Ok(())
     }
-}
-
-// What the news of the piece come to behind what stayed. A piece that is one request, and all of it new, isn't read if its words are
-// at hand.
-fn come_to<S: Store>(
-    alloc: Global,
-    store: &S,
-    stayed: &[u8],
-    news: &[u8],
-    piece: &Piece,
-    place: u64,
-) -> Result<Received, AllocError>
-    requires { news.now ≡ news_in piece.now place }
-    ensures { IfOk result (λ received. IsPlanned (S.contents store.now) (stayed.now ++ news.now)
-        (committed (S.contents store.now) received.plan) received.rest.items) }
-{
-    if stayed.is_empty() && place == piece.from() {
-        if let Some(words) = piece.request() {
-            return plan_request(alloc, store, words);
-        }
-    }
-    read(alloc, store, stayed, news)
 }
 
 // The bytes of the piece from that offset on.

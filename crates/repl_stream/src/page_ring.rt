@@ -57,7 +57,8 @@ impl PageRing {
 
     /// Puts the bytes behind its own, of which those in front go that find no room.
     pub fn extend_from_slice(&mut self, bytes: &[u8])
-        ensures { self.new ≡ buffer (keep_last self.old.capacity (self.old.items ++ bytes.now)) self.old.capacity }
+        ensures { self.new
+            ≡ buffer (keep_last self.old.capacity (self.old.items ++ bytes.now)) self.old.capacity }
     {
         let mut rest = &bytes[bytes.len().saturating_sub(self.capacity)..];
         while !rest.is_empty() {
@@ -70,7 +71,8 @@ impl PageRing {
     fn fill(&mut self, bytes: &[u8]) -> usize
         requires { 0 < length bytes.now }
         ensures count { (0 < result) × (result ≤ length bytes.now) }
-        ensures filled { self.new ≡ buffer (keep_last self.old.capacity (self.old.items ++ take result bytes.now)) self.old.capacity }
+        ensures filled { self.new ≡ buffer (keep_last self.old.capacity
+            (self.old.items ++ take result bytes.now)) self.old.capacity }
         ensures within { length self.new.items ≤ self.new.capacity }
     {
         self.pages.make_room();
@@ -92,7 +94,8 @@ impl PageRing {
     fn cut(&mut self, most: usize)
         requires some { 0 < most }
         requires there { most ≤ length self.old.items }
-        ensures cut { self.new ≡ buffer (take (length self.new.items) self.old.items) self.old.capacity }
+        ensures cut { self.new
+            ≡ buffer (take (length self.new.items) self.old.items) self.old.capacity }
         ensures fewer { length self.new.items < length self.old.items }
         ensures within { length self.old.items ≤ length self.new.items + most }
     {

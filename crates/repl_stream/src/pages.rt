@@ -41,7 +41,8 @@ impl Pages {
         requires some { 0 < self.old.len }
         requires count { (length self.old.full.items ≡ PAGES) × (self.old.full.capacity ≡ PAGES) }
         requires last { length self.old.last.items ≤ self.old.len }
-        ensures keeps { (kept : ℕ) → kept ≤ PAGES * self.old.len → Keeps self.old kept → Keeps self.new kept }
+        ensures keeps { (kept : ℕ) → kept ≤ PAGES * self.old.len → Keeps self.old kept
+            → Keeps self.new kept }
         ensures bytes { (kept : ℕ) → kept ≤ PAGES * self.old.len → Keeps self.old kept
             → keep_last kept (bytes_of self.new) ≡ keep_last kept (bytes_of self.old) }
         ensures room { length self.new.last.items < self.new.len }
@@ -56,7 +57,8 @@ impl Pages {
     /// Puts as many of the bytes as find room behind those in the last page, and says how many.
     pub fn fill(&mut self, bytes: &[u8]) -> usize
         requires { IsPage self.old.len self.old.last }
-        ensures count { result ≡ min (length bytes.now) (self.old.len - length self.old.last.items) }
+        ensures count { result
+            ≡ min (length bytes.now) (self.old.len - length self.old.last.items) }
         ensures last { self.new.last.items ≡ self.old.last.items ++ take result bytes.now }
         ensures block { vec_capacity self.old.last ≤ vec_capacity self.new.last }
         ensures same { (self.new.full ≡ self.old.full) × (self.new.len ≡ self.old.len) }
@@ -74,7 +76,8 @@ impl Pages {
         requires count { (length self.old.full.items ≡ PAGES) × (self.old.full.capacity ≡ PAGES) }
         ensures keeps { (kept : ℕ) → Keeps self.old kept → Keeps self.new kept }
         ensures bytes { bytes_of self.new ≡ bytes_of self.old }
-        ensures some { (kept : ℕ) → 0 < kept → Keeps self.old kept → 0 < length self.new.last.items }
+        ensures some { (kept : ℕ) → 0 < kept → Keeps self.old kept
+            → 0 < length self.new.last.items }
         ensures len { self.new.len ≡ self.old.len }
     {
         if !self.last.is_empty() {
@@ -86,7 +89,8 @@ impl Pages {
     /// Drops bytes at the end of the last page, at most that many, and says how many.
     pub fn cut(&mut self, most: usize) -> usize
         ensures count { result ≡ min most (length self.old.last.items) }
-        ensures last { self.new.last.items ≡ take (length self.old.last.items - result) self.old.last.items }
+        ensures last { self.new.last.items
+            ≡ take (length self.old.last.items - result) self.old.last.items }
         ensures block { vec_capacity self.new.last ≡ vec_capacity self.old.last }
         ensures same { (self.new.full ≡ self.old.full) × (self.new.len ≡ self.old.len) }
     {
@@ -99,9 +103,11 @@ impl Pages {
     fn turn(&mut self)
         requires some { 0 < length self.old.full.items }
         requires all { length self.old.full.items ≡ self.old.full.capacity }
-        ensures full { self.new.full ≡ buffer (drop 1 self.old.full.items ++ self.old.last ∷ []) self.old.full.capacity }
+        ensures full { self.new.full
+            ≡ buffer (drop 1 self.old.full.items ++ self.old.last ∷ []) self.old.full.capacity }
         ensures empty { self.new.last.items ≡ [] }
-        ensures block { IfSome (slice_get self.old.full.items 0) (λ page. vec_capacity self.new.last ≡ vec_capacity page) }
+        ensures block { IfSome (slice_get self.old.full.items 0)
+            (λ page. vec_capacity self.new.last ≡ vec_capacity page) }
         ensures len { self.new.len ≡ self.old.len }
     {
         let Some(mut page) = self.full.pop_front() else {
@@ -119,7 +125,8 @@ impl Pages {
         ensures last { last_item self.old.full.items ≡ Some self.new.last }
         ensures empty { IfSome (slice_get self.new.full.items 0)
             (λ page. (page.items ≡ []) × (vec_capacity page ≡ vec_capacity self.old.last)) }
-        ensures rest { drop 1 self.new.full.items ≡ take (length self.old.full.items - 1) self.old.full.items }
+        ensures rest { drop 1 self.new.full.items
+            ≡ take (length self.old.full.items - 1) self.old.full.items }
         ensures count { length self.new.full.items ≡ length self.old.full.items }
         ensures capacity { self.new.full.capacity ≡ self.old.full.capacity }
         ensures len { self.new.len ≡ self.old.len }
@@ -184,7 +191,8 @@ fn append_last(
     most: usize,
 ) -> Result<(), AllocError>
     requires { length bytes.old.items ≤ most }
-    ensures { OnOk result (bytes.new.items ≡ take most (bytes.old.items ++ keep_last last page.now)) }
+    ensures { OnOk result
+        (bytes.new.items ≡ take most (bytes.old.items ++ keep_last last page.now)) }
 {
     let page = &page[page.len().saturating_sub(last)..];
     let room = most - bytes.len();

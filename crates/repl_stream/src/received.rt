@@ -1,12 +1,10 @@
 //! What was received of a stream, read.
-ghost use Rattle.std.specs.Prelude.{◌≡◌, ◌++◌, IfOk};
+ghost use Rattle.std.specs.Prelude.{◌++◌, IfOk};
 ghost use Rattle.keyspace.specs.Plan.{committed};
 ghost use Rattle.repl_stream.specs.Reading.{IsPlanned};
-ghost use Rattle.resp_values.specs.Request.{request_spelling};
 
-use crate::requests::{plan_requests, plan_words};
+use crate::requests::plan_requests;
 use keyspace::{Plan, Store};
-use resp_values::Words;
 use std::alloc::{AllocError, Global};
 
 /// What received bytes come to.
@@ -35,26 +33,6 @@ pub fn read<S: Store>(
     bytes.extend_from_slice(stayed)?;
     bytes.extend_from_slice(news)?;
     read_bytes(alloc, store, bytes.as_slice())
-}
-
-/// Plans one request, whose words are at hand. The store stays as it is.
-#[tactic(auto, using(crate::proofs::ReadingLemmas::one_planned))]
-pub fn plan_request<S: Store>(
-    alloc: Global,
-    store: &S,
-    words: &Words,
-) -> Result<Received, AllocError>
-    ensures { IfOk result (λ received. IsPlanned (S.contents store.now) (request_spelling words.now)
-        (committed (S.contents store.now) received.plan) received.rest.items) }
-{
-    // Who reads the words knows that they are a request.
-    let _words = words.as_slice();
-    let mut plan = Plan::new(alloc);
-    plan_words(alloc, store, &mut plan, words)?;
-    Ok(Received {
-        plan,
-        rest: Vec::new(alloc),
-    })
 }
 
 fn read_bytes<S: Store>(alloc: Global, store: &S, bytes: &[u8]) -> Result<Received, AllocError>

@@ -41,7 +41,8 @@ pub fn plan_requests<'b, S: Store>(
 // behind one.
 fn next_request(reader: &mut Reader, bytes: &[u8]) -> Result<Option<Words>, AllocError>
     requires { reader.old ≡ record { pending = bytes.now; fault = None } }
-    ensures request { IfOk result (λ found. IfSome found (λ words. HandsOut bytes.now words reader.new)) }
+    ensures request { IfOk result
+        (λ found. IfSome found (λ words. HandsOut bytes.now words reader.new)) }
     ensures none { IfOk result (λ found. IfNone found (¬ BeginsWithRequest bytes.now)) }
 {
     no_spelling_begins_another();
@@ -76,8 +77,8 @@ fn behind<'b>(words: &Words, bytes: &'b [u8]) -> &'b [u8]
     &bytes[spelled_len(words)..]
 }
 
-/// Plans the command that these words are. Words that are no command on keys execute nothing.
-pub(crate) fn plan_words<S: Store>(
+// Words that are no command on keys execute nothing.
+fn plan_words<S: Store>(
     alloc: Global,
     store: &S,
     plan: &mut Plan,

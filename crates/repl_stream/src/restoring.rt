@@ -21,9 +21,12 @@ impl<T: Stream> NodeStream<T> {
         store: &mut S,
         snapshot: &Snapshot,
     ) -> Result<(), AllocError>
-        ensures ok { OnOk result (record { stream = self.new.stream; keyspace = S.contents store.new }
-            ≡ restored snapshot.now (record { stream = self.old.stream; keyspace = S.contents store.old })) }
-        ensures err { OnErr result ((self.new.stream ≡ self.old.stream) × (S.contents store.new ≡ S.contents store.old)) }
+        ensures ok { OnOk result
+            (record { stream = self.new.stream; keyspace = S.contents store.new }
+            ≡ restored snapshot.now
+            (record { stream = self.old.stream; keyspace = S.contents store.old })) }
+        ensures err { OnErr result
+            ((self.new.stream ≡ self.old.stream) × (S.contents store.new ≡ S.contents store.old)) }
         ensures keeps { self.new.keeps ≡ self.old.keeps }
     {
         if self.knows(snapshot) {
@@ -42,7 +45,8 @@ impl<T: Stream> NodeStream<T> {
 
     // The stream goes on from there, and nothing of it is kept.
     fn begin_again(&mut self, id: StreamId, offset: u64)
-        ensures stream { self.new.stream ≡ record self.old.stream { held = begun id offset; offset = offset; partial = [] } }
+        ensures stream { self.new.stream
+            ≡ record self.old.stream { held = begun id offset; offset = offset; partial = [] } }
         ensures keeps { self.new.keeps ≡ self.old.keeps }
     {
         self.stream.begin_at(id, offset);

@@ -27,7 +27,8 @@ pub fn append_command(
     name: &[u8],
     words: &[ByteString],
 ) -> Result<(), AllocError>
-    ensures { OnOk result (bytes.new.items ≡ bytes.old.items ++ request_spelling (name.now ∷ words.now)) }
+    ensures { OnOk result
+        (bytes.new.items ≡ bytes.old.items ++ request_spelling (name.now ∷ words.now)) }
 {
     bytes.reserve(room_for(words).saturating_add(name.len()))?;
     append_header(bytes, b'*', words.len() + 1)?;

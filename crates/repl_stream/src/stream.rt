@@ -55,8 +55,10 @@ pub trait Stream {
     fn append(&mut self, bytes: &[u8])
         requires room { length bytes.now ≤ room self.old }
         requires fits { end_of (held self.old) + length bytes.now < 2 ^ 64 }
-        ensures appended { held self.new ≡ with_appended (gives_up self.old (length bytes.now)) bytes.now (held self.old) }
-        ensures within { gives_up self.old (length bytes.now) ≤ length (held self.old).bytes + length bytes.now - keeps self.old }
+        ensures appended { held self.new
+            ≡ with_appended (gives_up self.old (length bytes.now)) bytes.now (held self.old) }
+        ensures within { gives_up self.old (length bytes.now)
+            ≤ length (held self.old).bytes + length bytes.now - keeps self.old }
         ensures keeps { keeps self.new ≡ keeps self.old };
 
     /// At most so many bytes, from that offset on. From the end on there are none.

@@ -15,7 +15,8 @@ impl<T: Stream> NodeStream<T> {
         ensures keeps { self.new.keeps ≡ self.old.keeps }
         ensures room { OnOk result (count ≤ self.new.room) }
         ensures fits { OnOk result (received self.new.stream + count < 2 ^ 64) }
-        ensures fault { IfErr result (λ fault. IsRefusedAt fault (received self.old.stream + count)) }
+        ensures fault { IfErr result
+            (λ fault. IsRefusedAt fault (received self.old.stream + count)) }
     {
         if count as u64 > u64::MAX - self.stream.end() {
             return Err(AppendFault::Exhausted);

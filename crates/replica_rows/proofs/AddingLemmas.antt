@@ -3,7 +3,8 @@ use Rattle.std.proofs.Common.{◌≡◌, ◌++◌, ◌==◌, ◌+◌, ◌^◌, �
 use Rattle.std.proofs.lemmas.Bool.{eqb-true}
 use Rattle.std.specs.Prelude.{nat_lt, Result}
 use Rattle.bus.specs.declared.message.Body.{Body}
-use Rattle.bus.specs.declared.message.Body.TheVariants.{Piece}
+use Rattle.bus.specs.declared.bodies.StreamBody.TheVariants.{Piece}
+use Rattle.bus.specs.declared.message.Body.TheVariants.{Stream}
 use Rattle.command_table.specs.declared.command.Command.{Command}
 use Rattle.command_table.specs.declared.fault.CommandFault.{CommandFault}
 use Rattle.node_parts.proofs.ChangeLemmas.{KeepsOwn, keeps_own, records_nothing}
@@ -40,7 +41,7 @@ records_none old outcome (request ∷ requests) bytes draft none is drafts = som
 -- who gets pieces, and of what, a change leaves as it was
 abbrev pieces_by : List (Option ℕ) → ℕ → StreamView → List ℕ → List (ℕ × Body)
 pieces_by masters number stream bytes =
-    to_all (replicas_of masters number) (Piece (record { stream = stream.held.id; from = end_of stream.held; bytes = bytes; base = stream.former }))
+    to_all (replicas_of masters number) (Stream (Piece (record { stream = stream.held.id; from = end_of stream.held; bytes = bytes; base = stream.former })))
 
 same_pieces : (old new : NodeState) (bytes : List ℕ) → KeepsOwn old new → pieces_of old bytes ≡ pieces_of new bytes
 same_pieces old new bytes keeps =

@@ -2,7 +2,8 @@
 use Rattle.std.specs.Prelude.{◌≡◌, ◌++◌, ◌∷◌, ◌&&◌, ℕ, Bool, false, not, List, [], None, filter, slice_index_or, if◌then◌else◌}
 use Rattle.std.specs.List.{range_with_len}
 use Rattle.bus.specs.declared.message.Body.{Body}
-use Rattle.bus.specs.declared.message.Body.TheVariants.{Piece}
+use Rattle.bus.specs.declared.bodies.StreamBody.TheVariants.{Piece}
+use Rattle.bus.specs.declared.message.Body.TheVariants.{Stream}
 use Rattle.node_parts.specs.declared.draft.Draft.{Draft}
 use Rattle.node_step.specs.Orders.{to_all}
 use Rattle.node_step.specs.Roles.{is_just, replicas_of}
@@ -25,7 +26,7 @@ is_done Parked = false
 
 -- the bytes as a piece of the node's stream
 abbrev pub piece_of : NodeState → List ℕ → Body
-piece_of node bytes = Piece (record { stream = node.stream.held.id; from = end_of node.stream.held; bytes = bytes; base = node.stream.former })
+piece_of node bytes = Stream (Piece (record { stream = node.stream.held.id; from = end_of node.stream.held; bytes = bytes; base = node.stream.former }))
 
 -- its replicas with lower numbers than that
 abbrev pub replicas_below : NodeState → ℕ → List ℕ

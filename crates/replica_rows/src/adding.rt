@@ -1,5 +1,5 @@
 //! What a step writes, in its draft.
-ghost use Rattle.std.specs.Prelude.{◌≡◌, ◌+◌, ◌^◌, nat_lt, length, false, Err, IfSome, OnOk, Result};
+ghost use Rattle.std.specs.Prelude.{◌≡◌, ◌+◌, ◌^◌, nat_lt, length, false, Err, OnOk, Result};
 ghost use Rattle.command_table.specs.declared.command.Command.{Command};
 ghost use Rattle.command_table.specs.declared.fault.CommandFault.{CommandFault};
 ghost use Rattle.node_parts.specs.Drafts.{Drafts, Records};
@@ -7,7 +7,6 @@ ghost use Rattle.node_step.specs.Numbers.{has_offset};
 ghost use Rattle.node_step.specs.Outcome.{Outcome};
 ghost use Rattle.node_step.specs.Streams.{Requests, is_written, written_by_request};
 ghost use Rattle.resp2.specs.Stream.{stream_spelling};
-ghost use Rattle.resp_values.specs.Request.{request_spelling};
 ghost use Rattle.step_fault.specs.declared.fault.StepFault.TheVariants.{Exhausted};
 ghost use Rattle.replica_rows.specs.Adding.{Adds};
 ghost use Rattle.stream_values.specs.Stream.{end_of};
@@ -29,19 +28,19 @@ pub fn add_written<S: SlotParts + SlotKeys, T: Stream>(
     bytes: Vec<u8>,
     draft: &mut Draft,
 ) -> Result<(), StepFault>
-    ensures records { OnOk result ((outcome : Outcome) (requests : Requests) → bytes.items ≡ stream_spelling requests
-        → Drafts node.now outcome draft.old → Records node.now outcome requests draft.new) }
-    ensures exhausted { result ≡ Err Exhausted → (requests : Requests) → bytes.items ≡ stream_spelling requests
-        → has_offset node.now requests ≡ false }
+    ensures records { OnOk result ((outcome : Outcome) (requests : Requests)
+        → bytes.items ≡ stream_spelling requests → Drafts node.now outcome draft.old
+        → Records node.now outcome requests draft.new) }
+    ensures exhausted { result ≡ Err Exhausted → (requests : Requests)
+        → bytes.items ≡ stream_spelling requests → has_offset node.now requests ≡ false }
 {
     if bytes.is_empty() {
         return Ok(());
     }
-    add(node, bytes, None, draft)
+    add(node, bytes, draft)
 }
 
-/// The same of a request that was answered, if it is a write that was executed without an error: it is written in its own words. The pieces
-/// have its bytes alone, because to give back memory that another thread took costs more than to read them.
+/// The same of a request that was answered, if it is a write that was executed without an error: it is written in its own words.
 #[tactic(auto, using(crate::proofs::AddingLemmas::request_not_written, crate::proofs::AddingLemmas::request_is_written, crate::proofs::AddingLemmas::no_offset_for_request))]
 pub fn add_request<S: SlotParts + SlotKeys, T: Stream>(
     node: &NodeParts<S, T>,
@@ -49,17 +48,19 @@ pub fn add_request<S: SlotParts + SlotKeys, T: Stream>(
     is_write: bool,
     draft: &mut Draft,
 ) -> Result<(), StepFault>
-    ensures records { OnOk result ((outcome : Outcome) (command : Result Command CommandFault) → is_write ≡ is_written command
-        → Drafts node.now outcome draft.old
-        → Records node.now outcome (written_by_request words.now command draft.old.response) draft.new) }
-    ensures exhausted { result ≡ Err Exhausted → (command : Result Command CommandFault) → is_write ≡ is_written command
+    ensures records { OnOk result ((outcome : Outcome) (command : Result Command CommandFault)
+        → is_write ≡ is_written command
+        → Drafts node.now outcome draft.old → Records node.now outcome
+        (written_by_request words.now command draft.old.response) draft.new) }
+    ensures exhausted { result ≡ Err Exhausted
+        → (command : Result Command CommandFault) → is_write ≡ is_written command
         → has_offset node.now (written_by_request words.now command draft.old.response) ≡ false }
 {
     if !is_recorded(is_write, &draft.response) {
         return Ok(());
     }
     let bytes = request_bytes(node.alloc, words.as_slice())?;
-    add(node, bytes, None, draft)?;
+    add(node, bytes, draft)?;
     Ok(())
 }
 
@@ -67,17 +68,16 @@ pub fn add_request<S: SlotParts + SlotKeys, T: Stream>(
 fn add<S: SlotParts + SlotKeys, T: Stream>(
     node: &NodeParts<S, T>,
     bytes: Vec<u8>,
-    request: Option<&Words>,
     draft: &mut Draft,
 ) -> Result<(), StepFault>
-    requires { IfSome request (λ words. bytes.items ≡ request_spelling words.now) }
     ensures ok { OnOk result (Adds node.now bytes.items draft.old draft.new) }
-    ensures exhausted { result ≡ Err Exhausted → nat_lt (end_of node.now.stream.held + length bytes.items) (2 ^ 64) ≡ false }
+    ensures exhausted { result ≡ Err Exhausted
+        → nat_lt (end_of node.now.stream.held + length bytes.items) (2 ^ 64) ≡ false }
 {
     if bytes.len() as u64 > u64::MAX - node.stream.received() {
         return Err(StepFault::Exhausted);
     }
-    append_pieces(node, bytes.as_slice(), request, &mut draft.bodies)?;
+    append_pieces(node, bytes.as_slice(), &mut draft.bodies)?;
     draft.written = bytes;
     Ok(())
 }

@@ -76,7 +76,8 @@ fn restore<S: SlotParts + SlotKeys + Replaces, T: Stream>(
     node: &mut NodeParts<S, T>,
     snapshot: &Snapshot,
 ) -> Result<(), AllocError>
-    ensures ok { OnOk result (node.new ≡ with_follower node.old (restored snapshot.now (follower_of node.old))) }
+    ensures ok { OnOk result
+        (node.new ≡ with_follower node.old (restored snapshot.now (follower_of node.old))) }
     ensures err { OnErr result (node.new ≡ node.old) }
 {
     node.stream.snapshot(node.alloc, &mut node.store, snapshot)

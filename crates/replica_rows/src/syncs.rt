@@ -6,7 +6,7 @@ ghost use Rattle.node_step.specs.Replicas.{sync_answer, sync_to, synced};
 ghost use Rattle.node_step.specs.State.{own_master};
 ghost use Rattle.stream_values.specs.Syncing.{answer_to};
 
-use bus::Body;
+use bus::{Body, StreamBody};
 use keyspace::Pairs;
 use node_parts::{Change, Draft, NodeParts, listed};
 use node_step::Releases;
@@ -22,14 +22,15 @@ pub fn append_sync<S: SlotParts + SlotKeys, T: Stream>(
     node: &NodeParts<S, T>,
     bodies: &mut Vec<(NodeNo, Body)>,
 ) -> Result<(), AllocError>
-    ensures { OnOk result (bodies.new.items ≡ bodies.old.items ++ sync_to node.now.stream (own_master node.now)) }
+    ensures { OnOk result
+        (bodies.new.items ≡ bodies.old.items ++ sync_to node.now.stream (own_master node.now)) }
 {
     if let Some(master) = node.own_master() {
         let sync = Sync {
             stream: node.stream.id(),
             received: node.stream.received(),
         };
-        bodies.push((master, Body::Sync(sync)))?;
+        bodies.push((master, Body::Stream(StreamBody::Sync(sync))))?;
     }
     Ok(())
 }
@@ -58,12 +59,16 @@ fn sync_answer<S: SlotParts + SlotKeys, T: Stream>(
     from: NodeNo,
     sync: &Sync,
 ) -> Result<Option<(NodeNo, Body)>, AllocError>
-    ensures { IfOk result (λ body. bodies_of body ≡ sync_answer node.now from (answer_to node.now.stream sync.now)) }
+    ensures { IfOk result
+        (λ body. bodies_of body ≡ sync_answer node.now from (answer_to node.now.stream sync.now)) }
 {
     match node.stream.answer(node.alloc, sync)? {
         SyncAnswer::UpToDate => Ok(None),
-        SyncAnswer::Piece(piece) => Ok(Some((from, Body::Piece(piece)))),
-        SyncAnswer::Snapshot => Ok(Some((from, Body::Snapshot(snapshot(node)?)))),
+        SyncAnswer::Piece(piece) => Ok(Some((from, Body::Stream(StreamBody::Piece(piece))))),
+        SyncAnswer::Snapshot => Ok(Some((
+            from,
+            Body::Stream(StreamBody::Snapshot(snapshot(node)?)),
+        ))),
     }
 }
 
@@ -71,7 +76,8 @@ fn sync_answer<S: SlotParts + SlotKeys, T: Stream>(
 fn snapshot<S: SlotParts + SlotKeys, T: Stream>(
     node: &NodeParts<S, T>,
 ) -> Result<Snapshot, AllocError>
-    ensures { IfOk result (λ snapshot. snapshot ≡ record { stream = node.now.stream.held.id; offset = node.now.stream.offset; pairs = fin_map.entries node.now.keyspace }) }
+    ensures { IfOk result (λ snapshot.
+        snapshot ≡ record { stream = node.now.stream.held.id; offset = node.now.stream.offset; pairs = fin_map.entries node.now.keyspace }) }
 {
     let pairs = pairs(node.alloc, &node.store)?;
     Ok(Snapshot {

@@ -1,7 +1,7 @@
 //! What a message says.
 
 use crate::quoted::Quoted;
-use bus::{Body, Candidacy, Handing, Replaced, Suspects};
+use bus::{Body, Candidacy, ElectionBody, Handing, Replaced, SlotsBody, StreamBody, Suspects};
 use keyspace::Pairs;
 use slot_state::CopyId;
 use slot_table::Claim;
@@ -13,9 +13,18 @@ use stream_values::{Piece, Snapshot, StreamId, Sync};
 /// Puts what a message says behind the text.
 pub(crate) fn write_body(text: &mut String, body: &Body) -> Result<(), AllocError> {
     match body {
-        Body::Copy { id, pairs } => write_copy(text, *id, pairs),
-        Body::Ack(id) => write!(text, "Ack {}", NamedCopy(*id)),
-        Body::Drained {
+        Body::Slots(body) => write_of_slots(text, body),
+        Body::Stream(body) => write_of_stream(text, body),
+        Body::Election(body) => write_of_election(text, body),
+        Body::Report(suspects) => write_report(text, suspects),
+    }
+}
+
+fn write_of_slots(text: &mut String, body: &SlotsBody) -> Result<(), AllocError> {
+    match body {
+        SlotsBody::Copy { id, pairs } => write_copy(text, *id, pairs),
+        SlotsBody::Ack(id) => write!(text, "Ack {}", NamedCopy(*id)),
+        SlotsBody::Drained {
             slot,
             number,
             epoch,
@@ -26,15 +35,24 @@ pub(crate) fn write_body(text: &mut String, body: &Body) -> Result<(), AllocErro
             number.get(),
             epoch.get()
         ),
-        Body::Claim(claim, replaced) => write_claim(text, claim, *replaced),
-        Body::Report(suspects) => write_report(text, suspects),
-        Body::Candidacy(candidacy) => write_candidacy(text, *candidacy),
-        Body::Grant(epoch) => write!(text, "Grant epoch {}", epoch.get()),
-        Body::Sync(sync) => write_sync(text, *sync),
-        Body::Piece(piece) => write_piece(text, piece),
-        Body::Snapshot(snapshot) => write_snapshot(text, snapshot),
-        Body::Pause(stream) => write!(text, "Pause {}", NamedStream(*stream)),
-        Body::Paused(handing) => write_handing(text, handing),
+        SlotsBody::Claim(claim, replaced) => write_claim(text, claim, *replaced),
+    }
+}
+
+fn write_of_stream(text: &mut String, body: &StreamBody) -> Result<(), AllocError> {
+    match body {
+        StreamBody::Sync(sync) => write_sync(text, *sync),
+        StreamBody::Piece(piece) => write_piece(text, piece),
+        StreamBody::Snapshot(snapshot) => write_snapshot(text, snapshot),
+    }
+}
+
+fn write_of_election(text: &mut String, body: &ElectionBody) -> Result<(), AllocError> {
+    match body {
+        ElectionBody::Candidacy(candidacy) => write_candidacy(text, *candidacy),
+        ElectionBody::Grant(epoch) => write!(text, "Grant epoch {}", epoch.get()),
+        ElectionBody::Pause(stream) => write!(text, "Pause {}", NamedStream(*stream)),
+        ElectionBody::Paused(handing) => write_handing(text, handing),
     }
 }
 

@@ -1,5 +1,6 @@
 //! Where the nodes listen.
 
+use crate::reach::host_of;
 use cluster_config::NodeConfig;
 use program_fault::{Failure, ProgramFault};
 use std::alloc::{AllocError, Global};
@@ -70,8 +71,7 @@ where
     if let Some(listener) = open {
         return Ok(listener);
     }
-    let own = str::from_utf8(node.host.as_slice()).unwrap_or(HOST);
-    let host = host.unwrap_or(own);
+    let host = host.unwrap_or(host_of(node));
     listen_on(rt, host, node.port).map_err(|error| in_use(
         rt.alloc(),
         number,

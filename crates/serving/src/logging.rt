@@ -29,13 +29,15 @@ impl Logging {
     {
         let alloc = rt.alloc();
         let Some(hearing) = wanted else {
-            let witness = Arc::new(alloc, Witness::unheard(alloc)).map_err(AllocError::from)?;
+            let witness = Arc::new(alloc, Witness::without_listener(alloc)).map_err(
+                AllocError::from,
+            )?;
             return Ok(Logging {
                 witness,
                 thread: None,
             });
         };
-        let witness = Witness::heard(&rt, alloc, hearing)?;
+        let witness = Witness::with_listener(&rt, alloc, hearing)?;
         let witness = Arc::new(alloc, witness).map_err(AllocError::from)?;
         let thread = Some(start_writing(rt, &witness)?);
         Ok(Logging { witness, thread })
@@ -83,12 +85,12 @@ impl fmt::Display for Line {
         match incident {
             Incident::ClientRefused { node, shortage } => write!(
                 f,
-                "node {node}: a client isn't served, since {}",
+                "node {node}: a client isn't served, because {}",
                 text_of(shortage)
             ),
             Incident::ThreadNotStarted { node, shortage } => write!(
                 f,
-                "node {node}: a thread isn't started, since {}",
+                "node {node}: a thread isn't started, because {}",
                 text_of(shortage)
             ),
             Incident::SlotArrived {

@@ -57,26 +57,27 @@ fn read_all<R: AllocGlobal + Input + Eprint + Wait>(rt: &R, orders: &Orders, nod
     }
 }
 
-// Gives the order in the line, if there is one. Where it can't be told that there is none, nobody else waits for that.
+// Gives the order in the line, if there is one. If standard error can't be written, that is ignored.
 fn obey<R: Eprint>(rt: &R, orders: &Orders, nodes: usize, line: &[u8]) {
-    let text = str::from_utf8(line).unwrap_or("?").trim();
-    if text.is_empty() {
+    let line = line.trim_ascii();
+    if line.is_empty() {
         return;
     }
-    match order_in(text, nodes) {
+    match order_in(line, nodes) {
         Some(Order::Stop(node)) => orders.stop(node),
         Some(Order::Status) => orders.ask(),
         None => {
             let _told = eprintln!(rt;
                 "rcluster: \"{}\" is no order: there are `status`, and `stop N` with the number of a node from 0 to {}",
-                Shown(text.as_bytes()),
+                Shown(line),
                 nodes.saturating_sub(1)
             );
         }
     }
 }
 
-fn order_in(text: &str, nodes: usize) -> Option<Order> {
+fn order_in(line: &[u8], nodes: usize) -> Option<Order> {
+    let text = str::from_utf8(line).ok()?;
     if text == "status" {
         return Some(Order::Status);
     }

@@ -2,7 +2,7 @@
 
 use cluster_config::Config;
 
-// What a node tells another one at a tick, and that one makes of it, takes a processor for some so many microseconds.
+// What a node tells another one at a tick, and that one makes of it, takes a processor for about this many microseconds.
 const COST: u64 = 20;
 
 /// Says so where a tick is shorter than what all nodes do at one.

@@ -11,7 +11,7 @@ use std::io::{ErrorKind, Write};
 use std::rt::Files;
 use std::{fs, io};
 
-// So many bytes of the text are written at once, or a line more.
+// How many bytes of the text are written at once. The last line may pass that.
 const BLOCK: usize = 65_536;
 
 /// Makes sure that there is a file at the path which can be written, so that another one is refused before the cluster is served. What

@@ -8,7 +8,7 @@ use crate::listening::{Doors, listen_at};
 use crate::logging::Logging;
 use crate::orders::start_reading;
 use crate::pace::warn_of_pace;
-use crate::reach::warn_of_reach;
+use crate::reach::{host_of, warn_of_reach};
 use crate::recording::record;
 use audit::{WorldRun, gather_stations};
 use cluster::{
@@ -46,11 +46,11 @@ pub struct Wishes<'a> {
     pub loops: Option<usize>,
     /// Where the nodes listen, apart from their addresses.
     pub doors: Doors<'a>,
-    /// The path of the file to which it is written what the nodes did, or None where it is written nowhere.
+    /// The path of the file that gets what the nodes did, or None where that is written nowhere.
     pub record: Option<&'a str>,
-    /// Whether standard error is told what no client is.
+    /// Whether standard error is told what clients aren't told.
     pub is_logged: bool,
-    /// After how many ticks each it is told how the nodes are, or None where nobody wants to know.
+    /// How many ticks pass between two reports of how the nodes are, or None where nobody wants to know.
     pub status_ticks: Option<u64>,
     /// Whether orders are read from standard input.
     pub takes_orders: bool,
@@ -421,7 +421,8 @@ where
     requires fresh { All (λ seat. IsFresh K.table K.seats seat) seats.items }
     requires ends { length ends.items ≡ length config.now.nodes }
     ensures count { IfOk result (λ places. vec_len places ≡ vec_len seats) }
-    ensures fresh { IfOk result (λ places. All (λ place. IsFresh K.table K.seats place.seat) places.items) }
+    ensures fresh { IfOk result
+        (λ places. All (λ place. IsFresh K.table K.seats place.seat) places.items) }
     ensures ends { IfOk result (λ places. map (λ place. place.ends) places.items ≡ ends.items) }
 {
     let host = doors.host;
@@ -449,8 +450,7 @@ fn print_addresses<R: Print + Eprint>(
     host: Option<&str>,
 ) -> Result<(), Failure> {
     for (number, node) in config.nodes().iter().enumerate() {
-        let own = str::from_utf8(node.host.as_slice()).unwrap_or("");
-        if println!(rt; "node {number} {own}:{}", node.port).is_err() {
+        if println!(rt; "node {number} {}:{}", host_of(node), node.port).is_err() {
             return Err(Failure::from(ProgramFault::Output));
         }
     }

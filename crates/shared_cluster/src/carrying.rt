@@ -18,13 +18,13 @@ const LONG: u64 = 3600;
 // How many messages of a node are taken at most under one hold of the lock, before clients are let in.
 const MOST_TAKEN: u32 = 64;
 
-// Once they took so many microseconds no more of them are taken under that hold.
+// Once they took this many microseconds no more of them are taken under that hold.
 const LONG_HOLD: u64 = 500;
 
-// The clock is read once for so many messages.
+// For how many messages the clock is read once.
 const MESSAGES_A_READING: u32 = 8;
 
-// For so many microseconds the thread leaves the node to those who have waited long for it, where it has more messages for it.
+// For how many microseconds the thread leaves the node to those who have waited long for it, where it has more messages for it.
 const TURN: u64 = 200;
 
 // How many milliseconds it sleeps where memory was refused for messages that wait for their links.
@@ -47,7 +47,7 @@ pub fn carry<C: HasLinks<R> + Drop, R: Clock + Wait>(
         if cluster.stop.has_ended() {
             return;
         }
-        let round = look(rt, cluster.nodes.len(), node, &mut changes);
+        let round = lock_and_exchange(rt, cluster.nodes.len(), node, &mut changes);
         cluster.call(round.called);
         if !round.has_received {
             node.shared.wait_for_mail(rt, seen, round.rest());
@@ -70,7 +70,7 @@ pub(crate) fn carry_at_once<C: HasLinks<R> + Drop, R: Clock + Wait>(
 ) {
     let mut called = send(rt, alloc, cluster, number, Replies::AreTold);
     for (other, node) in cluster.nodes.iter().enumerate() {
-        if called.take(other) && !look_at_once(rt, alloc, cluster, number, other, node) {
+        if called.take(other) && !try_exchange(rt, alloc, cluster, number, other, node) {
             node.shared.ring_for_mail();
         }
     }
@@ -113,7 +113,7 @@ pub(crate) fn send<C: HasLinks<R> + Drop, R: Clock + Wait>(
 
 // Has another node take what has come to it and send what it answers, unless it is locked. The node of that number isn't told of messages
 // for it: whoever asks for this looks for them.
-fn look_at_once<C: HasLinks<R> + Drop, R: Clock + Wait>(
+fn try_exchange<C: HasLinks<R> + Drop, R: Clock + Wait>(
     rt: &R,
     alloc: Global,
     cluster: &SharedCluster<C>,
@@ -149,26 +149,26 @@ impl<C: HoldsCell + Drop> SharedCluster<C> {
 /// Nodes that are to look for messages, or have room for more, by their numbers.
 #[derive(Clone, Copy)]
 pub(crate) struct Called {
-    are: [bool; NodeNo::COUNT],
+    by_number: [bool; NodeNo::COUNT],
 }
 
 impl Called {
     fn none() -> Called {
         Called {
-            are: [false; NodeNo::COUNT],
+            by_number: [false; NodeNo::COUNT],
         }
     }
 
     fn add(&mut self, number: usize) {
-        if let Some(is) = self.are.get_mut(number) {
-            *is = true;
+        if let Some(is_called) = self.by_number.get_mut(number) {
+            *is_called = true;
         }
     }
 
     // Whether the node is one of these. It is none of them any more.
     fn take(&mut self, number: usize) -> bool {
-        match self.are.get_mut(number) {
-            Some(is) => mem::replace(is, false),
+        match self.by_number.get_mut(number) {
+            Some(is_called) => mem::replace(is_called, false),
             None => false,
         }
     }
@@ -201,7 +201,7 @@ impl Round {
 }
 
 // Takes the next messages from each node, and sends as many to each as there is room for, under one hold of the node's lock.
-fn look<C: HasLinks<R> + Drop, R: Clock + Wait>(
+fn lock_and_exchange<C: HasLinks<R> + Drop, R: Clock + Wait>(
     rt: &R,
     count: usize,
     node: &Node<C>,

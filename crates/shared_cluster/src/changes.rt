@@ -10,7 +10,7 @@ use std::alloc::Global;
 use std::rt::Clock;
 use std::sync::Wait;
 
-// So many acts are told at once. Where there are more, they are told with the next message.
+// How many acts are told at once. Where there are more, they are told with the next message.
 const MOST_ACTS: u32 = 1024;
 
 /// Has the witness see each slot that leaves the node of that number, that the node hands its slots over, that it noted what its master
@@ -84,7 +84,7 @@ impl<'w> Changes<'w> {
 
     /// Looks at the node before it takes a message.
     pub(crate) fn look<C: HoldsCell>(&mut self, cell: &C) {
-        if self.witness.is_heard() {
+        if self.witness.wants_all() {
             self.leaving.clear();
             note_all(cell, &mut self.leaving);
             self.before = Part::of(cell);
@@ -93,7 +93,7 @@ impl<'w> Changes<'w> {
 
     /// Has the witness see those of the slots that are another node's now, and what else the node came to do by the message.
     pub(crate) fn tell<C: HoldsCell, R: Clock + Wait>(&self, rt: &R, cell: &C) {
-        if !self.witness.is_heard() {
+        if !self.witness.wants_all() {
             return;
         }
         for leaving in self.leaving.iter() {
@@ -117,7 +117,7 @@ impl<'w> Changes<'w> {
         cell: &mut C,
         from: usize,
     ) {
-        if !self.witness.is_heard() {
+        if !self.witness.wants_all() {
             return;
         }
         for _ in 0..MOST_ACTS {

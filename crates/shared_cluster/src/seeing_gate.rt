@@ -17,7 +17,7 @@ use std::alloc::Global;
 use std::rt::Clock;
 use std::sync::Wait;
 
-// After so many steps a thread that serves several conversations lets others ask the node.
+// After this many steps a thread that serves several conversations lets others ask the node.
 const MOST_STEPS: u32 = 64;
 
 /// A conversation's way to the node of that number, by which its messages are carried where it waits for another node, and at which the
@@ -73,7 +73,8 @@ impl<'n, C: HasLinks<R> + Drop, R: Clock + Wait + Copy> SeeingGate<'n, C, R> {
         asks: Asks<C::Cluster>,
         mail: Mail,
     ) -> Option<SeeingGate<'n, C, R>>
-        ensures { IfSome result (λ seeing. ⟦<Gate<'n, C, R> as NodeGate>⟧.asked seeing.gate ≡ asks) }
+        ensures { IfSome result
+            (λ seeing. ⟦<Gate<'n, C, R> as NodeGate>⟧.asked seeing.gate ≡ asks) }
     {
         let node = cluster.node(number)?;
         Some(SeeingGate {
@@ -90,9 +91,10 @@ impl<'n, C: HasLinks<R> + Drop, R: Clock + Wait + Copy> SeeingGate<'n, C, R> {
 
     // The slot that may arrive by this event, where somebody listens. The node is held then.
     fn awaited(&mut self, event: &Event) -> Option<Arrival>
-        ensures { ⟦<Gate<'n, C, R> as NodeGate>⟧.asked self.new.gate ≡ ⟦<Gate<'n, C, R> as NodeGate>⟧.asked self.old.gate }
+        ensures { ⟦<Gate<'n, C, R> as NodeGate>⟧.asked self.new.gate
+            ≡ ⟦<Gate<'n, C, R> as NodeGate>⟧.asked self.old.gate }
     {
-        if !self.cluster.witness().is_heard() {
+        if !self.cluster.witness().wants_all() {
             return None;
         }
         let slot = Arrival::slot_given_by(event)?;
@@ -111,7 +113,8 @@ impl<'n, C: HasLinks<R> + Drop, R: Clock + Wait + Copy> SeeingGate<'n, C, R> {
 
     // Lets others in.
     fn let_in(&mut self)
-        ensures { ⟦<Gate<'n, C, R> as NodeGate>⟧.asked self.new.gate ≡ ⟦<Gate<'n, C, R> as NodeGate>⟧.asked self.old.gate }
+        ensures { ⟦<Gate<'n, C, R> as NodeGate>⟧.asked self.new.gate
+            ≡ ⟦<Gate<'n, C, R> as NodeGate>⟧.asked self.old.gate }
     {
         self.steps = 0;
         self.gate.unlock();
@@ -121,15 +124,11 @@ impl<'n, C: HasLinks<R> + Drop, R: Clock + Wait + Copy> SeeingGate<'n, C, R> {
 impl<'n, C: HasLinks<R> + Drop, R: Clock + Wait + Copy> NodeGate for SeeingGate<'n, C, R> {
     type Answer = Entered<C::Cluster>;
 
-    ghost use Rattle.shared_node.specs.Answers.{MayAnswer, MayGive, MayRefuse};
+    ghost use Rattle.shared_node.specs.Answers.{MayCome};
 
     ghost asked = { λ seeing. ⟦<Gate<'n, C, R> as NodeGate>⟧.asked seeing.gate };
 
-    ghost may = { MayAnswer C.Cluster.config };
-
-    ghost may_refuse = { MayRefuse C.Cluster.config };
-
-    ghost may_give = { MayGive C.Cluster.config };
+    ghost allowed = { MayCome C.Cluster.config };
 
     #[inline(always)]
     fn step(&mut self, event: Event) -> Result<Entered<C::Cluster>, StepFault> {
@@ -166,15 +165,15 @@ impl<'n, C: HasLinks<R> + Drop, R: Clock + Wait + Copy> SharedGate for SeeingGat
 
     ghost asked_by = { λ asks. asks };
 
-    fn exchange(&mut self, asks: &mut Asks<C::Cluster>) {
-        self.gate.exchange(asks);
+    fn swap_asks(&mut self, asks: &mut Asks<C::Cluster>) {
+        self.gate.swap_asks(asks);
     }
 
     fn look(&mut self, conn: Conn) -> Option<Reply> {
         self.gate.look(conn)
     }
 
-    fn let_others_in(&mut self) {
+    fn give_way(&mut self) {
         if self.steps >= MOST_STEPS {
             self.let_in();
         }

@@ -1,4 +1,4 @@
-//! Descriptors that are kept back, so that a client is told where there is none for it.
+//! Descriptors that are kept back, so that a client for which there is none is closed and not left waiting.
 
 use std::alloc::{AllocError, Global};
 use std::net::TcpListener;

@@ -8,7 +8,7 @@ use std::rt::Clock;
 use std::sync::{Condvar, Mutex, Wait};
 use std::time::{Duration, Instant};
 
-// So many incidents wait to be heard at most. Where more come they are counted alone.
+// How many incidents wait to be heard at most. Where more come they are only counted.
 const MOST_WAITING: usize = 1024;
 
 /// What there is none of.
@@ -91,9 +91,9 @@ pub enum Incident {
     Stopped {
         node: usize,
     },
-    /// How a node is, since that was asked or its time has come.
+    /// How a node is, because that was asked or its time has come.
     Status(NodeStatus),
-    /// So many incidents found too many others waiting.
+    /// How many incidents found too many others waiting.
     Missed(u64),
 }
 
@@ -141,7 +141,7 @@ pub struct Heard {
 #[derive(Drop)]
 pub struct Witness {
     // What somebody wants to hear, and the beginning, where somebody listens.
-    heard: Option<(Hearing, Instant)>,
+    listener: Option<(Hearing, Instant)>,
     seen: Mutex<Seen>,
     // It rings where something waits to be heard, and at the end.
     bell: Condvar,
@@ -158,18 +158,22 @@ struct Seen {
 
 impl Witness {
     /// One to which nobody listens, so that it sees nothing.
-    pub fn unheard(alloc: Global) -> Witness {
+    pub fn without_listener(alloc: Global) -> Witness {
         Witness::over(None, VecDeque::new(alloc))
     }
 
     /// One to which somebody listens who wants to hear this. Now is the beginning, where there is a clock.
-    pub fn heard<R: Clock>(rt: &R, alloc: Global, hearing: Hearing) -> Result<Witness, AllocError> {
+    pub fn with_listener<R: Clock>(
+        rt: &R,
+        alloc: Global,
+        hearing: Hearing,
+    ) -> Result<Witness, AllocError> {
         let waiting = VecDeque::with_capacity(alloc, MOST_WAITING)?;
-        let heard = Instant::now(rt).ok().map(|begun| (hearing, begun));
-        Ok(Witness::over(heard, waiting))
+        let listener = Instant::now(rt).ok().map(|begun| (hearing, begun));
+        Ok(Witness::over(listener, waiting))
     }
 
-    fn over(heard: Option<(Hearing, Instant)>, waiting: VecDeque<Heard>) -> Witness {
+    fn over(listener: Option<(Hearing, Instant)>, waiting: VecDeque<Heard>) -> Witness {
         let seen = Seen {
             waiting,
             missed: 0,
@@ -177,20 +181,20 @@ impl Witness {
             has_ended: false,
         };
         Witness {
-            heard,
+            listener,
             seen: Mutex::new(seen),
             bell: Condvar::new(),
         }
     }
 
     /// Whether somebody listens who wants to hear all.
-    pub fn is_heard(&self) -> bool {
-        matches!(self.heard, Some((Hearing::All, _)))
+    pub fn wants_all(&self) -> bool {
+        matches!(self.listener, Some((Hearing::All, _)))
     }
 
     // When the beginning was, if somebody wants to hear this.
     fn begun_for(&self, incident: Incident) -> Option<Instant> {
-        let (hearing, begun) = self.heard?;
+        let (hearing, begun) = self.listener?;
         match incident.is_for(hearing) {
             true => Some(begun),
             false => None,

@@ -4,35 +4,21 @@ use Rattle.std.specs.Prelude.{IfSome, Result, Ok, Err, is_some}
 use Rattle.cluster_config.specs.Config.{ClusterConfig}
 use Rattle.connections.specs.declared.conn.Conn.{Conn}
 use Rattle.node_gate.specs.Asks.{Asked}
-use Rattle.node_gate.specs.Asks.Asked.{waiting}
+use Rattle.node_gate.specs.Asks.Asked.{asking, waiting}
 use Rattle.node_step.specs.State.{NodeState, first_state}
 use Rattle.node_step.specs.declared.event.Event.{Event}
-use Rattle.node_cell.specs.Journal.{CellView, EnteredView, Enters, IsGiven, IsHistory, IsReachable, IsReason, IsRefused}
+use Rattle.node_cell.specs.Journal.{CellView, EnteredView, Enters, IsGiven, IsHistory, IsReachable, IsReason, IsRefused, outcome_entered}
 use Rattle.node_cell.specs.declared.entry.Entry.{Entry}
 use Rattle.step_fault.specs.declared.fault.StepFault.{StepFault}
 use Rattle.step_fault.specs.declared.fault.StepFault.TheVariants.{Memory, Exhausted}
 use Rattle.resp_values.specs.declared.reply.Reply.{Reply}
-use Rattle.shared_node.specs.Answers.{MayAnswer, MayGive, MayRefuse}
+use Rattle.shared_node.specs.Answers.{MayCome, MayGive, MayRefuse}
 
 -- the state of a cell of the cluster is one that a node of it comes to
 reachable : (config own : ClusterConfig) (node : ℕ) (journal : List Entry) (state : NodeState) → own ≡ config → node < length own.nodes
     → IsHistory (first_state own node) journal state → IsReachable config journal state
 reachable config own node journal state same is_node history =
     subst (λ c. IsReachable c journal state) same (record { number = node; is_node = is_node; history = history })
-
--- a step that a cell of the cluster entered is one that a node of it may answer
-pub may_answer_if_made : (config : ClusterConfig) (old new : CellView) (event : Event) (result : Result EnteredView StepFault) → old.config ≡ config
-    → old.node < length old.config.nodes → IsHistory (first_state old.config old.node) old.journal old.state
-    → IfOk result (λ entered. Enters old event entered new) → IfOk result (λ entered. MayAnswer config event entered.outputs)
-may_answer_if_made config old new event (Ok entered) same is_node history made =
-    record {
-      journal = old.journal;
-      old = old.state;
-      new = new.state;
-      reachable = reachable config old.config old.node old.journal old.state same is_node history;
-      step = made.makes.step;
-    }
-may_answer_if_made config old new event (Err fault) same is_node history made = tt
 
 -- a node that was reached so may refuse an event for want of memory, of tickets, or of a number that the event needs
 module _ (config : ClusterConfig) (journal : List Entry) (state : NodeState) (event : Event) (fault : StepFault) (comes : IsReachable config journal state) where
@@ -49,12 +35,20 @@ may_refuse : (config : ClusterConfig) (old new : CellView) (event : Event) (faul
 may_refuse config old new event fault comes (inl away) = turned_away_so config old.journal old.state event fault comes away.reason
 may_refuse config old new event fault comes (inr skipped) = skipped_so config old.journal old.state event fault comes skipped.skips.reason
 
--- why a cell of the cluster refuses an event is why a node of it may
-pub may_refuse_if_refused : (config : ClusterConfig) (old new : CellView) (event : Event) (result : Result EnteredView StepFault) → old.config ≡ config
+-- a step that a cell of the cluster entered is one that a node of it may answer, and why the cell refuses an event is why the node may
+pub may_come_of_step : (config : ClusterConfig) (old new : CellView) (event : Event) (result : Result EnteredView StepFault) → old.config ≡ config
     → old.node < length old.config.nodes → IsHistory (first_state old.config old.node) old.journal old.state
-    → IfErr result (λ fault. IsRefused old event fault new) → IfErr result (λ fault. MayRefuse config event fault)
-may_refuse_if_refused config old new event (Ok entered) same is_node history refused = tt
-may_refuse_if_refused config old new event (Err fault) same is_node history refused =
+    → IfOk result (λ entered. Enters old event entered new) → IfErr result (λ fault. IsRefused old event fault new)
+    → MayCome config (asking event (outcome_entered result))
+may_come_of_step config old new event (Ok entered) same is_node history made refused =
+    record {
+      journal = old.journal;
+      old = old.state;
+      new = new.state;
+      reachable = reachable config old.config old.node old.journal old.state same is_node history;
+      step = made.makes.step;
+    }
+may_come_of_step config old new event (Err fault) same is_node history made refused =
     may_refuse config old new event fault (reachable config old.config old.node old.journal old.state same is_node history) refused
 
 -- a reply that was taken from a cell of the cluster is one that a node of it may give
@@ -69,6 +63,13 @@ may_give_if_taken config own node journal state conn (Some reply) same is_node h
       reachable = reachable config own node journal state same is_node history;
       given = given;
     }
+
+pub may_come_of_wait : (config own : ClusterConfig) (node : ℕ) (journal : List Entry) (state : NodeState) (conn : Conn) (result : Option Reply) → own ≡ config
+    → node < length own.nodes → IsHistory (first_state own node) journal state
+    → IfSome result (λ reply. IsGiven journal (record { conn = conn; reply = reply })) → MayCome config (waiting conn result)
+may_come_of_wait config own node journal state conn None same is_node history given = tt
+may_come_of_wait config own node journal state conn (Some reply) same is_node history given =
+    may_give_if_taken config own node journal state conn (Some reply) same is_node history given
 
 -- a reply that came at last is noted behind what was asked before the wait
 pub noted_at_last : (conn : Conn) (result : Option Reply) (begun old new : List Asked) → is_some result ≡ true → old ≡ begun

@@ -1,7 +1,9 @@
 -- What a node of a cluster may answer, and refuse.
-use Rattle.std.specs.Prelude.{◌≡◌, ◌≤◌, ◌^◌, ◌⊎◌, List, length}
+use Rattle.std.specs.Prelude.{◌≡◌, ◌≤◌, ◌^◌, ◌⊎◌, List, None, Some, Err, Ok, length, ⊤}
 use Rattle.cluster_config.specs.Config.{ClusterConfig}
 use Rattle.connections.specs.declared.conn.Conn.{Conn}
+use Rattle.node_gate.specs.Asks.{Asked}
+use Rattle.node_gate.specs.Asks.Asked.{asking, waiting}
 use Rattle.node_step.specs.Numbers.{NoNumberLeft}
 use Rattle.node_step.specs.State.{NodeState}
 use Rattle.node_step.specs.Step.{NodeStep}
@@ -38,3 +40,10 @@ pub record MayGive (config : ClusterConfig) (conn : Conn) (reply : Reply) : Type
   pub state : NodeState
   pub reachable : IsReachable config journal state
   pub given : IsGiven journal (record { conn = conn; reply = reply })
+
+-- what may come of that at a node of the cluster
+abbrev pub MayCome : ClusterConfig → Asked → Type 0
+MayCome config (asking event (Ok outputs)) = MayAnswer config event outputs
+MayCome config (asking event (Err fault)) = MayRefuse config event fault
+MayCome config (waiting conn (Some reply)) = MayGive config conn reply
+MayCome config (waiting conn None) = ⊤

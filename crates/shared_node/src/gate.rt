@@ -1,7 +1,7 @@
 //! A conversation's way to a node: a cell behind a lock.
 ghost use Rattle.std.specs.Prelude.{◌≡◌, ◌++◌, ◌∷◌, [], None, Some, IfSome};
 ghost use Rattle.node_gate.specs.Asks.Asked.{waiting};
-ghost use Rattle.shared_node.specs.Answers.{MayGive};
+ghost use Rattle.shared_node.specs.Answers.{MayCome, MayGive};
 
 use crate::shared::SharedNode;
 use connections::Conn;
@@ -41,7 +41,8 @@ impl<'n, C: HoldsCell + Drop, R: Wait> Gate<'n, C, R> {
 
     /// Locks the node, where this conversation doesn't hold it yet. It is held until others are let in.
     pub fn hold(&mut self)
-        ensures { ⟦<Gate<'n, C, R> as NodeGate>⟧.asked self.new ≡ ⟦<Gate<'n, C, R> as NodeGate>⟧.asked self.old }
+        ensures { ⟦<Gate<'n, C, R> as NodeGate>⟧.asked self.new
+            ≡ ⟦<Gate<'n, C, R> as NodeGate>⟧.asked self.old }
     {
         self.held = Some(self.take_or_lock());
     }
@@ -63,21 +64,24 @@ impl<'n, C: HoldsCell + Drop, R: Wait> Gate<'n, C, R> {
 
     /// Lets others in, as [`release`](NodeGate::release) does, and tells nobody yet of the messages that steps left.
     pub fn unlock(&mut self)
-        ensures { ⟦<Gate<'n, C, R> as NodeGate>⟧.asked self.new ≡ ⟦<Gate<'n, C, R> as NodeGate>⟧.asked self.old }
+        ensures { ⟦<Gate<'n, C, R> as NodeGate>⟧.asked self.new
+            ≡ ⟦<Gate<'n, C, R> as NodeGate>⟧.asked self.old }
     {
         self.held = None;
     }
 
     /// Whether steps left messages of which nobody was told. Whoever calls this sees to them from now on.
     pub fn take_left(&mut self) -> bool
-        ensures { ⟦<Gate<'n, C, R> as NodeGate>⟧.asked self.new ≡ ⟦<Gate<'n, C, R> as NodeGate>⟧.asked self.old }
+        ensures { ⟦<Gate<'n, C, R> as NodeGate>⟧.asked self.new
+            ≡ ⟦<Gate<'n, C, R> as NodeGate>⟧.asked self.old }
     {
         mem::replace(&mut self.has_left, false)
     }
 
     /// Tells the thread that takes the node's messages, if steps left some of which it wasn't told.
     pub fn tell(&mut self)
-        ensures { ⟦<Gate<'n, C, R> as NodeGate>⟧.asked self.new ≡ ⟦<Gate<'n, C, R> as NodeGate>⟧.asked self.old }
+        ensures { ⟦<Gate<'n, C, R> as NodeGate>⟧.asked self.new
+            ≡ ⟦<Gate<'n, C, R> as NodeGate>⟧.asked self.old }
     {
         if self.take_left() {
             self.node.ring_for_mail();
@@ -86,7 +90,7 @@ impl<'n, C: HoldsCell + Drop, R: Wait> Gate<'n, C, R> {
 
     /// Changes places with the conversation that asked this: from now on that one has this way to the node, and the lock with it. So a
     /// thread that serves several conversations keeps the node from one to the next.
-    pub fn exchange(&mut self, asks: &mut Asks<C::Cluster>)
+    pub fn swap_asks(&mut self, asks: &mut Asks<C::Cluster>)
         ensures comes { ⟦<Gate<'n, C, R> as NodeGate>⟧.asked self.new ≡ asks.old }
         ensures goes { asks.new ≡ ⟦<Gate<'n, C, R> as NodeGate>⟧.asked self.old }
     {
@@ -96,9 +100,11 @@ impl<'n, C: HoldsCell + Drop, R: Wait> Gate<'n, C, R> {
     /// Takes the reply to the connection, whose last request was answered with [`Parked`](node_step::Response::Parked), if the node has
     /// it by now. The node is held until others are let in.
     pub fn look(&mut self, conn: Conn) -> Option<Reply>
-        ensures heard { IfSome result (λ reply. ⟦<Gate<'n, C, R> as NodeGate>⟧.asked self.new ≡ ⟦<Gate<'n, C, R> as NodeGate>⟧.asked self.old ++ waiting conn (Some reply) ∷ []) }
+        ensures heard { IfSome result (λ reply. ⟦<Gate<'n, C, R> as NodeGate>⟧.asked self.new
+            ≡ ⟦<Gate<'n, C, R> as NodeGate>⟧.asked self.old ++ waiting conn (Some reply) ∷ []) }
         ensures given { IfSome result (λ reply. MayGive C.Cluster.config conn reply) }
-        ensures none { result ≡ None → ⟦<Gate<'n, C, R> as NodeGate>⟧.asked self.new ≡ ⟦<Gate<'n, C, R> as NodeGate>⟧.asked self.old }
+        ensures none { result ≡ None → ⟦<Gate<'n, C, R> as NodeGate>⟧.asked self.new
+            ≡ ⟦<Gate<'n, C, R> as NodeGate>⟧.asked self.old }
     {
         // No step is made, so there is no pace to keep.
         let mut locked = match self.held.take() {
@@ -136,15 +142,11 @@ impl<'n, C: HoldsCell + Drop, R: Wait> Gate<'n, C, R> {
 impl<'n, C: HoldsCell + Drop, R: Wait> NodeGate for Gate<'n, C, R> {
     type Answer = Entered<C::Cluster>;
 
-    ghost use Rattle.shared_node.specs.Answers.{MayAnswer, MayGive, MayRefuse};
+    ghost use Rattle.shared_node.specs.Answers.{MayCome};
 
     ghost asked = { λ gate. gate.asks };
 
-    ghost may = { MayAnswer C.Cluster.config };
-
-    ghost may_refuse = { MayRefuse C.Cluster.config };
-
-    ghost may_give = { MayGive C.Cluster.config };
+    ghost allowed = { MayCome C.Cluster.config };
 
     #[inline(always)]
     fn step(&mut self, event: Event) -> Result<Entered<C::Cluster>, StepFault> {
@@ -177,7 +179,7 @@ fn wait_at<'n, C: HoldsCell + Drop, R: Wait>(
     conn: Conn,
 ) -> Option<Reply>
     ensures asked { asks.new ≡ asks.old ++ waiting conn result ∷ [] }
-    ensures given { IfSome result (λ reply. MayGive C.Cluster.config conn reply) }
+    ensures allowed { MayCome C.Cluster.config (waiting conn result) }
 {
     for _ in rt.forever() {
         let reply = cell.take_reply(asks, conn);

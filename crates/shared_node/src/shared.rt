@@ -7,8 +7,8 @@ use std::sync::{Condvar, Mutex, MutexGuard, OnceLock, Wait};
 use std::thread;
 use std::time::Duration;
 
-// So many steps may leave messages to be taken from the node before clients' threads wait.
-const MOST_STEPS: u64 = 4096;
+// How many steps may be made while messages wait to be taken from the node, before clients' threads wait.
+const MOST_STEPS_AHEAD: u64 = 4096;
 
 // How many milliseconds a client's thread waits at most before its next step, where its node's messages wait in too great numbers.
 const PACE: u64 = 10;
@@ -42,7 +42,7 @@ pub struct SharedNode<C: HoldsCell> {
     sent: Condvar,
     // They wake the loops that serve the node's clients, if it has loops. A loop waits for sockets, and not for a bell.
     wakers: OnceLock<Vec<Waker>>,
-    // How many steps have left messages since they were last taken from the node.
+    // How many steps were made while messages waited to be taken from the node.
     steps: AtomicU64,
     // How many steps the node has made. Whoever has the lock counts them.
     all_steps: AtomicU64,
@@ -206,14 +206,6 @@ impl<C: HoldsCell + Drop> SharedNode<C> {
         self.all_steps.load(Ordering::Relaxed)
     }
 
-    /// Tells those who wait what the last step left for them in the cell.
-    pub fn ring(&self, cell: &C) {
-        self.ring_for_replies(cell);
-        if self.note_sent(cell) {
-            self.mail.notify_all();
-        }
-    }
-
     // Notes that the last step left messages, if it did, and says whether the thread that takes them is to be told. Who was told before,
     // and hasn't taken the messages of that step yet, takes these with them.
     pub(crate) fn note_sent(&self, cell: &C) -> bool {
@@ -245,7 +237,8 @@ impl<C: HoldsCell + Drop> SharedNode<C> {
 
     // Whether clients' threads are to wait before their next step.
     fn is_slowed(&self) -> bool {
-        self.is_slowed.load(Ordering::SeqCst) || self.steps.load(Ordering::SeqCst) > MOST_STEPS
+        self.is_slowed.load(Ordering::SeqCst)
+            || self.steps.load(Ordering::SeqCst) > MOST_STEPS_AHEAD
     }
 
     /// Waits where messages wait in too great numbers, until some were sent, or where the node hands over, but for some milliseconds at

@@ -2,7 +2,13 @@
 use Rattle.std.specs.Prelude.{◌++◌, ℕ, Bool, true, false, List, Ok, Err, codes, decimal}
 use Rattle.std.specs.List.{flat_map}
 use Rattle.bus.specs.declared.message.Body.{Body}
-use Rattle.bus.specs.declared.message.Body.TheVariants.{Copy, Ack, Drained, Claim, Report, Candidacy, Grant, Sync, Piece, Snapshot, Pause, Paused}
+use Rattle.bus.specs.declared.bodies.ElectionBody.{ElectionBody}
+use Rattle.bus.specs.declared.bodies.SlotsBody.{SlotsBody}
+use Rattle.bus.specs.declared.bodies.StreamBody.{StreamBody}
+use Rattle.bus.specs.declared.bodies.ElectionBody.TheVariants.{Candidacy, Grant, Pause, Paused}
+use Rattle.bus.specs.declared.bodies.SlotsBody.TheVariants.{Copy, Ack, Drained, Claim}
+use Rattle.bus.specs.declared.bodies.StreamBody.TheVariants.{Sync, Piece, Snapshot}
+use Rattle.bus.specs.declared.message.Body.TheVariants.{Slots, Stream, Election, Report}
 use Rattle.resp_values.specs.Reply.{reply_spelling}
 use Rattle.smart_client.specs.Faults.{code_of}
 use Rattle.world.specs.declared.output.Output.{Output}
@@ -12,19 +18,28 @@ use Rattle.simulator.specs.Escaping.{escaped}
 -- ---- outputs
 
 -- what a message says, by its kind
+abbrev pub kind_of_slots : SlotsBody → List ℕ
+kind_of_slots (Copy id pairs) = codes "Copy"
+kind_of_slots (Ack id) = codes "Ack"
+kind_of_slots (Drained slot number epoch) = codes "Drained"
+kind_of_slots (Claim claim replaced) = codes "Claim"
+
+abbrev pub kind_of_stream : StreamBody → List ℕ
+kind_of_stream (Sync sync) = codes "Sync"
+kind_of_stream (Piece piece) = codes "Piece"
+kind_of_stream (Snapshot snapshot) = codes "Snapshot"
+
+abbrev pub kind_of_election : ElectionBody → List ℕ
+kind_of_election (Candidacy request) = codes "Request"
+kind_of_election (Grant epoch) = codes "Grant"
+kind_of_election (Pause stream) = codes "Pause"
+kind_of_election (Paused handing) = codes "Paused"
+
 abbrev pub kind : Body → List ℕ
-kind (Copy id pairs) = codes "Copy"
-kind (Ack id) = codes "Ack"
-kind (Drained slot number epoch) = codes "Drained"
-kind (Claim claim replaced) = codes "Claim"
+kind (Slots body) = kind_of_slots body
+kind (Stream body) = kind_of_stream body
+kind (Election body) = kind_of_election body
 kind (Report suspects) = codes "Report"
-kind (Candidacy request) = codes "Request"
-kind (Grant epoch) = codes "Grant"
-kind (Sync sync) = codes "Sync"
-kind (Piece piece) = codes "Piece"
-kind (Snapshot snapshot) = codes "Snapshot"
-kind (Pause stream) = codes "Pause"
-kind (Paused handing) = codes "Paused"
 
 -- a promotion by a handover is marked
 abbrev pub mark : Bool → List ℕ

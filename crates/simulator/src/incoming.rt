@@ -20,8 +20,10 @@ pub(crate) fn read_whole<R: Read>(
     alloc: Global,
     reader: &mut Counting<R>,
 ) -> Result<Vec<u8>, SimulationFault>
-    ensures text { IfOk result (λ text. Reads (streams R.remaining reader.old reader.new) text.items) }
-    ensures fault { IfErr result (λ fault. IsUnread fault (streams R.remaining reader.old reader.new)) }
+    ensures text { IfOk result
+        (λ text. Reads (streams R.remaining reader.old reader.new) text.items) }
+    ensures fault { IfErr result
+        (λ fault. IsUnread fault (streams R.remaining reader.old reader.new)) }
 {
     let mut text = Vec::new(alloc);
     let mut block = [0u8; BLOCK];
@@ -38,7 +40,8 @@ pub(crate) fn read_whole<R: Read>(
 // Reads until a read isn't interrupted.
 fn read_block<R: Read>(reader: &mut Counting<R>, block: &mut [u8]) -> io::Result<usize>
     ensures bound { ReadsAtMost result block.new }
-    ensures bytes { ReadConsumes (R.remaining (inner_of reader.old)) (R.remaining (inner_of reader.new)) result block.new }
+    ensures bytes { ReadConsumes (R.remaining (inner_of reader.old))
+        (R.remaining (inner_of reader.new)) result block.new }
     ensures ok { OnOk result (MayFail (failures_of reader.old) (failures_of reader.new)) }
     ensures err { OnErr result (HasFailed (failures_of reader.old) (failures_of reader.new)) }
 {

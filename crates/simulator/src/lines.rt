@@ -30,7 +30,8 @@ pub(crate) fn split_word(line: &[u8]) -> (&[u8], Option<&[u8]>)
 
 // The bytes before the first such byte, and those behind it, if it is there.
 fn split_at(text: &[u8], end: u8) -> (&[u8], Option<&[u8]>)
-    ensures parts { slice_split (λ byte. byte == end) text.now ≡ result.0.now ∷ parts_behind end result.1 }
+    ensures parts { slice_split (λ byte. byte == end) text.now
+        ≡ result.0.now ∷ parts_behind end result.1 }
     ensures shorter { IfSome result.1 (λ behind. length behind.now < length text.now) }
     ensures whole { IfNone result.1 (result.0.now ≡ text.now) }
 {

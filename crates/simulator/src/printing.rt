@@ -1,13 +1,13 @@
 //! What comes out of a world as a text, in the simulator's own format: a line an output.
-ghost use Rattle.std.specs.Prelude.{◌≡◌, ◌++◌, decimal, OnOk, codes};
+ghost use Rattle.std.specs.Prelude.{◌≡◌, ◌++◌, decimal, OnOk};
 ghost use Rattle.std.specs.List.{flat_map};
 ghost use Rattle.resp_values.specs.Reply.{reply_spelling};
 ghost use Rattle.simulator.specs.Escaping.{escaped};
-ghost use Rattle.simulator.specs.Printing.{kind, mark, printed, shown};
+ghost use Rattle.simulator.specs.Printing.{kind, kind_of_election, kind_of_slots, kind_of_stream, mark, printed, shown};
 ghost use Rattle.world.specs.declared.output.Output.TheVariants as output;
 
 use crate::escaping::print_bytes;
-use bus::{Body, Message};
+use bus::{Body, ElectionBody, Message, SlotsBody, StreamBody};
 use itoa::Buffer;
 use node_step::Promotion;
 use resp2::{Reply, append_reply};
@@ -54,7 +54,8 @@ fn print_answer(
     spelling: &mut Vec<u8>,
     out: &mut Vec<u8>,
 ) -> Result<(), AllocError>
-    ensures { OnOk result (out.new.items ≡ out.old.items ++ shown (output.Answer client answer.now)) }
+    ensures { OnOk result
+        (out.new.items ≡ out.old.items ++ shown (output.Answer client answer.now)) }
 {
     match answer {
         Ok(reply) => {
@@ -87,7 +88,8 @@ fn print_admin(
 }
 
 fn print_sent(number: u64, message: &Message, out: &mut Vec<u8>) -> Result<(), AllocError>
-    ensures { OnOk result (out.new.items ≡ out.old.items ++ shown (output.Sent number message.now)) }
+    ensures { OnOk result
+        (out.new.items ≡ out.old.items ++ shown (output.Sent number message.now)) }
 {
     out.extend_from_slice(b"sent ")?;
     print_number(number, out)?;
@@ -100,7 +102,8 @@ fn print_sent(number: u64, message: &Message, out: &mut Vec<u8>) -> Result<(), A
 }
 
 fn print_promoted(node: u64, promotion: &Promotion, out: &mut Vec<u8>) -> Result<(), AllocError>
-    ensures { OnOk result (out.new.items ≡ out.old.items ++ shown (output.Promoted node promotion.now)) }
+    ensures { OnOk result
+        (out.new.items ≡ out.old.items ++ shown (output.Promoted node promotion.now)) }
 {
     out.extend_from_slice(b"promoted ")?;
     print_number(node, out)?;
@@ -129,18 +132,42 @@ fn kind(body: &Body) -> &'static [u8]
     ensures { result.now ≡ kind body.now }
 {
     match body {
-        Body::Copy { .. } => b"Copy",
-        Body::Ack(_) => b"Ack",
-        Body::Drained { .. } => b"Drained",
-        Body::Claim(_, _) => b"Claim",
+        Body::Slots(body) => kind_of_slots(body),
+        Body::Stream(body) => kind_of_stream(body),
+        Body::Election(body) => kind_of_election(body),
         Body::Report(_) => b"Report",
-        Body::Candidacy(_) => b"Request",
-        Body::Grant(_) => b"Grant",
-        Body::Sync(_) => b"Sync",
-        Body::Piece(_) => b"Piece",
-        Body::Snapshot(_) => b"Snapshot",
-        Body::Pause(_) => b"Pause",
-        Body::Paused(_) => b"Paused",
+    }
+}
+
+fn kind_of_slots(body: &SlotsBody) -> &'static [u8]
+    ensures { result.now ≡ kind_of_slots body.now }
+{
+    match body {
+        SlotsBody::Copy { .. } => b"Copy",
+        SlotsBody::Ack(_) => b"Ack",
+        SlotsBody::Drained { .. } => b"Drained",
+        SlotsBody::Claim(_, _) => b"Claim",
+    }
+}
+
+fn kind_of_stream(body: &StreamBody) -> &'static [u8]
+    ensures { result.now ≡ kind_of_stream body.now }
+{
+    match body {
+        StreamBody::Sync(_) => b"Sync",
+        StreamBody::Piece(_) => b"Piece",
+        StreamBody::Snapshot(_) => b"Snapshot",
+    }
+}
+
+fn kind_of_election(body: &ElectionBody) -> &'static [u8]
+    ensures { result.now ≡ kind_of_election body.now }
+{
+    match body {
+        ElectionBody::Candidacy(_) => b"Request",
+        ElectionBody::Grant(_) => b"Grant",
+        ElectionBody::Pause(_) => b"Pause",
+        ElectionBody::Paused(_) => b"Paused",
     }
 }
 
@@ -151,7 +178,8 @@ pub fn print_reply(
     spelling: &mut Vec<u8>,
     out: &mut Vec<u8>,
 ) -> Result<(), AllocError>
-    ensures { OnOk result (out.new.items ≡ out.old.items ++ flat_map escaped (reply_spelling reply.now)) }
+    ensures { OnOk result
+        (out.new.items ≡ out.old.items ++ flat_map escaped (reply_spelling reply.now)) }
 {
     spelling.clear();
     append_reply(reply, spelling)?;

@@ -4,7 +4,6 @@ ghost use Rattle.std.specs.List.{list_all};
 ghost use Rattle.command_table.specs.Numbers.{count_of};
 ghost use Rattle.simulator.specs.Lines.{is_plain, lines, words};
 ghost use Rattle.simulator.specs.Script.{IsFirstUnreadable, admin_of, call_of, node_of, number_of, only, request_of, step_as, step_in, step_of};
-ghost use Rattle.simulator.specs.Splitting.{words_behind};
 ghost use Rattle.simulator.specs.declared.fault.ScriptFault.TheVariants.{Line};
 ghost use Rattle.world.specs.declared.step.Step.TheVariants as step;
 

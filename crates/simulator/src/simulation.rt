@@ -21,7 +21,8 @@ pub fn simulate<R: Read, W: Write>(
     script: &mut Counting<R>,
     out: &mut Counting<W>,
 ) -> Result<(), SimulationFault>
-    ensures { EndsBy config.now result (streams R.remaining script.old script.new) (streams W.contents out.old out.new) }
+    ensures { EndsBy config.now result (streams R.remaining script.old script.new)
+        (streams W.contents out.old out.new) }
 {
     let text = read_whole(alloc, script)?;
     let steps = match read_script(alloc, text.as_slice()) {

@@ -2,10 +2,13 @@
 use Rattle.std.proofs.Common.{◌≡◌, ◌≢◌, ℕ, List, Option, Some, None, refl, sym, ap, subst, ◌∙◌}
 use Rattle.std.specs.Prelude.{option_map, slice_get, slice_set}
 use Rattle.bus.specs.declared.message.Body.{Body}
+use Rattle.bus.specs.declared.bodies.ElectionBody.TheVariants as of_election
+use Rattle.bus.specs.declared.bodies.SlotsBody.TheVariants as of_slots
+use Rattle.bus.specs.declared.bodies.StreamBody.TheVariants as of_stream
 use Rattle.bus.specs.declared.message.Body.TheVariants as body
-use Rattle.bus.specs.declared.message.Handing.{Handing}
+use Rattle.bus.specs.declared.bodies.Handing.{Handing}
 use Rattle.bus.specs.declared.message.Message.{Message}
-use Rattle.bus.specs.declared.message.Replaced.{Replaced}
+use Rattle.bus.specs.declared.bodies.Replaced.{Replaced}
 use Rattle.handovers.proofs.Keeping.{Kept, begins-keeps, follows_next-keeps, goes_on-keeps, notes-keeps, pauses-keeps, succeeds-keeps}
 use Rattle.handovers.specs.Events.{Begins, ChangesPeer, FollowsNext, GoesOn, Notes, Pauses, Succeeds}
 use Rattle.handovers.specs.Peers.{Peer}
@@ -19,18 +22,18 @@ use Rattle.single_keyspace.specs.Handing.{newest_of, peer_at, peer_of, peers, pl
 
 -- whose place the sender took is said
 pub said_so : (said : Body) (replaced : Replaced) → replaced_in said ≡ Some replaced → said_in said ≡ Took replaced.master
-said_so (body.Claim slots by) replaced is = ap took is
-said_so (body.Copy id pairs) replaced is = absurd (no_some refl is)
-said_so (body.Ack id) replaced is = absurd (no_some refl is)
-said_so (body.Drained slot number epoch) replaced is = absurd (no_some refl is)
+said_so (body.Slots (of_slots.Claim slots by)) replaced is = ap took is
+said_so (body.Slots (of_slots.Copy id pairs)) replaced is = absurd (no_some refl is)
+said_so (body.Slots (of_slots.Ack id)) replaced is = absurd (no_some refl is)
+said_so (body.Slots (of_slots.Drained slot number epoch)) replaced is = absurd (no_some refl is)
 said_so (body.Report suspects) replaced is = absurd (no_some refl is)
-said_so (body.Candidacy request) replaced is = absurd (no_some refl is)
-said_so (body.Grant epoch) replaced is = absurd (no_some refl is)
-said_so (body.Sync sync) replaced is = absurd (no_some refl is)
-said_so (body.Piece piece) replaced is = absurd (no_some refl is)
-said_so (body.Snapshot snapshot) replaced is = absurd (no_some refl is)
-said_so (body.Pause stream) replaced is = absurd (no_some refl is)
-said_so (body.Paused handing) replaced is = absurd (no_some refl is)
+said_so (body.Election (of_election.Candidacy request)) replaced is = absurd (no_some refl is)
+said_so (body.Election (of_election.Grant epoch)) replaced is = absurd (no_some refl is)
+said_so (body.Stream (of_stream.Sync sync)) replaced is = absurd (no_some refl is)
+said_so (body.Stream (of_stream.Piece piece)) replaced is = absurd (no_some refl is)
+said_so (body.Stream (of_stream.Snapshot snapshot)) replaced is = absurd (no_some refl is)
+said_so (body.Election (of_election.Pause stream)) replaced is = absurd (no_some refl is)
+said_so (body.Election (of_election.Paused handing)) replaced is = absurd (no_some refl is)
 
 module _ (nodes : List NodeState) (each : (number : ℕ) → PeerStands newest_of (peers nodes) number) (n : ℕ) (before : NodeState) (there : slice_get nodes n ≡ Some before) (number : before.number ≡ n) (after : NodeState) where
   abbrev next : List NodeState

@@ -22,8 +22,11 @@ use Rattle.migrate.specs.Draining.{note_drained}
 use Rattle.migrate.specs.declared.arriving.ArrivalVerdict.{ArrivalVerdict}
 use Rattle.migrate.specs.declared.arriving.ArrivalVerdict.TheVariants.{Ignored, Installs, Repeats}
 use Rattle.bus.specs.declared.message.Body.{Body}
+use Rattle.bus.specs.declared.bodies.ElectionBody.TheVariants as of_election
+use Rattle.bus.specs.declared.bodies.SlotsBody.TheVariants as of_slots
+use Rattle.bus.specs.declared.bodies.StreamBody.TheVariants as of_stream
 use Rattle.bus.specs.declared.message.Body.TheVariants as body
-use Rattle.bus.specs.declared.message.Handing.{Handing}
+use Rattle.bus.specs.declared.bodies.Handing.{Handing}
 use Rattle.bus.specs.declared.message.Message.{Message}
 use Rattle.one_slot.specs.View.{View}
 use Rattle.one_slot.specs.Sent.{Sent, IsSent}
@@ -38,7 +41,7 @@ use Rattle.stream_values.specs.Syncing.{answer_to}
 use Rattle.stream_values.specs.declared.answer.SyncAnswer.{SyncAnswer}
 use Rattle.stream_values.specs.declared.answer.SyncAnswer.TheVariants as answers
 use Rattle.stream_values.specs.declared.sync.Sync.{Sync}
-use Rattle.bus.specs.declared.message.Replaced.{Replaced}
+use Rattle.bus.specs.declared.bodies.Replaced.{Replaced}
 use Rattle.election.specs.Electing.{counted, elected}
 use Rattle.election.specs.Failing.{suspected}
 use Rattle.election.specs.Health.{Candidate}
@@ -91,14 +94,14 @@ module _ {past : List Entry} {n : ℕ} {before : NodeState} {one : Keyspace} (wa
 
   -- ---- a copy
 
-  module _ (id : CopyId) (pairs : List (List ℕ × Value)) (is : message.body ≡ body.Copy id pairs) where
+  module _ (id : CopyId) (pairs : List (List ℕ × Value)) (is : message.body ≡ body.Slots (of_slots.Copy id pairs)) where
     copy_said : IsSent (was id.slot).top (was id.slot).seen (Copy message.from n id.number id.copy pairs)
     copy_said =
         subst (λ (t : ℕ). IsSent (was id.slot).top (was id.slot).seen (Copy message.from t id.number id.copy pairs)) to_here
-        (said id.slot (body.Copy id pairs) (Copy message.from message.to id.number id.copy pairs) is (refl, refl))
+        (said id.slot (body.Slots (of_slots.Copy id pairs)) (Copy message.from message.to id.number id.copy pairs) is (refl, refl))
 
     ack_justified : (node : NodeState) (copied : ℕ) (drained : Option ℕ) → move_of node.moves id.slot ≡ Some (Comes message.from id.number copied drained) → id.copy ≤ copied
-        → AreJustified past n node ((message.from, body.Ack id) ∷ [])
+        → AreJustified past n node ((message.from, body.Slots (of_slots.Ack id)) ∷ [])
     ack_justified node copied drained move reached to said among =
         let installed : IsInstalled past n node.moves message.from id = record {
           copied = copied;
@@ -112,7 +115,7 @@ module _ {past : List Entry} {n : ℕ} {before : NodeState} {one : Keyspace} (wa
           to_here = to_here;
           says = is;
         } in
-        subst (λ (p : ℕ × Body). IsJustified past n node p.0 p.1) (contains_one (message.from, body.Ack id) (to, said) among) installed
+        subst (λ (p : ℕ × Body). IsJustified past n node p.0 p.1) (contains_one (message.from, body.Slots (of_slots.Ack id)) (to, said) among) installed
 
     pub arrival_stands : (verdict : ArrivalVerdict) → arrival_verdict (move_of before.moves id.slot) message.from id.number id.copy (keep_limits pairs) ≡ verdict
         → StepStands was None (arrived before message.from id pairs verdict)
@@ -136,9 +139,9 @@ module _ {past : List Entry} {n : ℕ} {before : NodeState} {one : Keyspace} (wa
         valued_in_slot one id.slot key there.0 there.1 in
         let after : NodeState = record before { keyspace = keyspace; moves = with_move before.moves id.slot move } in
         let reached : id.copy ≤ copied + 1 = omega (arith, facts.3) in
-        subst (λ (m : Moves). StepStands was None (record (silent (record before { keyspace = keyspace; moves = m })) { sent = (message.from, body.Ack id) ∷ [] }))
+        subst (λ (m : Moves). StepStands was None (record (silent (record before { keyspace = keyspace; moves = m })) { sent = (message.from, body.Slots (of_slots.Ack id)) ∷ [] }))
         (sym (ap (changed_at before.moves id.slot one_more) facts.2))
-        (quiet was None refl refl (record (silent after) { sent = (message.from, body.Ack id) ∷ [] })
+        (quiet was None refl refl (record (silent after) { sent = (message.from, body.Slots (of_slots.Ack id)) ∷ [] })
         (record { number_is = stands.number_is; slots = stands.slots; is_master = stands.is_master; rests = λ replica paused other. absurd (no_some (stands.rests replica paused id.slot) facts.2) })
         (holds_but was after one id.slot
         (copy_installed_holds (was id.slot) message.from id.number copied drained pairs keyspace facts.2 next_said (puts_here before.keyspace id.slot pairs inside))
@@ -148,7 +151,7 @@ module _ {past : List Entry} {n : ℕ} {before : NodeState} {one : Keyspace} (wa
 
   -- ---- an acknowledgement
 
-  pub acknowledgement_stands : (id : CopyId) → message.body ≡ body.Ack id → (keys : Option (List (List ℕ))) → acknowledged_keys (move_of before.moves id.slot) message.from id.number id.copy ≡ keys
+  pub acknowledgement_stands : (id : CopyId) → message.body ≡ body.Slots (of_slots.Ack id) → (keys : Option (List (List ℕ))) → acknowledged_keys (move_of before.moves id.slot) message.from id.number id.copy ≡ keys
       → StepStands was None (acknowledged before id keys)
   acknowledgement_stands id is None counts = quiet_still was None refl refl (silent before) stands (λ other. refl) (nothing_sent past n before)
   acknowledgement_stands id is (Some keys) counts =
@@ -159,7 +162,7 @@ module _ {past : List Entry} {n : ℕ} {before : NodeState} {one : Keyspace} (wa
       let inside : AreInSlot id.slot keys = λ key among. let there = frozen.here key among in valued_in_slot one id.slot key there.0 ((was id.slot).holds.keys.here n key there.0 there.1) in
       let acked : IsSent (was id.slot).top (was id.slot).seen (Ack message.from n id.number id.copy) =
       subst (λ (t : ℕ). IsSent (was id.slot).top (was id.slot).seen (Ack message.from t id.number id.copy)) to_here
-      (said id.slot (body.Ack id) (Ack message.from message.to id.number id.copy) is (refl, refl)) in
+      (said id.slot (body.Slots (of_slots.Ack id)) (Ack message.from message.to id.number id.copy) is (refl, refl)) in
       let left : Moves → NodeState = λ m. record before { keyspace = keyspace; moves = m; connections = all_freed before.connections (is_for id) } in
       let after : NodeState = left (with_move before.moves id.slot move) in
       subst (λ (m : Moves). StepStands was None (record (silent (left m)) { released = map (release done) (waiting before.connections (is_for id)); sent = drained_since before.keyspace (left m) id.slot }))
@@ -174,7 +177,7 @@ module _ {past : List Entry} {n : ℕ} {before : NodeState} {one : Keyspace} (wa
 
   -- ---- the word that a slot is drained
 
-  pub drained_stands : (slot number epoch : ℕ) → message.body ≡ body.Drained slot number epoch → StepStands was None (noted before message.from slot number epoch)
+  pub drained_stands : (slot number epoch : ℕ) → message.body ≡ body.Slots (of_slots.Drained slot number epoch) → StepStands was None (noted before message.from slot number epoch)
   drained_stands slot number epoch is = by_move (move_of before.moves slot) refl
     where
       same_again : (move : Move) → move_of before.moves slot ≡ Some move → StepStands was None (silent (record before { moves = with_move before.moves slot move }))
@@ -190,7 +193,7 @@ module _ {past : List Entry} {n : ℕ} {before : NodeState} {one : Keyspace} (wa
           let drained_said : IsSent (was slot).top (was slot).seen (Drained source n other epoch) =
           subst (IsSent (was slot).top (was slot).seen)
           (λ i. Drained (sym (eqb-true source message.from parts.0) i) (to_here i) (sym (eqb-true other number parts.1) i) epoch)
-          (said slot (body.Drained slot number epoch) (Drained message.from message.to number epoch) is (refl, refl)) in
+          (said slot (body.Slots (of_slots.Drained slot number epoch)) (Drained message.from message.to number epoch) is (refl, refl)) in
           let move : Move = Comes source other copied (Some epoch) in
           let after : NodeState = record before { moves = with_move before.moves slot move } in
           quiet was None refl refl (silent after) (record { number_is = stands.number_is; slots = stands.slots; is_master = stands.is_master; rests = λ replica paused other. absurd (no_some (stands.rests replica paused slot) same) })
@@ -209,7 +212,7 @@ module _ {past : List Entry} {n : ℕ} {before : NodeState} {one : Keyspace} (wa
   none_either true move is = is
   none_either false move is = refl
 
-  pub claims_stand : (runs : List (Run ℕ)) (replaced : Option Replaced) → message.body ≡ body.Claim runs replaced → StepStands was None (claim before message.from runs)
+  pub claims_stand : (runs : List (Run ℕ)) (replaced : Option Replaced) → message.body ≡ body.Slots (of_slots.Claim runs replaced) → StepStands was None (claim before message.from runs)
   claims_stand runs replaced is = by_sender (message.from == before.number) refl
     where
       by_sender : (b : Bool) → (message.from == before.number) ≡ b → StepStands was None (cond b (silent before) (claimed_by before (merged before.table runs message.from)))
@@ -224,7 +227,7 @@ module _ {past : List Entry} {n : ℕ} {before : NodeState} {one : Keyspace} (wa
           })
           (λ slot.
           claims_hold (was slot) runs message.from (λ same. eqb-false message.from before.number other (same ∙ sym stands.number_is)) stands.number_is stands.slots
-          (λ epoch claims. said slot (body.Claim runs replaced) (Claimed message.from epoch) is (epoch, claims, refl)))
+          (λ epoch claims. said slot (body.Slots (of_slots.Claim runs replaced)) (Claimed message.from epoch) is (epoch, claims, refl)))
           (nothing_sent past n (with_table before (merged before.table runs message.from)))
 
   -- ---- streams
@@ -232,7 +235,7 @@ module _ {past : List Entry} {n : ℕ} {before : NodeState} {one : Keyspace} (wa
   sync_stands : (from : ℕ) (answer : SyncAnswer) → StepStands was None (record (silent before) { sent = sync_answer before from answer })
   sync_stands from answers.UpToDate = quiet_still was None refl refl (silent before) stands (λ slot. refl) (nothing_sent past n before)
   sync_stands from (answers.Piece piece) =
-      quiet_still was None refl refl (record (silent before) { sent = sync_answer before from (answers.Piece piece) }) stands (λ slot. refl) (one_justified past n before from (body.Piece piece) tt)
+      quiet_still was None refl refl (record (silent before) { sent = sync_answer before from (answers.Piece piece) }) stands (λ slot. refl) (one_justified past n before from (body.Stream (of_stream.Piece piece)) tt)
   sync_stands from answers.Snapshot =
       quiet_still was None refl refl (record (silent before) { sent = sync_answer before from answers.Snapshot }) stands (λ slot. refl) (one_justified past n before from _ tt)
 
@@ -252,7 +255,7 @@ module _ {past : List Entry} {n : ℕ} {before : NodeState} {one : Keyspace} (wa
       quiet_still was None refl refl (voting before request granted) (record { number_is = stands.number_is; slots = stands.slots; is_master = stands.is_master; rests = stands.rests }) (λ slot. refl) (grant granted)
     where
       grant : (granted : Bool) → AreJustified past n before (grant_to request granted)
-      grant true = one_justified past n before request.candidate (body.Grant request.epoch) tt
+      grant true = one_justified past n before request.candidate (body.Election (of_election.Grant request.epoch)) tt
       grant false = nothing_sent past n before
 
   -- a master takes nobody's place
@@ -289,10 +292,10 @@ module _ {past : List Entry} {n : ℕ} {before : NodeState} {one : Keyspace} (wa
   handed_again_said : (replica : Option ℕ) (slots : List (Run ℕ)) → AreJustified past n before (handed_again before replica slots)
   handed_again_said None slots = nothing_sent past n before
   handed_again_said (Some replica) [] = nothing_sent past n before
-  handed_again_said (Some replica) (run ∷ slots) = one_justified past n before replica (body.Paused (handing_of before)) tt
+  handed_again_said (Some replica) (run ∷ slots) = one_justified past n before replica (body.Election (of_election.Paused (handing_of before))) tt
 
   handed_said : (replica : ℕ) (paused : Option ℕ) → AreJustified past n before (handed_to before replica paused)
-  handed_said replica None = one_justified past n before replica (body.Paused (handing_of before)) tt
+  handed_said replica None = one_justified past n before replica (body.Election (of_election.Paused (handing_of before))) tt
   handed_said replica (Some other) = handed_again_said (Some replica) (claim_of before)
 
   pause_stands : (from : ℕ) (stream : StreamId) → StepStands was None (asked_to_pause before from stream)
@@ -308,20 +311,20 @@ module _ {past : List Entry} {n : ℕ} {before : NodeState} {one : Keyspace} (wa
   -- ---- any message
 
   so_taken_stands : (choice : Choice) (said : Body) → message.body ≡ said → StepStands was None (taken_so before message.from choice said)
-  so_taken_stands choice (body.Copy id pairs) is =
+  so_taken_stands choice (body.Slots (of_slots.Copy id pairs)) is =
       arrival_stands id pairs is (arrival_verdict (move_of before.moves id.slot) message.from id.number id.copy (keep_limits pairs)) refl
-  so_taken_stands choice (body.Ack id) is = acknowledgement_stands id is (acknowledged_keys (move_of before.moves id.slot) message.from id.number id.copy) refl
-  so_taken_stands choice (body.Drained slot number epoch) is = drained_stands slot number epoch is
-  so_taken_stands choice (body.Claim runs replaced) is = claims_stand runs replaced is
+  so_taken_stands choice (body.Slots (of_slots.Ack id)) is = acknowledgement_stands id is (acknowledged_keys (move_of before.moves id.slot) message.from id.number id.copy) refl
+  so_taken_stands choice (body.Slots (of_slots.Drained slot number epoch)) is = drained_stands slot number epoch is
+  so_taken_stands choice (body.Slots (of_slots.Claim runs replaced)) is = claims_stand runs replaced is
   so_taken_stands choice (body.Report suspects) is = quiet_still was None refl refl (silent before) stands (λ slot. refl) (nothing_sent past n before)
-  so_taken_stands choice (body.Candidacy request) is =
+  so_taken_stands choice (body.Election (of_election.Candidacy request)) is =
       vote_stands (request_of message.from request) (may_grant before.voter (members_of before) before.health before.current_epoch (request_of message.from request))
-  so_taken_stands choice (body.Grant epoch) is = grant_stands (counted before.candidate (members_of before) message.from epoch) (elected before.candidate (members_of before) message.from epoch)
-  so_taken_stands choice (body.Sync sync) is = synced_stands message.from sync (is_replica before)
-  so_taken_stands choice (body.Piece piece) is = not_followed _ (is_just (own_master before) message.from) (no_messages_from_master (own_master before) message.from stands.is_master)
-  so_taken_stands choice (body.Snapshot snapshot) is = not_followed _ (is_just (own_master before) message.from) (no_messages_from_master (own_master before) message.from stands.is_master)
-  so_taken_stands choice (body.Pause stream) is = pause_stands message.from stream
-  so_taken_stands choice (body.Paused handing) is = not_followed _ (is_replica before && is_same handing.stream before.stream.held.id) (ap (λ (b : Bool). b && is_same handing.stream before.stream.held.id) stands.is_master)
+  so_taken_stands choice (body.Election (of_election.Grant epoch)) is = grant_stands (counted before.candidate (members_of before) message.from epoch) (elected before.candidate (members_of before) message.from epoch)
+  so_taken_stands choice (body.Stream (of_stream.Sync sync)) is = synced_stands message.from sync (is_replica before)
+  so_taken_stands choice (body.Stream (of_stream.Piece piece)) is = not_followed _ (is_just (own_master before) message.from) (no_messages_from_master (own_master before) message.from stands.is_master)
+  so_taken_stands choice (body.Stream (of_stream.Snapshot snapshot)) is = not_followed _ (is_just (own_master before) message.from) (no_messages_from_master (own_master before) message.from stands.is_master)
+  so_taken_stands choice (body.Election (of_election.Pause stream)) is = pause_stands message.from stream
+  so_taken_stands choice (body.Election (of_election.Paused handing)) is = not_followed _ (is_replica before && is_same handing.stream before.stream.held.id) (ap (λ (b : Bool). b && is_same handing.stream before.stream.held.id) stands.is_master)
 
   pub taken_stands : (choice : Choice) → StepStands was None (taken before message.from choice message.body)
   taken_stands choice =
@@ -361,9 +364,9 @@ module _ {past : List Entry} {n : ℕ} {before : NodeState} {one : Keyspace} (wa
           let found = from_flat_map (sent_again before) (fin_map.entries before.moves.running) (to, said) among in
           by_move found.0.0 found.0.1 (got_from_entry before.moves.running found.0.0 found.0.1 found.1) to said found.2
 
-      claims : AreJustified past n before (to_all (others before) (body.Claim (claim_of before) before.replaced))
-      claims = to_all_justified past n before (others before) (body.Claim (claim_of before) before.replaced) (λ to.
-          subst (λ (number : ℕ). IsJustified past n before to (body.Claim (runs_of (claim_at before.table number)) before.replaced)) (sym stands.number_is)
+      claims : AreJustified past n before (to_all (others before) (body.Slots (of_slots.Claim (claim_of before) before.replaced)))
+      claims = to_all_justified past n before (others before) (body.Slots (of_slots.Claim (claim_of before) before.replaced)) (λ to.
+          subst (λ (number : ℕ). IsJustified past n before to (body.Slots (of_slots.Claim (runs_of (claim_at before.table number)) before.replaced))) (sym stands.number_is)
           (claim_justified past n before to before.replaced stands.slots))
 
       reports : AreJustified past n before (to_all (others before) (body.Report (suspected aged.health (members_of before))))
@@ -386,7 +389,7 @@ module _ {past : List Entry} {n : ℕ} {before : NodeState} {one : Keyspace} (wa
       hands : (replica : Option ℕ) (slots : List (Run ℕ)) → AreJustified past n before (handed_again before replica slots)
       hands None slots = nothing_sent past n before
       hands (Some replica) [] = nothing_sent past n before
-      hands (Some replica) (run ∷ slots) = one_justified past n before replica (body.Paused (handing_of before)) tt
+      hands (Some replica) (run ∷ slots) = one_justified past n before replica (body.Election (of_election.Paused (handing_of before))) tt
 
       sent : AreJustified past n before (tick before).sent
       sent =

@@ -19,6 +19,7 @@ use Rattle.slot_state.specs.declared.ending.NodeVerdict.TheVariants as ending
 use Rattle.migrate.specs.declared.sending.CopyVerdict.{CopyVerdict}
 use Rattle.migrate.specs.declared.sending.CopyVerdict.TheVariants as copies
 use Rattle.bus.specs.declared.message.Body.{Body}
+use Rattle.bus.specs.declared.bodies.SlotsBody.TheVariants as of_slots
 use Rattle.bus.specs.declared.message.Body.TheVariants as body
 use Rattle.node_step.proofs.Copied.{are_there, copied_next}
 use Rattle.node_step.specs.Copies.{copy_outcome, copy_verdict_on, first_slot, parked, those_there}
@@ -120,9 +121,9 @@ module _ {past : List Entry} {n : ℕ} {before : NodeState} {one : Keyspace} (wa
       (import_ended_holds (was slot) facts.0 facts.1 facts.2 drained newer facts.3 (epoch_above slot drained) stands.slots))
       (ended_apart before slot (record { epoch = newer; owner = before.number }) newer) (λ other apart key. refl))
       (λ to said among.
-      let found = from_map (λ (number : ℕ). (number, body.Claim (claim_of after) before.replaced)) (others before) (to, said) among in
+      let found = from_map (λ (number : ℕ). (number, body.Slots (of_slots.Claim (claim_of after) before.replaced))) (others before) (to, said) among in
       subst (λ (p : ℕ × Body). IsJustified past n after p.0 p.1) found.2
-      (subst (λ (o : ℕ). IsJustified past n after found.0 (body.Claim (runs_of (claim_at after.table o)) before.replaced)) (sym stands.number_is) (claim_justified past n after found.0 before.replaced (length-set before.table slot (Some (record { epoch = newer; owner = before.number })) ∙ stands.slots))))
+      (subst (λ (o : ℕ). IsJustified past n after found.0 (body.Slots (of_slots.Claim (runs_of (claim_at after.table o)) before.replaced))) (sym stands.number_is) (claim_justified past n after found.0 before.replaced (length-set before.table slot (Some (record { epoch = newer; owner = before.number })) ∙ stands.slots))))
 
   -- ---- MIGRATE
 

@@ -4,10 +4,13 @@ use Rattle.std.proofs.lemmas.Bool.{and_parts, both_ways, cond-true, cond-false, 
 use Rattle.std.specs.Prelude.{MatchBool, is_some, max, not, nat_lt, option_map, slice_index_or, slice_set, ◌^◌, ◌-◌}
 use Rattle.std.specs.FinMap as fin_map
 use Rattle.bus.specs.declared.message.Body.{Body}
+use Rattle.bus.specs.declared.bodies.ElectionBody.TheVariants as of_election
+use Rattle.bus.specs.declared.bodies.SlotsBody.TheVariants as slots_body
+use Rattle.bus.specs.declared.bodies.StreamBody.TheVariants as of_stream
 use Rattle.bus.specs.declared.message.Body.TheVariants as body
-use Rattle.bus.specs.declared.message.Handing.{Handing}
+use Rattle.bus.specs.declared.bodies.Handing.{Handing}
 use Rattle.bus.specs.declared.message.Message.{Message}
-use Rattle.bus.specs.declared.message.Replaced.{Replaced}
+use Rattle.bus.specs.declared.bodies.Replaced.{Replaced}
 use Rattle.command_table.specs.Table.{command_of}
 use Rattle.connections.specs.Connections.{connection_at, may_ask}
 use Rattle.connections.specs.declared.conn.Conn.{Conn}
@@ -59,8 +62,8 @@ pub data Heard (message : Message) (old new : NodeState) : Type 0 where
 -- and what a message does
 pub data Does (message : Message) (old new : NodeState) : Type 0 where
   hears : Heard message old new → Does message old new
-  pauses : (stream : StreamId) → message.body ≡ body.Pause stream → Pauses message.from (peer_of old) (peer_of new) → Does message old new
-  notes : (handing : Handing) → message.body ≡ body.Paused handing → Notes handing message.epoch (peer_of old) (peer_of new) → Does message old new
+  pauses : (stream : StreamId) → message.body ≡ body.Election (of_election.Pause stream) → Pauses message.from (peer_of old) (peer_of new) → Does message old new
+  notes : (handing : Handing) → message.body ≡ body.Election (of_election.Paused handing) → Notes handing message.epoch (peer_of old) (peer_of new) → Does message old new
 
 -- ---- who follows whom
 
@@ -272,23 +275,23 @@ module _ (node : NodeState) where
   same_goes after number master epoch paused handed candidate replaced = of_slots node node.current_epoch node.handover after (omega arith) refl number master epoch paused handed candidate replaced
 
   -- all messages but those of handovers
-  row_goes : (from : ℕ) (choice : Choice) (said : Body) → ((stream : StreamId) → said ≢ body.Pause stream) → ((handing : Handing) → said ≢ body.Paused handing) → (taken_so node from choice said).promoted ≡ None → Stays node (taken_so node from choice said)
-  row_goes from choice (body.Copy id pairs) no_pause no_word not_now =
+  row_goes : (from : ℕ) (choice : Choice) (said : Body) → ((stream : StreamId) → said ≢ body.Election (of_election.Pause stream)) → ((handing : Handing) → said ≢ body.Election (of_election.Paused handing)) → (taken_so node from choice said).promoted ≡ None → Stays node (taken_so node from choice said)
+  row_goes from choice (body.Slots (slots_body.Copy id pairs)) no_pause no_word not_now =
       (arrival_is_of_slots (Goes node) node (λ keyspace table moves current handover connections known noted. of_slots node current handover _ known noted refl refl refl refl refl refl refl) from id pairs).state
-  row_goes from choice (body.Ack id) no_pause no_word not_now =
+  row_goes from choice (body.Slots (slots_body.Ack id)) no_pause no_word not_now =
       (acknowledgement_is_of_slots (Goes node) node (λ keyspace table moves current handover connections known noted. of_slots node current handover _ known noted refl refl refl refl refl refl refl) from id).state
-  row_goes from choice (body.Drained slot number epoch) no_pause no_word not_now =
+  row_goes from choice (body.Slots (slots_body.Drained slot number epoch)) no_pause no_word not_now =
       (noted_is_of_slots (Goes node) node (λ keyspace table moves current handover connections known noted. of_slots node current handover _ known noted refl refl refl refl refl refl refl) from slot number epoch).state
-  row_goes from choice (body.Claim slots replaced) no_pause no_word not_now =
+  row_goes from choice (body.Slots (slots_body.Claim slots replaced)) no_pause no_word not_now =
       (claim_is_of_slots (Goes node) node (λ keyspace table moves current handover connections known noted. of_slots node current handover _ known noted refl refl refl refl refl refl refl) from slots).state
   row_goes from choice (body.Report suspects) no_pause no_word not_now = goes_itself node
-  row_goes from choice (body.Candidacy request) no_pause no_word not_now = same_goes _ refl refl refl refl refl refl refl
-  row_goes from choice (body.Grant epoch) no_pause no_word not_now = grant_goes (counted node.candidate (members_of node) from epoch) (counted_planned node.candidate (members_of node) from epoch) (elected node.candidate (members_of node) from epoch) not_now
-  row_goes from choice (body.Sync sync) no_pause no_word not_now = synced_is (Stays node) node from sync (goes_itself node) (same_goes _ refl refl refl refl refl refl refl)
-  row_goes from choice (body.Piece piece) no_pause no_word not_now = pieced_keeps (Goes node) node (λ stream keyspace. same_goes _ refl refl refl refl refl refl refl) from piece choice.follower
-  row_goes from choice (body.Snapshot snapshot) no_pause no_word not_now = restored_keeps (Goes node) node (λ stream keyspace. same_goes _ refl refl refl refl refl refl refl) from snapshot
-  row_goes from choice (body.Pause stream) no_pause no_word not_now = absurd (no_pause stream refl)
-  row_goes from choice (body.Paused handing) no_pause no_word not_now = absurd (no_word handing refl)
+  row_goes from choice (body.Election (of_election.Candidacy request)) no_pause no_word not_now = same_goes _ refl refl refl refl refl refl refl
+  row_goes from choice (body.Election (of_election.Grant epoch)) no_pause no_word not_now = grant_goes (counted node.candidate (members_of node) from epoch) (counted_planned node.candidate (members_of node) from epoch) (elected node.candidate (members_of node) from epoch) not_now
+  row_goes from choice (body.Stream (of_stream.Sync sync)) no_pause no_word not_now = synced_is (Stays node) node from sync (goes_itself node) (same_goes _ refl refl refl refl refl refl refl)
+  row_goes from choice (body.Stream (of_stream.Piece piece)) no_pause no_word not_now = pieced_keeps (Goes node) node (λ stream keyspace. same_goes _ refl refl refl refl refl refl refl) from piece choice.follower
+  row_goes from choice (body.Stream (of_stream.Snapshot snapshot)) no_pause no_word not_now = restored_keeps (Goes node) node (λ stream keyspace. same_goes _ refl refl refl refl refl refl refl) from snapshot
+  row_goes from choice (body.Election (of_election.Pause stream)) no_pause no_word not_now = absurd (no_pause stream refl)
+  row_goes from choice (body.Election (of_election.Paused handing)) no_pause no_word not_now = absurd (no_word handing refl)
 
   with_written_goes : (outcome : Outcome) (requests : Requests) (dropped : ℕ) → Goes node outcome.state → Goes node (with_written outcome requests dropped).state
   with_written_goes outcome requests dropped was =
@@ -315,7 +318,7 @@ module _ (node : NodeState) (message : Message) (choice : Choice) where
   abbrev after : NodeState
   after = (taken heard message.from choice message.body).state
 
-  row_heard : ((stream : StreamId) → message.body ≢ body.Pause stream) → ((handing : Handing) → message.body ≢ body.Paused handing) → (taken heard message.from choice message.body).promoted ≡ None
+  row_heard : ((stream : StreamId) → message.body ≢ body.Election (of_election.Pause stream)) → ((handing : Handing) → message.body ≢ body.Election (of_election.Paused handing)) → (taken heard message.from choice message.body).promoted ≡ None
       → Heard message node (taken heard message.from choice message.body).state
   row_heard no_pause no_word not_now =
       let outcome : Outcome = taken_so heard message.from choice message.body in
@@ -323,7 +326,7 @@ module _ (node : NodeState) (message : Message) (choice : Choice) where
       behind_it message node heard _ (ready_does node message)
       (with_written_goes heard outcome requests choice.dropped (row_goes heard message.from choice message.body no_pause no_word (sym (with_written_promoted outcome requests choice.dropped) ∙ not_now)))
 
-  pause_does : (stream : StreamId) → message.body ≡ body.Pause stream → Does message node (asked_to_pause heard message.from stream).state
+  pause_does : (stream : StreamId) → message.body ≡ body.Election (of_election.Pause stream) → Does message node (asked_to_pause heard message.from stream).state
   pause_does stream is = by_test (may_pause heard message.from stream) refl
     where
       was : Goes node heard
@@ -351,19 +354,19 @@ module _ (node : NodeState) (message : Message) (choice : Choice) where
           heard_hands : handing_of heard ≡ handing_of node
           heard_hands = by_said message.body is
             where
-              by_said : (said : Body) → said ≡ body.Pause stream → handing_of (judging (following (hearing (knowing node message.epoch) message.from said) message.from (replaced_in said))) ≡ handing_of node
+              by_said : (said : Body) → said ≡ body.Election (of_election.Pause stream) → handing_of (judging (following (hearing (knowing node message.epoch) message.from said) message.from (replaced_in said))) ≡ handing_of node
               by_said said is = subst (λ (b : Body). handing_of (judging (following (hearing (knowing node message.epoch) message.from b) message.from (replaced_in b))) ≡ handing_of node) (sym is) refl
 
           heard_planned : planned_epoch heard.candidate ≡ planned_epoch node.candidate
           heard_planned = by_said message.body is
             where
-              by_said : (said : Body) → said ≡ body.Pause stream → planned_epoch (judging (following (hearing (knowing node message.epoch) message.from said) message.from (replaced_in said))).candidate ≡ planned_epoch node.candidate
+              by_said : (said : Body) → said ≡ body.Election (of_election.Pause stream) → planned_epoch (judging (following (hearing (knowing node message.epoch) message.from said) message.from (replaced_in said))).candidate ≡ planned_epoch node.candidate
               by_said said is =
                   subst (λ (b : Body). planned_epoch (judging (following (hearing (knowing node message.epoch) message.from b) message.from (replaced_in b))).candidate ≡ planned_epoch node.candidate) (sym is)
-                  (judged_planned node.candidate (members_of (hearing (knowing node message.epoch) message.from (body.Pause stream))) (hearing (knowing node message.epoch) message.from (body.Pause stream)).health)
+                  (judged_planned node.candidate (members_of (hearing (knowing node message.epoch) message.from (body.Election (of_election.Pause stream)))) (hearing (knowing node message.epoch) message.from (body.Election (of_election.Pause stream))).health)
 
   -- the word that the master hands over
-  noting_does : (handing : Handing) → message.body ≡ body.Paused handing → Does message node (told_of_handing heard handing).state
+  noting_does : (handing : Handing) → message.body ≡ body.Election (of_election.Paused handing) → Does message node (told_of_handing heard handing).state
   noting_does handing is = by_test (is_replica heard && is_same handing.stream heard.stream.held.id) refl
     where
       was : Goes node heard
@@ -378,7 +381,7 @@ module _ (node : NodeState) (message : Message) (choice : Choice) where
       same_plan : planned_epoch heard.candidate ≡ planned_epoch node.candidate
       same_plan =
           subst (λ (b : Body). planned_epoch (judging (following (hearing (knowing node message.epoch) message.from b) message.from (replaced_in b))).candidate ≡ planned_epoch node.candidate) (sym is)
-          (judged_planned node.candidate (members_of (hearing (knowing node message.epoch) message.from (body.Paused handing))) (hearing (knowing node message.epoch) message.from (body.Paused handing)).health)
+          (judged_planned node.candidate (members_of (hearing (knowing node message.epoch) message.from (body.Election (of_election.Paused handing)))) (hearing (knowing node message.epoch) message.from (body.Election (of_election.Paused handing))).health)
 
       by_test : (b : Bool) → (is_replica heard && is_same handing.stream heard.stream.held.id) ≡ b → Does message node (cond b (record heard { handover = noting heard.handover handing }) heard)
       by_test false not_so = hears (goes was)
@@ -398,22 +401,22 @@ module _ (node : NodeState) (message : Message) (choice : Choice) where
   pub taken_does : (taken heard message.from choice message.body).promoted ≡ None → Does message node (taken heard message.from choice message.body).state
   taken_does not_now = by_body message.body refl
     where
-      others : (said : Body) → message.body ≡ said → ((stream : StreamId) → said ≢ body.Pause stream) → ((handing : Handing) → said ≢ body.Paused handing) → Does message node (taken heard message.from choice message.body).state
+      others : (said : Body) → message.body ≡ said → ((stream : StreamId) → said ≢ body.Election (of_election.Pause stream)) → ((handing : Handing) → said ≢ body.Election (of_election.Paused handing)) → Does message node (taken heard message.from choice message.body).state
       others said is no_pause no_word = hears (row_heard (λ stream same. no_pause stream (sym is ∙ same)) (λ handing same. no_word handing (sym is ∙ same)) not_now)
 
       by_body : (said : Body) → message.body ≡ said → Does message node (taken heard message.from choice message.body).state
-      by_body (body.Pause stream) is = subst (λ (b : Body). Does message node (taken heard message.from choice b).state) (sym is) (pause_does stream is)
-      by_body (body.Paused handing) is = subst (λ (b : Body). Does message node (taken heard message.from choice b).state) (sym is) (noting_does handing is)
-      by_body (body.Copy id pairs) is = others (body.Copy id pairs) is (λ stream same. cc) (λ handing same. cc)
-      by_body (body.Ack id) is = others (body.Ack id) is (λ stream same. cc) (λ handing same. cc)
-      by_body (body.Drained slot number epoch) is = others (body.Drained slot number epoch) is (λ stream same. cc) (λ handing same. cc)
-      by_body (body.Claim slots replaced) is = others (body.Claim slots replaced) is (λ stream same. cc) (λ handing same. cc)
+      by_body (body.Election (of_election.Pause stream)) is = subst (λ (b : Body). Does message node (taken heard message.from choice b).state) (sym is) (pause_does stream is)
+      by_body (body.Election (of_election.Paused handing)) is = subst (λ (b : Body). Does message node (taken heard message.from choice b).state) (sym is) (noting_does handing is)
+      by_body (body.Slots (slots_body.Copy id pairs)) is = others (body.Slots (slots_body.Copy id pairs)) is (λ stream same. cc) (λ handing same. cc)
+      by_body (body.Slots (slots_body.Ack id)) is = others (body.Slots (slots_body.Ack id)) is (λ stream same. cc) (λ handing same. cc)
+      by_body (body.Slots (slots_body.Drained slot number epoch)) is = others (body.Slots (slots_body.Drained slot number epoch)) is (λ stream same. cc) (λ handing same. cc)
+      by_body (body.Slots (slots_body.Claim slots replaced)) is = others (body.Slots (slots_body.Claim slots replaced)) is (λ stream same. cc) (λ handing same. cc)
       by_body (body.Report suspects) is = others (body.Report suspects) is (λ stream same. cc) (λ handing same. cc)
-      by_body (body.Candidacy request) is = others (body.Candidacy request) is (λ stream same. cc) (λ handing same. cc)
-      by_body (body.Grant epoch) is = others (body.Grant epoch) is (λ stream same. cc) (λ handing same. cc)
-      by_body (body.Sync sync) is = others (body.Sync sync) is (λ stream same. cc) (λ handing same. cc)
-      by_body (body.Piece piece) is = others (body.Piece piece) is (λ stream same. cc) (λ handing same. cc)
-      by_body (body.Snapshot snapshot) is = others (body.Snapshot snapshot) is (λ stream same. cc) (λ handing same. cc)
+      by_body (body.Election (of_election.Candidacy request)) is = others (body.Election (of_election.Candidacy request)) is (λ stream same. cc) (λ handing same. cc)
+      by_body (body.Election (of_election.Grant epoch)) is = others (body.Election (of_election.Grant epoch)) is (λ stream same. cc) (λ handing same. cc)
+      by_body (body.Stream (of_stream.Sync sync)) is = others (body.Stream (of_stream.Sync sync)) is (λ stream same. cc) (λ handing same. cc)
+      by_body (body.Stream (of_stream.Piece piece)) is = others (body.Stream (of_stream.Piece piece)) is (λ stream same. cc) (λ handing same. cc)
+      by_body (body.Stream (of_stream.Snapshot snapshot)) is = others (body.Stream (of_stream.Snapshot snapshot)) is (λ stream same. cc) (λ handing same. cc)
 
 -- ---- a tick
 

@@ -2,7 +2,7 @@
 use Rattle.std.proofs.Common.{◌≡◌, ◌≢◌, ◌<◌, ◌==◌, ◌&&◌, ℕ, List, Bool, true, false, Option, Some, None, refl, sym, ap, subst, ◌∙◌, inl, inr}
 use Rattle.std.proofs.lemmas.Bool.{and_parts, both_ways, cases_Bool, eqb-true}
 use Rattle.std.specs.Prelude.{is_some, slice_get, slice_set}
-use Rattle.bus.specs.declared.message.Handing.{Handing}
+use Rattle.bus.specs.declared.bodies.Handing.{Handing}
 use Rattle.cluster_config.specs.Config.{ClusterConfig}
 use Rattle.handovers.proofs.Keeping.{IsHandedOver, is_handed_over}
 use Rattle.handovers.specs.Peers.{Peer}

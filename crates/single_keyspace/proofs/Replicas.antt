@@ -55,8 +55,11 @@ use Rattle.migrate.specs.declared.arriving.ArrivalVerdict.TheVariants.{Ignored, 
 use Rattle.migrate.specs.declared.sending.CopyVerdict.{CopyVerdict}
 use Rattle.migrate.specs.declared.sending.CopyVerdict.TheVariants as copies
 use Rattle.bus.specs.declared.message.Body.{Body}
+use Rattle.bus.specs.declared.bodies.ElectionBody.TheVariants as of_election
+use Rattle.bus.specs.declared.bodies.SlotsBody.TheVariants as of_slots
+use Rattle.bus.specs.declared.bodies.StreamBody.TheVariants as of_stream
 use Rattle.bus.specs.declared.message.Body.TheVariants as body
-use Rattle.bus.specs.declared.message.Handing.{Handing}
+use Rattle.bus.specs.declared.bodies.Handing.{Handing}
 use Rattle.bus.specs.declared.message.Message.{Message}
 use Rattle.connections.specs.Connections.{connection_at, may_ask}
 use Rattle.connections.specs.declared.conn.Conn.{Conn}
@@ -354,7 +357,7 @@ module _ {n : ℕ} {before : NodeState} (one : Keyspace) (stands : IdleStands n 
     failover_replica None = plain _ refl refl (failover before None) refl refl refl refl refl refl
     failover_replica (Some master) =
         quiet_replica _ refl refl (failover before (Some master)) (same_node (failover before (Some master)).state refl refl refl refl refl) refl (λ replica is. is) refl
-        (mute_one n before.table master (body.Pause before.stream.held.id) (λ slot sent says. absurd says))
+        (mute_one n before.table master (body.Election (of_election.Pause before.stream.held.id)) (λ slot sent says. absurd says))
 
     cluster_replica : (conn : Conn) (command : ClusterCommand) → Answers (cluster_outcome before conn command)
     cluster_replica conn (cluster.KeySlot key) = plain _ refl refl (cluster_outcome before conn (cluster.KeySlot key)) refl refl refl refl refl refl
@@ -421,7 +424,7 @@ module _ {n : ℕ} {before : NodeState} (one : Keyspace) (stands : IdleStands n 
 
   answer_mute : (from : ℕ) (answer : SyncAnswer) → AreMute n before.table (sync_answer before from answer)
   answer_mute from answers.UpToDate = mute_nothing n before.table
-  answer_mute from (answers.Piece piece) = mute_one n before.table from (body.Piece piece) (λ slot sent says. absurd says)
+  answer_mute from (answers.Piece piece) = mute_one n before.table from (body.Stream (of_stream.Piece piece)) (λ slot sent says. absurd says)
   answer_mute from answers.Snapshot = mute_one n before.table from _ (λ slot sent says. absurd says)
 
   sync_replica : (from : ℕ) (sync : Sync) (b : Bool) → Idly None (cond b (silent before) (record (silent before) { sent = sync_answer before from (answer_to before.stream sync) }))
@@ -445,7 +448,7 @@ module _ {n : ℕ} {before : NodeState} (one : Keyspace) (stands : IdleStands n 
       quiet_replica None refl refl (voting before request granted) (same_node (voting before request granted).state refl refl refl refl refl) refl (λ replica is. is) refl (grant granted)
     where
       grant : (granted : Bool) → AreMute n before.table (grant_to request granted)
-      grant true = mute_one n before.table request.candidate (body.Grant request.epoch) (λ slot sent says. absurd says)
+      grant true = mute_one n before.table request.candidate (body.Election (of_election.Grant request.epoch)) (λ slot sent says. absurd says)
       grant false = mute_nothing n before.table
 
   -- it isn't promoted
@@ -481,10 +484,10 @@ module _ {n : ℕ} {before : NodeState} (one : Keyspace) (stands : IdleStands n 
   hands_mute : (replica : Option ℕ) (slots : List (Run ℕ)) → AreMute n before.table (handed_again before replica slots)
   hands_mute None slots = mute_nothing n before.table
   hands_mute (Some replica) [] = mute_nothing n before.table
-  hands_mute (Some replica) (run ∷ slots) = mute_one n before.table replica (body.Paused (handing_of before)) (λ slot sent says. absurd says)
+  hands_mute (Some replica) (run ∷ slots) = mute_one n before.table replica (body.Election (of_election.Paused (handing_of before))) (λ slot sent says. absurd says)
 
   handed_mute : (replica : ℕ) (paused : Option ℕ) → AreMute n before.table (handed_to before replica paused)
-  handed_mute replica None = mute_one n before.table replica (body.Paused (handing_of before)) (λ slot sent says. absurd says)
+  handed_mute replica None = mute_one n before.table replica (body.Election (of_election.Paused (handing_of before))) (λ slot sent says. absurd says)
   handed_mute replica (Some other) = hands_mute (Some replica) (claim_of before)
 
   pause_replica : (from : ℕ) (stream : StreamId) (b : Bool) → may_pause before from stream ≡ b → Idly None (cond b (handing_over before from) (silent before))
@@ -499,20 +502,20 @@ module _ {n : ℕ} {before : NodeState} (one : Keyspace) (stands : IdleStands n 
   noting_replica handing false = plain None refl refl (silent before) refl refl refl refl refl refl
 
   so_taken_replica : (from : ℕ) (choice : Choice) (said : Body) → IsNoEnd (taken_so before from choice said) → Idly None (taken_so before from choice said)
-  so_taken_replica from choice (body.Copy id pairs) not_now =
+  so_taken_replica from choice (body.Slots (of_slots.Copy id pairs)) not_now =
       copy_arrives_replica from id pairs (arrival_verdict (move_of before.moves id.slot) from id.number id.copy (keep_limits pairs)) refl
-  so_taken_replica from choice (body.Ack id) not_now = ack_replica from id (acknowledged_keys (move_of before.moves id.slot) from id.number id.copy) refl
-  so_taken_replica from choice (body.Drained slot number epoch) not_now = drained_replica from slot number epoch
-  so_taken_replica from choice (body.Claim runs replaced) not_now = claim_replica from runs
+  so_taken_replica from choice (body.Slots (of_slots.Ack id)) not_now = ack_replica from id (acknowledged_keys (move_of before.moves id.slot) from id.number id.copy) refl
+  so_taken_replica from choice (body.Slots (of_slots.Drained slot number epoch)) not_now = drained_replica from slot number epoch
+  so_taken_replica from choice (body.Slots (of_slots.Claim runs replaced)) not_now = claim_replica from runs
   so_taken_replica from choice (body.Report suspects) not_now = plain None refl refl (silent before) refl refl refl refl refl refl
-  so_taken_replica from choice (body.Candidacy request) not_now = vote_replica (request_of from request) (may_grant before.voter (members_of before) before.health before.current_epoch (request_of from request))
-  so_taken_replica from choice (body.Grant epoch) not_now =
+  so_taken_replica from choice (body.Election (of_election.Candidacy request)) not_now = vote_replica (request_of from request) (may_grant before.voter (members_of before) before.health before.current_epoch (request_of from request))
+  so_taken_replica from choice (body.Election (of_election.Grant epoch)) not_now =
       grant_replica (counted before.candidate (members_of before) from epoch) (elected before.candidate (members_of before) from epoch) not_now
-  so_taken_replica from choice (body.Sync sync) not_now = sync_replica from sync (is_replica before)
-  so_taken_replica from choice (body.Piece piece) not_now = piece_replica choice.follower (verdict_on before.stream piece) (is_just (own_master before) from)
-  so_taken_replica from choice (body.Snapshot snapshot) not_now = snapshot_replica (restored snapshot (follower_of before)) (is_just (own_master before) from)
-  so_taken_replica from choice (body.Pause stream) not_now = pause_replica from stream (may_pause before from stream) refl
-  so_taken_replica from choice (body.Paused handing) not_now = noting_replica handing (is_replica before && is_same handing.stream before.stream.held.id)
+  so_taken_replica from choice (body.Stream (of_stream.Sync sync)) not_now = sync_replica from sync (is_replica before)
+  so_taken_replica from choice (body.Stream (of_stream.Piece piece)) not_now = piece_replica choice.follower (verdict_on before.stream piece) (is_just (own_master before) from)
+  so_taken_replica from choice (body.Stream (of_stream.Snapshot snapshot)) not_now = snapshot_replica (restored snapshot (follower_of before)) (is_just (own_master before) from)
+  so_taken_replica from choice (body.Election (of_election.Pause stream)) not_now = pause_replica from stream (may_pause before from stream) refl
+  so_taken_replica from choice (body.Election (of_election.Paused handing)) not_now = noting_replica handing (is_replica before && is_same handing.stream before.stream.held.id)
 
   taken_replica : (from : ℕ) (choice : Choice) (said : Body) → IsNoEnd (taken before from choice said) → Idly None (taken before from choice said)
   taken_replica from choice said not_now =
@@ -556,9 +559,9 @@ module _ {n : ℕ} {before : NodeState} (one : Keyspace) (stands : IdleStands n 
           absurd (no_some (stands.idle found.0.0) (got_from_entry before.moves.running found.0.0 found.0.1 found.1))
 
       -- it claims what is its own
-      claims : AreMute n before.table (to_all (others before) (body.Claim (claim_of before) before.replaced))
-      claims = mute_to_all n before.table (others before) (body.Claim (claim_of before) before.replaced) (λ to.
-          subst (λ (number : ℕ). IsMute n before.table to (body.Claim (runs_of (claim_at before.table number)) before.replaced)) (sym stands.number_is)
+      claims : AreMute n before.table (to_all (others before) (body.Slots (of_slots.Claim (claim_of before) before.replaced)))
+      claims = mute_to_all n before.table (others before) (body.Slots (of_slots.Claim (claim_of before) before.replaced)) (λ to.
+          subst (λ (number : ℕ). IsMute n before.table to (body.Slots (of_slots.Claim (runs_of (claim_at before.table number)) before.replaced))) (sym stands.number_is)
           (λ slot sent says. (says.0, says.2, claim_justified [] n before to before.replaced stands.slots slot says.0 says.1)))
 
       reports : AreMute n before.table (to_all (others before) (body.Report (suspected aged.health (members_of before))))

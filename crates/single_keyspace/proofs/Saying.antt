@@ -5,8 +5,11 @@ use Rattle.std.specs.FinMap as fin_map
 use Rattle.std.specs.List.{flat_map}
 use Rattle.std.specs.Prelude.{MatchBool, Result, Ok, Err, is_some, ⊤}
 use Rattle.bus.specs.declared.message.Body.{Body}
+use Rattle.bus.specs.declared.bodies.ElectionBody.TheVariants as of_election
+use Rattle.bus.specs.declared.bodies.SlotsBody.TheVariants as of_slots
+use Rattle.bus.specs.declared.bodies.StreamBody.TheVariants as of_stream
 use Rattle.bus.specs.declared.message.Body.TheVariants as body
-use Rattle.bus.specs.declared.message.Handing.{Handing}
+use Rattle.bus.specs.declared.bodies.Handing.{Handing}
 use Rattle.command_table.specs.Keys.{data_keys}
 use Rattle.command_table.specs.Table.{command_of}
 use Rattle.command_table.specs.declared.command.ClusterCommand.{ClusterCommand}
@@ -77,9 +80,9 @@ use Rattle.single_keyspace.proofs.Lists.{contains_nothing, contains_one, from_ma
 
 -- a replica asks its master to hand over; who hands over says so to that replica; and whose place a node took stays so
 abbrev pub Speaks : NodeState → ℕ → Body → Type 0
-Speaks node to (body.Pause stream) = own_master node ≡ Some to
-Speaks node to (body.Paused handing) = (node.paused ≡ Some to) × (handing ≡ handing_of node)
-Speaks node to (body.Claim slots replaced) = replaced ≡ node.replaced
+Speaks node to (body.Election (of_election.Pause stream)) = own_master node ≡ Some to
+Speaks node to (body.Election (of_election.Paused handing)) = (node.paused ≡ Some to) × (handing ≡ handing_of node)
+Speaks node to (body.Slots (of_slots.Claim slots replaced)) = replaced ≡ node.replaced
 Speaks node to other = ⊤
 
 abbrev pub Speak : NodeState → List (ℕ × Body) → Type 0
@@ -87,9 +90,9 @@ Speak node sent = (to : ℕ) (said : Body) → Contains sent (to, said) → Spea
 
 -- where nothing is said of what is handed over
 abbrev Asks : NodeState → ℕ → Body → Type 0
-Asks node to (body.Pause stream) = own_master node ≡ Some to
-Asks node to (body.Paused handing) = ⊥
-Asks node to (body.Claim slots replaced) = replaced ≡ node.replaced
+Asks node to (body.Election (of_election.Pause stream)) = own_master node ≡ Some to
+Asks node to (body.Election (of_election.Paused handing)) = ⊥
+Asks node to (body.Slots (of_slots.Claim slots replaced)) = replaced ≡ node.replaced
 Asks node to other = ⊤
 
 abbrev AskAll : NodeState → List (ℕ × Body) → Type 0
@@ -121,7 +124,7 @@ module _ (node : NodeState) where
   drained_by_speaks : (slot epoch : ℕ) (move : Option Move) → AskAll node (drained_by slot epoch move)
   drained_by_speaks slot epoch None = speak_nothing node
   drained_by_speaks slot epoch (Some (Comes from number last known)) = speak_nothing node
-  drained_by_speaks slot epoch (Some (Leaves to number copies frozen)) = speak_one node to (body.Drained slot number epoch) tt
+  drained_by_speaks slot epoch (Some (Leaves to number copies frozen)) = speak_one node to (body.Slots (of_slots.Drained slot number epoch)) tt
 
   either_speaks : (b : Bool) (sent others : List (ℕ × Body)) → AskAll node sent → AskAll node others → AskAll node (cond b sent others)
   either_speaks true sent others first second = first
@@ -141,7 +144,7 @@ module _ (node : NodeState) where
   outstanding_speaks keyspace slot None = speak_nothing node
   outstanding_speaks keyspace slot (Some (Comes from number last known)) = speak_nothing node
   outstanding_speaks keyspace slot (Some (Leaves to number copies None)) = speak_nothing node
-  outstanding_speaks keyspace slot (Some (Leaves to number copies (Some keys))) = speak_one node to (body.Copy (copy_id slot number copies) (pairs_at keyspace keys)) tt
+  outstanding_speaks keyspace slot (Some (Leaves to number copies (Some keys))) = speak_one node to (body.Slots (of_slots.Copy (copy_id slot number copies) (pairs_at keyspace keys))) tt
 
   again_speaks : (own : NodeState) (moves : List (ℕ × Move)) → AskAll node (flat_map (sent_again own) moves)
   again_speaks own [] = speak_nothing node
@@ -198,7 +201,7 @@ module _ (node : NodeState) where
 
   failover_says : (master : Option ℕ) → own_master node ≡ master → Says (failover node master)
   failover_says None own = speak_nothing node
-  failover_says (Some master) own = speak_one (failover node (Some master)).state master (body.Pause node.stream.held.id) own
+  failover_says (Some master) own = speak_one (failover node (Some master)).state master (body.Election (of_election.Pause node.stream.held.id)) own
 
   cluster_says : (conn : Conn) (which : ClusterCommand) → Says (cluster_outcome node conn which)
   cluster_says conn (cluster.KeySlot key) = speak_nothing node
@@ -226,8 +229,8 @@ module _ (node : NodeState) where
   acknowledged_says id (Some keys) = drained_since_speaks (without_keys node id keys) node.keyspace (without_keys node id keys) id.slot
 
   arrived_says : (from : ℕ) (id : CopyId) (pairs : List (List ℕ × Value)) (verdict : ArrivalVerdict) → AskAll (arrived node from id pairs verdict).state (arrived node from id pairs verdict).sent
-  arrived_says from id pairs Installs = speak_one (arrived node from id pairs Installs).state from (body.Ack id) tt
-  arrived_says from id pairs Repeats = speak_one (arrived node from id pairs Repeats).state from (body.Ack id) tt
+  arrived_says from id pairs Installs = speak_one (arrived node from id pairs Installs).state from (body.Slots (of_slots.Ack id)) tt
+  arrived_says from id pairs Repeats = speak_one (arrived node from id pairs Repeats).state from (body.Slots (of_slots.Ack id)) tt
   arrived_says from id pairs Ignored = speak_nothing (arrived node from id pairs Ignored).state
 
   claimed_says : (own : Bool) (after : Outcome) → after.sent ≡ [] → AskAll (cond own (silent node) after).state (cond own (silent node) after).sent
@@ -258,43 +261,43 @@ module _ (node : NodeState) where
       by_plan false = failed (own_master node)
 
   vote_says : (request : VoteRequest) (granted : Bool) → AskAll (voting node request granted).state (voting node request granted).sent
-  vote_says request true = speak_one (voting node request true).state request.candidate (body.Grant request.epoch) tt
+  vote_says request true = speak_one (voting node request true).state request.candidate (body.Election (of_election.Grant request.epoch)) tt
   vote_says request false = speak_nothing (voting node request false).state
 
   answer_says : (from : ℕ) (answer : SyncAnswer) → AskAll node (sync_answer node from answer)
   answer_says from answers.UpToDate = speak_nothing node
-  answer_says from (answers.Piece piece) = speak_one node from (body.Piece piece) tt
+  answer_says from (answers.Piece piece) = speak_one node from (body.Stream (of_stream.Piece piece)) tt
   answer_says from answers.Snapshot = speak_one node from _ tt
 
-  row_says : (from : ℕ) (choice : Choice) (said : Body) → ((stream : StreamId) → said ≡ body.Pause stream → ⊥) → AskAll (taken_so node from choice said).state (taken_so node from choice said).sent
-  row_says from choice (body.Copy id pairs) no_pause = arrived_says from id pairs (arrival_verdict (move_of node.moves id.slot) from id.number id.copy (keep_limits pairs))
-  row_says from choice (body.Ack id) no_pause = acknowledged_says id (acknowledged_keys (move_of node.moves id.slot) from id.number id.copy)
-  row_says from choice (body.Drained slot number epoch) no_pause = speak_nothing (taken_so node from choice (body.Drained slot number epoch)).state
-  row_says from choice (body.Claim slots replaced) no_pause = claimed_says (from == node.number) (claimed_by node (merged node.table slots from)) refl
+  row_says : (from : ℕ) (choice : Choice) (said : Body) → ((stream : StreamId) → said ≡ body.Election (of_election.Pause stream) → ⊥) → AskAll (taken_so node from choice said).state (taken_so node from choice said).sent
+  row_says from choice (body.Slots (of_slots.Copy id pairs)) no_pause = arrived_says from id pairs (arrival_verdict (move_of node.moves id.slot) from id.number id.copy (keep_limits pairs))
+  row_says from choice (body.Slots (of_slots.Ack id)) no_pause = acknowledged_says id (acknowledged_keys (move_of node.moves id.slot) from id.number id.copy)
+  row_says from choice (body.Slots (of_slots.Drained slot number epoch)) no_pause = speak_nothing (taken_so node from choice (body.Slots (of_slots.Drained slot number epoch))).state
+  row_says from choice (body.Slots (of_slots.Claim slots replaced)) no_pause = claimed_says (from == node.number) (claimed_by node (merged node.table slots from)) refl
   row_says from choice (body.Report suspects) no_pause = speak_nothing node
-  row_says from choice (body.Candidacy request) no_pause = vote_says (request_of from request) (may_grant node.voter (members_of node) node.health node.current_epoch (request_of from request))
-  row_says from choice (body.Grant epoch) no_pause = grant_says (counted node.candidate (members_of node) from epoch) (elected node.candidate (members_of node) from epoch)
-  row_says from choice (body.Sync sync) no_pause = synced_is (λ (o : Outcome). AskAll o.state o.sent) node from sync (speak_nothing node) (answer_says from (answer_to node.stream sync))
-  row_says from choice (body.Piece piece) no_pause = speak_nothing (taken_so node from choice (body.Piece piece)).state
-  row_says from choice (body.Snapshot snapshot) no_pause = speak_nothing (taken_so node from choice (body.Snapshot snapshot)).state
-  row_says from choice (body.Pause stream) no_pause = absurd (no_pause stream refl)
-  row_says from choice (body.Paused handing) no_pause = speak_nothing (taken_so node from choice (body.Paused handing)).state
+  row_says from choice (body.Election (of_election.Candidacy request)) no_pause = vote_says (request_of from request) (may_grant node.voter (members_of node) node.health node.current_epoch (request_of from request))
+  row_says from choice (body.Election (of_election.Grant epoch)) no_pause = grant_says (counted node.candidate (members_of node) from epoch) (elected node.candidate (members_of node) from epoch)
+  row_says from choice (body.Stream (of_stream.Sync sync)) no_pause = synced_is (λ (o : Outcome). AskAll o.state o.sent) node from sync (speak_nothing node) (answer_says from (answer_to node.stream sync))
+  row_says from choice (body.Stream (of_stream.Piece piece)) no_pause = speak_nothing (taken_so node from choice (body.Stream (of_stream.Piece piece))).state
+  row_says from choice (body.Stream (of_stream.Snapshot snapshot)) no_pause = speak_nothing (taken_so node from choice (body.Stream (of_stream.Snapshot snapshot))).state
+  row_says from choice (body.Election (of_election.Pause stream)) no_pause = absurd (no_pause stream refl)
+  row_says from choice (body.Election (of_election.Paused handing)) no_pause = speak_nothing (taken_so node from choice (body.Election (of_election.Paused handing))).state
 
 -- ---- what is put round a step
 
 asks_speaks : (node : NodeState) (stream : StreamView) (to : ℕ) (said : Body) → Asks node to said → Speaks (record node { stream = stream }) to said
-asks_speaks node stream to (body.Copy id pairs) is = tt
-asks_speaks node stream to (body.Ack id) is = tt
-asks_speaks node stream to (body.Drained slot number epoch) is = tt
-asks_speaks node stream to (body.Claim slots replaced) is = is
+asks_speaks node stream to (body.Slots (of_slots.Copy id pairs)) is = tt
+asks_speaks node stream to (body.Slots (of_slots.Ack id)) is = tt
+asks_speaks node stream to (body.Slots (of_slots.Drained slot number epoch)) is = tt
+asks_speaks node stream to (body.Slots (of_slots.Claim slots replaced)) is = is
 asks_speaks node stream to (body.Report suspects) is = tt
-asks_speaks node stream to (body.Candidacy request) is = tt
-asks_speaks node stream to (body.Grant epoch) is = tt
-asks_speaks node stream to (body.Sync sync) is = tt
-asks_speaks node stream to (body.Piece piece) is = tt
-asks_speaks node stream to (body.Snapshot snapshot) is = tt
-asks_speaks node stream to (body.Pause id) is = is
-asks_speaks node stream to (body.Paused handing) is = absurd is
+asks_speaks node stream to (body.Election (of_election.Candidacy request)) is = tt
+asks_speaks node stream to (body.Election (of_election.Grant epoch)) is = tt
+asks_speaks node stream to (body.Stream (of_stream.Sync sync)) is = tt
+asks_speaks node stream to (body.Stream (of_stream.Piece piece)) is = tt
+asks_speaks node stream to (body.Stream (of_stream.Snapshot snapshot)) is = tt
+asks_speaks node stream to (body.Election (of_election.Pause id)) is = is
+asks_speaks node stream to (body.Election (of_election.Paused handing)) is = absurd is
 
 said_both : (node : NodeState) (sent others : List (ℕ × Body)) → Speak node sent → Speak node others → Speak node (sent ++ others)
 said_both node sent others first second to said among =
@@ -327,33 +330,33 @@ module _ (node : NodeState) where
   hands_again : (replica : Option ℕ) (slots : List (Run ℕ)) → node.paused ≡ replica → Speak node (handed_again node replica slots)
   hands_again None slots is = said_nothing node
   hands_again (Some replica) [] is = said_nothing node
-  hands_again (Some replica) (run ∷ slots) is = said_one node replica (body.Paused (handing_of node)) (is, refl)
+  hands_again (Some replica) (run ∷ slots) is = said_one node replica (body.Election (of_election.Paused (handing_of node))) (is, refl)
 
   hands_to : (replica : ℕ) (paused : Option ℕ) → Speak (record node { paused = Some replica }) (handed_to node replica paused)
-  hands_to replica None = said_one (record node { paused = Some replica }) replica (body.Paused (handing_of node)) (refl, refl)
+  hands_to replica None = said_one (record node { paused = Some replica }) replica (body.Election (of_election.Paused (handing_of node))) (refl, refl)
   hands_to replica (Some other) = by_slots (claim_of node)
     where
       by_slots : (slots : List (Run ℕ)) → Speak (record node { paused = Some replica }) (handed_again node (Some replica) slots)
       by_slots [] = said_nothing (record node { paused = Some replica })
-      by_slots (run ∷ slots) = said_one (record node { paused = Some replica }) replica (body.Paused (handing_of node)) (refl, refl)
+      by_slots (run ∷ slots) = said_one (record node { paused = Some replica }) replica (body.Election (of_election.Paused (handing_of node))) (refl, refl)
 
   pause_speaks : (from : ℕ) (b : Bool) → Speak (cond b (handing_over node from) (silent node)).state (cond b (handing_over node from) (silent node)).sent
   pause_speaks from true = hands_to from node.paused
   pause_speaks from false = said_nothing node
 
   taken_speaks : (from : ℕ) (choice : Choice) (said : Body) → Speak (taken node from choice said).state (taken node from choice said).sent
-  taken_speaks from choice (body.Pause stream) = pause_speaks from (may_pause node from stream)
-  taken_speaks from choice (body.Copy id pairs) = with_written_speaks (taken_so node from choice (body.Copy id pairs)) (written_by_message node from (body.Copy id pairs)) choice.dropped (row_says node from choice (body.Copy id pairs) (λ stream is. cc))
-  taken_speaks from choice (body.Ack id) = with_written_speaks (taken_so node from choice (body.Ack id)) (written_by_message node from (body.Ack id)) choice.dropped (row_says node from choice (body.Ack id) (λ stream is. cc))
-  taken_speaks from choice (body.Drained slot number epoch) = with_written_speaks (taken_so node from choice (body.Drained slot number epoch)) [] choice.dropped (row_says node from choice (body.Drained slot number epoch) (λ stream is. cc))
-  taken_speaks from choice (body.Claim slots replaced) = with_written_speaks (taken_so node from choice (body.Claim slots replaced)) (written_by_message node from (body.Claim slots replaced)) choice.dropped (row_says node from choice (body.Claim slots replaced) (λ stream is. cc))
+  taken_speaks from choice (body.Election (of_election.Pause stream)) = pause_speaks from (may_pause node from stream)
+  taken_speaks from choice (body.Slots (of_slots.Copy id pairs)) = with_written_speaks (taken_so node from choice (body.Slots (of_slots.Copy id pairs))) (written_by_message node from (body.Slots (of_slots.Copy id pairs))) choice.dropped (row_says node from choice (body.Slots (of_slots.Copy id pairs)) (λ stream is. cc))
+  taken_speaks from choice (body.Slots (of_slots.Ack id)) = with_written_speaks (taken_so node from choice (body.Slots (of_slots.Ack id))) (written_by_message node from (body.Slots (of_slots.Ack id))) choice.dropped (row_says node from choice (body.Slots (of_slots.Ack id)) (λ stream is. cc))
+  taken_speaks from choice (body.Slots (of_slots.Drained slot number epoch)) = with_written_speaks (taken_so node from choice (body.Slots (of_slots.Drained slot number epoch))) [] choice.dropped (row_says node from choice (body.Slots (of_slots.Drained slot number epoch)) (λ stream is. cc))
+  taken_speaks from choice (body.Slots (of_slots.Claim slots replaced)) = with_written_speaks (taken_so node from choice (body.Slots (of_slots.Claim slots replaced))) (written_by_message node from (body.Slots (of_slots.Claim slots replaced))) choice.dropped (row_says node from choice (body.Slots (of_slots.Claim slots replaced)) (λ stream is. cc))
   taken_speaks from choice (body.Report suspects) = with_written_speaks (taken_so node from choice (body.Report suspects)) [] choice.dropped (row_says node from choice (body.Report suspects) (λ stream is. cc))
-  taken_speaks from choice (body.Candidacy request) = with_written_speaks (taken_so node from choice (body.Candidacy request)) [] choice.dropped (row_says node from choice (body.Candidacy request) (λ stream is. cc))
-  taken_speaks from choice (body.Grant epoch) = with_written_speaks (taken_so node from choice (body.Grant epoch)) [] choice.dropped (row_says node from choice (body.Grant epoch) (λ stream is. cc))
-  taken_speaks from choice (body.Sync sync) = with_written_speaks (taken_so node from choice (body.Sync sync)) [] choice.dropped (row_says node from choice (body.Sync sync) (λ stream is. cc))
-  taken_speaks from choice (body.Piece piece) = with_written_speaks (taken_so node from choice (body.Piece piece)) [] choice.dropped (row_says node from choice (body.Piece piece) (λ stream is. cc))
-  taken_speaks from choice (body.Snapshot snapshot) = with_written_speaks (taken_so node from choice (body.Snapshot snapshot)) [] choice.dropped (row_says node from choice (body.Snapshot snapshot) (λ stream is. cc))
-  taken_speaks from choice (body.Paused handing) = with_written_speaks (taken_so node from choice (body.Paused handing)) [] choice.dropped (row_says node from choice (body.Paused handing) (λ stream is. cc))
+  taken_speaks from choice (body.Election (of_election.Candidacy request)) = with_written_speaks (taken_so node from choice (body.Election (of_election.Candidacy request))) [] choice.dropped (row_says node from choice (body.Election (of_election.Candidacy request)) (λ stream is. cc))
+  taken_speaks from choice (body.Election (of_election.Grant epoch)) = with_written_speaks (taken_so node from choice (body.Election (of_election.Grant epoch))) [] choice.dropped (row_says node from choice (body.Election (of_election.Grant epoch)) (λ stream is. cc))
+  taken_speaks from choice (body.Stream (of_stream.Sync sync)) = with_written_speaks (taken_so node from choice (body.Stream (of_stream.Sync sync))) [] choice.dropped (row_says node from choice (body.Stream (of_stream.Sync sync)) (λ stream is. cc))
+  taken_speaks from choice (body.Stream (of_stream.Piece piece)) = with_written_speaks (taken_so node from choice (body.Stream (of_stream.Piece piece))) [] choice.dropped (row_says node from choice (body.Stream (of_stream.Piece piece)) (λ stream is. cc))
+  taken_speaks from choice (body.Stream (of_stream.Snapshot snapshot)) = with_written_speaks (taken_so node from choice (body.Stream (of_stream.Snapshot snapshot))) [] choice.dropped (row_says node from choice (body.Stream (of_stream.Snapshot snapshot)) (λ stream is. cc))
+  taken_speaks from choice (body.Election (of_election.Paused handing)) = with_written_speaks (taken_so node from choice (body.Election (of_election.Paused handing))) [] choice.dropped (row_says node from choice (body.Election (of_election.Paused handing)) (λ stream is. cc))
 
   tick_speaks : Speak (tick node).state (tick node).sent
   tick_speaks =
@@ -364,7 +367,7 @@ module _ (node : NodeState) where
       (said_both after _ _
       (said_both after _ _
       (said_both after _ _ (λ to said among. asks_speaks after node.stream to said (again_speaks after node (fin_map.entries node.moves.running) to said among))
-      (said_both after _ _ (said_to_all after (others node) (body.Claim (claim_of node) node.replaced) (λ to. refl)) (said_to_all after (others node) (body.Report (suspected aged.health (members_of node))) (λ to. tt))))
+      (said_both after _ _ (said_to_all after (others node) (body.Slots (of_slots.Claim (claim_of node) node.replaced)) (λ to. refl)) (said_to_all after (others node) (body.Report (suspected aged.health (members_of node))) (λ to. tt))))
       (syncs after (own_master node)))
       (asks_it after node.handover.asked (own_master node) refl))
       (hands after node.paused (claim_of node) refl refl))
@@ -385,7 +388,7 @@ module _ (node : NodeState) where
       hands : (after : NodeState) (replica : Option ℕ) (slots : List (Run ℕ)) → after.paused ≡ replica → handing_of node ≡ handing_of after → Speak after (handed_again node replica slots)
       hands after None slots paused same = said_nothing after
       hands after (Some replica) [] paused same = said_nothing after
-      hands after (Some replica) (run ∷ slots) paused same = said_one after replica (body.Paused (handing_of node)) (paused, same)
+      hands after (Some replica) (run ∷ slots) paused same = said_one after replica (body.Election (of_election.Paused (handing_of node))) (paused, same)
 
       requests : (after : NodeState) (epoch master : Option ℕ) → Speak after (requests_in aged epoch master)
       requests after None master = said_nothing after

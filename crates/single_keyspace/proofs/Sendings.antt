@@ -22,9 +22,12 @@ use Rattle.slot_state.specs.declared.running.Move.{Move}
 use Rattle.slot_state.specs.declared.running.Move.TheVariants.{Leaves, Comes}
 use Rattle.slot_state.specs.declared.copy_id.CopyId.{CopyId}
 use Rattle.bus.specs.declared.message.Body.{Body}
+use Rattle.bus.specs.declared.bodies.ElectionBody.TheVariants as of_election
+use Rattle.bus.specs.declared.bodies.SlotsBody.TheVariants as of_slots
+use Rattle.bus.specs.declared.bodies.StreamBody.TheVariants as of_stream
 use Rattle.bus.specs.declared.message.Body.TheVariants as body
 use Rattle.bus.specs.declared.message.Message.{Message}
-use Rattle.bus.specs.declared.message.Replaced.{Replaced}
+use Rattle.bus.specs.declared.bodies.Replaced.{Replaced}
 use Rattle.std.specs.Prelude.{⊤}
 use Rattle.one_slot.specs.View.{View, Views}
 use Rattle.one_slot.specs.Slot.{Holds, IsFrozen, IsLeaving}
@@ -58,7 +61,7 @@ pub record IsInstalled (past : List Entry) (n : ℕ) (moves : Moves) (to : ℕ) 
   pub sent : Contains (sent_by past) message
   pub from_there : message.from ≡ to
   pub to_here : message.to ≡ n
-  pub says : message.body ≡ body.Copy id pairs
+  pub says : message.body ≡ body.Slots (of_slots.Copy id pairs)
 
 -- the slot leaves, and no key of it is left
 pub record IsLeft (moves : Moves) (keyspace : Keyspace) (table : List (Option SlotEntry)) (to slot number epoch : ℕ) : Type 0 where
@@ -76,10 +79,10 @@ pub record IsOutstanding (moves : Moves) (keyspace : Keyspace) (to : ℕ) (id : 
 
 -- by what the node has of slots alone, so that nothing else of it matters
 abbrev pub IsJustifiedBy : List Entry → ℕ → Moves → Keyspace → List (Option SlotEntry) → ℕ → Body → Type 0
-IsJustifiedBy past n moves keyspace table to (body.Copy id pairs) = IsOutstanding moves keyspace to id pairs
-IsJustifiedBy past n moves keyspace table to (body.Ack id) = IsInstalled past n moves to id
-IsJustifiedBy past n moves keyspace table to (body.Drained slot number epoch) = IsLeft moves keyspace table to slot number epoch
-IsJustifiedBy past n moves keyspace table to (body.Claim runs replaced) = (slot epoch : ℕ) → claimed runs n slot ≡ Some (record { epoch = epoch; owner = n }) → entry_at table slot ≡ Some (record { epoch = epoch; owner = n })
+IsJustifiedBy past n moves keyspace table to (body.Slots (of_slots.Copy id pairs)) = IsOutstanding moves keyspace to id pairs
+IsJustifiedBy past n moves keyspace table to (body.Slots (of_slots.Ack id)) = IsInstalled past n moves to id
+IsJustifiedBy past n moves keyspace table to (body.Slots (of_slots.Drained slot number epoch)) = IsLeft moves keyspace table to slot number epoch
+IsJustifiedBy past n moves keyspace table to (body.Slots (of_slots.Claim runs replaced)) = (slot epoch : ℕ) → claimed runs n slot ≡ Some (record { epoch = epoch; owner = n }) → entry_at table slot ≡ Some (record { epoch = epoch; owner = n })
 IsJustifiedBy past n moves keyspace table to other = ⊤
 
 abbrev pub IsJustified : List Entry → ℕ → NodeState → ℕ → Body → Type 0
@@ -153,14 +156,14 @@ outstanding_sent node slot to number copy keys move frozen =
 module _ (past : List Entry) (node : NodeState) {top : SlotEntry} {seen : Views Value} {one : List ℕ → Option Value} {n : ℕ} {slot : ℕ} (holds : Holds top seen one) (here : seen n ≡ view_of node slot)
     (history : (message : Message) (sent : Sent Value) → Contains (sent_by past) message → Says slot message.from message.to message.body sent → IsSent top seen sent) where
   pub justified_is_true : (to : ℕ) (body : Body) (sent : Sent Value) → IsJustified past n node to body → Says slot n to body sent → IsSent top seen sent
-  justified_is_true to (body.Copy id pairs) sent just says =
+  justified_is_true to (body.Slots (of_slots.Copy id pairs)) sent just says =
       let move : move_of node.moves slot ≡ Some (Leaves to id.number id.copy (Some just.keys)) = subst (λ (s : ℕ). move_of node.moves s ≡ Some (Leaves to id.number id.copy (Some just.keys))) says.0 just.move in
       let frozen : IsFrozen (view_of node slot) id.copy just.keys =
       subst (λ (v : View Value). IsFrozen v id.copy just.keys) here (frozen_here holds n to id.number id.copy just.keys (ap (λ (v : View Value). v.move) here ∙ move)) in
       subst (IsSent top seen) (sym (says.1 ∙ ap (λ (ps : List (List ℕ × Value)). Copy n to id.number id.copy ps) just.are))
       ((laws_at top seen one n (view_of node slot) holds here).copy_sent to id.number id.copy (pairs_at node.keyspace just.keys)
       (outstanding_sent node slot to id.number id.copy just.keys move frozen))
-  justified_is_true to (body.Ack id) sent just says =
+  justified_is_true to (body.Slots (of_slots.Ack id)) sent just says =
       let copied : IsSent top seen (Copy just.message.from just.message.to id.number id.copy just.pairs) =
       history just.message _ just.sent
       (subst (λ (b : Body). Says slot just.message.from just.message.to b (Copy just.message.from just.message.to id.number id.copy just.pairs)) (sym just.says) (says.0, refl)) in
@@ -169,19 +172,19 @@ module _ (past : List Entry) (node : NodeState) {top : SlotEntry} {seen : Views 
       (subst (λ (s : ℕ). move_of node.moves s ≡ Some (Comes to id.number just.copied just.drained)) says.0 just.move)
       just.reached
       (subst (IsSent top seen) (ap₂ (λ (f t : ℕ). Copy f t id.number id.copy just.pairs) just.from_there just.to_here) copied))
-  justified_is_true to (body.Drained other number epoch) sent just says =
+  justified_is_true to (body.Slots (of_slots.Drained other number epoch)) sent just says =
       subst (IsSent top seen) (sym says.1) (left_is_true node holds here to number epoch (subst (λ (s : ℕ). IsLeft node.moves node.keyspace node.table to s number epoch) says.0 just))
-  justified_is_true to (body.Claim runs replaced) sent just says =
+  justified_is_true to (body.Slots (of_slots.Claim runs replaced)) sent just says =
       subst (IsSent top seen) (sym says.2)
       ((laws_at top seen one n (view_of node slot) holds here).claim_sent says.0 (just slot says.0 says.1))
   justified_is_true to (body.Report suspects) sent just says = absurd says
-  justified_is_true to (body.Candidacy request) sent just says = absurd says
-  justified_is_true to (body.Grant epoch) sent just says = absurd says
-  justified_is_true to (body.Sync sync) sent just says = absurd says
-  justified_is_true to (body.Piece piece) sent just says = absurd says
-  justified_is_true to (body.Snapshot snapshot) sent just says = absurd says
-  justified_is_true to (body.Pause stream) sent just says = absurd says
-  justified_is_true to (body.Paused handing) sent just says = absurd says
+  justified_is_true to (body.Election (of_election.Candidacy request)) sent just says = absurd says
+  justified_is_true to (body.Election (of_election.Grant epoch)) sent just says = absurd says
+  justified_is_true to (body.Stream (of_stream.Sync sync)) sent just says = absurd says
+  justified_is_true to (body.Stream (of_stream.Piece piece)) sent just says = absurd says
+  justified_is_true to (body.Stream (of_stream.Snapshot snapshot)) sent just says = absurd says
+  justified_is_true to (body.Election (of_election.Pause stream)) sent just says = absurd says
+  justified_is_true to (body.Election (of_election.Paused handing)) sent just says = absurd says
 
 -- ---- drained
 
@@ -193,7 +196,7 @@ module _ (past : List Entry) (n : ℕ) (node : NodeState) (slot : ℕ) where
       by_move None is among = absurd (contains_nothing (to, said) among)
       by_move (Some (Comes from number last drained)) is among = absurd (contains_nothing (to, said) among)
       by_move (Some (Leaves other number copies frozen)) is among =
-          let same : (other, body.Drained slot number (slot_epoch node slot)) ≡ (to, said) = contains_one (other, body.Drained slot number (slot_epoch node slot)) (to, said) among in
+          let same : (other, body.Slots (of_slots.Drained slot number (slot_epoch node slot))) ≡ (to, said) = contains_one (other, body.Slots (of_slots.Drained slot number (slot_epoch node slot))) (to, said) among in
           subst (λ (p : ℕ × Body). IsJustified past n node p.0 p.1) same (record { copies = copies; frozen = frozen; move = is; epoch_is = refl; empty = empty })
 
   pub drained_if_empty_justified : AreJustified past n node (drained_if_empty node slot)
@@ -217,7 +220,7 @@ outstanding_justified past n node slot None is to said among = absurd (contains_
 outstanding_justified past n node slot (Some (Comes from number last drained)) is to said among = absurd (contains_nothing (to, said) among)
 outstanding_justified past n node slot (Some (Leaves other number copies None)) is to said among = absurd (contains_nothing (to, said) among)
 outstanding_justified past n node slot (Some (Leaves other number copies (Some keys))) is to said among =
-    subst (λ (p : ℕ × Body). IsJustified past n node p.0 p.1) (contains_one (other, body.Copy (copy_id slot number copies) (pairs_at node.keyspace keys)) (to, said) among)
+    subst (λ (p : ℕ × Body). IsJustified past n node p.0 p.1) (contains_one (other, body.Slots (of_slots.Copy (copy_id slot number copies) (pairs_at node.keyspace keys))) (to, said) among)
     (record { keys = keys; move = is; are = refl })
 
 -- ---- claims
@@ -246,7 +249,7 @@ named_in number (Some entry) epoch is =
     ]
 
 -- the longest runs of a node's own slots are what it may claim
-pub claim_justified : (past : List Entry) (n : ℕ) (node : NodeState) (to : ℕ) (replaced : Option Replaced) → length node.table ≡ 16384 → IsJustified past n node to (body.Claim (runs_of (claim_at node.table n)) replaced)
+pub claim_justified : (past : List Entry) (n : ℕ) (node : NodeState) (to : ℕ) (replaced : Option Replaced) → length node.table ≡ 16384 → IsJustified past n node to (body.Slots (of_slots.Claim (runs_of (claim_at node.table n)) replaced))
 claim_justified past n node to replaced whole slot epoch is =
     let are : AreRunsOf (claim_at node.table n) (runs_of (claim_at node.table n)) = are_runs_of (claim_at node.table n) (no_claim_behind node.table n whole) in
     named_in n (entry_at node.table slot) epoch (claimed_value (claim_at node.table n) (runs_of (claim_at node.table n)) n slot epoch are.each is)

@@ -3,9 +3,10 @@ use Rattle.std.proofs.Common.{◌≡◌, ◌≢◌, ◌==◌, ◌&&◌, ℕ, Lis
 use Rattle.std.proofs.lemmas.Bool.{and_parts, cond-false, eqb-true, ltb-true, ne_eqb, or_cases}
 use Rattle.std.specs.Prelude.{is_some, nat_lt}
 use Rattle.bus.specs.declared.message.Body.{Body}
+use Rattle.bus.specs.declared.bodies.SlotsBody.TheVariants as of_slots
 use Rattle.bus.specs.declared.message.Body.TheVariants as body
 use Rattle.bus.specs.declared.message.Message.{Message}
-use Rattle.bus.specs.declared.message.Replaced.{Replaced}
+use Rattle.bus.specs.declared.bodies.Replaced.{Replaced}
 use Rattle.keyspace.specs.Keyspace.{Keyspace}
 use Rattle.keyspace.specs.declared.value.Value.{Value}
 use Rattle.one_slot.proofs.ViewLemmas.{named_or_not}
@@ -48,7 +49,7 @@ no_epoch n (Some entry) other = cond-false (entry.owner == n) (Some entry.epoch)
 module _ {past : List Entry} {n : ℕ} {before : NodeState} {one : Keyspace} (was : (slot : ℕ) → SlotWas past n before one slot) (stands : NodeStands n before)
     (idle : (slot : ℕ) → move_of before.moves slot ≡ None) where
   -- no claim is above an own slot's entry
-  module _ (message : Message) (among : Contains (sent_by past) message) (runs : List (Run ℕ)) (replaced : Option Replaced) (says : message.body ≡ body.Claim runs replaced) (slot : ℕ) where
+  module _ (message : Message) (among : Contains (sent_by past) message) (runs : List (Run ℕ)) (replaced : Option Replaced) (says : message.body ≡ body.Slots (of_slots.Claim runs replaced)) (slot : ℕ) where
     claim_most : (entry : SlotEntry) → claimed runs message.from slot ≡ Some entry → IsAtMost (was slot).top entry
     claim_most entry is =
         let owner : entry.owner ≡ message.from = claimed_owner runs message.from slot entry is in

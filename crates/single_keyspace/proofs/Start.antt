@@ -14,7 +14,7 @@ use Rattle.slot_store.specs.InSlot.{is_in_slot}
 use Rattle.slot_table.specs.Table.{entry_at, first_entry, first_table, owner_in}
 use Rattle.slot_table.specs.declared.entry.SlotEntry.{SlotEntry}
 use Rattle.slot_table.specs.declared.runs.Run.{Run}
-use Rattle.bus.specs.declared.message.Handing.{Handing}
+use Rattle.bus.specs.declared.bodies.Handing.{Handing}
 use Rattle.handovers.specs.Peers.{Peers}
 use Rattle.handovers.specs.Stands.{PeerStands}
 use Rattle.one_slot.specs.Events.{IsFirst}

@@ -4,9 +4,12 @@ use Rattle.std.proofs.lemmas.Bool.{both_ways, cases_eq, eq-eqb, ne_eqb}
 use Rattle.std.specs.FinMap as fin_map
 use Rattle.std.specs.Prelude.{MatchBool, Result, Ok, Err, filter, is_some}
 use Rattle.bus.specs.declared.message.Body.{Body}
+use Rattle.bus.specs.declared.bodies.ElectionBody.TheVariants as of_election
+use Rattle.bus.specs.declared.bodies.SlotsBody.TheVariants as of_slots
+use Rattle.bus.specs.declared.bodies.StreamBody.TheVariants as of_stream
 use Rattle.bus.specs.declared.message.Body.TheVariants as body
-use Rattle.bus.specs.declared.message.Handing.{Handing}
-use Rattle.bus.specs.declared.message.Replaced.{Replaced}
+use Rattle.bus.specs.declared.bodies.Handing.{Handing}
+use Rattle.bus.specs.declared.bodies.Replaced.{Replaced}
 use Rattle.command_table.specs.Keys.{data_keys, is_data_write}
 use Rattle.command_table.specs.Table.{command_of}
 use Rattle.command_table.specs.declared.command.ClusterCommand.{ClusterCommand}
@@ -161,7 +164,7 @@ with_written_still stream outcome requests dropped none is = subst (λ (r : Requ
 
 -- a message claims these slots
 abbrev pub IsClaimOf : Body → List (Run ℕ) → Type 0
-IsClaimOf said runs = (replaced : Option Replaced) × (said ≡ body.Claim runs replaced)
+IsClaimOf said runs = (replaced : Option Replaced) × (said ≡ body.Slots (of_slots.Claim runs replaced))
 
 -- no slot of the node's own is lost by claims of another one
 abbrev pub KeepsOwn : NodeState → List (Option SlotEntry) → Type 0
@@ -234,20 +237,20 @@ module _ {n : ℕ} (node : NodeState) (stands : IdleStands n node) (master : is_
       subst (λ (m : Option Move). IsStill (with_written (acknowledged node id (acknowledged_keys m from id.number id.copy)) (written_by_ack (acknowledged_keys m from id.number id.copy)) dropped)) (sym none) refl
 
   pub taken_still : (from : ℕ) (choice : Choice) (said : Body) → ((runs : List (Run ℕ)) → (from == node.number) ≡ false → IsClaimOf said runs → KeepsOwn node (merged node.table runs from)) → IsStill (taken node from choice said)
-  taken_still from choice (body.Copy id pairs) keeps =
-      with_written_still node.stream (taken_so node from choice (body.Copy id pairs)) (written_by_message node from (body.Copy id pairs)) choice.dropped
+  taken_still from choice (body.Slots (of_slots.Copy id pairs)) keeps =
+      with_written_still node.stream (taken_so node from choice (body.Slots (of_slots.Copy id pairs))) (written_by_message node from (body.Slots (of_slots.Copy id pairs))) choice.dropped
       (arrived_still from id pairs (move_of node.moves id.slot) (stands.idle id.slot)) refl
-  taken_still from choice (body.Ack id) keeps = acknowledged_still from id choice.dropped (move_of node.moves id.slot) (stands.idle id.slot)
-  taken_still from choice (body.Drained slot number epoch) keeps = refl
-  taken_still from choice (body.Claim runs replaced) keeps = claims_still from runs (from == node.number) refl (λ other. keeps runs other (replaced, refl)) choice.dropped
+  taken_still from choice (body.Slots (of_slots.Ack id)) keeps = acknowledged_still from id choice.dropped (move_of node.moves id.slot) (stands.idle id.slot)
+  taken_still from choice (body.Slots (of_slots.Drained slot number epoch)) keeps = refl
+  taken_still from choice (body.Slots (of_slots.Claim runs replaced)) keeps = claims_still from runs (from == node.number) refl (λ other. keeps runs other (replaced, refl)) choice.dropped
   taken_still from choice (body.Report suspects) keeps = refl
-  taken_still from choice (body.Candidacy request) keeps = refl
-  taken_still from choice (body.Grant epoch) keeps = grant_still (counted node.candidate (members_of node) from epoch) (elected node.candidate (members_of node) from epoch)
-  taken_still from choice (body.Sync sync) keeps = synced_is IsStill node from sync refl refl
-  taken_still from choice (body.Piece piece) keeps = not_followed _ (is_just (own_master node) from) (no_messages_from_master (own_master node) from master)
-  taken_still from choice (body.Snapshot snapshot) keeps = not_followed _ (is_just (own_master node) from) (no_messages_from_master (own_master node) from master)
-  taken_still from choice (body.Pause stream) keeps = pause_still from (may_pause node from stream)
-  taken_still from choice (body.Paused handing) keeps = not_followed _ (is_replica node && is_same handing.stream node.stream.held.id) (ap (λ (b : Bool). b && is_same handing.stream node.stream.held.id) master)
+  taken_still from choice (body.Election (of_election.Candidacy request)) keeps = refl
+  taken_still from choice (body.Election (of_election.Grant epoch)) keeps = grant_still (counted node.candidate (members_of node) from epoch) (elected node.candidate (members_of node) from epoch)
+  taken_still from choice (body.Stream (of_stream.Sync sync)) keeps = synced_is IsStill node from sync refl refl
+  taken_still from choice (body.Stream (of_stream.Piece piece)) keeps = not_followed _ (is_just (own_master node) from) (no_messages_from_master (own_master node) from master)
+  taken_still from choice (body.Stream (of_stream.Snapshot snapshot)) keeps = not_followed _ (is_just (own_master node) from) (no_messages_from_master (own_master node) from master)
+  taken_still from choice (body.Election (of_election.Pause stream)) keeps = pause_still from (may_pause node from stream)
+  taken_still from choice (body.Election (of_election.Paused handing)) keeps = not_followed _ (is_replica node && is_same handing.stream node.stream.held.id) (ap (λ (b : Bool). b && is_same handing.stream node.stream.held.id) master)
 
 -- ---- any event
 

@@ -3,8 +3,11 @@ use Rattle.std.proofs.Common.{◌≡◌, ◌≤◌, ◌==◌, ◌&&◌, ℕ, Boo
 use Rattle.std.proofs.lemmas.Bool.{and_parts, both_ways, eqb-true}
 use Rattle.std.specs.Prelude.{MatchBool, is_some, option_map}
 use Rattle.bus.specs.declared.message.Body.{Body}
+use Rattle.bus.specs.declared.bodies.ElectionBody.TheVariants as of_election
+use Rattle.bus.specs.declared.bodies.SlotsBody.TheVariants as of_slots
+use Rattle.bus.specs.declared.bodies.StreamBody.TheVariants as of_stream
 use Rattle.bus.specs.declared.message.Body.TheVariants as body
-use Rattle.bus.specs.declared.message.Handing.{Handing}
+use Rattle.bus.specs.declared.bodies.Handing.{Handing}
 use Rattle.bus.specs.declared.message.Message.{Message}
 use Rattle.command_table.specs.Table.{command_of}
 use Rattle.connections.specs.Connections.{connection_at, may_ask}
@@ -137,22 +140,22 @@ module _ (node : NodeState) where
   acknowledged_or_not from true = refl
   acknowledged_or_not from false = refl
 
-  row_quiet : (from : ℕ) (choice : Choice) (said : Body) → ((epoch : ℕ) → said ≡ body.Grant epoch → ⊥) → IsQuiet (taken_so node from choice said)
-  row_quiet from choice (body.Copy id pairs) no_grant =
+  row_quiet : (from : ℕ) (choice : Choice) (said : Body) → ((epoch : ℕ) → said ≡ body.Election (of_election.Grant epoch) → ⊥) → IsQuiet (taken_so node from choice said)
+  row_quiet from choice (body.Slots (of_slots.Copy id pairs)) no_grant =
       (arrival_is_of_slots (λ s. s.number ≡ node.number) node (λ keyspace table moves current handover connections known noted. refl) from id pairs).promoted
-  row_quiet from choice (body.Ack id) no_grant =
+  row_quiet from choice (body.Slots (of_slots.Ack id)) no_grant =
       (acknowledgement_is_of_slots (λ s. s.number ≡ node.number) node (λ keyspace table moves current handover connections known noted. refl) from id).promoted
-  row_quiet from choice (body.Drained slot number epoch) no_grant = refl
-  row_quiet from choice (body.Claim slots replaced) no_grant =
+  row_quiet from choice (body.Slots (of_slots.Drained slot number epoch)) no_grant = refl
+  row_quiet from choice (body.Slots (of_slots.Claim slots replaced)) no_grant =
       (claim_is_of_slots (λ s. s.number ≡ node.number) node (λ keyspace table moves current handover connections known noted. refl) from slots).promoted
   row_quiet from choice (body.Report suspects) no_grant = refl
-  row_quiet from choice (body.Candidacy request) no_grant = refl
-  row_quiet from choice (body.Grant epoch) no_grant = absurd (no_grant epoch refl)
-  row_quiet from choice (body.Sync sync) no_grant = synced_is IsQuiet node from sync refl refl
-  row_quiet from choice (body.Piece piece) no_grant = refl
-  row_quiet from choice (body.Snapshot snapshot) no_grant = refl
-  row_quiet from choice (body.Pause stream) no_grant = acknowledged_or_not from (may_pause node from stream)
-  row_quiet from choice (body.Paused handing) no_grant = refl
+  row_quiet from choice (body.Election (of_election.Candidacy request)) no_grant = refl
+  row_quiet from choice (body.Election (of_election.Grant epoch)) no_grant = absurd (no_grant epoch refl)
+  row_quiet from choice (body.Stream (of_stream.Sync sync)) no_grant = synced_is IsQuiet node from sync refl refl
+  row_quiet from choice (body.Stream (of_stream.Piece piece)) no_grant = refl
+  row_quiet from choice (body.Stream (of_stream.Snapshot snapshot)) no_grant = refl
+  row_quiet from choice (body.Election (of_election.Pause stream)) no_grant = acknowledged_or_not from (may_pause node from stream)
+  row_quiet from choice (body.Election (of_election.Paused handing)) no_grant = refl
 
 -- ---- any event
 
@@ -178,23 +181,23 @@ event_turns node (Deliver message) outcome may promoted now planned =
     like : IsLike node (ready node message)
     like = ready_keeps (IsLike node) node message (λ epoch masters health candidate handover role election. record { number = refl; table = refl; moves = refl; keyspace = refl; stream = refl })
 
-    others : (said : Body) → ((epoch : ℕ) → said ≡ body.Grant epoch → ⊥) → (taken (ready node message) message.from may.choice said).promoted ≡ Some promoted → Succession node (taken (ready node message) message.from may.choice said)
+    others : (said : Body) → ((epoch : ℕ) → said ≡ body.Election (of_election.Grant epoch) → ⊥) → (taken (ready node message) message.from may.choice said).promoted ≡ Some promoted → Succession node (taken (ready node message) message.from may.choice said)
     others said no_grant now =
         absurd (no_some (with_written_promoted (taken_so (ready node message) message.from may.choice said) (written_by_message (ready node message) message.from said) may.choice.dropped ∙ row_quiet (ready node message) message.from may.choice said no_grant) now)
 
     by_body : (said : Body) → message.body ≡ said → (taken (ready node message) message.from may.choice said).promoted ≡ Some promoted → Succession node (taken (ready node message) message.from may.choice said)
-    by_body (body.Grant epoch) is now = voted_turns node (ready node message) (goes_then message node (ready node message) (ap replaced_in is) (ready_does node message)) like message.from epoch promoted planned now
-    by_body (body.Copy id pairs) is now = others (body.Copy id pairs) (λ epoch same. cc) now
-    by_body (body.Ack id) is now = others (body.Ack id) (λ epoch same. cc) now
-    by_body (body.Drained slot number e) is now = others (body.Drained slot number e) (λ epoch same. cc) now
-    by_body (body.Claim slots replaced) is now = others (body.Claim slots replaced) (λ epoch same. cc) now
+    by_body (body.Election (of_election.Grant epoch)) is now = voted_turns node (ready node message) (goes_then message node (ready node message) (ap replaced_in is) (ready_does node message)) like message.from epoch promoted planned now
+    by_body (body.Slots (of_slots.Copy id pairs)) is now = others (body.Slots (of_slots.Copy id pairs)) (λ epoch same. cc) now
+    by_body (body.Slots (of_slots.Ack id)) is now = others (body.Slots (of_slots.Ack id)) (λ epoch same. cc) now
+    by_body (body.Slots (of_slots.Drained slot number e)) is now = others (body.Slots (of_slots.Drained slot number e)) (λ epoch same. cc) now
+    by_body (body.Slots (of_slots.Claim slots replaced)) is now = others (body.Slots (of_slots.Claim slots replaced)) (λ epoch same. cc) now
     by_body (body.Report suspects) is now = others (body.Report suspects) (λ epoch same. cc) now
-    by_body (body.Candidacy request) is now = others (body.Candidacy request) (λ epoch same. cc) now
-    by_body (body.Sync sync) is now = others (body.Sync sync) (λ epoch same. cc) now
-    by_body (body.Piece piece) is now = others (body.Piece piece) (λ epoch same. cc) now
-    by_body (body.Snapshot snapshot) is now = others (body.Snapshot snapshot) (λ epoch same. cc) now
-    by_body (body.Pause stream) is now = others (body.Pause stream) (λ epoch same. cc) now
-    by_body (body.Paused handing) is now = others (body.Paused handing) (λ epoch same. cc) now
+    by_body (body.Election (of_election.Candidacy request)) is now = others (body.Election (of_election.Candidacy request)) (λ epoch same. cc) now
+    by_body (body.Stream (of_stream.Sync sync)) is now = others (body.Stream (of_stream.Sync sync)) (λ epoch same. cc) now
+    by_body (body.Stream (of_stream.Piece piece)) is now = others (body.Stream (of_stream.Piece piece)) (λ epoch same. cc) now
+    by_body (body.Stream (of_stream.Snapshot snapshot)) is now = others (body.Stream (of_stream.Snapshot snapshot)) (λ epoch same. cc) now
+    by_body (body.Election (of_election.Pause stream)) is now = others (body.Election (of_election.Pause stream)) (λ epoch same. cc) now
+    by_body (body.Election (of_election.Paused handing)) is now = others (body.Election (of_election.Paused handing)) (λ epoch same. cc) now
 
     by_target : (b : Bool) → (cond b (taken (ready node message) message.from may.choice message.body) (silent node)).promoted ≡ Some promoted
         → Succession node (cond b (taken (ready node message) message.from may.choice message.body) (silent node))

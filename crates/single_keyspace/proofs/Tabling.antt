@@ -3,10 +3,13 @@ use Rattle.std.proofs.Common.{◌≡◌, ◌≢◌, ◌==◌, ◌&&◌, ℕ, Lis
 use Rattle.std.proofs.lemmas.Bool.{eqb-false}
 use Rattle.std.specs.Prelude.{MatchBool, Result, Ok, Err, is_some, slice_set}
 use Rattle.bus.specs.declared.message.Body.{Body}
+use Rattle.bus.specs.declared.bodies.ElectionBody.TheVariants as of_election
+use Rattle.bus.specs.declared.bodies.SlotsBody.TheVariants as of_slots
+use Rattle.bus.specs.declared.bodies.StreamBody.TheVariants as of_stream
 use Rattle.bus.specs.declared.message.Body.TheVariants as body
-use Rattle.bus.specs.declared.message.Handing.{Handing}
+use Rattle.bus.specs.declared.bodies.Handing.{Handing}
 use Rattle.bus.specs.declared.message.Message.{Message}
-use Rattle.bus.specs.declared.message.Replaced.{Replaced}
+use Rattle.bus.specs.declared.bodies.Replaced.{Replaced}
 use Rattle.command_table.specs.Table.{command_of}
 use Rattle.command_table.specs.declared.command.ClusterCommand.{ClusterCommand}
 use Rattle.command_table.specs.declared.command.ClusterCommand.TheVariants as cluster
@@ -61,7 +64,7 @@ use Rattle.single_keyspace.proofs.Verdicts.{import_ends}
 pub data TableIs (event : Event) (old new : NodeState) : Type 0 where
   same : new.table ≡ old.table → TableIs event old new
   ends : (slot : ℕ) → (move_of old.moves slot ≡ None → ⊥) → new.table ≡ slice_set old.table slot (Some (record { epoch = new.current_epoch; owner = old.number })) → TableIs event old new
-  learns : (message : Message) (runs : List (Run ℕ)) (replaced : Option Replaced) → event ≡ Deliver message → message.body ≡ body.Claim runs replaced → message.from ≢ old.number
+  learns : (message : Message) (runs : List (Run ℕ)) (replaced : Option Replaced) → event ≡ Deliver message → message.body ≡ body.Slots (of_slots.Claim runs replaced) → message.from ≢ old.number
       → new.table ≡ merged old.table runs message.from → TableIs event old new
 
 -- ---- requests
@@ -165,7 +168,7 @@ module _ (message : Message) (node : NodeState) where
   acknowledged_table id None = same refl
   acknowledged_table id (Some keys) = same refl
 
-  claim_table : (runs : List (Run ℕ)) (replaced : Option Replaced) → message.body ≡ body.Claim runs replaced → (own : Bool) → (message.from == node.number) ≡ own
+  claim_table : (runs : List (Run ℕ)) (replaced : Option Replaced) → message.body ≡ body.Slots (of_slots.Claim runs replaced) → (own : Bool) → (message.from == node.number) ≡ own
       → ByMessage (cond own (silent node) (claimed_by node (merged node.table runs message.from)))
   claim_table runs replaced is true own = same refl
   claim_table runs replaced is false other = learns message runs replaced refl is (eqb-false message.from node.number other) refl
@@ -179,18 +182,18 @@ module _ (message : Message) (node : NodeState) where
   noting_table handing false = same refl
 
   row_table : (choice : Choice) (said : Body) → message.body ≡ said → (taken_so node message.from choice said).promoted ≡ None → ByMessage (taken_so node message.from choice said)
-  row_table choice (body.Copy id pairs) is not_now = same refl
-  row_table choice (body.Ack id) is not_now = acknowledged_table id (acknowledged_keys (move_of node.moves id.slot) message.from id.number id.copy)
-  row_table choice (body.Drained slot number epoch) is not_now = same refl
-  row_table choice (body.Claim runs replaced) is not_now = claim_table runs replaced is (message.from == node.number) refl
+  row_table choice (body.Slots (of_slots.Copy id pairs)) is not_now = same refl
+  row_table choice (body.Slots (of_slots.Ack id)) is not_now = acknowledged_table id (acknowledged_keys (move_of node.moves id.slot) message.from id.number id.copy)
+  row_table choice (body.Slots (of_slots.Drained slot number epoch)) is not_now = same refl
+  row_table choice (body.Slots (of_slots.Claim runs replaced)) is not_now = claim_table runs replaced is (message.from == node.number) refl
   row_table choice (body.Report suspects) is not_now = same refl
-  row_table choice (body.Candidacy request) is not_now = same refl
-  row_table choice (body.Grant epoch) is not_now = grant_table (counted node.candidate (members_of node) message.from epoch) (elected node.candidate (members_of node) message.from epoch) not_now
-  row_table choice (body.Sync sync) is not_now = synced_is ByMessage node message.from sync (same refl) (same refl)
-  row_table choice (body.Piece piece) is not_now = same (pieced_keeps (λ s. s.table ≡ node.table) node (λ stream keyspace. refl) message.from piece choice.follower)
-  row_table choice (body.Snapshot snapshot) is not_now = same (restored_keeps (λ s. s.table ≡ node.table) node (λ stream keyspace. refl) message.from snapshot)
-  row_table choice (body.Pause stream) is not_now = pause_table message.from (may_pause node message.from stream)
-  row_table choice (body.Paused handing) is not_now = noting_table handing (is_replica node && is_same handing.stream node.stream.held.id)
+  row_table choice (body.Election (of_election.Candidacy request)) is not_now = same refl
+  row_table choice (body.Election (of_election.Grant epoch)) is not_now = grant_table (counted node.candidate (members_of node) message.from epoch) (elected node.candidate (members_of node) message.from epoch) not_now
+  row_table choice (body.Stream (of_stream.Sync sync)) is not_now = synced_is ByMessage node message.from sync (same refl) (same refl)
+  row_table choice (body.Stream (of_stream.Piece piece)) is not_now = same (pieced_keeps (λ s. s.table ≡ node.table) node (λ stream keyspace. refl) message.from piece choice.follower)
+  row_table choice (body.Stream (of_stream.Snapshot snapshot)) is not_now = same (restored_keeps (λ s. s.table ≡ node.table) node (λ stream keyspace. refl) message.from snapshot)
+  row_table choice (body.Election (of_election.Pause stream)) is not_now = pause_table message.from (may_pause node message.from stream)
+  row_table choice (body.Election (of_election.Paused handing)) is not_now = noting_table handing (is_replica node && is_same handing.stream node.stream.held.id)
 
   taken_table : (choice : Choice) → (taken node message.from choice message.body).promoted ≡ None → ByMessage (taken node message.from choice message.body)
   taken_table choice not_now =

@@ -14,10 +14,13 @@ use Rattle.keyspace.specs.Keyspace.{Keyspace}
 use Rattle.keyspace.specs.Locality.{CommandsAreLocal}
 use Rattle.keyspace.specs.declared.value.Value.{Value}
 use Rattle.bus.specs.declared.message.Body.{Body}
+use Rattle.bus.specs.declared.bodies.ElectionBody.TheVariants as of_election
+use Rattle.bus.specs.declared.bodies.SlotsBody.TheVariants as of_slots
+use Rattle.bus.specs.declared.bodies.StreamBody.TheVariants as of_stream
 use Rattle.bus.specs.declared.message.Body.TheVariants as body
-use Rattle.bus.specs.declared.message.Handing.{Handing}
+use Rattle.bus.specs.declared.bodies.Handing.{Handing}
 use Rattle.bus.specs.declared.message.Message.{Message}
-use Rattle.bus.specs.declared.message.Replaced.{Replaced}
+use Rattle.bus.specs.declared.bodies.Replaced.{Replaced}
 use Rattle.cluster_config.specs.Config.{ClusterConfig}
 use Rattle.handovers.proofs.Growing.{true_kept}
 use Rattle.handovers.proofs.Keeping.{Kept}
@@ -235,24 +238,24 @@ module _ (config : ClusterConfig) {past : List Entry} {nodes : List NodeState} {
             (kept.each n).replaced replaced.master (ap (λ (p : Peer Handing). p.replaced) new_peer ∙ ap (λ (o : Option Replaced). option_map (λ (r : Replaced). r.master) o) (sym is))
 
         said_now : (to : ℕ) (said : Body) → Speaks outcome.state to said → IsTrue newest_of (peers new) n to outcome.state.current_epoch (said_in said)
-        said_now to (body.Pause stream) own = inr (ap (λ (p : Peer Handing). p.master) new_peer ∙ own)
-        said_now to (body.Paused handing) told =
+        said_now to (body.Election (of_election.Pause stream)) own = inr (ap (λ (p : Peer Handing). p.master) new_peer ∙ own)
+        said_now to (body.Election (of_election.Paused handing)) told =
             let newest : newest_in (claim_of outcome.state) ≤ outcome.state.current_epoch =
             subst (λ (i : ℕ). newest_in (runs_of (claim_at outcome.state.table i)) ≤ outcome.state.current_epoch) (sym number) (claims_known n outcome.state whole knows) in (
               ap (λ (p : Peer Handing). p.paused) new_peer ∙ told.0,
               λ replica. ap (λ (p : Peer Handing). p.hands) new_peer ∙ sym told.1,
               subst (λ (h : Handing). newest_of h ≤ outcome.state.current_epoch) (sym told.1) newest,
             )
-        said_now to (body.Claim slots replaced) is = took_now replaced to is
-        said_now to (body.Copy id pairs) is = tt
-        said_now to (body.Ack id) is = tt
-        said_now to (body.Drained slot number epoch) is = tt
+        said_now to (body.Slots (of_slots.Claim slots replaced)) is = took_now replaced to is
+        said_now to (body.Slots (of_slots.Copy id pairs)) is = tt
+        said_now to (body.Slots (of_slots.Ack id)) is = tt
+        said_now to (body.Slots (of_slots.Drained slot number epoch)) is = tt
         said_now to (body.Report suspects) is = tt
-        said_now to (body.Candidacy request) is = tt
-        said_now to (body.Grant epoch) is = tt
-        said_now to (body.Sync sync) is = tt
-        said_now to (body.Piece piece) is = tt
-        said_now to (body.Snapshot snapshot) is = tt
+        said_now to (body.Election (of_election.Candidacy request)) is = tt
+        said_now to (body.Election (of_election.Grant epoch)) is = tt
+        said_now to (body.Stream (of_stream.Sync sync)) is = tt
+        said_now to (body.Stream (of_stream.Piece piece)) is = tt
+        said_now to (body.Stream (of_stream.Snapshot snapshot)) is = tt
 
       module _ (out : ℕ → Bool) where
         -- what the step leaves of a slot: it is kept, what is now sent and told is true of it, and the holder is seen
@@ -579,8 +582,8 @@ module _ (config : ClusterConfig) {past : List Entry} {nodes : List NodeState} {
 
       module _ (sends : sent_in entry.deed ≡ map (stamped after.number ticket after.current_epoch) (turned its.number).sent) (speaks : Speak after (turned its.number).sent) where
         claims : AreJustified past n after (turned its.number).sent
-        claims = to_all_justified past n after (others counting) (body.Claim (claim_of after) after.replaced) (λ to.
-            subst (λ (i : ℕ). IsJustified past n after to (body.Claim (runs_of (claim_at after.table i)) after.replaced)) (sym after_number) (claim_justified past n after to after.replaced after_table))
+        claims = to_all_justified past n after (others counting) (body.Slots (of_slots.Claim (claim_of after) after.replaced)) (λ to.
+            subst (λ (i : ℕ). IsJustified past n after to (body.Slots (of_slots.Claim (runs_of (claim_at after.table i)) after.replaced))) (sym after_number) (claim_justified past n after to after.replaced after_table))
 
         left : (slot : ℕ) → SlotLeft entry (turned its.number) ticket sends after_number out slot
         left slot =

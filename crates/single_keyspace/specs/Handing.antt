@@ -1,9 +1,11 @@
 -- What of a cluster's nodes and messages bears on planned handovers.
 use Rattle.std.specs.Prelude.{ℕ, max, List, [], ◌∷◌, Option, Some, None, option_map, slice_get, if◌then◌else◌}
 use Rattle.bus.specs.declared.message.Body.{Body}
-use Rattle.bus.specs.declared.message.Body.TheVariants.{Claim, Pause, Paused}
-use Rattle.bus.specs.declared.message.Handing.{Handing}
-use Rattle.bus.specs.declared.message.Replaced.{Replaced}
+use Rattle.bus.specs.declared.bodies.ElectionBody.TheVariants.{Pause, Paused}
+use Rattle.bus.specs.declared.bodies.SlotsBody.TheVariants.{Claim}
+use Rattle.bus.specs.declared.message.Body.TheVariants.{Slots, Election as OfElection}
+use Rattle.bus.specs.declared.bodies.Handing.{Handing}
+use Rattle.bus.specs.declared.bodies.Replaced.{Replaced}
 use Rattle.election.specs.Health.{Candidate, Election}
 use Rattle.slot_table.specs.declared.runs.Run.{Run}
 use Rattle.handovers.specs.Peers.{Peer, Peers, Said}
@@ -54,7 +56,7 @@ took None = Nothing
 took (Some replaced) = Took replaced.master
 
 abbrev pub said_in : Body → Said Handing
-said_in (Pause stream) = Asks
-said_in (Paused handing) = Hands handing
-said_in (Claim slots replaced) = took replaced
+said_in (OfElection (Pause stream)) = Asks
+said_in (OfElection (Paused handing)) = Hands handing
+said_in (Slots (Claim slots replaced)) = took replaced
 said_in other = Nothing

@@ -12,8 +12,9 @@ use Rattle.slot_table.specs.Table.{entry_at, owner_at}
 use Rattle.slot_table.specs.declared.entry.SlotEntry.{SlotEntry}
 use Rattle.slot_state.specs.Moves.{move_of}
 use Rattle.bus.specs.declared.message.Body.{Body}
+use Rattle.bus.specs.declared.bodies.SlotsBody.TheVariants as of_slots
 use Rattle.bus.specs.declared.message.Body.TheVariants as body
-use Rattle.bus.specs.declared.message.Handing.{Handing}
+use Rattle.bus.specs.declared.bodies.Handing.{Handing}
 use Rattle.bus.specs.declared.message.Message.{Message}
 use Rattle.handovers.specs.Peers.{Peers}
 use Rattle.handovers.specs.Stands.{IsTrue, PeerStands}
@@ -30,10 +31,10 @@ use Rattle.single_keyspace.specs.Slots.{values_in, views, first_of, is_hidden}
 
 -- what a message from one node to another says of a slot
 abbrev pub Says : ℕ → ℕ → ℕ → Body → Sent Value → Type 0
-Says slot from to (body.Copy id pairs) sent = (id.slot ≡ slot) × (sent ≡ Copy from to id.number id.copy pairs)
-Says slot from to (body.Ack id) sent = (id.slot ≡ slot) × (sent ≡ Ack from to id.number id.copy)
-Says slot from to (body.Drained other number epoch) sent = (other ≡ slot) × (sent ≡ Drained from to number epoch)
-Says slot from to (body.Claim runs replaced) sent = (epoch : ℕ) × (claimed runs from slot ≡ Some (record { epoch = epoch; owner = from })) × (sent ≡ Claimed from epoch)
+Says slot from to (body.Slots (of_slots.Copy id pairs)) sent = (id.slot ≡ slot) × (sent ≡ Copy from to id.number id.copy pairs)
+Says slot from to (body.Slots (of_slots.Ack id)) sent = (id.slot ≡ slot) × (sent ≡ Ack from to id.number id.copy)
+Says slot from to (body.Slots (of_slots.Drained other number epoch)) sent = (other ≡ slot) × (sent ≡ Drained from to number epoch)
+Says slot from to (body.Slots (of_slots.Claim runs replaced)) sent = (epoch : ℕ) × (claimed runs from slot ≡ Some (record { epoch = epoch; owner = from })) × (sent ≡ Claimed from epoch)
 Says slot from to other sent = ⊥
 
 -- the keys of a command, if the words are one

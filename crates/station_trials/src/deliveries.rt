@@ -12,7 +12,7 @@ use tickets::Seat;
 use trial_nodes::{Two, conn_of, deal_two, one_replica, say, words_of};
 use trial_pairs::{Both, both_cells, step};
 
-// So many messages come to a replica, a write each.
+// How many messages come to a replica, a write each.
 const MESSAGES: usize = 1000;
 
 /// Says whether each message that comes makes a step, and none is skipped.

@@ -20,7 +20,7 @@ use trial_pairs::{Both, both_stations, step};
 // The slot of all keys, whose tag is `a`.
 const SLOT: u16 = 15495;
 
-// So many writes are on their way to a replica that is held, far more bytes than its master keeps of the stream.
+// How many writes are on their way to a replica that is held, far more bytes than its master keeps of the stream.
 const WRITES: u64 = 40;
 
 // What was seen.

@@ -1,32 +1,25 @@
 //! A part of a stream.
-ghost use Rattle.std.specs.Prelude.{◌≡◌, ◌+◌, ◌<◌, ◌^◌, length, IfSome, SomeIff};
-ghost use Rattle.resp_values.specs.Request.{request_spelling};
+ghost use Rattle.std.specs.Prelude.{◌≡◌, ◌+◌, ◌<◌, ◌^◌, length, SomeIff};
 ghost use Rattle.stream_values.specs.Piece.{PieceView, piece_end};
 
 use crate::stream_id::{Base, StreamId};
 use byte_string::ByteString;
-use resp_values::Words;
 use std::alloc::AllocError;
 use std::marker::Model;
-use std::sync::Arc;
 
 /// A part of a stream, as a master sends it to its replicas: some bytes, and the offset of the first of them.
 ///
-/// A copy of it shares the bytes from 4,096 on. They end below 2 ^ 64. Where they are one request whose words are at hand, it has
-/// these, too, so that a replica need not read what its master read.
+/// A copy of it shares the bytes from 4,096 on. They end below 2 ^ 64.
 #[derive(Debug)]
 pub struct Piece {
     stream: StreamId,
     from: u64,
     bytes: ByteString,
     base: Option<Base>,
-    // The words of the request that the bytes are.
-    request: Option<Arc<Words>>,
 }
 
 impl Model for Piece {
-    ghost use Rattle.std.specs.Prelude.{◌≡◌, ◌+◌, ◌<◌, ◌^◌, length, IfSome};
-    ghost use Rattle.resp_values.specs.Request.{request_spelling};
+    ghost use Rattle.std.specs.Prelude.{◌+◌, ◌<◌, ◌^◌, length};
     ghost use Rattle.stream_values.specs.Piece.{PieceView};
 
     ghost Value = { PieceView };
@@ -38,8 +31,7 @@ impl Model for Piece {
       base = piece.base;
     } };
 
-    ghost invariant = { λ piece. (piece.from + length piece.bytes < 2 ^ 64)
-        × IfSome piece.request (λ words. piece.bytes ≡ request_spelling words.value) };
+    ghost invariant = { λ piece. piece.from + length piece.bytes < 2 ^ 64 };
 }
 
 impl Drop for Piece {
@@ -49,7 +41,6 @@ impl Drop for Piece {
             from: _,
             bytes: _,
             base: _,
-            request: _,
         } = self;
     }
 }
@@ -68,39 +59,7 @@ impl Piece {
             from,
             bytes,
             base,
-            request: None,
         })
-    }
-
-    /// The same piece with the words of the request that its bytes are.
-    pub fn with_request(self, words: Arc<Words>) -> Piece
-        requires { self.bytes ≡ request_spelling words.value }
-        ensures { result ≡ self }
-    {
-        let Piece {
-            stream,
-            from,
-            bytes,
-            base,
-            request: _,
-        } = self;
-        Piece {
-            stream,
-            from,
-            bytes,
-            base,
-            request: Some(words),
-        }
-    }
-
-    /// The words of the request that the bytes are, if they are at hand.
-    pub fn request(&self) -> Option<&Words>
-        ensures { IfSome result (λ words. self.now.bytes ≡ request_spelling words.now) }
-    {
-        match &self.request {
-            Some(words) => Some(&**words),
-            None => None,
-        }
     }
 
     /// The stream that the bytes are of.
@@ -142,7 +101,6 @@ impl Clone for Piece {
             from: self.from,
             bytes: self.bytes.clone()?,
             base: self.base,
-            request: self.request.clone()?,
         })
     }
 }

@@ -1,7 +1,7 @@
 //! What is asked of a node, and what comes of it as text.
 
 use anyhow::{Context, Result};
-use bus::{Body, Replaced, Suspects};
+use bus::{Body, ElectionBody, Replaced, SlotsBody, StreamBody, Suspects};
 use byte_string::ByteString;
 use itoa::Buffer;
 use node_core::{Conn, Event, Outputs, Response};
@@ -105,22 +105,34 @@ fn push_mark(text: &mut Vec<u8>, planned: bool) -> Result<(), AllocError> {
 fn push_body(text: &mut Vec<u8>, body: &Body) -> Result<(), AllocError> {
     text.extend_from_slice(name_of(body))?;
     match body {
-        Body::Sync(sync) => push_number(text, sync.received, b" "),
-        Body::Piece(piece) => {
+        Body::Slots(SlotsBody::Claim(_, Some(replaced))) => push_replaced(text, *replaced),
+        Body::Slots(_) => Ok(()),
+        Body::Stream(body) => push_of_stream(text, body),
+        Body::Election(body) => push_of_election(text, body),
+        Body::Report(suspects) => push_suspects(text, suspects),
+    }
+}
+
+fn push_of_stream(text: &mut Vec<u8>, body: &StreamBody) -> Result<(), AllocError> {
+    match body {
+        StreamBody::Sync(sync) => push_number(text, sync.received, b" "),
+        StreamBody::Piece(piece) => {
             push_number(text, piece.from(), b"+")?;
             push_number(text, piece.bytes().len() as u64, b" ")
         }
-        Body::Snapshot(snapshot) => {
+        StreamBody::Snapshot(snapshot) => {
             push_number(text, snapshot.offset, b" ")?;
             push_number(text, snapshot.pairs.as_slice().len() as u64, b" ")
         }
-        Body::Claim(_, Some(replaced)) => push_replaced(text, *replaced),
-        Body::Report(suspects) => push_suspects(text, suspects),
-        Body::Candidacy(request) => push_number(text, request.epoch.get(), b" "),
-        Body::Grant(epoch) => push_number(text, epoch.get(), b" "),
-        Body::Paused(handing) => push_number(text, handing.offset, b" "),
-        Body::Claim(_, None) => Ok(()),
-        Body::Copy { .. } | Body::Ack(_) | Body::Drained { .. } | Body::Pause(_) => Ok(()),
+    }
+}
+
+fn push_of_election(text: &mut Vec<u8>, body: &ElectionBody) -> Result<(), AllocError> {
+    match body {
+        ElectionBody::Candidacy(request) => push_number(text, request.epoch.get(), b" "),
+        ElectionBody::Grant(epoch) => push_number(text, epoch.get(), b" "),
+        ElectionBody::Pause(_) => Ok(()),
+        ElectionBody::Paused(handing) => push_number(text, handing.offset, b" "),
     }
 }
 
@@ -155,17 +167,17 @@ pub fn push_response(text: &mut Vec<u8>, response: &Response) -> Result<(), Allo
 
 fn name_of(body: &Body) -> &'static [u8] {
     match body {
-        Body::Copy { .. } => b"copy ",
-        Body::Ack(_) => b"ack ",
-        Body::Drained { .. } => b"drained ",
-        Body::Claim(_, _) => b"claim ",
+        Body::Slots(SlotsBody::Copy { .. }) => b"copy ",
+        Body::Slots(SlotsBody::Ack(_)) => b"ack ",
+        Body::Slots(SlotsBody::Drained { .. }) => b"drained ",
+        Body::Slots(SlotsBody::Claim(_, _)) => b"claim ",
         Body::Report(_) => b"report ",
-        Body::Candidacy(_) => b"request ",
-        Body::Grant(_) => b"grant ",
-        Body::Sync(_) => b"sync ",
-        Body::Piece(_) => b"piece ",
-        Body::Snapshot(_) => b"snapshot ",
-        Body::Pause(_) => b"pause ",
-        Body::Paused(_) => b"paused ",
+        Body::Election(ElectionBody::Candidacy(_)) => b"request ",
+        Body::Election(ElectionBody::Grant(_)) => b"grant ",
+        Body::Stream(StreamBody::Sync(_)) => b"sync ",
+        Body::Stream(StreamBody::Piece(_)) => b"piece ",
+        Body::Stream(StreamBody::Snapshot(_)) => b"snapshot ",
+        Body::Election(ElectionBody::Pause(_)) => b"pause ",
+        Body::Election(ElectionBody::Paused(_)) => b"paused ",
     }
 }

@@ -12,9 +12,7 @@ use Rattle.resp_values.specs.declared.reply.Reply.{Reply}
 use Rattle.node_gate.specs.Asks.{Asked}
 use Rattle.node_gate.specs.Asks.Asked.{asking}
 use Rattle.connections.specs.declared.conn.Conn.{Conn}
-use Rattle.node_step.specs.declared.event.Event.{Event}
 use Rattle.node_step.specs.declared.event.Event.TheVariants.{Close, Request}
-use Rattle.step_fault.specs.declared.fault.StepFault.{StepFault}
 use Rattle.node_step.specs.declared.outputs.Outputs.{Outputs}
 use Rattle.node_step.specs.declared.response.Response.{Response}
 use Rattle.node_step.specs.declared.response.Response.TheVariants.{Replied}
@@ -22,27 +20,15 @@ use Rattle.listener.specs.declared.requests.Rest.{Rest}
 use Rattle.listener.specs.declared.requests.Rest.TheVariants.{Unfinished, BadByte}
 use Rattle.listener.specs.declared.fault.ConnFault.{ConnFault}
 use Rattle.listener.specs.Conversation.{ComesBy, Converses, EndsUnopened, Exchange, Serves, Tells, asked_for, awaited, line_of, replies_bytes}
-use Rattle.listener.specs.Streams.{Change, IsAllowed, Stream, change}
+use Rattle.listener.specs.Streams.{Change, Stream, change}
 use Rattle.uses.proofs.RequestLemmas.{all_keep_limits}
-use Rattle.uses.specs.Pongs.{pong, pongs, pong_answer, outputs_for, AreAnsweredExactly, EndsInTime, EndsBadly}
-
-abbrev may : Event → Outputs → Type 0
-may event outputs = outputs ≡ outputs_for event
-
-abbrev may_refuse : Event → StepFault → Type 0
-may_refuse event fault = ⊥
-
-abbrev may_give : Conn → Reply → Type 0
-may_give conn reply = ⊥
-
-abbrev allowed : Asked → Type 0
-allowed = IsAllowed may may_refuse may_give
+use Rattle.uses.specs.Pongs.{pong, pongs, pong_answer, AreAnsweredExactly, EndsInTime, EndsBadly, IsPong}
 
 abbrev words_of : Exchange → List (List ℕ)
 words_of exchange = exchange.words
 
 -- the step for a request gives its PONG at once
-gives_pong : (conn : Conn) (exchange : Exchange) → allowed (asking (Request conn exchange.words) (Ok exchange.outputs)) → exchange.outputs.response ≡ Replied pong_answer
+gives_pong : (conn : Conn) (exchange : Exchange) → IsPong (asking (Request conn exchange.words) (Ok exchange.outputs)) → exchange.outputs.response ≡ Replied pong_answer
 gives_pong conn exchange given = ap (λ (o : Outputs). o.response) given
 
 is_pong : (exchange : Exchange) → exchange.outputs.response ≡ Replied pong_answer → exchange.reply ≡ pong
@@ -54,13 +40,13 @@ asked_alone : (conn : Conn) (exchange : Exchange) → exchange.outputs.response 
 asked_alone conn exchange gives = ap (λ (response : Response). awaited conn response (Some exchange.reply)) gives
 
 -- each reply is a PONG
-all_pongs : (conn : Conn) (exchanges : List Exchange) (more : List Asked) → All allowed (flat_map (asked_for conn) exchanges ++ more)
+all_pongs : (conn : Conn) (exchanges : List Exchange) (more : List Asked) → All IsPong (flat_map (asked_for conn) exchanges ++ more)
     → replies_bytes exchanges ≡ pongs (length (map words_of exchanges))
 all_pongs conn [] more given = refl
 all_pongs conn (exchange ∷ exchanges) more given =
-    let gives = gives_pong conn exchange (All-head allowed _ _ given) in
-    let rest : All allowed ((awaited conn exchange.outputs.response (Some exchange.reply) ++ flat_map (asked_for conn) exchanges) ++ more) = All-tail allowed _ _ given in
-    let others = subst (λ (asks : List Asked). All allowed ((asks ++ flat_map (asked_for conn) exchanges) ++ more)) (asked_alone conn exchange gives) rest in
+    let gives = gives_pong conn exchange (All-head IsPong _ _ given) in
+    let rest : All IsPong ((awaited conn exchange.outputs.response (Some exchange.reply) ++ flat_map (asked_for conn) exchanges) ++ more) = All-tail IsPong _ _ given in
+    let others = subst (λ (asks : List Asked). All IsPong ((asks ++ flat_map (asked_for conn) exchanges) ++ more)) (asked_alone conn exchange gives) rest in
     ap (λ reply. reply_spelling reply ++ replies_bytes exchanges) (is_pong exchange gives)
     ∙ ap (λ bytes. reply_spelling pong ++ bytes) (all_pongs conn exchanges more others)
 
@@ -84,7 +70,7 @@ holding bytes failures at_failure = record { bytes = Some bytes; failures = fail
 
 module _ (none_whole : NoUnfinishedIsWhole) (one_way : StreamIsReadInOneWay) (asked : Change (List Asked)) (input left output : List ℕ) (r r' : ℕ) (f f' : Option (List ℕ)) where
   abbrev ConversesOn : Rest → List ℕ → Type 0
-  ConversesOn rest replies = Converses allowed asked (change (holding input r f) (holding left r' f')) (Ok rest) replies
+  ConversesOn rest replies = Converses IsPong asked (change (holding input r f) (holding left r' f')) (Ok rest) replies
 
   spelled : (rest : Rest) (replies : List ℕ) (c : ConversesOn rest replies)
       → input ≡ stream_spelling c.talk.requests ++ (c.talk.tail.rest ++ left)
@@ -102,7 +88,7 @@ module _ (none_whole : NoUnfinishedIsWhole) (one_way : StreamIsReadInOneWay) (as
       let steps = flat_map (asked_for c.talk.conn) c.talk.exchanges in
       c.replied
       ∙ all_pongs c.talk.conn c.talk.exchanges (c.talk.tail.asked ++ asking (Close c.talk.conn) c.talk.closing ∷ [])
-      (subst (All allowed) (append_assoc steps c.talk.tail.asked (asking (Close c.talk.conn) c.talk.closing ∷ [])) (All-tail allowed _ _ c.history.each))
+      (subst (All IsPong) (append_assoc steps c.talk.tail.asked (asking (Close c.talk.conn) c.talk.closing ∷ [])) (All-tail IsPong _ _ c.history.each))
 
   written : (rest : Rest) (replies : List ℕ) (c : ConversesOn rest replies) → output ≡ replies ++ line_of (Ok rest)
       → output ≡ pongs (length (map words_of c.talk.exchanges)) ++ line_of (Ok rest)
@@ -153,7 +139,7 @@ module _ (none_whole : NoUnfinishedIsWhole) (one_way : StreamIsReadInOneWay) (as
       }
 
   by_end : (ended : Result Rest ConnFault) (replies : List ℕ) (w w' : ℕ) (g g' : Option (List ℕ))
-      → Converses allowed asked (change (holding input r f) (holding left r' f')) ended replies ⊎ EndsUnopened allowed asked (change (holding input r f) (holding left r' f')) ended replies
+      → Converses IsPong asked (change (holding input r f) (holding left r' f')) ended replies ⊎ EndsUnopened IsPong asked (change (holding input r f) (holding left r' f')) ended replies
       → Tells (Ok tt) ended (change (holding [] w g) (holding output w' g')) (replies ++ line_of ended) → AreAnsweredExactly input output
   by_end (Ok rest) replies w w' g g' (inl c) tells = answered rest replies c tells.1.appends
   by_end (Ok rest) replies w w' g g' (inr unopened) tells = absurd (let e : Ok rest ≡ Err unopened.fault = unopened.failed in cc)
@@ -161,6 +147,6 @@ module _ (none_whole : NoUnfinishedIsWhole) (one_way : StreamIsReadInOneWay) (as
 
 -- what a served client reads
 pub are_answered_exactly : (input left output : List ℕ) (asked : Change (List Asked)) (r r' w w' : ℕ) (f f' g g' : Option (List ℕ)) → NoUnfinishedIsWhole → StreamIsReadInOneWay
-    → Serves allowed asked (change (holding input r f) (holding left r' f')) (change (holding [] w g) (holding output w' g')) (Ok tt) → AreAnsweredExactly input output
+    → Serves IsPong asked (change (holding input r f) (holding left r' f')) (change (holding [] w g) (holding output w' g')) (Ok tt) → AreAnsweredExactly input output
 are_answered_exactly input left output asked r r' w w' f f' g g' none_whole one_way serves =
     by_end none_whole one_way asked input left output r r' f f' serves.ended serves.replies w w' g g' serves.talked serves.told

@@ -1,5 +1,5 @@
 -- A node with one possible answer for each event, and what its client reads.
-use Rattle.std.specs.Prelude.{◌≡◌, ◌++◌, ◌⊎◌, ℕ, zero, suc, List, [], length, All, codes}
+use Rattle.std.specs.Prelude.{◌≡◌, ◌++◌, ◌⊎◌, ℕ, zero, suc, List, [], None, Some, Err, Ok, length, All, codes, ⊤}
 use Rattle.resp2.specs.Law.{IsStream}
 use Rattle.resp_values.specs.Reply.{reply_spelling}
 use Rattle.resp2.specs.Stream.{stream_spelling, with_words, IsUnfinished, HasFirstBadByte}
@@ -8,6 +8,8 @@ use Rattle.resp2.specs.declared.fault.Fault.{Fault}
 use Rattle.resp_values.specs.declared.reply.Reply.{Reply}
 use Rattle.resp_values.specs.declared.reply.Reply.TheVariants.{Simple}
 use Rattle.command_table.specs.declared.error_line.ErrorLine.TheVariants as line
+use Rattle.node_gate.specs.Asks.{Asked}
+use Rattle.node_gate.specs.Asks.Asked.{asking, waiting}
 use Rattle.node_step.specs.Outcome.{no_outputs}
 use Rattle.node_step.specs.declared.event.Event.{Event}
 use Rattle.node_step.specs.declared.event.Event.TheVariants.{Open, Close, Request, Deliver, Tick}
@@ -36,6 +38,13 @@ response_for Tick = Nothing
 -- what comes out for an event
 abbrev pub outputs_for : Event → Outputs
 outputs_for event = record (no_outputs 0) { response = response_for event }
+
+-- the node gives just this for an event, and no reply that was waited for
+abbrev pub IsPong : Asked → Type 0
+IsPong (asking event (Ok outputs)) = outputs ≡ outputs_for event
+IsPong (asking event (Err fault)) = ⊥
+IsPong (waiting conn (Some reply)) = ⊥
+IsPong (waiting conn None) = ⊤
 
 -- the bytes of n PONGs
 abbrev pub pongs : ℕ → List ℕ

@@ -15,9 +15,12 @@ pub fn set_both<'w, S: Store>(
     first: &'w (ByteString, ByteString),
     second: &'w (ByteString, ByteString),
 ) -> Result<(), AllocError>
-    ensures first { OnOk result (first.now.0 ≢ second.now.0 → map.get (S.contents store.new) first.now.0 ≡ Some (Str first.now.1)) }
-    ensures second { OnOk result (map.get (S.contents store.new) second.now.0 ≡ Some (Str second.now.1)) }
-    ensures others { OnOk result ((key : List ℕ) → key ≢ first.now.0 → key ≢ second.now.0 → map.get (S.contents store.new) key ≡ map.get (S.contents store.old) key) }
+    ensures first { OnOk result (first.now.0 ≢ second.now.0
+        → map.get (S.contents store.new) first.now.0 ≡ Some (Str first.now.1)) }
+    ensures second { OnOk result
+        (map.get (S.contents store.new) second.now.0 ≡ Some (Str second.now.1)) }
+    ensures others { OnOk result ((key : List ℕ) → key ≢ first.now.0 → key ≢ second.now.0
+        → map.get (S.contents store.new) key ≡ map.get (S.contents store.old) key) }
     ensures err { OnErr result (S.contents store.new ≡ S.contents store.old) }
 {
     let commands = [

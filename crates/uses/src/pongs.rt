@@ -71,15 +71,11 @@ impl Answered for PongStep {
 impl NodeGate for PongGate {
     type Answer = PongStep;
 
-    ghost use Rattle.uses.specs.Pongs.{outputs_for};
+    ghost use Rattle.uses.specs.Pongs.{IsPong};
 
     ghost asked = { λ gate. gate.asked };
 
-    ghost may = { λ event outputs. outputs ≡ outputs_for event };
-
-    ghost may_refuse = { λ event fault. ⊥ };
-
-    ghost may_give = { λ conn reply. ⊥ };
+    ghost allowed = { IsPong };
 
     fn step(&mut self, event: Event) -> Result<PongStep, StepFault> {
         let outputs = outputs_for(&event);

@@ -1,5 +1,5 @@
 //! A value that is set at a node is what the next GET is answered.
-ghost use Rattle.std.specs.Prelude.{◌≡◌, ◌≤◌, ◌∷◌, [], ℕ, List, length, ◌+◌, IfOk, OnOk, codes};
+ghost use Rattle.std.specs.Prelude.{◌≡◌, ◌≤◌, ◌∷◌, [], length, ◌+◌, IfOk, OnOk, codes};
 ghost use Rattle.resp_values.specs.Request.{IsRequest};
 ghost use Rattle.resp_values.specs.declared.words.TheConstants.{MOST_WORD_BYTES};
 ghost use Rattle.resp_values.specs.declared.reply.Reply.TheVariants.{Bulk};
@@ -20,7 +20,8 @@ pub fn set_then_get<K: Deployment, L: Log>(
     value: &ByteString,
 ) -> Result<Entered<K>, StepFault>
     requires { IsRequest (codes "SET" ∷ key.now ∷ value.now ∷ []) }
-    ensures answer { IfOk result (λ entered. IsServedBy cell.old.state (key.now ∷ []) → entered.outputs.response ≡ served (Bulk value.now)) }
+    ensures answer { IfOk result (λ entered. IsServedBy cell.old.state (key.now ∷ [])
+        → entered.outputs.response ≡ served (Bulk value.now)) }
     ensures entered { OnOk result (length cell.new.journal ≡ length cell.old.journal + 3) }
 {
     let set = set_words(alloc, key, value)?;

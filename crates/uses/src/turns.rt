@@ -18,8 +18,8 @@ pub struct Turns {
 /// Has two seats draw twice each, in turn, and takes them back.
 pub fn turn_about(alloc: Global) -> Result<Turns, AllocError>
     ensures word { IfOk result (λ turns. turns.word ≡ 4) }
-    ensures each_once { IfOk result (λ turns. (x : ℕ) →
-        times x (turns.first.0 ∷ turns.first.1 ∷ turns.second.0 ∷ turns.second.1 ∷ []) ≡ once_below x 4) }
+    ensures each_once { IfOk result (λ turns. (x : ℕ) → times x
+        (turns.first.0 ∷ turns.first.1 ∷ turns.second.0 ∷ turns.second.1 ∷ []) ≡ once_below x 4) }
 {
     let (table, mut seats) = tickets::open(alloc, 2)?;
     let (Some(mut second), Some(mut first)) = (seats.pop(), seats.pop()) else {

@@ -5,7 +5,10 @@ use Rattle.std.proofs.lemmas.Bool.{cases_eq, cond-true, cond-false}
 use Rattle.std.proofs.lemmas.List.{get_or-set_other}
 use Rattle.std.specs.Prelude.{MatchBool, Result, Ok, Err, ⊤}
 use Rattle.bus.specs.declared.message.Body.{Body}
-use Rattle.bus.specs.declared.message.Body.TheVariants.{Copy, Ack, Drained, Claim, Report, Candidacy as Requested, Grant, Sync, Piece, Snapshot, Pause, Paused}
+use Rattle.bus.specs.declared.bodies.ElectionBody.TheVariants.{Candidacy as Requested, Grant, Pause, Paused}
+use Rattle.bus.specs.declared.bodies.SlotsBody.TheVariants.{Copy, Ack, Drained, Claim}
+use Rattle.bus.specs.declared.bodies.StreamBody.TheVariants.{Sync, Piece, Snapshot}
+use Rattle.bus.specs.declared.message.Body.TheVariants.{Slots, Stream, Election, Report}
 use Rattle.bus.specs.declared.message.Message.{Message}
 use Rattle.command_table.specs.Keys.{data_keys}
 use Rattle.command_table.specs.Table.{command_of}
@@ -71,7 +74,7 @@ use Rattle.node_step.specs.declared.response.Response.TheVariants.{Nothing, Open
 use Rattle.stream_values.specs.Stream.{StreamView, is_same}
 use Rattle.world_run.specs.Executed.{decision_in}
 use Rattle.node_step.specs.Handovers.{failover, handing_over, is_at_end, may_pause, noting}
-use Rattle.bus.specs.declared.message.Handing.{Handing}
+use Rattle.bus.specs.declared.bodies.Handing.{Handing}
 
 -- the connection allows its next request what it did, or nothing any more
 abbrev pub IsCalm : Asking → Asking → Type 0
@@ -459,18 +462,18 @@ module _ (node : NodeState) (from epoch : ℕ) (masters : List (Option ℕ)) (he
   noting_stays handing false = still refl refl
 
   taken_so_stays : (body : Body) → Stays node (taken_so heard from choice body).state
-  taken_so_stays (Copy id pairs) = still refl refl
-  taken_so_stays (Ack id) = acknowledged_stays id (acknowledged_keys (move_of node.moves id.slot) from id.number id.copy)
-  taken_so_stays (Drained slot number epoch) = still refl refl
-  taken_so_stays (Claim slots replaced) = claim_stays (from == node.number) (merged node.table slots from)
+  taken_so_stays (Slots (Copy id pairs)) = still refl refl
+  taken_so_stays (Slots (Ack id)) = acknowledged_stays id (acknowledged_keys (move_of node.moves id.slot) from id.number id.copy)
+  taken_so_stays (Slots (Drained slot number epoch)) = still refl refl
+  taken_so_stays (Slots (Claim slots replaced)) = claim_stays (from == node.number) (merged node.table slots from)
   taken_so_stays (Report suspects) = still refl refl
-  taken_so_stays (Requested request) = still refl refl
-  taken_so_stays (Grant granted) = elected_stays (counted candidate (members_of heard) from granted) (elected candidate (members_of heard) from granted)
-  taken_so_stays (Sync sync) = synced_is (λ (o : Outcome). Stays node o.state) heard from sync (still refl refl) (still refl refl)
-  taken_so_stays (Piece piece) = pieced_keeps (Stays node) heard (λ stream keyspace. still refl refl) from piece choice.follower
-  taken_so_stays (Snapshot snapshot) = restored_keeps (Stays node) heard (λ stream keyspace. still refl refl) from snapshot
-  taken_so_stays (Pause stream) = pause_stays (may_pause heard from stream)
-  taken_so_stays (Paused handing) = noting_stays handing (is_replica heard && is_same handing.stream heard.stream.held.id)
+  taken_so_stays (Election (Requested request)) = still refl refl
+  taken_so_stays (Election (Grant granted)) = elected_stays (counted candidate (members_of heard) from granted) (elected candidate (members_of heard) from granted)
+  taken_so_stays (Stream (Sync sync)) = synced_is (λ (o : Outcome). Stays node o.state) heard from sync (still refl refl) (still refl refl)
+  taken_so_stays (Stream (Piece piece)) = pieced_keeps (Stays node) heard (λ stream keyspace. still refl refl) from piece choice.follower
+  taken_so_stays (Stream (Snapshot snapshot)) = restored_keeps (Stays node) heard (λ stream keyspace. still refl refl) from snapshot
+  taken_so_stays (Election (Pause stream)) = pause_stays (may_pause heard from stream)
+  taken_so_stays (Election (Paused handing)) = noting_stays handing (is_replica heard && is_same handing.stream heard.stream.held.id)
 
   taken_stays : (body : Body) → Stays node (taken heard from choice body).state
   taken_stays body =

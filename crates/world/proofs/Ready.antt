@@ -4,7 +4,10 @@ use Rattle.std.proofs.Math.ListN.{get_or-map}
 use Rattle.std.proofs.lemmas.Bool.{cases_eq, cases_Bool, cond-true, cond-false}
 use Rattle.std.specs.Prelude.{MatchBool, Result, Ok, Err, ⊤}
 use Rattle.bus.specs.declared.message.Body.{Body}
-use Rattle.bus.specs.declared.message.Body.TheVariants.{Copy, Ack, Drained, Claim, Report, Candidacy as Requested, Grant, Sync, Piece, Snapshot, Pause, Paused}
+use Rattle.bus.specs.declared.bodies.ElectionBody.TheVariants.{Candidacy as Requested, Grant, Pause, Paused}
+use Rattle.bus.specs.declared.bodies.SlotsBody.TheVariants.{Copy, Ack, Drained, Claim}
+use Rattle.bus.specs.declared.bodies.StreamBody.TheVariants.{Sync, Piece, Snapshot}
+use Rattle.bus.specs.declared.message.Body.TheVariants.{Slots, Stream, Election, Report}
 use Rattle.bus.specs.declared.message.Message.{Message}
 use Rattle.command_table.specs.Table.{command_of}
 use Rattle.command_table.specs.declared.command.ClusterCommand.{ClusterCommand}
@@ -60,7 +63,7 @@ use Rattle.single_keyspace.proofs.Lists.{contains_nothing, from_map}
 use Rattle.slot_table.specs.declared.entry.SlotEntry.{SlotEntry}
 use Rattle.world.proofs.Connected.{cases_conn, changed, changed_here, found_with, is_not_with, is_with, same_conn, unchanged_there}
 use Rattle.node_step.specs.Handovers.{failover, handing_over, is_at_end, may_pause, noting}
-use Rattle.bus.specs.declared.message.Handing.{Handing}
+use Rattle.bus.specs.declared.bodies.Handing.{Handing}
 use Rattle.stream_values.specs.Stream.{is_same}
 
 -- the node takes a request of the connection
@@ -429,24 +432,24 @@ module _ (event : Event) (old : NodeState) (epoch : ℕ) (masters : List (Option
   noting_ready handing false = quiet_ready event old heard refl
 
   taken_so_ready : (from : ℕ) (choice : Choice) (body : Body) → KeepsReady event old (taken_so heard from choice body)
-  taken_so_ready from choice (Copy id pairs) = same_ready event old (arrival heard from id pairs) refl refl
-  taken_so_ready from choice (Ack id) = acknowledged_ready event old heard id (acknowledged_keys (move_of old.moves id.slot) from id.number id.copy) refl
-  taken_so_ready from choice (Drained slot number drained) = same_ready event old (noted heard from slot number drained) refl refl
-  taken_so_ready from choice (Claim runs replaced) = by_own (from == old.number)
+  taken_so_ready from choice (Slots (Copy id pairs)) = same_ready event old (arrival heard from id pairs) refl refl
+  taken_so_ready from choice (Slots (Ack id)) = acknowledged_ready event old heard id (acknowledged_keys (move_of old.moves id.slot) from id.number id.copy) refl
+  taken_so_ready from choice (Slots (Drained slot number drained)) = same_ready event old (noted heard from slot number drained) refl refl
+  taken_so_ready from choice (Slots (Claim runs replaced)) = by_own (from == old.number)
     where
       by_own : (own : Bool) → KeepsReady event old (cond own (silent heard) (claimed_by heard (merged old.table runs from)))
       by_own true = same_ready event old (silent heard) refl refl
       by_own false = claimed_ready event old heard (merged old.table runs from) refl
   taken_so_ready from choice (Report suspects) = quiet_ready event old heard refl
-  taken_so_ready from choice (Requested request) = same_ready event old (asked_for_vote heard (request_of from request)) refl refl
-  taken_so_ready from choice (Grant granted) = elected_ready _ refl (elected candidate (members_of heard) from granted)
-  taken_so_ready from choice (Sync sync) = synced_is (KeepsReady event old) heard from sync (quiet_ready event old heard refl) (same_ready event old _ refl refl)
-  taken_so_ready from choice (Piece piece) =
+  taken_so_ready from choice (Election (Requested request)) = same_ready event old (asked_for_vote heard (request_of from request)) refl refl
+  taken_so_ready from choice (Election (Grant granted)) = elected_ready _ refl (elected candidate (members_of heard) from granted)
+  taken_so_ready from choice (Stream (Sync sync)) = synced_is (KeepsReady event old) heard from sync (quiet_ready event old heard refl) (same_ready event old _ refl refl)
+  taken_so_ready from choice (Stream (Piece piece)) =
       pieced_keeps (λ (node : NodeState). KeepsReady event old (silent node)) heard (λ stream keyspace. quiet_ready event old _ refl) from piece choice.follower
-  taken_so_ready from choice (Snapshot snapshot) =
+  taken_so_ready from choice (Stream (Snapshot snapshot)) =
       restored_keeps (λ (node : NodeState). KeepsReady event old (silent node)) heard (λ stream keyspace. quiet_ready event old _ refl) from snapshot
-  taken_so_ready from choice (Pause stream) = pause_ready from (may_pause heard from stream)
-  taken_so_ready from choice (Paused handing) = noting_ready handing (is_replica heard && is_same handing.stream heard.stream.held.id)
+  taken_so_ready from choice (Election (Pause stream)) = pause_ready from (may_pause heard from stream)
+  taken_so_ready from choice (Election (Paused handing)) = noting_ready handing (is_replica heard && is_same handing.stream heard.stream.held.id)
 
   taken_ready : (from : ℕ) (choice : Choice) (body : Body) → KeepsReady event old (taken heard from choice body)
   taken_ready from choice body = with_written_ready event old (taken_so heard from choice body) (written_by_message heard from body) choice.dropped (taken_so_ready from choice body)

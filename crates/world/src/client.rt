@@ -111,7 +111,8 @@ impl Client {
         ensures goes_on { GoesOn run.old run.new }
         ensures remembers { OnOk result (RemembersSent run.new) }
         ensures settled { OnOk result (IsSettled self.new) }
-        ensures begins { IfOk result (λ outputs. Begins config.now.nodes words.now run.old self.old outputs.items run.new self.new) }
+        ensures begins { IfOk result (λ outputs.
+            Begins config.now.nodes words.now run.old self.old outputs.items run.new self.new) }
     {
         if !matches!(self.traffic, Traffic::Quiet) {
             return nothing(run.allocator());
@@ -129,7 +130,8 @@ impl Client {
         ensures goes_on { GoesOn run.old run.new }
         ensures remembers { OnOk result (RemembersSent run.new) }
         ensures settled { OnOk result (IsSettled self.new) }
-        ensures carries { IfOk result (λ outputs. Carries run.old self.old outputs.items run.new self.new) }
+        ensures carries { IfOk result
+            (λ outputs. Carries run.old self.old outputs.items run.new self.new) }
     {
         match mem::replace(&mut self.traffic, Traffic::Quiet) {
             Traffic::Asked(link, words) => {
@@ -158,7 +160,8 @@ impl Client {
         ensures goes_on { GoesOn run.old run.new }
         ensures remembers { OnOk result (RemembersSent run.new) }
         ensures settled { OnOk result (IsSettled self.new) }
-        ensures returns { IfOk result (λ outputs. Returns config.now.nodes run.old self.old outputs.items run.new self.new) }
+        ensures returns { IfOk result
+            (λ outputs. Returns config.now.nodes run.old self.old outputs.items run.new self.new) }
     {
         match mem::replace(&mut self.traffic, Traffic::Quiet) {
             Traffic::Answered(link, reply) => {
@@ -179,7 +182,8 @@ impl Client {
         ensures goes_on { GoesOn run.old run.new }
         ensures remembers { OnOk result (RemembersSent run.new) }
         ensures settled { OnOk result (IsSettled self.new) }
-        ensures cuts { IfOk result (λ outputs. Cuts run.old self.old outputs.items run.new self.new) }
+        ensures cuts { IfOk result
+            (λ outputs. Cuts run.old self.old outputs.items run.new self.new) }
     {
         match mem::replace(&mut self.traffic, Traffic::Quiet) {
             Traffic::Quiet => nothing(run.allocator()),
@@ -198,7 +202,11 @@ impl Client {
         requires awaits { AwaitsReply self.old.core.call }
         ensures run { run.new ≡ run.old }
         ensures settled { OnOk result (IsSettled self.new) }
-        ensures broken { OnOk result (self.new ≡ record (broken_off link.node self.old) { late = self.old.late ++ (record { link = link; words = words }) ∷ [] }) }
+        ensures broken { OnOk result (self.new
+            ≡ record (broken_off link.node self.old) {
+              late = self.old.late
+                  ++ (record { link = link; words = words }) ∷ [];
+            }) }
         ensures lost { IfOk result (λ outputs. outputs.items ≡ lost_by self.old) }
     {
         self.late.push(Late { link, words })?;
@@ -228,7 +236,8 @@ impl Client {
         ensures goes_on { GoesOn run.old run.new }
         ensures remembers { OnOk result (RemembersSent run.new) }
         ensures settled { OnOk result (IsSettled self.new) }
-        ensures lingers { IfOk result (λ outputs. Lingers run.old self.old outputs.items run.new self.new) }
+        ensures lingers { IfOk result
+            (λ outputs. Lingers run.old self.old outputs.items run.new self.new) }
     {
         if self.late.is_empty() || !run.is_up(self.late[0].link.node) {
             return nothing(run.allocator());
@@ -242,7 +251,8 @@ impl Client {
         requires settled { IsSettled self.old }
         ensures settled { IsSettled self.new }
         ensures stopped { self.new ≡ stopped_at node self.old }
-        ensures outputs { OnOk result (outputs.new.items ≡ outputs.old.items ++ lost_at node self.old) }
+        ensures outputs { OnOk result
+            (outputs.new.items ≡ outputs.old.items ++ lost_at node self.old) }
     {
         self.forget_late(node);
         if !self.uses(node) {
@@ -287,7 +297,8 @@ impl Client {
         ensures goes_on { GoesOn run.old run.new }
         ensures remembers { OnOk result (RemembersSent run.new) }
         ensures settled { OnOk result (IsSettled self.new) }
-        ensures arrives { IfOk result (λ outputs. Arrives run.old self.old link words outputs.items run.new self.new) }
+        ensures arrives { IfOk result
+            (λ outputs. Arrives run.old self.old link words outputs.items run.new self.new) }
     {
         let Served { reply, outputs } = run.serve(link.node, link.conn, words)?;
         let Some(reply) = reply else {
@@ -331,7 +342,8 @@ impl Client {
         ensures goes_on { GoesOn run.old run.new }
         ensures remembers { OnOk result (RemembersSent run.new) }
         ensures settled { OnOk result (IsSettled self.new) }
-        ensures acts { IfOk result (λ outputs. Acts config.now.nodes run.old self.old link action outputs.items run.new self.new) }
+        ensures acts { IfOk result (λ outputs.
+            Acts config.now.nodes run.old self.old link action outputs.items run.new self.new) }
     {
         match action {
             Action::Connect(address) => self.connect(run, config, &address),
@@ -352,7 +364,8 @@ impl Client {
         ensures goes_on { GoesOn run.old run.new }
         ensures remembers { OnOk result (RemembersSent run.new) }
         ensures settled { OnOk result (IsSettled self.new) }
-        ensures connects { IfOk result (λ outputs. Connects config.now.nodes run.old self.old address.now outputs.items run.new self.new) }
+        ensures connects { IfOk result (λ outputs.
+            Connects config.now.nodes run.old self.old address.now outputs.items run.new self.new) }
     {
         let node = node_at(config, address);
         let conn = self.reach_node(run, node)?;
@@ -368,7 +381,8 @@ impl Client {
         requires remembers { RemembersSent run.old }
         ensures goes_on { GoesOn run.old run.new }
         ensures remembers { OnOk result (RemembersSent run.new) }
-        ensures connected { IfOk result (λ conn. IsConnected run.old node (connection_to self.now node) conn run.new) }
+        ensures connected { IfOk result
+            (λ conn. IsConnected run.old node (connection_to self.now node) conn run.new) }
     {
         if !run.is_up(node) {
             return Ok(None);
@@ -410,7 +424,8 @@ impl Client {
         ensures goes_on { GoesOn run.old run.new }
         ensures remembers { OnOk result (RemembersSent run.new) }
         ensures settled { OnOk result (IsSettled self.new) }
-        ensures tells { IfOk result (λ outputs. Tells run.old self.old link event outputs.items run.new self.new) }
+        ensures tells { IfOk result
+            (λ outputs. Tells run.old self.old link event outputs.items run.new self.new) }
     {
         let action = self.core.on(event);
         self.use_connection(run, link, action)
@@ -430,7 +445,8 @@ impl Client {
         ensures goes_on { GoesOn run.old run.new }
         ensures remembers { OnOk result (RemembersSent run.new) }
         ensures settled { OnOk result (IsSettled self.new) }
-        ensures uses { IfOk result (λ outputs. Uses run.old self.old link action outputs.items run.new self.new) }
+        ensures uses { IfOk result
+            (λ outputs. Uses run.old self.old link action outputs.items run.new self.new) }
     {
         match action {
             Action::Connect(_) => unreachable!(),
@@ -457,7 +473,8 @@ impl Client {
         ensures goes_on { GoesOn run.old run.new }
         ensures remembers { OnOk result (RemembersSent run.new) }
         ensures gives_up { OnOk result (GivesUp run.old self.old link close run.new self.new) }
-        ensures answer { IfOk result (λ outputs. outputs.items ≡ Answer self.old.number answer ∷ []) }
+        ensures answer { IfOk result
+            (λ outputs. outputs.items ≡ Answer self.old.number answer ∷ []) }
     {
         self.end(run, link, close)?;
         let client = self.number;

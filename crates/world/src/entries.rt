@@ -1,5 +1,5 @@
 //! What the nodes of a world did, as proofs see it.
-ghost use Rattle.std.specs.Prelude.{◌≡◌, ◌++◌, ◌∷◌, [], ◌≢◌, IfOk, IfSome, IfNone, OnErr};
+ghost use Rattle.std.specs.Prelude.{◌≡◌, ◌++◌, ◌∷◌, [], IfOk, IfSome, IfNone, OnErr};
 ghost use Rattle.node_step.specs.Numbers.{NoNumberLeft};
 ghost use Rattle.world_run.specs.Run.Deed.{Made, Skipped};
 ghost use Rattle.world.specs.Entered.{Steps};
@@ -33,7 +33,8 @@ impl Model for Line {
 
     ghost use Rattle.world.specs.Lines.{deed_of};
 
-    ghost view = { λ line. record { node = line.node; ticket = line.ticket; deed = deed_of line.doing } };
+    ghost view = { λ line.
+        record { node = line.node; ticket = line.ticket; deed = deed_of line.doing } };
 }
 
 /// What the nodes did, an entry a ticket. Only proofs read the entries, so they take no memory.
@@ -88,8 +89,10 @@ impl Entries {
         node: u64,
         event: &Event,
     ) -> Result<Option<Outputs>, AllocError>
-        ensures made { IfOk result (λ made. IfSome made (λ outputs. Steps self.old core.old node (Made event.now outputs) self.new core.new)) }
-        ensures skipped { IfOk result (λ made. IfNone made (Steps self.old core.old node Skipped self.new core.new)) }
+        ensures made { IfOk result (λ made. IfSome made
+            (λ outputs. Steps self.old core.old node (Made event.now outputs) self.new core.new)) }
+        ensures skipped { IfOk result
+            (λ made. IfNone made (Steps self.old core.old node Skipped self.new core.new)) }
         ensures number { IfOk result (λ made. IfNone made (NoNumberLeft core.old event.now)) }
         ensures err { OnErr result ((self.new ≡ self.old) × (core.new ≡ core.old)) }
     {
@@ -109,7 +112,8 @@ impl Entries {
     }
 
     fn enter(&mut self, node: u64, ticket: u64, doing: Doing)
-        ensures { self.new ≡ self.old ++ (record { node = node; ticket = ticket; deed = deed_of doing }) ∷ [] }
+        ensures { self.new
+            ≡ self.old ++ (record { node = node; ticket = ticket; deed = deed_of doing }) ∷ [] }
     {
         self.lines.push(&Line {
             node,

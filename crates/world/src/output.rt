@@ -95,7 +95,8 @@ pub(crate) fn add_released(
     node: u64,
     releases: &[Release],
 ) -> Result<(), AllocError>
-    ensures { OnOk result (outputs.new.items ≡ outputs.old.items ++ map (released_reply node) releases.now) }
+    ensures { OnOk result
+        (outputs.new.items ≡ outputs.old.items ++ map (released_reply node) releases.now) }
 {
     for release in releases {
         outputs.push(Output::Admin {
@@ -113,7 +114,8 @@ pub(crate) fn add_sent(
     first: usize,
 ) -> Result<(), AllocError>
     requires { first ≤ length sent.now }
-    ensures { OnOk result (outputs.new.items ≡ outputs.old.items ++ numbered first (drop first sent.now)) }
+    ensures { OnOk result
+        (outputs.new.items ≡ outputs.old.items ++ numbered first (drop first sent.now)) }
 {
     for at in first..sent.len() {
         outputs.push(Output::Sent {
@@ -130,7 +132,8 @@ pub(crate) fn add_promotion(
     node: u64,
     promoted: &Promoted,
 ) -> Result<(), AllocError>
-    ensures { OnOk result (outputs.new.items ≡ outputs.old.items ++ promotion_of node promoted.now) }
+    ensures { OnOk result
+        (outputs.new.items ≡ outputs.old.items ++ promotion_of node promoted.now) }
 {
     if let Some(promotion) = promoted.get() {
         outputs.push(Output::Promoted { node, promotion })?;

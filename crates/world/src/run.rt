@@ -1,10 +1,8 @@
 //! The nodes of a world, and what they do.
-ghost use Rattle.std.specs.Prelude.{◌≡◌, ◌+◌, ◌<◌, ◌≤◌, ◌++◌, ◌∷◌, [], ℕ, true, false, drop, map, length, replicate, reverse, Contains, slice_get, slice_set, MatchBool, IfOk, IfSome, IfNone, OnOk, OnErr, option_copied};
-ghost use Rattle.std.specs.List.{range_with_len};
-ghost use Rattle.cluster_config.specs.Config.{ClusterConfig};
+ghost use Rattle.std.specs.Prelude.{◌≡◌, ◌+◌, ◌<◌, ◌≤◌, ◌++◌, ◌∷◌, [], true, false, drop, length, replicate, reverse, slice_set, IfOk, IfSome, IfNone, OnOk, OnErr};
 ghost use Rattle.node_step.specs.declared.event.Event.TheVariants.{Open, Close, Request, Deliver, Tick};
 ghost use Rattle.node_step.specs.State.{first_state};
-ghost use Rattle.world_run.specs.Run.{MayHappen, WorldStep, first_nodes, sent_by};
+ghost use Rattle.world_run.specs.Run.{MayHappen, first_nodes};
 ghost use Rattle.world_run.specs.Run.Deed.{Made};
 ghost use Rattle.world.specs.Asking.{MayTake};
 ghost use Rattle.world.specs.Entered.{EntersAt, SkipsAt};
@@ -64,7 +62,8 @@ impl Run {
         requires { RemembersSent self.old }
         ensures goes_on { GoesOn self.old self.new }
         ensures remembers { OnOk result (RemembersSent self.new) }
-        ensures administers { IfOk result (λ outputs. Administers self.old node words.now outputs.items self.new) }
+        ensures administers { IfOk result
+            (λ outputs. Administers self.old node words.now outputs.items self.new) }
     {
         if self.is_up(node) && is_admin(words) {
             self.ask_node(node, words)
@@ -90,7 +89,8 @@ impl Run {
     /// A node stops for good.
     pub fn stop(&mut self, node: u64)
         requires { is_up self.old node ≡ true }
-        ensures stops { self.new ≡ record self.old { stopped = slice_set self.old.stopped node true } }
+        ensures stops { self.new
+            ≡ record self.old { stopped = slice_set self.old.stopped node true } }
     {
         self.stopped[node as usize] = true;
     }
@@ -101,7 +101,8 @@ impl Run {
         requires { RemembersSent self.old }
         ensures goes_on { GoesOn self.old self.new }
         ensures remembers { OnOk result (RemembersSent self.new) }
-        ensures delivers { IfOk result (λ outputs. Delivers self.old number outputs.items self.new) }
+        ensures delivers { IfOk result
+            (λ outputs. Delivers self.old number outputs.items self.new) }
     {
         let Some(message) = self.message(number)? else {
             return nothing(self.alloc);
@@ -143,7 +144,8 @@ impl Run {
         requires unasked { IsUnasked event }
         ensures goes_on { GoesOn self.old self.new }
         ensures remembers { OnOk result (RemembersSent self.new) }
-        ensures reaches { IfOk result (λ outputs. Reaches self.old node event outputs.items self.new) }
+        ensures reaches { IfOk result
+            (λ outputs. Reaches self.old node event outputs.items self.new) }
     {
         let first = self.sent.len();
         let Some(made) = self.make(node, event)? else {
@@ -159,8 +161,10 @@ impl Run {
         requires first { first ≤ length self.old.sent }
         ensures goes_on { GoesOn self.old self.new }
         ensures remembers { OnOk result (RemembersSent self.old → RemembersSent self.new) }
-        ensures closes { OnOk result (Closes self.old node (released_conns made.now.released) self.new) }
-        ensures shows { IfOk result (λ outputs. outputs.items ≡ shown_from node first (drop first self.old.sent) made.now) }
+        ensures closes { OnOk result
+            (Closes self.old node (released_conns made.now.released) self.new) }
+        ensures shows { IfOk result
+            (λ outputs. outputs.items ≡ shown_from node first (drop first self.old.sent) made.now) }
     {
         let outputs = self.outputs(node, first, made)?;
         self.close_all(node, made.released.as_slice())?;
@@ -174,7 +178,8 @@ impl Run {
         requires there { node < length self.old.nodes }
         ensures goes_on { GoesOn self.old self.new }
         ensures remembers { OnOk result (RemembersSent self.new) }
-        ensures asks { IfOk result (λ outputs. IsAdministered self.old node words.now outputs.items self.new) }
+        ensures asks { IfOk result
+            (λ outputs. IsAdministered self.old node words.now outputs.items self.new) }
     {
         let Some(opening) = self.make(node, Event::Open)? else {
             return exhausted(self.alloc, node);
@@ -192,7 +197,8 @@ impl Run {
         requires asks { MayTake self.old node (Request conn words.now) }
         ensures goes_on { GoesOn self.old self.new }
         ensures remembers { OnOk result (RemembersSent self.new) }
-        ensures asks { IfOk result (λ outputs. IsHeard self.old node conn words.now outputs.items self.new) }
+        ensures asks { IfOk result
+            (λ outputs. IsHeard self.old node conn words.now outputs.items self.new) }
     {
         let first = self.sent.len();
         let event = Event::Request(conn, words.clone()?);
@@ -215,8 +221,10 @@ impl Run {
         requires first { first ≤ length self.old.sent }
         ensures goes_on { GoesOn self.old self.new }
         ensures remembers { OnOk result (RemembersSent self.old → RemembersSent self.new) }
-        ensures closes { OnOk result (Closes self.old node (answered_conn conn made.now.response ++ released_conns made.now.released) self.new) }
-        ensures shows { IfOk result (λ outputs. outputs.items ≡ shown_from node first (drop first self.old.sent) made.now) }
+        ensures closes { OnOk result (Closes self.old node
+            (answered_conn conn made.now.response ++ released_conns made.now.released) self.new) }
+        ensures shows { IfOk result
+            (λ outputs. outputs.items ≡ shown_from node first (drop first self.old.sent) made.now) }
     {
         let outputs = self.outputs(node, first, made)?;
         self.close_served(node, conn, made)?;
@@ -228,7 +236,8 @@ impl Run {
         requires there { node < length self.old.nodes }
         ensures goes_on { GoesOn self.old self.new }
         ensures remembers { OnOk result (RemembersSent self.old → RemembersSent self.new) }
-        ensures closes { OnOk result (Closes self.old node (answered_conn conn made.now.response ++ released_conns made.now.released) self.new) }
+        ensures closes { OnOk result (Closes self.old node
+            (answered_conn conn made.now.response ++ released_conns made.now.released) self.new) }
     {
         if let Response::Replied(_) = made.response {
             self.close(node, conn)?;
@@ -271,7 +280,8 @@ impl Run {
         ensures goes_on { GoesOn self.old self.new }
         ensures there { length self.new.nodes ≡ length self.old.nodes }
         ensures remembers { OnOk result (RemembersSent self.old → RemembersSent self.new) }
-        ensures made { IfOk result (λ made. IfSome made (λ outputs. Makes self.old node event outputs self.new)) }
+        ensures made { IfOk result
+            (λ made. IfSome made (λ outputs. Makes self.old node event outputs self.new)) }
         ensures skipped { IfOk result (λ made. IfNone made (Skips self.old node event self.new)) }
     {
         self.make_for(node, &event)
@@ -284,8 +294,10 @@ impl Run {
         ensures goes_on { GoesOn self.old self.new }
         ensures there { length self.new.nodes ≡ length self.old.nodes }
         ensures remembers { OnOk result (RemembersSent self.old → RemembersSent self.new) }
-        ensures made { IfOk result (λ made. IfSome made (λ outputs. Makes self.old node event.now outputs self.new)) }
-        ensures skipped { IfOk result (λ made. IfNone made (Skips self.old node event.now self.new)) }
+        ensures made { IfOk result
+            (λ made. IfSome made (λ outputs. Makes self.old node event.now outputs self.new)) }
+        ensures skipped { IfOk result
+            (λ made. IfNone made (Skips self.old node event.now self.new)) }
     {
         let Some(outputs) = step_at(&mut self.nodes, &mut self.entries, node, event)? else {
             return Ok(None);
@@ -297,7 +309,8 @@ impl Run {
     // What comes out of a step of the node, where the messages from that place on are those of the step.
     fn outputs(&self, node: u64, first: usize, made: &Outputs) -> Result<Vec<Output>, AllocError>
         requires { first ≤ length self.now.sent }
-        ensures { IfOk result (λ outputs. outputs.items ≡ shown_from node first (drop first self.now.sent) made.now) }
+        ensures { IfOk result
+            (λ outputs. outputs.items ≡ shown_from node first (drop first self.now.sent) made.now) }
     {
         let mut outputs = Vec::new(self.alloc);
         add_own(&mut outputs, node, &made.response)?;
@@ -311,7 +324,8 @@ impl Run {
     /// of the step.
     pub fn beside(&self, node: u64, first: usize, made: &Outputs) -> Result<Vec<Output>, AllocError>
         requires { first ≤ length self.now.sent }
-        ensures { IfOk result (λ outputs. outputs.items ≡ beside_from node first (drop first self.now.sent) made.now) }
+        ensures { IfOk result (λ outputs.
+            outputs.items ≡ beside_from node first (drop first self.now.sent) made.now) }
     {
         let mut outputs = Vec::new(self.alloc);
         add_released(&mut outputs, node, made.released.as_slice())?;
@@ -342,8 +356,11 @@ fn step_at(
 ) -> Result<Option<Outputs>, AllocError>
     requires there { node < length nodes.old.items }
     requires may { MayHappen (reverse entries.old) event.now }
-    ensures made { IfOk result (λ made. IfSome made (λ outputs. EntersAt entries.old nodes.old.items node (Made event.now outputs) entries.new nodes.new.items)) }
-    ensures skipped { IfOk result (λ made. IfNone made (SkipsAt entries.old nodes.old.items node event.now entries.new nodes.new.items)) }
+    ensures made { IfOk result (λ made.
+        IfSome made (λ outputs. EntersAt entries.old nodes.old.items node
+        (Made event.now outputs) entries.new nodes.new.items)) }
+    ensures skipped { IfOk result (λ made. IfNone made
+        (SkipsAt entries.old nodes.old.items node event.now entries.new nodes.new.items)) }
     ensures err { OnErr result ((nodes.new.items ≡ nodes.old.items) × (entries.new ≡ entries.old)) }
 {
     match entries.step(&mut nodes[node as usize], node, event) {

@@ -1,8 +1,8 @@
 //! The nodes of a world and its clients, and what is done to them.
-ghost use Rattle.std.specs.Prelude.{◌≡◌, ◌<◌, ◌≤◌, ◌++◌, map, true, length, slice_get, insert, IfOk, IfSome, IfNone, OnOk, None, Some, All};
+ghost use Rattle.std.specs.Prelude.{◌≡◌, ◌<◌, ◌≤◌, ◌++◌, map, length, slice_get, insert, IfOk, IfSome, IfNone, OnOk, None, Some, All};
 ghost use Rattle.std.specs.List.{flat_map};
 ghost use Rattle.world.specs.Asking.{KeepsRule};
-ghost use Rattle.world.specs.Clients.{IsSettled, client_at, lost_at, new_client, place_of, stopped_at, with_client};
+ghost use Rattle.world.specs.Clients.{IsSettled, client_at, lost_at, place_of, stopped_at, with_client};
 ghost use Rattle.world.specs.Plays.{Plays};
 ghost use Rattle.world.specs.View.{GoesOn, IsWhole, first_scene, is_up};
 ghost use Rattle.world.specs.declared.step.Step.TheVariants as step;
@@ -34,7 +34,8 @@ impl Model for Scene {
 
     ghost coded = { Prim.hlevel (codes, coded_state) };
 
-    ghost view = { λ scene. record { config = scene.config; run = scene.run; clients = scene.clients.items } };
+    ghost view = { λ scene.
+        record { config = scene.config; run = scene.run; clients = scene.clients.items } };
 }
 
 impl Scene {
@@ -84,7 +85,8 @@ impl Scene {
         ensures config { self.new.config ≡ self.old.config }
         ensures goes_on { GoesOn self.old.run self.new.run }
         ensures whole { OnOk result (IsWhole self.new) }
-        ensures plays { IfOk result (λ outputs. Plays self.old (step.Call number words.now) outputs.items self.new) }
+        ensures plays { IfOk result
+            (λ outputs. Plays self.old (step.Call number words.now) outputs.items self.new) }
     {
         let place = self.begin(number)?;
         self.clients[place].call(&mut self.run, &self.config, words)
@@ -96,7 +98,8 @@ impl Scene {
         ensures config { self.new.config ≡ self.old.config }
         ensures goes_on { GoesOn self.old.run self.new.run }
         ensures whole { OnOk result (IsWhole self.new) }
-        ensures plays { IfOk result (λ outputs. Plays self.old (step.Carry number) outputs.items self.new) }
+        ensures plays { IfOk result
+            (λ outputs. Plays self.old (step.Carry number) outputs.items self.new) }
     {
         let Some(place) = self.place_of(number) else {
             return nothing(self.alloc);
@@ -109,7 +112,8 @@ impl Scene {
         ensures config { self.new.config ≡ self.old.config }
         ensures goes_on { GoesOn self.old.run self.new.run }
         ensures whole { OnOk result (IsWhole self.new) }
-        ensures plays { IfOk result (λ outputs. Plays self.old (step.Return number) outputs.items self.new) }
+        ensures plays { IfOk result
+            (λ outputs. Plays self.old (step.Return number) outputs.items self.new) }
     {
         let Some(place) = self.place_of(number) else {
             return nothing(self.alloc);
@@ -122,7 +126,8 @@ impl Scene {
         ensures config { self.new.config ≡ self.old.config }
         ensures goes_on { GoesOn self.old.run self.new.run }
         ensures whole { OnOk result (IsWhole self.new) }
-        ensures plays { IfOk result (λ outputs. Plays self.old (step.Cut number) outputs.items self.new) }
+        ensures plays { IfOk result
+            (λ outputs. Plays self.old (step.Cut number) outputs.items self.new) }
     {
         let Some(place) = self.place_of(number) else {
             return nothing(self.alloc);
@@ -136,7 +141,8 @@ impl Scene {
         ensures config { self.new.config ≡ self.old.config }
         ensures goes_on { GoesOn self.old.run self.new.run }
         ensures whole { OnOk result (IsWhole self.new) }
-        ensures plays { IfOk result (λ outputs. Plays self.old (step.Late number) outputs.items self.new) }
+        ensures plays { IfOk result
+            (λ outputs. Plays self.old (step.Late number) outputs.items self.new) }
     {
         let Some(place) = self.place_of(number) else {
             return nothing(self.alloc);
@@ -149,7 +155,8 @@ impl Scene {
         ensures config { self.new.config ≡ self.old.config }
         ensures goes_on { GoesOn self.old.run self.new.run }
         ensures whole { OnOk result (IsWhole self.new) }
-        ensures plays { IfOk result (λ outputs. Plays self.old (step.Stop node) outputs.items self.new) }
+        ensures plays { IfOk result
+            (λ outputs. Plays self.old (step.Stop node) outputs.items self.new) }
     {
         if !self.run.is_up(node) {
             return nothing(self.alloc);
@@ -162,8 +169,10 @@ impl Scene {
 
     // The place of the client with that number, if it began.
     fn place_of(&self, number: u64) -> Option<usize>
-        ensures place { IfSome result (λ place. (place ≡ place_of number self.now.clients) × (place < length self.now.clients)) }
-        ensures found { IfSome result (λ place. client_at number self.now.clients ≡ slice_get self.now.clients place) }
+        ensures place { IfSome result (λ place.
+            (place ≡ place_of number self.now.clients) × (place < length self.now.clients)) }
+        ensures found { IfSome result
+            (λ place. client_at number self.now.clients ≡ slice_get self.now.clients place) }
         ensures none { IfNone result (client_at number self.now.clients ≡ None) }
     {
         let place = place_for(self.clients.as_slice(), number);
@@ -179,9 +188,11 @@ impl Scene {
     fn begin(&mut self, number: u64) -> Result<usize, AllocError>
         requires { All IsSettled self.old.clients }
         ensures run { self.new ≡ record self.old { clients = self.new.clients } }
-        ensures clients { OnOk result (self.new.clients ≡ with_client self.old.config number self.old.clients) }
+        ensures clients { OnOk result
+            (self.new.clients ≡ with_client self.old.config number self.old.clients) }
         ensures settled { OnOk result (All IsSettled self.new.clients) }
-        ensures place { IfOk result (λ place. (place ≡ place_of number self.old.clients) × (place < length self.new.clients)) }
+        ensures place { IfOk result (λ place.
+            (place ≡ place_of number self.old.clients) × (place < length self.new.clients)) }
     {
         if let Some(place) = self.place_of(number) {
             return Ok(place);
@@ -213,7 +224,8 @@ fn stop_all(
     requires { All IsSettled clients.old.items }
     ensures settled { OnOk result (All IsSettled clients.new.items) }
     ensures clients { OnOk result (clients.new.items ≡ map (stopped_at node) clients.old.items) }
-    ensures outputs { OnOk result (outputs.new.items ≡ outputs.old.items ++ flat_map (lost_at node) clients.old.items) }
+    ensures outputs { OnOk result
+        (outputs.new.items ≡ outputs.old.items ++ flat_map (lost_at node) clients.old.items) }
 {
     for at in 0..clients.len() {
         clients[at].stop(node, outputs)?;

@@ -4,7 +4,7 @@ ghost use Rattle.command_table.specs.declared.error_line.ErrorLine.TheVariants.{
 ghost use Rattle.node_step.specs.Outcome.{error};
 ghost use Rattle.node_step.specs.declared.event.Event.TheVariants.{Request};
 ghost use Rattle.world.specs.Asking.{MayTake};
-ghost use Rattle.world.specs.Calls.{IsOpened, IsServed, IsSkipped, Serves, ServesLast, reply_in};
+ghost use Rattle.world.specs.Calls.{IsOpened, Serves, ServesLast, reply_in};
 ghost use Rattle.world.specs.NodeSteps.{Closes, released_conns};
 ghost use Rattle.world.specs.Outputs.{beside_from};
 ghost use Rattle.world.specs.View.{GoesOn, RemembersSent};
@@ -56,7 +56,8 @@ impl Run {
         requires asks { MayTake self.old node (Request conn words) }
         ensures goes_on { GoesOn self.old self.new }
         ensures remembers { OnOk result (RemembersSent self.new) }
-        ensures serves { IfOk result (λ served. Serves self.old node conn words served.reply served.outputs.items self.new) }
+        ensures serves { IfOk result
+            (λ served. Serves self.old node conn words served.reply served.outputs.items self.new) }
     {
         let first = self.count_sent();
         let Some(made) = self.make(node, Event::Request(conn, words))? else {
@@ -81,8 +82,10 @@ impl Run {
         requires first { first ≤ length self.old.sent }
         ensures goes_on { GoesOn self.old self.new }
         ensures remembers { OnOk result (RemembersSent self.old → RemembersSent self.new) }
-        ensures closes { OnOk result (Closes self.old node (released_conns made.now.released) self.new) }
-        ensures shows { IfOk result (λ outputs. outputs.items ≡ beside_from node first (drop first self.old.sent) made.now) }
+        ensures closes { OnOk result
+            (Closes self.old node (released_conns made.now.released) self.new) }
+        ensures shows { IfOk result (λ outputs.
+            outputs.items ≡ beside_from node first (drop first self.old.sent) made.now) }
     {
         let outputs = self.beside(node, first, made)?;
         self.close_all(node, made.released.as_slice())?;
@@ -101,7 +104,8 @@ impl Run {
         requires asks { MayTake self.old node (Request conn words) }
         ensures goes_on { GoesOn self.old self.new }
         ensures remembers { OnOk result (RemembersSent self.new) }
-        ensures serves { IfOk result (λ outputs. ServesLast self.old node conn words outputs.items self.new) }
+        ensures serves { IfOk result
+            (λ outputs. ServesLast self.old node conn words outputs.items self.new) }
     {
         let served = self.serve(node, conn, words)?;
         self.close(node, conn)?;

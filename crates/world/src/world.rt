@@ -1,5 +1,5 @@
 //! A world of nodes.
-ghost use Rattle.std.specs.Prelude.{◌≡◌, true, false, IfOk, IfErr, OnOk, OnErr, IsErr};
+ghost use Rattle.std.specs.Prelude.{◌≡◌, true, false, IfOk, OnOk, OnErr};
 ghost use Rattle.promoted_prefix.specs.Law.{PromotionsGoOn};
 ghost use Rattle.world_run.specs.Executed.{AreOfOneKeyspace, executed};
 ghost use Rattle.world_run.specs.Law.{HasOneMasterAnEpoch};
@@ -41,7 +41,8 @@ impl Model for World {
 
     ghost view = { λ world. record { scene = world.scene; refused = world.is_refused } };
 
-    ghost invariant = { λ world. IsReached (record { scene = world.scene; refused = world.is_refused }) };
+    ghost invariant = { λ world.
+        IsReached (record { scene = world.scene; refused = world.is_refused }) };
 }
 
 impl World {
@@ -70,10 +71,12 @@ impl World {
     pub fn step(&mut self, step: Step) -> Result<Vec<Output>, AllocError>
         ensures config { self.new.scene.config ≡ self.old.scene.config }
         ensures goes_on { GoesOn self.old.scene.run self.new.scene.run }
-        ensures one_keyspace { AreOfOneKeyspace (executed (until_promotion self.new.scene.run.entries)) }
+        ensures one_keyspace { AreOfOneKeyspace
+            (executed (until_promotion self.new.scene.run.entries)) }
         ensures one_master { HasOneMasterAnEpoch self.new.scene.config.voters self.new.scene.run.entries }
         ensures promoted_prefix { PromotionsGoOn self.new.scene.config self.new.scene.run.entries }
-        ensures plays { IfOk result (λ outputs. Plays self.old.scene step outputs.items self.new.scene) }
+        ensures plays { IfOk result
+            (λ outputs. Plays self.old.scene step outputs.items self.new.scene) }
         ensures ok { OnOk result ((self.old.refused ≡ false) × (self.new.refused ≡ false)) }
         ensures err { OnErr result (self.new.refused ≡ true) }
         ensures refused { self.old.refused ≡ true → self.new ≡ self.old }
@@ -87,10 +90,12 @@ impl World {
     pub fn run(&mut self, steps: &[Step]) -> Result<Vec<Output>, AllocError>
         ensures config { self.new.scene.config ≡ self.old.scene.config }
         ensures goes_on { GoesOn self.old.scene.run self.new.scene.run }
-        ensures one_keyspace { AreOfOneKeyspace (executed (until_promotion self.new.scene.run.entries)) }
+        ensures one_keyspace { AreOfOneKeyspace
+            (executed (until_promotion self.new.scene.run.entries)) }
         ensures one_master { HasOneMasterAnEpoch self.new.scene.config.voters self.new.scene.run.entries }
         ensures promoted_prefix { PromotionsGoOn self.new.scene.config self.new.scene.run.entries }
-        ensures plays { IfOk result (λ outputs. PlaysAll self.old.scene steps.now outputs.items self.new.scene) }
+        ensures plays { IfOk result
+            (λ outputs. PlaysAll self.old.scene steps.now outputs.items self.new.scene) }
         ensures ok { OnOk result ((self.old.refused ≡ false) × (self.new.refused ≡ false)) }
         ensures err { OnErr result (self.new.refused ≡ true) }
         ensures refused { self.old.refused ≡ true → self.new ≡ self.old }
@@ -103,7 +108,8 @@ impl World {
     fn play_all(&mut self, steps: &[Step]) -> Result<Vec<Output>, AllocError>
         ensures config { self.new.scene.config ≡ self.old.scene.config }
         ensures goes_on { GoesOn self.old.scene.run self.new.scene.run }
-        ensures plays { IfOk result (λ outputs. PlaysAll self.old.scene steps.now outputs.items self.new.scene) }
+        ensures plays { IfOk result
+            (λ outputs. PlaysAll self.old.scene steps.now outputs.items self.new.scene) }
         ensures ok { OnOk result ((self.old.refused ≡ false) × (self.new.refused ≡ false)) }
         ensures err { OnErr result (self.new.refused ≡ true) }
         ensures refused { self.old.refused ≡ true → self.new ≡ self.old }
@@ -124,7 +130,8 @@ impl World {
     fn play(&mut self, step: &Step) -> Result<Vec<Output>, AllocError>
         ensures config { self.new.scene.config ≡ self.old.scene.config }
         ensures goes_on { GoesOn self.old.scene.run self.new.scene.run }
-        ensures plays { IfOk result (λ outputs. Plays self.old.scene step.now outputs.items self.new.scene) }
+        ensures plays { IfOk result
+            (λ outputs. Plays self.old.scene step.now outputs.items self.new.scene) }
         ensures ok { OnOk result ((self.old.refused ≡ false) × (self.new.refused ≡ false)) }
         ensures err { OnErr result (self.new.refused ≡ true) }
         ensures refused { self.old.refused ≡ true → self.new ≡ self.old }
@@ -151,7 +158,8 @@ impl World {
 
     // What nodes and clients did obeys the laws of all runs.
     fn obeys_laws(&self)
-        ensures one_keyspace { AreOfOneKeyspace (executed (until_promotion self.now.scene.run.entries)) }
+        ensures one_keyspace { AreOfOneKeyspace
+            (executed (until_promotion self.now.scene.run.entries)) }
         ensures one_master { HasOneMasterAnEpoch self.now.scene.config.voters self.now.scene.run.entries }
         ensures promoted_prefix { PromotionsGoOn self.now.scene.config self.now.scene.run.entries }
     {

@@ -2,11 +2,12 @@
 use Rattle.std.specs.Prelude.{ℕ, ◌*◌, ◌==◌, ◌&&◌, nat_lt, Bool, false, List, length, count_by}
 use Rattle.std.specs.List.{list_any}
 use Rattle.bus.specs.declared.message.Body.{Body}
-use Rattle.bus.specs.declared.message.Body.TheVariants.{Grant}
+use Rattle.bus.specs.declared.bodies.ElectionBody.TheVariants.{Grant}
+use Rattle.bus.specs.declared.message.Body.TheVariants.{Election}
 use Rattle.bus.specs.declared.message.Message.{Message}
 
 abbrev pub grants : Body → ℕ → Bool
-grants (Grant granted) epoch = granted == epoch
+grants (Election (Grant granted)) epoch = granted == epoch
 grants other epoch = false
 
 -- the message is the vote of that voter in that epoch for that candidate

@@ -3,7 +3,7 @@ use Rattle.std.specs.Io.KnownBytes.{Consumes}
 use Rattle.resp2.specs.Counting.{inner_of, failures_of}
 use Rattle.resp2.specs.Stream.{IsUnfinished}
 use Rattle.listener.specs.Progress.{Answers, desk}
-use Rattle.listener.specs.Streams.{IsAllowed, stream_of}
+use Rattle.listener.specs.Streams.{stream_of}
 use Rattle.listener.specs.Turns.{HasRoom, desk_of, waiting_of}
 use Rattle.listener.proofs.connection.converse.Given as goal
 
@@ -13,7 +13,7 @@ invariant-reads g l = record {
   came : List ℕ;
   read : Consumes (g.R.Read.remaining (inner_of l.fn.reader)) (g.R.Read.remaining (inner_of l.reader)) came;
   long : l.counter ≤ length came;
-  answers : Answers (IsAllowed g.G.NodeGate.may g.G.NodeGate.may_refuse g.G.NodeGate.may_give) l.fn.talk.conn
+  answers : Answers g.G.NodeGate.allowed l.fn.talk.conn
       (desk (g.G.NodeGate.asked l.fn.gate) came [] (stream_of g.W.Write.contents l.fn.writer))
       (desk_of g.G.Answer.Answered.gave (g.G.NodeGate.asked l.gate) l.talk (stream_of g.W.Write.contents l.writer));
   unfinished : IsUnfinished l.talk.requests.pending;
