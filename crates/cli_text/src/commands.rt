@@ -9,7 +9,7 @@ use std::io::{BufReader, Read};
 
 /// Commands, one a line, as they come from an input.
 ///
-/// Words are parted by blanks, and may be quoted as redis-cli reads them.
+/// Words are separated by blanks, and may be quoted as redis-cli reads them.
 #[derive(Drop)]
 pub struct Commands<R: Read + Drop> {
     alloc: Global,

@@ -3,6 +3,7 @@ use Rattle.std.proofs.Common.{◌≡◌, ℕ, zero, suc, ◌≤◌, List, [], �
 use Rattle.std.proofs.Math.Seq.{drop-append_seam}
 use Rattle.std.proofs.lemmas.List.{take-append-drop}
 use Rattle.std.proofs.lemmas.List.Elements.{All-nil, All-push}
+use Rattle.std.proofs.lemmas.Bool.{eqb-true}
 use Rattle.std.specs.Cmp.Lexicographic.{bytes_decides}
 use Rattle.std.specs.Fmt.{digits}
 use Rattle.std.specs.List.{starts_with}
@@ -33,6 +34,11 @@ empty_spelled = refl
 empty_keeps_limits : KeepsLimits []
 unfolding digits
 empty_keeps_limits = record { each = record { few = omega arith; short = All-nil (λ (word : List ℕ). length word ≤ MOST_WORD_BYTES) }; all = lit≤ tt }
+
+-- no bytes are no request
+pub none_in_nothing : (bytes : List ℕ) → nat_eq (length bytes) 0 ≡ true → ¬ BeginsWithRequest bytes
+none_in_nothing [] none begins = absurd (cc)
+none_in_nothing (byte ∷ bytes) none begins = omega (arith, eqb-true _ _ none)
 
 -- no request with words begins so
 pub none_at_empty : (bytes : List ℕ) → NoSpellingBeginsAnother → starts_with nat_eq bytes empty_request ≡ true → ¬ BeginsWithRequest bytes

@@ -47,6 +47,10 @@ fn next_request(reader: &mut Reader, bytes: &[u8]) -> Result<Option<Words>, Allo
 {
     no_spelling_begins_another();
     no_unfinished_is_whole();
+    // Mostly the last request ends the bytes, so the reader isn't asked for one behind it.
+    if bytes.is_empty() {
+        return Ok(None);
+    }
     if bytes.starts_with(b"*0\r\n") {
         return Ok(None);
     }

@@ -46,8 +46,8 @@ fn read_entries(
     Ok(Some(masters))
 }
 
-#[tactic(auto, using(crate::proofs::EntryLemmas::too_few, crate::proofs::EntryLemmas::one_entry))]
 // Puts the master of the first entry among the others, and gives what stands behind the entry; or None where that is no entry.
+#[tactic(auto, using(crate::proofs::EntryLemmas::too_few, crate::proofs::EntryLemmas::one_entry))]
 fn read_entry<'e>(
     alloc: Global,
     elements: &'e [Element],

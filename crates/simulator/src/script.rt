@@ -18,7 +18,7 @@ use world::Step;
 
 /// Reads a script, a step a line.
 ///
-/// Words are parted by one blank and have bytes from 33 to 126; only those of a request may be empty. Numbers are decimal
+/// Words are separated by one blank and have bytes from 33 to 126; only those of a request may be empty. Numbers are decimal
 /// texts without a plus and without a leading zero; that of a client or a message is at least 1. A newline ends each line, and the last
 /// one may go without. The fault Line names the first line that is no step.
 pub fn read_script(alloc: Global, text: &[u8]) -> Result<Vec<Step>, ScriptFault>

@@ -1,6 +1,9 @@
 use Rattle.std.proofs.Common.{◌∙◌, sym}
-use Rattle.repl_stream.proofs.ReadingLemmas.{bad_found, none_at_empty, none_found, request_found}
+use Rattle.repl_stream.proofs.ReadingLemmas.{bad_found, none_at_empty, none_found, none_in_nothing, request_found}
 use Rattle.repl_stream.proofs.requests.next_request.Goals as goal
+
+pub returns-then-is_empty-clause-none : goal.returns-then-is_empty-clause-none
+returns-then-is_empty-clause-none c = none_in_nothing _ (sym c.is_empty.ensures ∙ c.if-is_empty.true)
 
 pub returns-then-starts_with-clause-none : goal.returns-then-starts_with-clause-none
 returns-then-starts_with-clause-none c = none_at_empty _ c.no_spelling_begins_another.ensures (sym c.starts_with.ensures.value ∙ c.if-starts_with.true)
