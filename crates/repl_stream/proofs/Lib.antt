@@ -3,6 +3,5 @@ mod KeptLemmas
 mod PageLemmas
 mod ReadingLemmas
 mod RingLemmas
-mod SpellingLemmas
 mod TakingLemmas
 mod TurnLemmas

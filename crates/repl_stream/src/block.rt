@@ -2,9 +2,9 @@
 ghost use Rattle.std.specs.Prelude.{◌≡◌, IfOk};
 ghost use Rattle.resp2.specs.Stream.{stream_spelling};
 
-use crate::spelling::append_request;
 use byte_string::ByteString;
 use resp_values::Words;
+use resp2::append_request;
 use std::alloc::{AllocError, Global};
 
 /// The bytes of the requests, one after another, in a string that its copies share from 4,096 bytes on: so the pieces that
@@ -15,7 +15,7 @@ pub fn block_of(alloc: Global, requests: &[Words]) -> Result<ByteString, AllocEr
 {
     let mut bytes = Vec::new(alloc);
     for words in requests {
-        append_request(&mut bytes, words.as_slice())?;
+        append_request(words.as_slice(), &mut bytes)?;
     }
     ByteString::copy_from_slice(alloc, bytes.as_slice())
 }

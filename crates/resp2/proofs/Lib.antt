@@ -1,3 +1,4 @@
+mod AppendedRequests
 pub mod ArraySteps
 pub mod Beginnings
 pub mod Callers

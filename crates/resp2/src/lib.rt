@@ -1,6 +1,7 @@
 //! RESP2, the serialization protocol between Redis clients and servers.
 #![tactic(auto)]
 
+mod appending;
 mod array_part;
 mod bulk;
 mod counting;
@@ -16,6 +17,7 @@ mod whole;
 mod words;
 mod writing;
 
+pub use appending::{append_command, append_count, append_request, append_word};
 pub use counting::Counting;
 pub use fault::Fault;
 pub use law::{

@@ -1,10 +1,12 @@
 -- Requests as bytes.
-use Rattle.std.proofs.Common.{◌≡◌, ◌++◌, ◌||◌, ℕ, Bool, true, false, cond, nat_eq, List, [], ◌∷◌, map, Option, append_assoc, append-nil, true≢false, refl, sym, ap, ◌∙◌}
+use Rattle.std.proofs.Common.{◌≡◌, ◌+◌, ◌*◌, ◌++◌, ◌||◌, ℕ, Bool, true, false, cond, nat_eq, List, [], ◌∷◌, length, map, Option, append_assoc, append-nil, true≢false, refl, sym, ap, ◌∙◌, arith}
 use Rattle.std.proofs.lemmas.Cmp.{nat_list_cmp_total}
 use Rattle.std.specs.Cmp.Lexicographic.{pointwise}
 use Rattle.std.specs.FinMap as fin_map
 use Rattle.std.specs.List.{flat_map, list_any}
 use Rattle.std.specs.Prelude.{Some, None, is_some}
+use Rattle.hash.specs.Pairs.{Pairs}
+use Rattle.hash.specs.Size.{words_of}
 use Rattle.keyspace.proofs.FirstChange.{key_test}
 use Rattle.keyspace.specs.Keyspace.{Keyspace}
 use Rattle.keyspace.specs.Rebuilding.{rebuilding}
@@ -12,12 +14,35 @@ use Rattle.keyspace.specs.declared.value.Value.{Value}
 use Rattle.node_step.specs.Streams.{Requests, deletion, written_by_pair, written_by_pairs}
 use Rattle.resp2.proofs.Callers.{stream_spelling-append}
 use Rattle.resp2.specs.Stream.{stream_spelling}
-use Rattle.resp_values.specs.Request.{request_spelling}
+use Rattle.resp_values.specs.Request.{bulk_spelling, bulks_spelling, header_spelling, request_spelling}
 use Rattle.stream_requests.specs.Spelling.{deletion_bytes, deletion_if, rebuilt}
 
 pub deletions_spelled : (keys : List (List ℕ)) → flat_map deletion_bytes keys ≡ stream_spelling (map deletion keys)
 deletions_spelled [] = refl
 deletions_spelled (key ∷ keys) = ap (λ bytes. deletion_bytes key ++ bytes) (deletions_spelled keys)
+
+-- a request in four parts: its count, its first two words, and the others
+request_in_parts : (before : List ℕ) (count : ℕ) (name key : List ℕ) (words : List (List ℕ)) → count ≡ 2 + length words
+    → (((before ++ header_spelling 42 count) ++ bulk_spelling name) ++ bulk_spelling key) ++ bulks_spelling words ≡ before ++ request_spelling (name ∷ key ∷ words)
+request_in_parts before count name key words counted =
+    append_assoc ((before ++ header_spelling 42 count) ++ bulk_spelling name) (bulk_spelling key) (bulks_spelling words)
+    ∙ append_assoc (before ++ header_spelling 42 count) (bulk_spelling name) (bulk_spelling key ++ bulks_spelling words)
+    ∙ append_assoc before (header_spelling 42 count) (bulk_spelling name ++ (bulk_spelling key ++ bulks_spelling words))
+    ∙ ap (λ (n : ℕ). before ++ (header_spelling 42 n ++ (bulk_spelling name ++ (bulk_spelling key ++ bulks_spelling words)))) counted
+
+pub string_spelled : (before name key string : List ℕ)
+    → (((before ++ header_spelling 42 3) ++ bulk_spelling name) ++ bulk_spelling key) ++ bulk_spelling string ≡ before ++ request_spelling (name ∷ key ∷ string ∷ [])
+string_spelled before name key string =
+    ap (λ (bytes : List ℕ). (((before ++ header_spelling 42 3) ++ bulk_spelling name) ++ bulk_spelling key) ++ bytes) (sym (append-nil (bulk_spelling string)))
+    ∙ request_in_parts before 3 name key (string ∷ []) refl
+
+two_words_each : (pairs : Pairs) → length (words_of pairs) ≡ 2 * length pairs
+two_words_each [] = refl
+two_words_each (pair ∷ pairs) = omega (arith, two_words_each pairs)
+
+pub hash_spelled : (before : List ℕ) (count : ℕ) (name key : List ℕ) (pairs : Pairs) → count ≡ 2 * length pairs + 2
+    → (((before ++ header_spelling 42 count) ++ bulk_spelling name) ++ bulk_spelling key) ++ bulks_spelling (words_of pairs) ≡ before ++ request_spelling (name ∷ key ∷ words_of pairs)
+hash_spelled before count name key pairs counted = request_in_parts before count name key (words_of pairs) (omega (arith, counted, two_words_each pairs))
 
 -- no bytes are put behind
 pub none_behind : (is_there : Bool) (key bytes : List ℕ) → is_there ≡ false → bytes ≡ bytes ++ deletion_if is_there key

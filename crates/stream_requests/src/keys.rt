@@ -27,7 +27,7 @@ pub fn installed_bytes<S: Store>(
     for place in 0..pairs.len() {
         let pair = &pairs[place];
         let is_there = is_there_behind(store, &pairs[..place], pair.key());
-        append_rebuilding(&mut bytes, pair.key(), pair.value(), is_there)?;
+        append_rebuilding(pair.key(), pair.value(), is_there, &mut bytes)?;
     }
     Ok(bytes)
 }

@@ -1,14 +1,17 @@
 //! Requests as the bytes that stand behind a stream.
-ghost use Rattle.std.specs.Prelude.{◌≡◌, ◌++◌, IfOk, OnOk, map};
+ghost use Rattle.std.specs.Prelude.{◌≡◌, ◌++◌, ◌∷◌, [], IfOk, OnOk, codes, map};
 ghost use Rattle.std.specs.List.{flat_map};
+ghost use Rattle.hash.specs.Size.{words_of};
+ghost use Rattle.keyspace.specs.Rebuilding.{rebuilding};
 ghost use Rattle.node_step.specs.Streams.{deletion};
 ghost use Rattle.resp2.specs.Stream.{stream_spelling};
 ghost use Rattle.stream_requests.specs.Spelling.{deletion_bytes, deletion_if, rebuilt};
-ghost use Rattle.resp_values.specs.Request.{request_spelling};
+ghost use Rattle.resp_values.specs.Request.{bulks_spelling, request_spelling};
 
 use byte_string::ByteString;
-use keyspace::{Value, rebuilding_words};
-use repl_stream::{append_command, append_request};
+use hash::Hash;
+use keyspace::Value;
+use resp2::{append_command, append_count, append_request, append_word};
 use std::alloc::{AllocError, Global};
 use std::slice;
 
@@ -17,35 +20,77 @@ pub fn request_bytes(alloc: Global, words: &[ByteString]) -> Result<Vec<u8>, All
     ensures { IfOk result (λ bytes. bytes.items ≡ request_spelling words.now) }
 {
     let mut bytes = Vec::new(alloc);
-    append_request(&mut bytes, words)?;
+    append_request(words, &mut bytes)?;
     Ok(bytes)
 }
 
-/// Puts the request that makes the key with this value behind the bytes, after the deletion of the key if it is there.
+/// Appends the request that makes the key with this value, after the deletion of the key if it is there.
 #[tactic(auto, using(crate::proofs::SpellingLemmas::rebuilt_behind))]
 pub(crate) fn append_rebuilding(
-    bytes: &mut Vec<u8>,
     key: &ByteString,
     value: &Value,
     is_there: bool,
+    out: &mut Vec<u8>,
 ) -> Result<(), AllocError>
-    ensures { OnOk result (bytes.new.items ≡ bytes.old.items ++ stream_spelling (rebuilt is_there key.now value.now)) }
+    ensures { OnOk result (out.new.items ≡ out.old.items ++ stream_spelling (rebuilt is_there key.now value.now)) }
 {
-    let words = rebuilding_words(*bytes.allocator(), key, value)?;
-    append_deletion_if(bytes, key, is_there)?;
-    append_request(bytes, words.as_slice())
+    append_deletion_if(is_there, key, out)?;
+    append_making(key, value, out)
+}
+
+// The request that makes the key.
+fn append_making(key: &ByteString, value: &Value, out: &mut Vec<u8>) -> Result<(), AllocError>
+    ensures { OnOk result (out.new.items ≡ out.old.items ++ request_spelling (rebuilding key.now value.now)) }
+{
+    match value {
+        Value::Str(string) => append_setting(key, string, out),
+        Value::Hash(hash) => append_setting_fields(key, hash, out),
+    }
+}
+
+// SET, the key, and the string.
+#[tactic(auto, using(crate::proofs::SpellingLemmas::string_spelled))]
+fn append_setting(
+    key: &ByteString,
+    string: &ByteString,
+    out: &mut Vec<u8>,
+) -> Result<(), AllocError>
+    ensures { OnOk result (out.new.items ≡ out.old.items ++ request_spelling (codes "SET" ∷ key.now ∷ string.now ∷ [])) }
+{
+    append_count(3, out)?;
+    append_word(b"SET", out)?;
+    append_word(key.as_slice(), out)?;
+    append_word(string.as_slice(), out)
+}
+
+// HSET, the key, and each field with its value.
+#[tactic(auto, using(crate::proofs::SpellingLemmas::hash_spelled))]
+fn append_setting_fields(key: &ByteString, hash: &Hash, out: &mut Vec<u8>) -> Result<(), AllocError>
+    ensures { OnOk result (out.new.items ≡ out.old.items ++ request_spelling (codes "HSET" ∷ key.now ∷ words_of hash.now)) }
+{
+    let words = (2 * hash.len()).checked_add(2).ok_or(AllocError)?;
+    append_count(words, out)?;
+    append_word(b"HSET", out)?;
+    append_word(key.as_slice(), out)?;
+    append_fields(hash, out)
+}
+
+fn append_fields(hash: &Hash, out: &mut Vec<u8>) -> Result<(), AllocError>
+    ensures { OnOk result (out.new.items ≡ out.old.items ++ bulks_spelling (words_of hash.now)) }
+{
+    for (field, value) in hash.iter() {
+        append_word(field.as_slice(), out)?;
+        append_word(value.as_slice(), out)?;
+    }
+    Ok(())
 }
 
 #[tactic(auto, using(crate::proofs::SpellingLemmas::none_behind))]
-fn append_deletion_if(
-    bytes: &mut Vec<u8>,
-    key: &ByteString,
-    is_there: bool,
-) -> Result<(), AllocError>
-    ensures { OnOk result (bytes.new.items ≡ bytes.old.items ++ deletion_if is_there key.now) }
+fn append_deletion_if(is_there: bool, key: &ByteString, out: &mut Vec<u8>) -> Result<(), AllocError>
+    ensures { OnOk result (out.new.items ≡ out.old.items ++ deletion_if is_there key.now) }
 {
     if is_there {
-        return append_deletion(bytes, key);
+        return append_deletion(key, out);
     }
     Ok(())
 }
@@ -56,21 +101,21 @@ pub fn deletions_bytes(alloc: Global, keys: &[ByteString]) -> Result<Vec<u8>, Al
     ensures { IfOk result (λ bytes. bytes.items ≡ stream_spelling (map deletion keys.now)) }
 {
     let mut bytes = Vec::new(alloc);
-    append_deletions(&mut bytes, keys)?;
+    append_deletions(keys, &mut bytes)?;
     Ok(bytes)
 }
 
-fn append_deletions(bytes: &mut Vec<u8>, keys: &[ByteString]) -> Result<(), AllocError>
-    ensures { OnOk result (bytes.new.items ≡ bytes.old.items ++ flat_map deletion_bytes keys.now) }
+fn append_deletions(keys: &[ByteString], out: &mut Vec<u8>) -> Result<(), AllocError>
+    ensures { OnOk result (out.new.items ≡ out.old.items ++ flat_map deletion_bytes keys.now) }
 {
     for key in keys {
-        append_deletion(bytes, key)?;
+        append_deletion(key, out)?;
     }
     Ok(())
 }
 
-fn append_deletion(bytes: &mut Vec<u8>, key: &ByteString) -> Result<(), AllocError>
-    ensures { OnOk result (bytes.new.items ≡ bytes.old.items ++ deletion_bytes key.now) }
+fn append_deletion(key: &ByteString, out: &mut Vec<u8>) -> Result<(), AllocError>
+    ensures { OnOk result (out.new.items ≡ out.old.items ++ deletion_bytes key.now) }
 {
-    append_command(bytes, b"DEL", slice::from_ref(key))
+    append_command(b"DEL", slice::from_ref(key), out)
 }

@@ -1,0 +1,97 @@
+//! Requests as bytes behind others, as a client sends them and as streams of writes have them. The limits of a server's requests don't
+//! hold here.
+ghost use Rattle.std.specs.Prelude.{◌≡◌, ◌++◌, ◌∷◌, ◌+◌, ◌<◌, OnOk};
+ghost use Rattle.std.specs.List.{flat_map};
+ghost use Rattle.resp_values.specs.Request.{bulk_spelling, header_spelling, request_spelling};
+
+use byte_string::ByteString;
+use itoa::Buffer;
+use std::alloc::AllocError;
+
+/// The most bytes that a word takes beside its own: a mark, a number, and the ends of two lines.
+const AROUND_WORD: usize = 25;
+
+/// Appends the request of these words to `out`. It asks for memory once, if there isn't enough.
+///
+/// Where memory is refused, a beginning of the request may be appended.
+#[tactic(auto, using(crate::proofs::AppendedRequests::request_spelled))]
+pub fn append_request(words: &[ByteString], out: &mut Vec<u8>) -> Result<(), AllocError>
+    ensures { OnOk result (out.new.items ≡ out.old.items ++ request_spelling words.now) }
+{
+    out.reserve(room_for(words))?;
+    append_count(words.len(), out)?;
+    append_words(words, out)
+}
+
+/// Appends the request of a name and the words behind it, in the same way.
+#[tactic(auto, using(crate::proofs::AppendedRequests::command_spelled))]
+pub fn append_command(
+    name: &[u8],
+    words: &[ByteString],
+    out: &mut Vec<u8>,
+) -> Result<(), AllocError>
+    ensures { OnOk result
+        (out.new.items ≡ out.old.items ++ request_spelling (name.now ∷ words.now)) }
+{
+    out.reserve(room_for(words).saturating_add(name.len()))?;
+    append_count(words.len() + 1, out)?;
+    append_word(name, out)?;
+    append_words(words, out)
+}
+
+/// Appends the line that a request of so many words begins with. The words are to follow, each by [`append_word`].
+pub fn append_count(words: usize, out: &mut Vec<u8>) -> Result<(), AllocError>
+    ensures { OnOk result (out.new.items ≡ out.old.items ++ header_spelling 42 words) }
+{
+    append_header(b'*', words, out)
+}
+
+/// Appends a word of a request.
+pub fn append_word(word: &[u8], out: &mut Vec<u8>) -> Result<(), AllocError>
+    ensures { OnOk result (out.new.items ≡ out.old.items ++ bulk_spelling word.now) }
+{
+    append_header(b'$', word.len(), out)?;
+    out.extend_from_slice(word)?;
+    out.extend_from_slice(b"\r\n")
+}
+
+fn append_words(words: &[ByteString], out: &mut Vec<u8>) -> Result<(), AllocError>
+    ensures { OnOk result (out.new.items ≡ out.old.items ++ flat_map bulk_spelling words.now) }
+{
+    for word in words {
+        append_word(word.as_slice(), out)?;
+    }
+    Ok(())
+}
+
+// Enough for the bytes of a request of these words, and around a name before them.
+fn room_for(words: &[ByteString]) -> usize {
+    let mut room = 2 * AROUND_WORD;
+    for word in words {
+        room = room.saturating_add(word.len()).saturating_add(AROUND_WORD);
+    }
+    room
+}
+
+// Most numbers have one digit or two, and are put there with what stands around them at once.
+#[tactic(auto, using(crate::proofs::AppendedRequests::one_digit, crate::proofs::AppendedRequests::two_digits))]
+fn append_header(mark: u8, number: usize, out: &mut Vec<u8>) -> Result<(), AllocError>
+    ensures { OnOk result (out.new.items ≡ out.old.items ++ header_spelling mark number) }
+{
+    if number < 10 {
+        return out.extend_from_slice(&[mark, digit(number), b'\r', b'\n']);
+    }
+    if number < 100 {
+        return out.extend_from_slice(&[mark, digit(number / 10), digit(number % 10), b'\r', b'\n']);
+    }
+    out.push(mark)?;
+    out.extend_from_slice(Buffer::new().format(number).as_bytes())?;
+    out.extend_from_slice(b"\r\n")
+}
+
+fn digit(value: usize) -> u8
+    requires { value < 10 }
+    ensures { result ≡ 48 + value }
+{
+    b'0' + value as u8
+}
