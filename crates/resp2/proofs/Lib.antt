@@ -1,4 +1,4 @@
-mod AppendedRequests
+mod Appended
 pub mod ArraySteps
 pub mod Beginnings
 pub mod Callers

@@ -1,5 +1,5 @@
 -- What is written where a call fails on the way.
-use Rattle.std.specs.Prelude.{◌≡◌, ℕ, List, ◌++◌, Option}
+use Rattle.std.specs.Prelude.{◌≡◌, ℕ, List, ◌++◌, length, take, Option}
 use Rattle.std.specs.Io.KnownBytes.{Appends}
 
 -- a beginning of the bytes was written: none, some or all of them
@@ -8,3 +8,7 @@ pub record AppendsBeginning (old new : Option (List ℕ)) (bytes : List ℕ) : T
   pub rest : List ℕ
   pub appends : Appends old new written
   pub split : written ++ rest ≡ bytes
+
+-- the bytes that were there before are still in front. No public clause needs it
+abbrev pub StayInFront : List ℕ → List ℕ → Type 0
+StayInFront before after = take (length before) after ≡ before

@@ -1,11 +1,13 @@
-//! Requests as bytes behind others, as a client sends them and as streams of writes have them. The limits of a server's requests don't
-//! hold here.
-ghost use Rattle.std.specs.Prelude.{◌≡◌, ◌++◌, ◌∷◌, ◌+◌, ◌<◌, OnOk};
+//! Requests and replies as bytes behind others, in memory. The limits of a server's requests don't hold here.
+ghost use Rattle.std.specs.Prelude.{◌≡◌, ◌++◌, ◌∷◌, ◌+◌, ◌<◌, OnOk, OnErr};
 ghost use Rattle.std.specs.List.{flat_map};
+ghost use Rattle.resp_values.specs.Reply.{element_spelling, line_spelling, reply_spelling};
 ghost use Rattle.resp_values.specs.Request.{bulk_spelling, header_spelling, request_spelling};
+ghost use Rattle.resp2.specs.Writing.{StayInFront};
 
 use byte_string::ByteString;
 use itoa::Buffer;
+use resp_values::{Element, Reply};
 use std::alloc::AllocError;
 
 /// The most bytes that a word takes beside its own: a mark, a number, and the ends of two lines.
@@ -14,7 +16,7 @@ const AROUND_WORD: usize = 25;
 /// Appends the request of these words to `out`. It asks for memory once, if there isn't enough.
 ///
 /// Where memory is refused, a beginning of the request may be appended.
-#[tactic(auto, using(crate::proofs::AppendedRequests::request_spelled))]
+#[tactic(auto, using(crate::proofs::Appended::request_spelled))]
 pub fn append_request(words: &[ByteString], out: &mut Vec<u8>) -> Result<(), AllocError>
     ensures { OnOk result (out.new.items ≡ out.old.items ++ request_spelling words.now) }
 {
@@ -24,7 +26,7 @@ pub fn append_request(words: &[ByteString], out: &mut Vec<u8>) -> Result<(), All
 }
 
 /// Appends the request of a name and the words behind it, in the same way.
-#[tactic(auto, using(crate::proofs::AppendedRequests::command_spelled))]
+#[tactic(auto, using(crate::proofs::Appended::command_spelled))]
 pub fn append_command(
     name: &[u8],
     words: &[ByteString],
@@ -46,12 +48,81 @@ pub fn append_count(words: usize, out: &mut Vec<u8>) -> Result<(), AllocError>
     append_header(b'*', words, out)
 }
 
-/// Appends a word of a request.
+/// Appends a word of a request, or a front of it where memory is refused.
+#[tactic(auto, using(crate::proofs::Appended::one_stays, crate::proofs::Appended::two_stay))]
 pub fn append_word(word: &[u8], out: &mut Vec<u8>) -> Result<(), AllocError>
-    ensures { OnOk result (out.new.items ≡ out.old.items ++ bulk_spelling word.now) }
+    ensures ok { OnOk result (out.new.items ≡ out.old.items ++ bulk_spelling word.now) }
+    ensures err { OnErr result (StayInFront out.old.items out.new.items) }
 {
     append_header(b'$', word.len(), out)?;
     out.extend_from_slice(word)?;
+    out.extend_from_slice(b"\r\n")
+}
+
+/// Appends the reply, or nothing where memory is refused.
+pub fn append_reply(reply: &Reply, out: &mut Vec<u8>) -> Result<(), AllocError>
+    ensures ok { OnOk result (out.new.items ≡ out.old.items ++ reply_spelling reply.now) }
+    ensures err { OnErr result (out.new.items ≡ out.old.items) }
+{
+    let before = out.len();
+    let appended = append_front(reply, out);
+    if appended.is_err() {
+        out.truncate(before);
+    }
+    appended
+}
+
+// Appends the reply, or a front of it where memory is refused.
+fn append_front(reply: &Reply, out: &mut Vec<u8>) -> Result<(), AllocError>
+    ensures ok { OnOk result (out.new.items ≡ out.old.items ++ reply_spelling reply.now) }
+    ensures err { OnErr result (StayInFront out.old.items out.new.items) }
+{
+    match reply {
+        Reply::Simple(text) => append_line(b'+', text.as_slice(), out),
+        Reply::Error(text) => append_line(b'-', text.as_slice(), out),
+        Reply::Integer(number) => {
+            append_line(b':', Buffer::new().format(*number).as_bytes(), out)
+        }
+        Reply::Bulk(bytes) => append_word(bytes.as_slice(), out),
+        Reply::Null => append_line(b'$', b"-1", out),
+        Reply::Array(array) => append_elements(array.as_slice(), out),
+    }
+}
+
+#[tactic(auto, using(crate::proofs::Appended::stays_behind))]
+fn append_elements(elements: &[Element], out: &mut Vec<u8>) -> Result<(), AllocError>
+    ensures ok { OnOk result (out.new.items ≡ out.old.items ++ flat_map element_spelling elements.now) }
+    ensures err { OnErr result (StayInFront out.old.items out.new.items) }
+{
+    for element in elements {
+        append_element(element, out)?;
+    }
+    Ok(())
+}
+
+fn append_element(element: &Element, out: &mut Vec<u8>) -> Result<(), AllocError>
+    ensures ok { OnOk result (out.new.items ≡ out.old.items ++ element_spelling element.now) }
+    ensures err { OnErr result (StayInFront out.old.items out.new.items) }
+{
+    match element {
+        Element::Simple(text) => append_line(b'+', text.as_slice(), out),
+        Element::Error(text) => append_line(b'-', text.as_slice(), out),
+        Element::Integer(number) => {
+            append_line(b':', Buffer::new().format(*number).as_bytes(), out)
+        }
+        Element::Bulk(bytes) => append_word(bytes.as_slice(), out),
+        Element::Null => append_line(b'$', b"-1", out),
+        Element::Array(len) => append_header(b'*', *len, out),
+    }
+}
+
+#[tactic(auto, using(crate::proofs::Appended::one_stays, crate::proofs::Appended::two_stay))]
+fn append_line(mark: u8, text: &[u8], out: &mut Vec<u8>) -> Result<(), AllocError>
+    ensures ok { OnOk result (out.new.items ≡ out.old.items ++ line_spelling mark text.now) }
+    ensures err { OnErr result (StayInFront out.old.items out.new.items) }
+{
+    out.push(mark)?;
+    out.extend_from_slice(text)?;
     out.extend_from_slice(b"\r\n")
 }
 
@@ -74,9 +145,10 @@ fn room_for(words: &[ByteString]) -> usize {
 }
 
 // Most numbers have one digit or two, and are put there with what stands around them at once.
-#[tactic(auto, using(crate::proofs::AppendedRequests::one_digit, crate::proofs::AppendedRequests::two_digits))]
+#[tactic(auto, using(crate::proofs::Appended::one_digit, crate::proofs::Appended::two_digits, crate::proofs::Appended::none_stays, crate::proofs::Appended::one_stays, crate::proofs::Appended::two_stay))]
 fn append_header(mark: u8, number: usize, out: &mut Vec<u8>) -> Result<(), AllocError>
-    ensures { OnOk result (out.new.items ≡ out.old.items ++ header_spelling mark number) }
+    ensures ok { OnOk result (out.new.items ≡ out.old.items ++ header_spelling mark number) }
+    ensures err { OnErr result (StayInFront out.old.items out.new.items) }
 {
     if number < 10 {
         return out.extend_from_slice(&[mark, digit(number), b'\r', b'\n']);

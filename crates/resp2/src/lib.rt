@@ -17,7 +17,7 @@ mod whole;
 mod words;
 mod writing;
 
-pub use appending::{append_command, append_count, append_request, append_word};
+pub use appending::{append_command, append_count, append_reply, append_request, append_word};
 pub use counting::Counting;
 pub use fault::Fault;
 pub use law::{
@@ -32,4 +32,4 @@ pub use resp_values::{
     array_determines_replies, array_is_one_deeper, arrays_are_of_replies,
 };
 pub use sending::{send_words, write_words};
-pub use writing::{append_reply, send_reply, write_reply};
+pub use writing::{send_reply, write_reply};

@@ -1,5 +1,5 @@
 //! Replies as bytes on a connection.
-ghost use Rattle.std.specs.Prelude.{◌≡◌, ◌++◌, OnOk, OnErr};
+ghost use Rattle.std.specs.Prelude.{◌≡◌, OnOk, OnErr};
 ghost use Rattle.std.specs.List.{flat_map};
 ghost use Rattle.std.specs.Io.KnownBytes.{Appends};
 ghost use Rattle.resp2.specs.Counting.{inner_of, failures_of, failed_of, HasRisen};
@@ -12,7 +12,6 @@ use crate::parts::{Parts, Pieces, parts_of, pieces_of};
 use crate::whole::write_whole;
 use itoa::Buffer;
 use resp_values::{Element, Reply};
-use std::alloc::AllocError;
 use std::io;
 use std::io::Write;
 
@@ -46,19 +45,6 @@ pub fn send_reply<W: Write>(reply: &Reply, out: &mut Counting<W>) -> io::Result<
 {
     let outcome = write_reply(reply, &mut out.inner);
     out.counted(outcome)
-}
-
-/// Appends the reply to `out`, or nothing where memory is refused.
-pub fn append_reply(reply: &Reply, out: &mut Vec<u8>) -> Result<(), AllocError>
-    ensures ok { OnOk result (out.new.items ≡ out.old.items ++ reply_spelling reply.now) }
-    ensures err { OnErr result (out.new.items ≡ out.old.items) }
-{
-    let before = out.len();
-    if write_reply(reply, out).is_err() {
-        out.truncate(before);
-        return Err(AllocError);
-    }
-    Ok(())
 }
 
 fn write_elements<W: Write>(elements: &[Element], out: &mut W) -> io::Result<()>

@@ -1,9 +1,11 @@
--- Requests as bytes behind others.
-use Rattle.std.proofs.Common.{◌≡◌, ◌<◌, ◌≤◌, ◌+◌, ◌/◌, ◌%◌, ℕ, List, [], ◌∷◌, ◌++◌, length, refl, sym, ap, ◌∙◌, arith}
+-- Requests and replies as bytes behind others.
+use Rattle.std.proofs.Common.{◌≡◌, ◌<◌, ◌≤◌, ◌+◌, ◌/◌, ◌%◌, ℕ, List, [], ◌∷◌, ◌++◌, length, take, drop, take_all, take-append-drop, refl, sym, ap, ◌∙◌, arith}
+use Rattle.std.proofs.Math.Seq.{take-append_seam}
 use Rattle.std.proofs.lemmas.Fmt.{decimal_digit, decimal_step}
 use Rattle.std.proofs.lemmas.List.{append_assoc}
 use Rattle.std.specs.List.{flat_map}
 use Rattle.resp_values.specs.Request.{bulk_spelling, bulks_spelling, crlf, header_spelling, request_spelling}
+use Rattle.resp2.specs.Writing.{StayInFront}
 
 bulks_spelled : (words : List (List ℕ)) → flat_map bulk_spelling words ≡ bulks_spelling words
 bulks_spelled [] = refl
@@ -35,3 +37,18 @@ module _ (before after : List ℕ) (mark number : ℕ) where
       ∙ ap (λ d. before ++ (mark ∷ (48 + number / 10) ∷ d ∷ 13 ∷ 10 ∷ [])) is
       ∙ ap (λ digits. before ++ (mark ∷ (digits ++ crlf)))
       (sym (decimal_step number some (omega (arith, small)) ∙ ap (λ digits. digits ++ ((48 + number % 10) ∷ [])) (decimal_digit (number / 10) few)))
+
+-- where memory is refused, what was there is in front of what was appended so far
+pub none_stays : (before after : List ℕ) → after ≡ before → StayInFront before after
+none_stays before after same = ap (λ (bytes : List ℕ). take (length before) bytes) same ∙ take_all (length before) before (omega arith)
+
+pub one_stays : (before part after : List ℕ) → after ≡ before ++ part → StayInFront before after
+one_stays before part after same = ap (λ (bytes : List ℕ). take (length before) bytes) same ∙ take-append_seam before part
+
+pub two_stay : (before part other after : List ℕ) → after ≡ (before ++ part) ++ other → StayInFront before after
+two_stay before part other after same = one_stays before (part ++ other) after (same ∙ append_assoc before part other)
+
+pub stays_behind : (before part between after : List ℕ) → between ≡ before ++ part → StayInFront between after → StayInFront before after
+stays_behind before part between after more stays =
+    two_stay before part (drop (length between) after) after
+    (sym (take-append-drop (length between) after) ∙ ap (λ (bytes : List ℕ). bytes ++ drop (length between) after) (stays ∙ more))
