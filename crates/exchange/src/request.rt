@@ -11,7 +11,7 @@ ghost use Rattle.exchange.specs.Exchange.{Exchanges, Receives, StopsSending, out
 use crate::buffers::Buffers;
 use crate::outcome::Outcome;
 use crate::sender::Sender;
-use resp2::{Counting, Fault, ReplyReader, Words, write_words};
+use resp2::{Counting, Fault, ReplyReader, Words, append_request};
 use std::io::{ErrorKind, Read, Write};
 
 // Why not all of the bytes were handed over: the writer failed.
@@ -34,7 +34,7 @@ pub fn exchange<R: Read, W: Write>(
         (wire_of R.remaining W.contents reader.new sender.new replies.new) }
 {
     buffers.output.clear();
-    let Ok(()) = write_words(words, &mut buffers.output) else {
+    let Ok(()) = append_request(words.as_slice(), &mut buffers.output) else {
         return Outcome::NoMemory { handed: false };
     };
     match hand_over(buffers.output.as_slice(), sender) {

@@ -9,6 +9,6 @@ pub record AppendsBeginning (old new : Option (List ℕ)) (bytes : List ℕ) : T
   pub appends : Appends old new written
   pub split : written ++ rest ≡ bytes
 
--- the bytes that were there before are still in front. No public clause needs it
+-- the bytes that were there before are still in front
 abbrev pub StayInFront : List ℕ → List ℕ → Type 0
 StayInFront before after = take (length before) after ≡ before

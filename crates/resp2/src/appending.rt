@@ -13,12 +13,11 @@ use std::alloc::AllocError;
 /// The most bytes that a word takes beside its own: a mark, a number, and the ends of two lines.
 const AROUND_WORD: usize = 25;
 
-/// Appends the request of these words to `out`. It asks for memory once, if there isn't enough.
-///
-/// Where memory is refused, a beginning of the request may be appended.
-#[tactic(auto, using(crate::proofs::Appended::request_spelled))]
+/// Appends the request of these words, or a front of it where memory is refused. It asks for memory once, if there isn't enough.
+#[tactic(auto, using(crate::proofs::Appended::request_spelled, crate::proofs::Appended::none_stays, crate::proofs::Appended::stays_behind))]
 pub fn append_request(words: &[ByteString], out: &mut Vec<u8>) -> Result<(), AllocError>
-    ensures { OnOk result (out.new.items ≡ out.old.items ++ request_spelling words.now) }
+    ensures ok { OnOk result (out.new.items ≡ out.old.items ++ request_spelling words.now) }
+    ensures err { OnErr result (StayInFront out.old.items out.new.items) }
 {
     out.reserve(room_for(words))?;
     append_count(words.len(), out)?;
@@ -26,14 +25,15 @@ pub fn append_request(words: &[ByteString], out: &mut Vec<u8>) -> Result<(), All
 }
 
 /// Appends the request of a name and the words behind it, in the same way.
-#[tactic(auto, using(crate::proofs::Appended::command_spelled))]
+#[tactic(auto, using(crate::proofs::Appended::command_spelled, crate::proofs::Appended::none_stays, crate::proofs::Appended::two_stay, crate::proofs::Appended::stays_behind))]
 pub fn append_command(
     name: &[u8],
     words: &[ByteString],
     out: &mut Vec<u8>,
 ) -> Result<(), AllocError>
-    ensures { OnOk result
+    ensures ok { OnOk result
         (out.new.items ≡ out.old.items ++ request_spelling (name.now ∷ words.now)) }
+    ensures err { OnErr result (StayInFront out.old.items out.new.items) }
 {
     out.reserve(room_for(words).saturating_add(name.len()))?;
     append_count(words.len() + 1, out)?;
@@ -41,9 +41,11 @@ pub fn append_command(
     append_words(words, out)
 }
 
-/// Appends the line that a request of so many words begins with. The words are to follow, each by [`append_word`].
+/// Appends the line that a request of so many words begins with, or a front of it where memory is refused. The words are to follow, each by
+/// [`append_word`].
 pub fn append_count(words: usize, out: &mut Vec<u8>) -> Result<(), AllocError>
-    ensures { OnOk result (out.new.items ≡ out.old.items ++ header_spelling 42 words) }
+    ensures ok { OnOk result (out.new.items ≡ out.old.items ++ header_spelling 42 words) }
+    ensures err { OnErr result (StayInFront out.old.items out.new.items) }
 {
     append_header(b'*', words, out)
 }
@@ -126,8 +128,10 @@ fn append_line(mark: u8, text: &[u8], out: &mut Vec<u8>) -> Result<(), AllocErro
     out.extend_from_slice(b"\r\n")
 }
 
+#[tactic(auto, using(crate::proofs::Appended::stays_behind))]
 fn append_words(words: &[ByteString], out: &mut Vec<u8>) -> Result<(), AllocError>
-    ensures { OnOk result (out.new.items ≡ out.old.items ++ flat_map bulk_spelling words.now) }
+    ensures ok { OnOk result (out.new.items ≡ out.old.items ++ flat_map bulk_spelling words.now) }
+    ensures err { OnErr result (StayInFront out.old.items out.new.items) }
 {
     for word in words {
         append_word(word.as_slice(), out)?;
