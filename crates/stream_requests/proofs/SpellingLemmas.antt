@@ -22,7 +22,7 @@ deletions_spelled [] = refl
 deletions_spelled (key ∷ keys) = ap (λ bytes. deletion_bytes key ++ bytes) (deletions_spelled keys)
 
 -- a request in four parts: its count, its first two words, and the others
-request_in_parts : (before : List ℕ) (count : ℕ) (name key : List ℕ) (words : List (List ℕ)) → count ≡ 2 + length words
+request_in_parts : (before : List ℕ) (count : ℕ) (name key : List ℕ) (words : List (List ℕ)) → count ≡ length (name ∷ key ∷ words)
     → (((before ++ header_spelling 42 count) ++ bulk_spelling name) ++ bulk_spelling key) ++ bulks_spelling words ≡ before ++ request_spelling (name ∷ key ∷ words)
 request_in_parts before count name key words counted =
     append_assoc ((before ++ header_spelling 42 count) ++ bulk_spelling name) (bulk_spelling key) (bulks_spelling words)
@@ -34,7 +34,7 @@ pub string_spelled : (before name key string : List ℕ)
     → (((before ++ header_spelling 42 3) ++ bulk_spelling name) ++ bulk_spelling key) ++ bulk_spelling string ≡ before ++ request_spelling (name ∷ key ∷ string ∷ [])
 string_spelled before name key string =
     ap (λ (bytes : List ℕ). (((before ++ header_spelling 42 3) ++ bulk_spelling name) ++ bulk_spelling key) ++ bytes) (sym (append-nil (bulk_spelling string)))
-    ∙ request_in_parts before 3 name key (string ∷ []) refl
+    ∙ request_in_parts before 3 name key (string ∷ []) (omega arith)
 
 two_words_each : (pairs : Pairs) → length (words_of pairs) ≡ 2 * length pairs
 two_words_each [] = refl
