@@ -1,7 +1,7 @@
 """Which state of each crate's files its wrong bodies were last refused at: the lines of gate/WRONG.
 
-A line is `NAME DATE N refused SUM`, as `./check --wrong` writes it, or `NAME DATE not tried SUM`, which is written by hand where the
-wrong bodies are to be tried later. The sum is of the crate's folders `src`, `specs`, `proofs` and `wrong`.
+A line is `NAME DATE N refused SUM`, as `./check --wrong` writes it, or `NAME DATE not tried SUM`, as `tests/documents/run --fix` writes it
+of a crate that has changed since. The sum is of the crate's folders `src`, `specs`, `proofs` and `wrong`.
 """
 
 import datetime
@@ -68,18 +68,28 @@ def write(head, lines):
         file.writelines(f"{it}\n" for it in [*head, *(lines[crate] for crate in sorted(lines))])
 
 
+def put_off():
+    """Writes of each crate that has changed since its line was written that its wrong bodies are to be tried later. Returns these crates."""
+    head, lines = read()
+    changed = [it for it in crates_with_wrong_bodies() if it not in lines or lines[it].state != state_of(it)]
+    for crate in changed:
+        lines[crate] = Line(crate, datetime.date.today().isoformat(), None, state_of(crate))
+    if changed:
+        write(head, lines)
+    return changed
+
+
 def faults():
-    """Yields what is wrong with the file, and which command or line mends it."""
+    """Yields what is wrong with the file, and which command mends it."""
     head, lines = read()
     yield from (f"not a line: {it}" for it in head if not it.startswith("#"))
     crates = crates_with_wrong_bodies()
     yield from (f"{it} has no wrong bodies: remove its line" for it in lines if it not in crates)
     for crate in crates:
-        line, state = lines.get(crate), state_of(crate)
+        line = lines.get(crate)
         since = f"it has changed since its line was written on {line.date}" if line else "its wrong bodies have no line"
-        if line is None or line.state != state:
-            later = Line(crate, datetime.date.today().isoformat(), None, state)
-            yield f"{crate}: {since}. ./check --wrong {crate} tries them and writes it. Where that is for later, write: {later}"
+        if line is None or line.state != state_of(crate):
+            yield f"{crate}: {since}. ./check --wrong {crate} tries them; tests/documents/run --fix writes that they are to be tried later"
         elif line.number not in (None, len(bodies_of(crate))):
             yield f"{crate} has {len(bodies_of(crate))} wrong bodies, and not {line.number}"
 
