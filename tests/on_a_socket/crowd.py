@@ -14,7 +14,7 @@ from wire import OK, connect, playing, spelled, take
 
 # So many clients, each with so many requests in a pipeline. How long the line may take to come, and how long none is to come.
 CLIENTS, PIPELINE = 16, 200
-PATIENCE, SILENCE = 60, 5
+PATIENCE, SILENCE = 300, 5
 REQUESTS, REPLIES = spelled(b"SET", b"a", b"1") * PIPELINE, OK * PIPELINE
 
 
