@@ -12,14 +12,16 @@ from clusters import ports_of
 from program import CROWD, Server
 from wire import OK, connect, playing, spelled, take
 
+# The threads have to wait for each other in ten ticks in a row, so short ticks see a crowd sooner.
+TICK_MS = 10
 # So many clients, each with so many requests in a pipeline. How long the line may take to come, and how long none is to come.
 CLIENTS, PIPELINE = 16, 200
-PATIENCE, SILENCE = 300, 5
+PATIENCE, SILENCE = 60, 5
 REQUESTS, REPLIES = spelled(b"SET", b"a", b"1") * PIPELINE, OK * PIPELINE
 
 
 def play(judge):
-    cluster = clusters.masters(1)
+    cluster = clusters.masters(1, tick_ms=TICK_MS)
     (port,) = ports_of(cluster)
     is_over = threading.Event()
     with Server(cluster) as server:
