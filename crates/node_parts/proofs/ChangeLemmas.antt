@@ -1,5 +1,5 @@
 -- Changes of a node, and a draft that is made.
-use Rattle.std.proofs.Common.{◌≡◌, ◌≤◌, ◌+◌, ◌-◌, ℕ, List, [], ◌∷◌, length, Option, Some, None, refl, sym, ap, ◌∙◌, subst, arith}
+use Rattle.std.proofs.Common.{◌≡◌, ◌≤◌, ◌+◌, ◌-◌, ℕ, List, [], ◌∷◌, length, Option, Some, None, true≢false, refl, sym, ap, ◌∙◌, subst, arith}
 use Rattle.bus.specs.declared.message.Body.{Body}
 use Rattle.migrate.specs.Acknowledging.{frozen_keys}
 use Rattle.slot_state.specs.Moves.{move_of}
@@ -7,8 +7,8 @@ use Rattle.slot_state.specs.declared.copy_id.CopyId.{CopyId}
 use Rattle.keyspace.specs.Keyspace.{Keyspace}
 use Rattle.keyspace.specs.declared.plans.Plan.{Plan}
 use Rattle.node_parts.specs.Becomes.{Becomes, CanBeMade, freed}
-use Rattle.node_parts.specs.Drafts.{Comes, Drafts, HasNothing, IsDraftOf, Promotes, Records, at_epoch, sends, stamped_draft}
-use Rattle.node_parts.specs.Making.{GoesOn, IsApplied, IsMade}
+use Rattle.node_parts.specs.Drafts.{Comes, Drafts, HasNothing, IsDraftOf, MayCount, Promotes, Records, at_epoch, sends, stamped_draft}
+use Rattle.node_parts.specs.Making.{CanMake, GoesOn, IsApplied, IsMade}
 use Rattle.node_parts.specs.Succession.{promoted_by, succeeded_by}
 use Rattle.node_parts.specs.declared.succession.Succession.{Succession}
 use Rattle.node_parts.specs.declared.change.Change.{Change}
@@ -22,6 +22,7 @@ use Rattle.resp_values.specs.declared.reply.Reply.{Reply}
 use Rattle.node_step.specs.Requests.{using_up}
 use Rattle.node_step.specs.State.{NodeState, kept_in}
 use Rattle.node_step.specs.Streams.{MayGiveUp, Requests, with_written}
+use Rattle.repl_stream.specs.Written.{WrittenView, no_writes}
 use Rattle.resp2.specs.Stream.{stream_spelling}
 use Rattle.stream_values.specs.Stream.{StreamView, written}
 use Rattle.node_step.specs.declared.outputs.Outputs.{Outputs}
@@ -147,10 +148,10 @@ pub applied_alike : (old : NodeState) (draft other : Draft) (new : NodeState) �
 applied_alike old draft other new epoch written plan change succession is = record {
   made = is.made;
   makes =
-      subst (λ e. IsMade (at_epoch old e) draft.plan draft.change draft.written.items is.made) epoch
-      (subst (λ (w : List ℕ). IsMade (at_epoch old other.epoch) draft.plan draft.change w is.made) (ap (λ w. w.items) written)
-      (subst (λ (p : Plan). IsMade (at_epoch old other.epoch) p draft.change other.written.items is.made) plan
-      (subst (λ (c : Change). IsMade (at_epoch old other.epoch) other.plan c other.written.items is.made) change is.makes)));
+      subst (λ e. IsMade (at_epoch old e) draft.plan draft.change draft.written.bytes is.made) epoch
+      (subst (λ (w : List ℕ). IsMade (at_epoch old other.epoch) draft.plan draft.change w is.made) (ap (λ (w : WrittenView). w.bytes) written)
+      (subst (λ (p : Plan). IsMade (at_epoch old other.epoch) p draft.change other.written.bytes is.made) plan
+      (subst (λ (c : Change). IsMade (at_epoch old other.epoch) other.plan c other.written.bytes is.made) change is.makes)));
   state = is.state ∙ ap (λ (s : Option Succession). succeeded_by s is.made) succession;
 }
 
@@ -184,6 +185,10 @@ outputs_alike : (ticket : ℕ) (outcome : Outcome) (requests : Requests) (droppe
     → sends outcome.state.number ticket outcome.state.current_epoch outcome.response outcome.released (with_written outcome requests dropped).sent outcome.promoted ≡ outputs_of ticket (with_written outcome requests dropped)
 outputs_alike ticket outcome [] dropped = refl
 outputs_alike ticket outcome (request ∷ requests) dropped = refl
+
+-- nothing is not counted
+may_count : (old : NodeState) (draft : Draft) → draft.written ≡ no_writes → MayCount old draft.written
+may_count old draft none counted = absurd (true≢false (sym counted ∙ ap (λ (w : WrittenView). w.is_counted) none))
 
 -- a draft that is made comes to what may come
 pub made_comes : (ticket : ℕ) (old : NodeState) (May : Outcome → Type 0) (draft : Draft) (outputs : Outputs) (new : NodeState) → IsDraftOf old May draft → outputs ≡ stamped_draft old ticket draft
@@ -219,11 +224,11 @@ after_promotion : (old : NodeState) (succession : Option Succession) → ((succe
 after_promotion old None = (refl, refl)
 after_promotion old (Some succession) = (refl, refl)
 
-nothing_made : (old new : NodeState) (draft : Draft) → draft.epoch ≡ old.current_epoch → draft.change ≡ Nothing → draft.written.items ≡ []
-    → IsMade (at_epoch old draft.epoch) draft.plan draft.change draft.written.items new → new ≡ old
+nothing_made : (old new : NodeState) (draft : Draft) → draft.epoch ≡ old.current_epoch → draft.change ≡ Nothing → draft.written ≡ no_writes
+    → IsMade (at_epoch old draft.epoch) draft.plan draft.change draft.written.bytes new → new ≡ old
 nothing_made old new draft own none empty made =
     let same : made.after ≡ old = subst (λ (c : Change). Becomes (at_epoch old draft.epoch) draft.plan c made.after) none made.changes ∙ ap (at_epoch old) own in
-    let stays : new.stream ≡ made.after.stream = subst (λ bytes. GoesOn (kept_in old.config) bytes made.after.stream new.stream) empty made.goes_on in
+    let stays : new.stream ≡ made.after.stream = subst (λ (w : WrittenView). GoesOn (kept_in old.config) w.bytes made.after.stream new.stream) empty made.goes_on in
     made.state ∙ ap (λ (s : StreamView). record made.after { stream = s }) stays ∙ same
 
 pub promotion_comes : (ticket : ℕ) (old : NodeState) (May : Outcome → Type 0) (outcome : Outcome) (draft : Draft) (outputs : Outputs) (new : NodeState) → May outcome → Promotes old outcome draft
@@ -246,11 +251,11 @@ promotion_comes ticket old May outcome draft outputs new may is are applied =
     }
 
 -- and it can be made
-pub draft_can_be_made : (old : NodeState) (May : Outcome → Type 0) (draft : Draft) → IsDraftOf old May draft → CanBeMade old draft.plan draft.change
-draft_can_be_made old May draft is = can_be_made (at_epoch old draft.epoch) draft.plan draft.change is.outcome.state is.records.state
+pub draft_can_be_made : (old : NodeState) (May : Outcome → Type 0) (draft : Draft) → IsDraftOf old May draft → CanMake old draft
+draft_can_be_made old May draft is = (can_be_made (at_epoch old draft.epoch) draft.plan draft.change is.outcome.state is.records.state, is.records.counted)
 
-pub promotion_can_be_made : (old : NodeState) (outcome : Outcome) (draft : Draft) → Promotes old outcome draft → CanBeMade old draft.plan draft.change
-promotion_can_be_made old outcome draft is = subst (λ (c : Change). CanBeMade old draft.plan c) (sym is.change) tt
+pub promotion_can_be_made : (old : NodeState) (outcome : Outcome) (draft : Draft) → Promotes old outcome draft → CanMake old draft
+promotion_can_be_made old outcome draft is = (subst (λ (c : Change). CanBeMade old draft.plan c) (sym is.change) tt, may_count old draft is.written)
 
 -- a draft that writes nothing
 pub records_nothing : (old : NodeState) (outcome : Outcome) (draft : Draft) → Drafts old outcome draft → Records old outcome [] draft
@@ -259,7 +264,8 @@ records_nothing old outcome draft drafts = record {
   released = drafts.released;
   sent = drafts.sent;
   promoted = drafts.promoted;
-  written = drafts.written;
+  written = ap (λ (w : WrittenView). w.bytes) drafts.written;
+  counted = may_count old draft drafts.written;
   stays = drafts.stays;
   state = drafts.state;
 }
@@ -302,7 +308,7 @@ module _ (old : NodeState) (draft replied_draft : Draft) (why : Why) (reply : Re
 
   -- the same with messages between them
   pub drafts_sending : (bodies : List (ℕ × Body)) (said new : Draft) → said.bodies.items ≡ bodies → said.response ≡ replied_draft.response → said.released ≡ replied_draft.released
-      → said.epoch ≡ replied_draft.epoch → said.written.items ≡ replied_draft.written.items → said.plan ≡ replied_draft.plan → said.succession ≡ replied_draft.succession
+      → said.epoch ≡ replied_draft.epoch → said.written ≡ replied_draft.written → said.plan ≡ replied_draft.plan → said.succession ≡ replied_draft.succession
       → new ≡ record said { change = change } → Drafts old (replied_sending after why reply bodies) new
   drafts_sending bodies said new says response released epoch written plan succession changes =
       subst (λ d. Drafts old (replied_sending after why reply bodies) d) (sym changes)
@@ -311,7 +317,7 @@ module _ (old : NodeState) (draft replied_draft : Draft) (why : Why) (reply : Re
         released = released ∙ ap (λ (d : Draft). d.released) replies ∙ nothing.released;
         sent = says;
         promoted = refl;
-        written = written ∙ ap (λ (d : Draft). d.written.items) replies ∙ nothing.written;
+        written = written ∙ ap (λ (d : Draft). d.written) replies ∙ nothing.written;
         stays = succession ∙ ap (λ (d : Draft). d.succession) replies ∙ nothing.succession;
         state = subst (λ p. Becomes (at_epoch old said.epoch) p change after) (sym (plan ∙ ap (λ (d : Draft). d.plan) replies))
             (in_own_epoch old said.epoch draft.plan change after (epoch ∙ ap (λ (d : Draft). d.epoch) replies ∙ nothing.epoch) leads);

@@ -1,5 +1,6 @@
 -- The draft of a step.
-use Rattle.std.specs.Prelude.{◌≡◌, ℕ, List, [], ◌∷◌, Option, Some, None, map}
+use Rattle.std.specs.Prelude.{◌≡◌, ℕ, true, List, [], ◌∷◌, Option, Some, None, map}
+use Rattle.repl_stream.specs.Written.{WrittenView, no_writes}
 use Rattle.resp2.specs.Stream.{stream_spelling}
 use Rattle.bus.specs.declared.message.Body.{Body}
 use Rattle.node_parts.specs.Becomes.{Becomes}
@@ -8,13 +9,17 @@ use Rattle.node_parts.specs.declared.change.Change.TheVariants.{Nothing as Uncha
 use Rattle.node_parts.specs.declared.draft.Draft.{Draft}
 use Rattle.node_parts.specs.Succession.{promoted_by, succeeded_by}
 use Rattle.node_step.specs.Outcome.{Outcome, no_outputs, outputs_of, silent, stamped}
-use Rattle.node_step.specs.State.{NodeState}
+use Rattle.node_step.specs.State.{NodeState, kept_in}
 use Rattle.node_step.specs.Streams.{MayGiveUp, Requests, with_written}
 use Rattle.node_step.specs.declared.outputs.Outputs.{Outputs}
 use Rattle.node_step.specs.declared.promotion.Promotion.{Promotion}
 use Rattle.node_step.specs.declared.outputs.Release.{Release}
 use Rattle.node_step.specs.declared.response.Response.{Response}
 use Rattle.node_step.specs.declared.response.Response.TheVariants.{Nothing, Parked}
+
+-- what is written is only counted where the node keeps no byte of its stream
+abbrev pub MayCount : NodeState → WrittenView → Type 0
+MayCount node written = written.is_counted ≡ true → kept_in node.config ≡ 0
 
 -- the node in that epoch
 abbrev pub at_epoch : NodeState → ℕ → NodeState
@@ -26,7 +31,7 @@ pub record Drafts (old : NodeState) (outcome : Outcome) (draft : Draft) : Type 0
   pub released : draft.released ≡ outcome.released
   pub sent : draft.bodies.items ≡ outcome.sent
   pub promoted : outcome.promoted ≡ None
-  pub written : draft.written.items ≡ []
+  pub written : draft.written ≡ no_writes
   pub stays : draft.succession ≡ None
   pub state : Becomes (at_epoch old draft.epoch) draft.plan draft.change outcome.state
 
@@ -40,7 +45,7 @@ pub record HasNothing (old : NodeState) (draft : Draft) : Type 0 where
   pub released : draft.released ≡ []
   pub sent : draft.bodies.items ≡ []
   pub epoch : draft.epoch ≡ old.current_epoch
-  pub written : draft.written.items ≡ []
+  pub written : draft.written ≡ no_writes
   pub change : draft.change ≡ Unchanged
   pub succession : draft.succession ≡ None
 
@@ -51,7 +56,7 @@ pub record Promotes (old : NodeState) (outcome : Outcome) (draft : Draft) : Type
   pub sent : draft.bodies.items ≡ outcome.sent
   pub promoted : promoted_by old draft.succession ≡ outcome.promoted
   pub epoch : draft.epoch ≡ old.current_epoch
-  pub written : draft.written.items ≡ []
+  pub written : draft.written ≡ no_writes
   pub change : draft.change ≡ Unchanged
   pub state : outcome.state ≡ succeeded_by draft.succession old
 
@@ -61,7 +66,8 @@ pub record Records (old : NodeState) (outcome : Outcome) (requests : Requests) (
   pub released : draft.released ≡ outcome.released
   pub sent : draft.bodies.items ≡ (with_written outcome requests 0).sent
   pub promoted : outcome.promoted ≡ None
-  pub written : draft.written.items ≡ stream_spelling requests
+  pub written : draft.written.bytes ≡ stream_spelling requests
+  pub counted : MayCount old draft.written
   pub stays : draft.succession ≡ None
   pub state : Becomes (at_epoch old draft.epoch) draft.plan draft.change outcome.state
 

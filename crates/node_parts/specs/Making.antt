@@ -1,8 +1,8 @@
 -- A step that is made: a change of the node, and what is written behind its stream.
 use Rattle.std.specs.Prelude.{◌≡◌, ℕ, List, [], ◌∷◌}
 use Rattle.keyspace.specs.declared.plans.Plan.{Plan}
-use Rattle.node_parts.specs.Becomes.{Becomes}
-use Rattle.node_parts.specs.Drafts.{at_epoch}
+use Rattle.node_parts.specs.Becomes.{Becomes, CanBeMade}
+use Rattle.node_parts.specs.Drafts.{MayCount, at_epoch}
 use Rattle.node_parts.specs.Succession.{succeeded_by}
 use Rattle.node_parts.specs.declared.draft.Draft.{Draft}
 use Rattle.node_parts.specs.declared.change.Change.{Change}
@@ -24,5 +24,9 @@ pub record IsMade (old : NodeState) (plan : Plan) (change : Change) (bytes : Lis
 -- a draft is made: its change, what it writes, and a promotion, if there is one
 pub record IsApplied (old : NodeState) (draft : Draft) (new : NodeState) : Type 0 where
   pub made : NodeState
-  pub makes : IsMade (at_epoch old draft.epoch) draft.plan draft.change draft.written.items made
+  pub makes : IsMade (at_epoch old draft.epoch) draft.plan draft.change draft.written.bytes made
   pub state : new ≡ succeeded_by draft.succession made
+
+-- a draft can be made: its change, and what it writes
+abbrev pub CanMake : NodeState → Draft → Type 0
+CanMake old draft = CanBeMade old draft.plan draft.change × MayCount old draft.written

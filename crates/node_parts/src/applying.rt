@@ -1,7 +1,8 @@
 //! How a draft is made: its change, and behind the stream what it writes.
-ghost use Rattle.std.specs.Prelude.{◌≡◌, ◌+◌, ◌<◌, ◌≤◌, ◌^◌, length, OnOk, OnErr};
+ghost use Rattle.std.specs.Prelude.{◌≡◌, ◌+◌, ◌<◌, ◌≤◌, ◌^◌, true, length, OnOk, OnErr};
 ghost use Rattle.node_parts.specs.Becomes.{CanBeMade};
-ghost use Rattle.node_parts.specs.Making.{GoesOn, IsApplied, IsMade};
+ghost use Rattle.node_parts.specs.Drafts.{MayCount};
+ghost use Rattle.node_parts.specs.Making.{CanMake, GoesOn, IsApplied, IsMade};
 ghost use Rattle.node_parts.specs.Succession.{succeeded_by};
 ghost use Rattle.stream_values.specs.Stream.{received};
 
@@ -11,7 +12,7 @@ use crate::draft::Draft;
 use crate::parts::NodeParts;
 use crate::succession::Succession;
 use keyspace::Plan;
-use repl_stream::{NodeStream, Stream};
+use repl_stream::{NodeStream, Stream, Written};
 use slot_store::{SlotKeys, SlotParts};
 use std::alloc::AllocError;
 
@@ -19,11 +20,11 @@ impl<S: SlotParts + SlotKeys, T: Stream> NodeParts<S, T> {
     /// Makes the change of a draft, puts what it writes behind the stream, sets the epoch, and promotes the node, if the draft says so.
     #[inline(always)]
     pub fn apply(&mut self, draft: &mut Draft) -> Result<(), AllocError>
-        requires { CanBeMade self.old draft.old.plan draft.old.change }
+        requires { CanMake self.old draft.old }
         ensures ok { OnOk result (IsApplied self.old draft.old self.new) }
         ensures err { OnErr result (self.new ≡ self.old) }
     {
-        self.change_and_write(draft.written.as_slice(), &mut draft.plan, &mut draft.change)?;
+        self.change_and_write(&draft.written, &mut draft.plan, &mut draft.change)?;
         self.election.current_epoch = draft.epoch;
         self.succeed_by(draft.succession.take());
         Ok(())
@@ -38,21 +39,22 @@ impl<S: SlotParts + SlotKeys, T: Stream> NodeParts<S, T> {
         }
     }
 
-    // Makes a change, and puts the bytes behind the stream. All memory that this takes is there before anything can't be undone.
+    // Makes a change, and puts what is written behind the stream. All memory that this takes is there before anything can't be undone.
     #[tactic(auto, using(crate::proofs::HalfLemmas::both_halves))]
     fn change_and_write(
         &mut self,
-        bytes: &[u8],
+        written: &Written,
         plan: &mut Plan,
         change: &mut Change,
     ) -> Result<(), AllocError>
-        requires { CanBeMade self.old plan.old change.old }
-        ensures ok { OnOk result (IsMade self.old plan.old change.old bytes.now self.new) }
+        requires change { CanBeMade self.old plan.old change.old }
+        requires counted { MayCount self.old written.now }
+        ensures ok { OnOk result (IsMade self.old plan.old change.old written.now.bytes self.new) }
         ensures err { OnErr result (self.new ≡ self.old) }
     {
-        make_room(&mut self.stream, bytes.len())?;
+        make_room(&mut self.stream, written.len())?;
         begin(self.alloc, &mut self.store, &mut self.moves, plan, &*change)?;
-        write(&mut self.stream, bytes);
+        write(&mut self.stream, written);
         self.finish(change);
         Ok(())
     }
@@ -71,15 +73,16 @@ fn make_room<T: Stream>(stream: &mut NodeStream<T>, count: usize) -> Result<(), 
     }
 }
 
-// Puts the bytes behind the stream, if there are any.
+// Puts what is written behind the stream, if it is anything.
 #[tactic(auto, using(crate::proofs::HalfLemmas::nothing_written, crate::proofs::HalfLemmas::some_written))]
-fn write<T: Stream>(stream: &mut NodeStream<T>, bytes: &[u8])
-    requires room { length bytes.now ≤ stream.old.room }
-    requires offset { received stream.old.stream + length bytes.now < 2 ^ 64 }
-    ensures goes_on { GoesOn stream.old.keeps bytes.now stream.old.stream stream.new.stream }
+fn write<T: Stream>(stream: &mut NodeStream<T>, written: &Written)
+    requires room { length written.now.bytes ≤ stream.old.room }
+    requires offset { received stream.old.stream + length written.now.bytes < 2 ^ 64 }
+    requires counted { written.now.is_counted ≡ true → stream.old.keeps ≡ 0 }
+    ensures goes_on { GoesOn stream.old.keeps written.now.bytes stream.old.stream stream.new.stream }
     ensures keeps { stream.new.keeps ≡ stream.old.keeps }
 {
-    if !bytes.is_empty() {
-        stream.append(bytes);
+    if !written.is_empty() {
+        stream.append(written);
     }
 }

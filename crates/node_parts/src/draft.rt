@@ -18,7 +18,7 @@ use bus::Body;
 use connections::{Conn, Waiting};
 use keyspace::Plan;
 use node_step::{Answer, Releases, Response, Why};
-use repl_stream::Stream;
+use repl_stream::{Stream, Written};
 use resp_values::Reply;
 use slot_store::{SlotKeys, SlotParts};
 use slot_table::{Epoch, NodeNo};
@@ -36,8 +36,8 @@ pub struct Draft {
     pub bodies: Vec<(NodeNo, Body)>,
     /// The node's epoch after the step.
     pub epoch: Epoch,
-    /// The bytes of the requests that it writes behind the node's stream.
-    pub written: Vec<u8>,
+    /// What it writes behind the node's stream: the bytes of requests.
+    pub written: Written,
     /// What changes of keys, where the change says that a plan is committed.
     pub plan: Plan,
     /// What else changes in the node.
@@ -98,7 +98,7 @@ impl<S: SlotParts + SlotKeys, T: Stream> NodeParts<S, T> {
             released: Releases::new(),
             bodies: Vec::new(self.alloc),
             epoch: self.election.current_epoch,
-            written: Vec::new(self.alloc),
+            written: Written::nothing(self.alloc),
             plan: Plan::new(self.alloc),
             change: Change::Nothing,
             succession: None,

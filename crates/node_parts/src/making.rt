@@ -1,8 +1,7 @@
 //! A step that is made: its outputs and what is recorded of them first, then the change of the node.
 ghost use Rattle.std.specs.Prelude.{◌≡◌, [], None, IfOk, OnOk, OnErr};
-ghost use Rattle.node_parts.specs.Becomes.{CanBeMade};
 ghost use Rattle.node_parts.specs.Drafts.{stamped_draft};
-ghost use Rattle.node_parts.specs.Making.{IsApplied};
+ghost use Rattle.node_parts.specs.Making.{CanMake, IsApplied};
 ghost use Rattle.node_step.specs.Plain.{HasNoReply};
 
 use crate::draft::Draft;
@@ -21,7 +20,7 @@ impl<S: SlotParts + SlotKeys, T: Stream> NodeParts<S, T> {
         ticket: u64,
         draft: &mut Draft,
     ) -> Result<(Outputs, K::Record), AllocError>
-        requires { CanBeMade self.old draft.old.plan draft.old.change }
+        requires { CanMake self.old draft.old }
         ensures outputs { IfOk result (λ made. made.0 ≡ stamped_draft self.old ticket draft.old) }
         ensures state { OnOk result (IsApplied self.old draft.old self.new) }
         ensures recorded { IfOk result (λ made. K.recorded made.1 ≡ made.0) }

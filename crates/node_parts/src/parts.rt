@@ -1,5 +1,5 @@
 //! The parts of a node.
-ghost use Rattle.std.specs.Prelude.{◌≡◌, IfOk, None, is_some, slice_index_or};
+ghost use Rattle.std.specs.Prelude.{◌≡◌, ◌==◌, IfOk, None, is_some, slice_index_or};
 ghost use Rattle.std.specs.FinMap as fin_map;
 ghost use Rattle.std.specs.List.{list_any};
 ghost use Rattle.node_step.specs.State.{first_id, first_masters, first_state, kept_in, master_in};
@@ -130,6 +130,13 @@ impl<S: SlotParts + SlotKeys, T: Stream> NodeParts<S, T> {
             stream,
             connections: Connections::new(alloc),
         })
+    }
+
+    /// Whether the node keeps no byte of its stream: there is no replica that could ask for it.
+    pub fn keeps_none(&self) -> bool
+        ensures { result ≡ (kept_in self.now.config == 0) }
+    {
+        self.stream.keeps_none()
     }
 
     /// Keeps the claim of this node, which ticks share until the table changes.

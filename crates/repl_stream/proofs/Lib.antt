@@ -1,7 +1,9 @@
 mod BlockLemmas
 mod KeptLemmas
+mod LengthLemmas
 mod PageLemmas
 mod ReadingLemmas
 mod RingLemmas
 mod TakingLemmas
 mod TurnLemmas
+mod WritingLemmas

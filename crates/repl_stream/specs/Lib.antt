@@ -3,3 +3,4 @@ pub mod Faults
 pub mod Pages
 pub mod Reading
 pub mod NodeStream
+pub mod Written

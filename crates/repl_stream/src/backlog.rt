@@ -48,6 +48,10 @@ impl Stream for Backlog {
         self.end
     }
 
+    fn kept(&self) -> usize {
+        self.ring.capacity()
+    }
+
     fn reserve(&mut self, _count: usize) -> Result<(), AllocError> {
         Ok(())
     }

@@ -1,5 +1,5 @@
 //! How many bytes a request has.
-ghost use Rattle.std.specs.Prelude.{◌≡◌, ◌+◌, ◌<◌, ◌≤◌, ◌^◌, ℕ, length};
+ghost use Rattle.std.specs.Prelude.{◌≡◌, ◌+◌, ◌<◌, ◌≤◌, ◌^◌, ℕ, decimal, length};
 ghost use Rattle.resp_values.specs.Request.{bulk_spelling, header_spelling, request_spelling};
 ghost use Rattle.resp_values.specs.declared.words.TheConstants.{MOST_WORD_BYTES};
 
@@ -32,5 +32,20 @@ fn header_len(number: usize) -> usize
     ensures len { (mark : ℕ) → result ≡ length (header_spelling mark number) }
     ensures small { result < 2 ^ 63 + 3 }
 {
-    Buffer::new().format(number).len() + 3
+    digits(number) + 3
+}
+
+// How many digits a number has. Most have one or two, and aren't spelled for this.
+#[tactic(auto, using(crate::proofs::LengthLemmas::one_digit, crate::proofs::LengthLemmas::two_digits))]
+fn digits(number: usize) -> usize
+    ensures digits { result ≡ length (decimal number) }
+    ensures small { result < 2 ^ 63 }
+{
+    if number < 10 {
+        return 1;
+    }
+    if number < 100 {
+        return 2;
+    }
+    Buffer::new().format(number).len()
 }

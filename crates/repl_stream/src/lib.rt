@@ -18,6 +18,7 @@ mod restoring;
 mod stream;
 mod whole_stream;
 mod writing;
+mod written;
 
 pub use backlog::Backlog;
 pub use block::block_of;
@@ -26,3 +27,4 @@ pub use node_stream::NodeStream;
 pub use replaces::Replaces;
 pub use stream::Stream;
 pub use whole_stream::WholeStream;
+pub use written::Written;

@@ -1,5 +1,5 @@
 //! What a node has of a stream.
-ghost use Rattle.std.specs.Prelude.{◌≡◌, ◌≤◌, IfOk};
+ghost use Rattle.std.specs.Prelude.{◌≡◌, ◌==◌, ◌≤◌, IfOk};
 ghost use Rattle.stream_values.specs.Stream.{first_stream, is_whole, promoted, received};
 
 use crate::stream::Stream;
@@ -72,6 +72,13 @@ impl<T: Stream> NodeStream<T> {
         ensures { result ≡ self.now.stream.held.id }
     {
         self.stream.id()
+    }
+
+    /// Whether it keeps no byte that came.
+    pub fn keeps_none(&self) -> bool
+        ensures { result ≡ (self.now.keeps == 0) }
+    {
+        self.stream.kept() == 0
     }
 
     /// Where the bytes end.

@@ -55,6 +55,13 @@ impl PageRing {
         self.kept
     }
 
+    /// How many it keeps at most.
+    pub fn capacity(&self) -> usize
+        ensures { result ≡ self.now.capacity }
+    {
+        self.capacity
+    }
+
     /// Puts the bytes behind its own, of which those in front go that find no room.
     pub fn extend_from_slice(&mut self, bytes: &[u8])
         ensures { self.new

@@ -45,6 +45,10 @@ pub trait Stream {
     fn end(&self) -> u64
         ensures { result ≡ end_of (held self.now) };
 
+    /// How many of the last bytes it was made to keep.
+    fn kept(&self) -> usize
+        ensures { result ≡ keeps self.now };
+
     /// Makes room for so many more bytes.
     fn reserve(&mut self, count: usize) -> Result<(), AllocError>
         ensures held { held self.new ≡ held self.old }

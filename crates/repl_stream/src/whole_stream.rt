@@ -6,7 +6,6 @@ use crate::parts::part;
 use crate::stream::Stream;
 use byte_string::ByteString;
 use std::alloc::{AllocError, Global};
-use std::snapshot::Snapshot;
 use stream_values::StreamId;
 
 /// A stream of which all bytes are kept, from where it began.
@@ -15,8 +14,8 @@ pub struct WholeStream {
     id: StreamId,
     first: u64,
     bytes: Vec<u8>,
-    // How many it has to keep, for clauses alone: it keeps more.
-    kept: Snapshot<usize>,
+    // How many it has to keep. It keeps more.
+    kept: usize,
     ghost fits: { first + length bytes.items < 2 ^ 64 },
 }
 
@@ -29,14 +28,14 @@ impl Stream for WholeStream {
 
     ghost gives_up = { λ stream count. 0 };
 
-    ghost keeps = { λ stream. stream.kept.value };
+    ghost keeps = { λ stream. stream.kept };
 
     fn begin(alloc: Global, id: StreamId, kept: usize) -> Result<WholeStream, AllocError> {
         Ok(WholeStream {
             id,
             first: 0,
             bytes: Vec::new(alloc),
-            kept: Snapshot::of(&kept),
+            kept,
         })
     }
 
@@ -50,6 +49,10 @@ impl Stream for WholeStream {
 
     fn end(&self) -> u64 {
         self.first + self.bytes.len() as u64
+    }
+
+    fn kept(&self) -> usize {
+        self.kept
     }
 
     fn reserve(&mut self, count: usize) -> Result<(), AllocError> {

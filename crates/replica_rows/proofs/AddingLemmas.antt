@@ -63,6 +63,7 @@ records_some old outcome (request ∷ requests) bytes before draft some is draft
           ∙ ap (λ (p : List (ℕ × Body)). outcome.sent ++ p) (same_pieces (at_epoch old before.epoch) outcome.state (stream_spelling (request ∷ requests)) keeps);
       promoted = drafts.promoted;
       written = adds.written ∙ is;
+      counted = adds.counted;
       stays = adds.succession ∙ drafts.stays;
       state =
           subst (λ e. Becomes (at_epoch old e) draft.plan draft.change outcome.state) (sym adds.epoch)

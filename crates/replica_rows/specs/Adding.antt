@@ -4,6 +4,7 @@ use Rattle.std.specs.List.{range_with_len}
 use Rattle.bus.specs.declared.message.Body.{Body}
 use Rattle.bus.specs.declared.bodies.StreamBody.TheVariants.{Piece}
 use Rattle.bus.specs.declared.message.Body.TheVariants.{Stream}
+use Rattle.node_parts.specs.Drafts.{MayCount}
 use Rattle.node_parts.specs.declared.draft.Draft.{Draft}
 use Rattle.node_step.specs.Orders.{to_all}
 use Rattle.node_step.specs.Roles.{is_just, replicas_of}
@@ -42,7 +43,8 @@ pub record Adds (node : NodeState) (bytes : List ℕ) (old new : Draft) : Type 0
   pub released : new.released ≡ old.released
   pub sent : new.bodies.items ≡ old.bodies.items ++ pieces_of node bytes
   pub epoch : new.epoch ≡ old.epoch
-  pub written : new.written.items ≡ bytes
+  pub written : new.written.bytes ≡ bytes
+  pub counted : MayCount node new.written
   pub plan : new.plan ≡ old.plan
   pub change : new.change ≡ old.change
   pub succession : new.succession ≡ old.succession

@@ -1,20 +1,23 @@
 //! What a step writes, in its draft.
-ghost use Rattle.std.specs.Prelude.{◌≡◌, ◌+◌, ◌^◌, nat_lt, length, false, Err, OnOk, Result};
+ghost use Rattle.std.specs.Prelude.{◌≡◌, ◌+◌, ◌^◌, nat_lt, length, [], false, true, Err, OnOk, Result};
 ghost use Rattle.command_table.specs.declared.command.Command.{Command};
 ghost use Rattle.command_table.specs.declared.fault.CommandFault.{CommandFault};
 ghost use Rattle.node_parts.specs.Drafts.{Drafts, Records};
 ghost use Rattle.node_step.specs.Numbers.{has_offset};
 ghost use Rattle.node_step.specs.Outcome.{Outcome};
+ghost use Rattle.node_step.specs.Roles.{replicas_of};
+ghost use Rattle.node_step.specs.State.{kept_in};
 ghost use Rattle.node_step.specs.Streams.{Requests, is_written, written_by_request};
 ghost use Rattle.resp2.specs.Stream.{stream_spelling};
+ghost use Rattle.resp_values.specs.Request.{request_spelling};
 ghost use Rattle.step_fault.specs.declared.fault.StepFault.TheVariants.{Exhausted};
 ghost use Rattle.replica_rows.specs.Adding.{Adds};
 ghost use Rattle.stream_values.specs.Stream.{end_of};
 
-use crate::pieces::append_pieces;
+use crate::pieces::{append_pieces, last_replica};
 use crate::writes::is_recorded;
 use node_parts::{Draft, NodeParts};
-use repl_stream::Stream;
+use repl_stream::{Stream, Written};
 use resp_values::Words;
 use slot_store::{SlotKeys, SlotParts};
 use step_fault::StepFault;
@@ -59,8 +62,40 @@ pub fn add_request<S: SlotParts + SlotKeys, T: Stream>(
     if !is_recorded(is_write, &draft.response) {
         return Ok(());
     }
+    if is_unread(node) {
+        return count(node, words, draft);
+    }
     let bytes = request_bytes(node.alloc, words.as_slice())?;
     add(node, bytes, draft)?;
+    Ok(())
+}
+
+// Whether nobody reads what the node writes: it has no replica, and keeps no byte for one.
+fn is_unread<S: SlotParts + SlotKeys, T: Stream>(node: &NodeParts<S, T>) -> bool
+    ensures kept { result ≡ true → kept_in node.now.config ≡ 0 }
+    ensures none { result ≡ true → replicas_of node.now.masters node.now.number ≡ [] }
+{
+    node.keeps_none() && last_replica(node).is_none()
+}
+
+// Counts the bytes of a request that nobody reads.
+#[tactic(auto, using(crate::proofs::PieceLemmas::none_sent))]
+fn count<S: SlotParts + SlotKeys, T: Stream>(
+    node: &NodeParts<S, T>,
+    words: &Words,
+    draft: &mut Draft,
+) -> Result<(), StepFault>
+    requires kept { kept_in node.now.config ≡ 0 }
+    requires none { replicas_of node.now.masters node.now.number ≡ [] }
+    ensures ok { OnOk result (Adds node.now (request_spelling words.now) draft.old draft.new) }
+    ensures exhausted { result ≡ Err Exhausted
+        → nat_lt (end_of node.now.stream.held + length (request_spelling words.now)) (2 ^ 64) ≡ false }
+{
+    let written = Written::counted(words);
+    if written.len() as u64 > u64::MAX - node.stream.received() {
+        return Err(StepFault::Exhausted);
+    }
+    draft.written = written;
     Ok(())
 }
 
@@ -78,6 +113,6 @@ fn add<S: SlotParts + SlotKeys, T: Stream>(
         return Err(StepFault::Exhausted);
     }
     append_pieces(node, bytes.as_slice(), &mut draft.bodies)?;
-    draft.written = bytes;
+    draft.written = Written::spelled(bytes);
     Ok(())
 }

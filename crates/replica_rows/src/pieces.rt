@@ -36,7 +36,9 @@ pub(crate) fn append_pieces<S: SlotParts + SlotKeys, T: Stream>(
 }
 
 // The last node that copies this one.
-fn last_replica<S: SlotParts + SlotKeys, T: Stream>(node: &NodeParts<S, T>) -> Option<NodeNo>
+pub(crate) fn last_replica<S: SlotParts + SlotKeys, T: Stream>(
+    node: &NodeParts<S, T>,
+) -> Option<NodeNo>
     ensures none { IfNone result (replicas_of node.now.masters node.now.number ≡ []) }
     ensures last { IfSome result (λ last.
         replicas_of node.now.masters node.now.number ≡ replicas_below node.now last ++ last ∷ []) }

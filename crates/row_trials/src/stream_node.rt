@@ -4,7 +4,7 @@ use anyhow::{Context, Result};
 use byte_string::ByteString;
 use command::{Command, parse};
 use keyspace::{Pair, Pairs, Plan, Store, TreeStore, Value, commit, plan_command};
-use repl_stream::{NodeStream, OfferFault, Stream, block_of};
+use repl_stream::{NodeStream, OfferFault, Stream, Written, block_of};
 use slot_table::{Epoch, NodeNo};
 use std::alloc::{AllocError, Global};
 use stream_values::{Base, Piece, Snapshot, StreamId};
@@ -52,10 +52,10 @@ impl<T: Stream + Drop> Node<T> {
 
     /// A write, as a master makes it.
     pub fn write(&mut self, alloc: Global, write: &str) -> Result<()> {
-        let block = request(alloc, write)?;
-        self.replica.reserve(block.len())?;
+        let written = spelled(alloc, write)?;
+        self.replica.reserve(written.len())?;
         execute(alloc, &mut self.store, write)?;
-        self.replica.append(block.as_slice());
+        self.replica.append(&written);
         Ok(())
     }
 
@@ -151,4 +151,11 @@ fn planned(alloc: Global, store: &TreeStore, write: &str) -> Result<Plan> {
 fn request(alloc: Global, write: &str) -> Result<ByteString> {
     let words = words_of(alloc, write)?;
     Ok(block_of(alloc, vec![in alloc; words]?.as_slice())?)
+}
+
+// What a master puts behind its stream for a request.
+fn spelled(alloc: Global, write: &str) -> Result<Written> {
+    let mut bytes = Vec::new(alloc);
+    bytes.extend_from_slice(request(alloc, write)?.as_slice())?;
+    Ok(Written::spelled(bytes))
 }

@@ -3,7 +3,8 @@
 use crate::stream_lines::{show, show_answer, show_offer, show_part};
 use crate::stream_node::{Node, Offered, snapshot, stream_id};
 use anyhow::Result;
-use repl_stream::{Backlog, Stream, WholeStream};
+use repl_stream::{Backlog, NodeStream, Stream, WholeStream, Written};
+use trial_nodes::words_of;
 
 // The requests, of 27 bytes each.
 const A_IS_1: &str = "SET a 1";
@@ -62,7 +63,8 @@ pub fn try_out<R: AllocGlobal + Print>(rt: &R) -> Result<()> {
     for course in COURSES {
         play_last(rt, course)?;
     }
-    show_parts(rt)
+    show_parts(rt)?;
+    show_counted(rt)
 }
 
 // How many of the last bytes are to be kept.
@@ -80,6 +82,20 @@ fn show_parts<R: AllocGlobal + Print>(rt: &R) -> Result<()> {
     println!(rt; "the ring holds {} to {}", ring.first(), ring.end())?;
     show_part(rt, "10 bytes from 16", ring.piece(rt.alloc(), 16, 10))?;
     show_part(rt, "10 bytes from 17", ring.piece(rt.alloc(), 17, 10))
+}
+
+// A master that keeps no byte of its stream counts those of a write.
+fn show_counted<R: AllocGlobal + Print>(rt: &R) -> Result<()> {
+    let mut stream = NodeStream::<Backlog>::begin(rt.alloc(), stream_id((2, 0))?, 0)?;
+    let request = words_of(rt.alloc(), A_IS_1)?;
+    let written = Written::counted(&request);
+    stream.reserve(written.len())?;
+    stream.append(&written);
+    println!(rt;
+        "a master that keeps nothing counts to {}",
+        stream.received()
+    )?;
+    Ok(())
 }
 
 fn play_whole<R: AllocGlobal + Print>(rt: &R, course: Course) -> Result<()> {
