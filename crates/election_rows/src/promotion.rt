@@ -12,13 +12,13 @@ use bus::{Body, Replaced, SlotsBody};
 use key_slot::Slot;
 use node_parts::{Draft, NodeParts, Succession};
 use repl_stream::Stream;
-use slot_store::{SlotKeys, SlotParts};
+use slot_store::SlotParts;
 use slot_table::{Claim, Epoch, NodeNo, SlotEntry, SlotTable};
 use std::alloc::AllocError;
 use stream_values::StreamId;
 
 /// Promotes the node in the place of its master, by an election of that epoch: all slots that it knows for the master's are its own.
-pub fn promote<S: SlotParts + SlotKeys, T: Stream>(
+pub fn promote<S: SlotParts, T: Stream>(
     node: &NodeParts<S, T>,
     master: NodeNo,
     epoch: Epoch,
@@ -38,7 +38,7 @@ pub fn promote<S: SlotParts + SlotKeys, T: Stream>(
 
 /// Promotes the node in the place of its master, by an election of that epoch for which the master hands over: these slots are its
 /// own.
-pub fn promote_by_plan<S: SlotParts + SlotKeys, T: Stream>(
+pub fn promote_by_plan<S: SlotParts, T: Stream>(
     node: &NodeParts<S, T>,
     master: NodeNo,
     epoch: Epoch,
@@ -58,7 +58,7 @@ pub fn promote_by_plan<S: SlotParts + SlotKeys, T: Stream>(
 }
 
 // All other nodes get the node's claim.
-fn promote_by<S: SlotParts + SlotKeys, T: Stream>(
+fn promote_by<S: SlotParts, T: Stream>(
     node: &NodeParts<S, T>,
     succession: Succession,
     draft: &mut Draft,
@@ -73,7 +73,7 @@ fn promote_by<S: SlotParts + SlotKeys, T: Stream>(
 }
 
 // The claim to the node's slots in that table for each other node.
-fn claims<S: SlotParts + SlotKeys, T: Stream>(
+fn claims<S: SlotParts, T: Stream>(
     node: &NodeParts<S, T>,
     table: &SlotTable,
     replaced: Replaced,
@@ -88,7 +88,7 @@ fn claims<S: SlotParts + SlotKeys, T: Stream>(
 }
 
 // Whose place the node takes, and where its stream begins.
-fn replaced<S: SlotParts + SlotKeys, T: Stream>(
+fn replaced<S: SlotParts, T: Stream>(
     node: &NodeParts<S, T>,
     master: NodeNo,
     epoch: Epoch,
@@ -107,7 +107,7 @@ fn replaced<S: SlotParts + SlotKeys, T: Stream>(
 }
 
 // The slots of the master are the node's own, each in the epoch of its election.
-fn table_of_master<S: SlotParts + SlotKeys, T: Stream>(
+fn table_of_master<S: SlotParts, T: Stream>(
     node: &NodeParts<S, T>,
     master: NodeNo,
     epoch: Epoch,
@@ -121,7 +121,7 @@ fn table_of_master<S: SlotParts + SlotKeys, T: Stream>(
 }
 
 // So are these slots, whatever the node knows of their owners.
-fn table_handed<S: SlotParts + SlotKeys, T: Stream>(
+fn table_handed<S: SlotParts, T: Stream>(
     node: &NodeParts<S, T>,
     slots: &Claim,
     epoch: Epoch,

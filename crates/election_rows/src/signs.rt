@@ -8,13 +8,13 @@ ghost use Rattle.node_step.specs.Ticks.{signs};
 use bus::{Body, SlotsBody, Suspects};
 use node_parts::NodeParts;
 use repl_stream::Stream;
-use slot_store::{SlotKeys, SlotParts};
+use slot_store::SlotParts;
 use slot_table::NodeNo;
 use std::alloc::AllocError;
 
 /// Puts the slots that the node has, and whom it suspects, for all other nodes behind these messages. They are a sign that it
 /// lives, also where there are none.
-pub fn append_signs<S: SlotParts + SlotKeys, T: Stream>(
+pub fn append_signs<S: SlotParts, T: Stream>(
     node: &NodeParts<S, T>,
     bodies: &mut Vec<(NodeNo, Body)>,
 ) -> Result<(), AllocError>
@@ -26,7 +26,7 @@ pub fn append_signs<S: SlotParts + SlotKeys, T: Stream>(
 }
 
 // The claim of the node for each other one.
-fn append_claims<S: SlotParts + SlotKeys, T: Stream>(
+fn append_claims<S: SlotParts, T: Stream>(
     node: &NodeParts<S, T>,
     bodies: &mut Vec<(NodeNo, Body)>,
 ) -> Result<(), AllocError>
@@ -38,7 +38,7 @@ fn append_claims<S: SlotParts + SlotKeys, T: Stream>(
 }
 
 // Its report for each other one.
-fn append_reports<S: SlotParts + SlotKeys, T: Stream>(
+fn append_reports<S: SlotParts, T: Stream>(
     node: &NodeParts<S, T>,
     bodies: &mut Vec<(NodeNo, Body)>,
 ) -> Result<(), AllocError>
@@ -50,7 +50,7 @@ fn append_reports<S: SlotParts + SlotKeys, T: Stream>(
 }
 
 // The slots of the node, and whose place it took.
-fn claim<S: SlotParts + SlotKeys, T: Stream>(node: &NodeParts<S, T>) -> Result<Body, AllocError>
+fn claim<S: SlotParts, T: Stream>(node: &NodeParts<S, T>) -> Result<Body, AllocError>
     ensures { IfOk result (λ body. body ≡ Body.Slots (SlotsBody.Claim (claim_of node.now) node.now.replaced)) }
 {
     let claim = node.table.claim_of(node.alloc, node.number)?;
@@ -58,7 +58,7 @@ fn claim<S: SlotParts + SlotKeys, T: Stream>(node: &NodeParts<S, T>) -> Result<B
 }
 
 // Whom it suspects.
-fn report<S: SlotParts + SlotKeys, T: Stream>(node: &NodeParts<S, T>) -> Body
+fn report<S: SlotParts, T: Stream>(node: &NodeParts<S, T>) -> Body
     ensures { result ≡ Body.Report (suspected node.now.health (members_of node.now)) }
 {
     let suspected = node.election.health.suspected(&node.members());

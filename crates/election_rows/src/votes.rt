@@ -13,12 +13,12 @@ use election::VoteRequest;
 use node_parts::{Change, Draft, NodeParts};
 use node_step::Releases;
 use repl_stream::Stream;
-use slot_store::{SlotKeys, SlotParts};
+use slot_store::SlotParts;
 use slot_table::{Epoch, NodeNo};
 use std::alloc::{AllocError, Global};
 
 /// Asks all voters for their votes behind these messages, if an election of the node began in that epoch.
-pub fn append_requests<S: SlotParts + SlotKeys, T: Stream>(
+pub fn append_requests<S: SlotParts, T: Stream>(
     node: &NodeParts<S, T>,
     epoch: Option<Epoch>,
     bodies: &mut Vec<(NodeNo, Body)>,
@@ -41,7 +41,7 @@ pub fn append_requests<S: SlotParts + SlotKeys, T: Stream>(
 }
 
 // The body goes to each voter, by rising number, to this node too if it is one.
-fn append_to_voters<S: SlotParts + SlotKeys, T: Stream>(
+fn append_to_voters<S: SlotParts, T: Stream>(
     node: &NodeParts<S, T>,
     body: &Body,
     bodies: &mut Vec<(NodeNo, Body)>,
@@ -57,14 +57,14 @@ fn append_to_voters<S: SlotParts + SlotKeys, T: Stream>(
     Ok(())
 }
 
-fn is_voter<S: SlotParts + SlotKeys, T: Stream>(node: &NodeParts<S, T>, other: NodeNo) -> bool
+fn is_voter<S: SlotParts, T: Stream>(node: &NodeParts<S, T>, other: NodeNo) -> bool
     ensures { result ≡ is_voter (members_of node.now) other }
 {
     node.config.voters().iter().any(|voter| *voter == other)
 }
 
 /// What comes of a request for a vote: the grant, if the node votes so.
-pub fn write_vote<S: SlotParts + SlotKeys, T: Stream>(
+pub fn write_vote<S: SlotParts, T: Stream>(
     node: &NodeParts<S, T>,
     request: VoteRequest,
     granted: bool,

@@ -11,12 +11,12 @@ use connections::Conn;
 use node_parts::{Change, Draft, NodeParts, done, listed};
 use node_step::Why;
 use repl_stream::Stream;
-use slot_store::{SlotKeys, SlotParts};
+use slot_store::SlotParts;
 use slot_table::NodeNo;
 use std::alloc::AllocError;
 
 /// CLUSTER FAILOVER: a replica asks its master to hand over. A master has none whose place it could take.
-pub fn ask_master<S: SlotParts + SlotKeys, T: Stream>(
+pub fn ask_master<S: SlotParts, T: Stream>(
     node: &NodeParts<S, T>,
     conn: Conn,
     draft: &mut Draft,
@@ -36,7 +36,7 @@ pub fn ask_master<S: SlotParts + SlotKeys, T: Stream>(
 }
 
 /// Asks the master once more behind these messages, if the node asked it and has noted nothing yet.
-pub fn append_pause<S: SlotParts + SlotKeys, T: Stream>(
+pub fn append_pause<S: SlotParts, T: Stream>(
     node: &NodeParts<S, T>,
     bodies: &mut Vec<(NodeNo, Body)>,
 ) -> Result<(), AllocError>

@@ -8,14 +8,14 @@ use bus::{Body, ElectionBody, Handing};
 use node_parts::{Change, Draft, NodeParts, listed};
 use node_step::Releases;
 use repl_stream::Stream;
-use slot_store::{SlotKeys, SlotParts};
+use slot_store::SlotParts;
 use slot_table::NodeNo;
 use std::alloc::AllocError;
 use stream_values::StreamId;
 
 /// A node that has a part of that stream asks this one to hand over. A master does, if the node is its replica and has its stream, no
 /// slot is on the move, and it hands over to no other node.
-pub fn hand_over<S: SlotParts + SlotKeys, T: Stream>(
+pub fn hand_over<S: SlotParts, T: Stream>(
     node: &NodeParts<S, T>,
     from: NodeNo,
     stream: StreamId,
@@ -35,7 +35,7 @@ pub fn hand_over<S: SlotParts + SlotKeys, T: Stream>(
 }
 
 // Whether the node hands over to that one, which has a part of that stream.
-fn may_pause<S: SlotParts + SlotKeys, T: Stream>(
+fn may_pause<S: SlotParts, T: Stream>(
     node: &NodeParts<S, T>,
     from: NodeNo,
     stream: StreamId,
@@ -60,7 +60,7 @@ fn is_free_for(paused: Option<NodeNo>, replica: NodeNo) -> bool
 }
 
 // What the replica is told: at first in any case, and again as long as the node has a slot.
-fn handed_to<S: SlotParts + SlotKeys, T: Stream>(
+fn handed_to<S: SlotParts, T: Stream>(
     node: &NodeParts<S, T>,
     replica: NodeNo,
 ) -> Result<Option<(NodeNo, Body)>, AllocError>
@@ -74,7 +74,7 @@ fn handed_to<S: SlotParts + SlotKeys, T: Stream>(
 }
 
 /// Tells the replica once more behind these messages, if the node hands over to one and still has a slot.
-pub fn append_paused<S: SlotParts + SlotKeys, T: Stream>(
+pub fn append_paused<S: SlotParts, T: Stream>(
     node: &NodeParts<S, T>,
     bodies: &mut Vec<(NodeNo, Body)>,
 ) -> Result<(), AllocError>
@@ -91,9 +91,7 @@ pub fn append_paused<S: SlotParts + SlotKeys, T: Stream>(
 }
 
 // Where the stream of the node ends, and which slots it has.
-fn handing<S: SlotParts + SlotKeys, T: Stream>(
-    node: &NodeParts<S, T>,
-) -> Result<Handing, AllocError>
+fn handing<S: SlotParts, T: Stream>(node: &NodeParts<S, T>) -> Result<Handing, AllocError>
     ensures { IfOk result (λ handing. handing ≡ handing_of node.now) }
 {
     Ok(Handing {

@@ -8,11 +8,11 @@ ghost use Rattle.stream_values.specs.Stream.{is_same};
 use bus::Handing;
 use node_parts::{Change, Draft, NodeParts};
 use repl_stream::Stream;
-use slot_store::{SlotKeys, SlotParts};
+use slot_store::SlotParts;
 use std::alloc::AllocError;
 
 /// Notes what a master hands over, if the node is a replica that follows just that stream.
-pub fn note_handing<S: SlotParts + SlotKeys, T: Stream>(
+pub fn note_handing<S: SlotParts, T: Stream>(
     node: &NodeParts<S, T>,
     handing: &Handing,
     draft: &mut Draft,
@@ -30,7 +30,7 @@ pub fn note_handing<S: SlotParts + SlotKeys, T: Stream>(
 }
 
 // Whether the node is a replica that follows just that stream.
-fn concerns<S: SlotParts + SlotKeys, T: Stream>(node: &NodeParts<S, T>, handing: &Handing) -> bool
+fn concerns<S: SlotParts, T: Stream>(node: &NodeParts<S, T>, handing: &Handing) -> bool
     ensures { result ≡ (is_replica node.now && is_same handing.now.stream node.now.stream.held.id) }
 {
     node.is_replica() && handing.stream == node.stream.id()

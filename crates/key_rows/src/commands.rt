@@ -23,12 +23,12 @@ use node_step::Why;
 use redirect::Decision;
 use repl_stream::Stream;
 use resp_values::Reply;
-use slot_store::{SlotKeys, SlotParts};
+use slot_store::SlotParts;
 use slot_table::NodeNo;
 use std::alloc::AllocError;
 
 /// Drafts the answer to a command on keys.
-pub fn answer_on_keys<S: SlotParts + SlotKeys, T: Stream>(
+pub fn answer_on_keys<S: SlotParts, T: Stream>(
     node: &NodeParts<S, T>,
     conn: Conn,
     connection: Connection,
@@ -51,7 +51,7 @@ pub fn answer_on_keys<S: SlotParts + SlotKeys, T: Stream>(
 }
 
 // Executes the command, whose keys are in the slot if it has any.
-fn serve<S: SlotParts + SlotKeys, T: Stream>(
+fn serve<S: SlotParts, T: Stream>(
     node: &NodeParts<S, T>,
     conn: Conn,
     slot: Option<Slot>,
@@ -74,7 +74,7 @@ fn serve<S: SlotParts + SlotKeys, T: Stream>(
 }
 
 // The reply to the command, and the word that comes of its plan.
-fn execute<S: SlotParts + SlotKeys, T: Stream>(
+fn execute<S: SlotParts, T: Stream>(
     node: &NodeParts<S, T>,
     slot: Option<Slot>,
     place: Slot,
@@ -96,7 +96,7 @@ fn execute<S: SlotParts + SlotKeys, T: Stream>(
 }
 
 // Plans a command whose keys are in the slot on what the node has there.
-fn plan_in_slot<S: SlotParts + SlotKeys, T: Stream>(
+fn plan_in_slot<S: SlotParts, T: Stream>(
     node: &NodeParts<S, T>,
     slot: Slot,
     command: &DataCommand,
@@ -112,7 +112,7 @@ fn plan_in_slot<S: SlotParts + SlotKeys, T: Stream>(
 }
 
 // The word that the slot of a command is drained, if its plan has that said. A slot at rest costs one look.
-fn drained_by<S: SlotParts + SlotKeys, T: Stream>(
+fn drained_by<S: SlotParts, T: Stream>(
     node: &NodeParts<S, T>,
     slot: Option<Slot>,
     plan: &Plan,
@@ -130,7 +130,7 @@ fn drained_by<S: SlotParts + SlotKeys, T: Stream>(
 
 // The word that the slot is drained, where it leaves this node, and has a key that the plan leaves none of.
 #[inline(never)]
-fn drained_at<S: SlotParts + SlotKeys, T: Stream>(
+fn drained_at<S: SlotParts, T: Stream>(
     node: &NodeParts<S, T>,
     slot: Slot,
     plan: &Plan,

@@ -22,13 +22,13 @@ use redirection::{ask_reply, moved_reply};
 use repl_stream::Stream;
 use resp_values::Reply;
 use slot_state::{Move, MoveNo};
-use slot_store::{SlotKeys, SlotParts};
+use slot_store::SlotParts;
 use slot_table::NodeNo;
 use std::alloc::{AllocError, Global};
 
 /// The decision on a command, and the slot of its keys if it has any. The slot of a key is computed once, unless
 /// several keys are in a slot that moves.
-pub(crate) fn decision<S: SlotParts + SlotKeys, T: Stream>(
+pub(crate) fn decision<S: SlotParts, T: Stream>(
     node: &NodeParts<S, T>,
     command: &DataCommand,
     asking: Asking,
@@ -55,7 +55,7 @@ pub(crate) fn decision<S: SlotParts + SlotKeys, T: Stream>(
 }
 
 // The decision on a command with one key, which is in the slot.
-fn decision_on_key<S: SlotParts + SlotKeys, T: Stream>(
+fn decision_on_key<S: SlotParts, T: Stream>(
     node: &NodeParts<S, T>,
     slot: Slot,
     key: &ByteString,
@@ -81,7 +81,7 @@ fn decision_on_key<S: SlotParts + SlotKeys, T: Stream>(
 }
 
 // The decision on a command with several keys, the first of which is in a slot of which that move is under way.
-fn decision_in_move<S: SlotParts + SlotKeys, T: Stream>(
+fn decision_in_move<S: SlotParts, T: Stream>(
     node: &NodeParts<S, T>,
     running: &Move,
     slot: Slot,
@@ -104,7 +104,7 @@ fn decision_in_move<S: SlotParts + SlotKeys, T: Stream>(
 
 /// The reply to a command that isn't served. An ASK line names the move where the connection wants to know it.
 #[inline(never)]
-pub(crate) fn refusal<S: SlotParts + SlotKeys, T: Stream>(
+pub(crate) fn refusal<S: SlotParts, T: Stream>(
     node: &NodeParts<S, T>,
     decision: &Decision,
     connection: Connection,
@@ -123,7 +123,7 @@ pub(crate) fn refusal<S: SlotParts + SlotKeys, T: Stream>(
 }
 
 // The error that names the owner of the slot.
-fn moved<S: SlotParts + SlotKeys, T: Stream>(
+fn moved<S: SlotParts, T: Stream>(
     node: &NodeParts<S, T>,
     slot: Slot,
     to: NodeNo,
@@ -137,7 +137,7 @@ fn moved<S: SlotParts + SlotKeys, T: Stream>(
 }
 
 // The error that names the node that the slot goes to.
-fn ask<S: SlotParts + SlotKeys, T: Stream>(
+fn ask<S: SlotParts, T: Stream>(
     node: &NodeParts<S, T>,
     slot: Slot,
     to: NodeNo,

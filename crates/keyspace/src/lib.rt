@@ -34,4 +34,4 @@ pub use replay::{
     rebuilding_makes_the_keyspace, requests_execute_their_commands, writes_leave_the_keyspace,
 };
 pub use store::{Store, TreeStore};
-pub use value::{Value, rebuild, rebuilding_makes_the_key, rebuilding_words};
+pub use value::{Value, rebuild, rebuilding_makes_the_key};

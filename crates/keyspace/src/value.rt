@@ -39,8 +39,8 @@ pub fn rebuild(alloc: Global, key: &ByteString, value: &Value) -> Result<Words, 
     Ok(Words::new(items).unwrap())
 }
 
-/// Its words, which may be more or longer than those of a request that a server takes.
-pub fn rebuilding_words(
+// Its words, which may be more or longer than those of a request that a server takes.
+fn rebuilding_words(
     alloc: Global,
     key: &ByteString,
     value: &Value,

@@ -12,14 +12,14 @@ use connections::Waiting;
 use key_slot::Slot;
 use node_parts::{Change, Draft, NodeParts};
 use repl_stream::Stream;
-use slot_store::{SlotKeys, SlotParts};
+use slot_store::SlotParts;
 use slot_table::{Claim, NodeNo};
 use std::alloc::AllocError;
 use stream_requests::cleared_bytes;
 
 /// Learns the slots of another node. Those that it takes from this one leave with their keys. It gives the requests that this writes.
 #[inline(never)]
-pub(crate) fn take_claim<S: SlotParts + SlotKeys, T: Stream>(
+pub(crate) fn take_claim<S: SlotParts, T: Stream>(
     node: &NodeParts<S, T>,
     from: NodeNo,
     taken: &Claim,
@@ -46,7 +46,7 @@ pub(crate) fn take_claim<S: SlotParts + SlotKeys, T: Stream>(
 }
 
 // The slots of this node that the claim takes.
-fn lost_to<S: SlotParts + SlotKeys, T: Stream>(
+fn lost_to<S: SlotParts, T: Stream>(
     node: &NodeParts<S, T>,
     from: NodeNo,
     claim: &Claim,

@@ -25,13 +25,13 @@ use node_parts::{Change, Draft, NodeParts, done, listed};
 use node_step::Releases;
 use repl_stream::Stream;
 use slot_state::{CopyId, MoveNo};
-use slot_store::{SlotKeys, SlotParts};
+use slot_store::SlotParts;
 use slot_table::{Epoch, NodeNo};
 use std::alloc::{AllocError, Global};
 use stream_requests::{deletions_bytes, installed_bytes};
 
 /// Installs a copy that arrives, or only acknowledges it again, and gives the requests that it writes.
-pub(crate) fn take_copy<S: SlotParts + SlotKeys, T: Stream>(
+pub(crate) fn take_copy<S: SlotParts, T: Stream>(
     node: &NodeParts<S, T>,
     from: NodeNo,
     id: CopyId,
@@ -83,7 +83,7 @@ fn plan_of(alloc: Global, pairs: &[Pair]) -> Result<Plan, AllocError>
 }
 
 /// Deletes the keys whose copy was installed, answers those who wait for that, and gives the requests that it writes.
-pub(crate) fn take_ack<S: SlotParts + SlotKeys, T: Stream>(
+pub(crate) fn take_ack<S: SlotParts, T: Stream>(
     node: &NodeParts<S, T>,
     from: NodeNo,
     id: CopyId,
@@ -111,7 +111,7 @@ pub(crate) fn take_ack<S: SlotParts + SlotKeys, T: Stream>(
 }
 
 // The word that the slot is drained, where the keys are its last.
-fn drained_by_ack<S: SlotParts + SlotKeys, T: Stream>(
+fn drained_by_ack<S: SlotParts, T: Stream>(
     node: &NodeParts<S, T>,
     place: Slot,
     keys: &[ByteString],
@@ -125,7 +125,7 @@ fn drained_by_ack<S: SlotParts + SlotKeys, T: Stream>(
 }
 
 // Whether the slot has keys, and none but these.
-fn are_last<S: SlotParts + SlotKeys, T: Stream>(
+fn are_last<S: SlotParts, T: Stream>(
     node: &NodeParts<S, T>,
     place: Slot,
     keys: &[ByteString],
@@ -151,7 +151,7 @@ pub(crate) fn is_among(keys: &[ByteString], key: &ByteString) -> bool
 }
 
 /// Notes that a slot is drained that comes to this node.
-pub(crate) fn take_drained<S: SlotParts + SlotKeys, T: Stream>(
+pub(crate) fn take_drained<S: SlotParts, T: Stream>(
     node: &NodeParts<S, T>,
     from: NodeNo,
     slot: Slot,

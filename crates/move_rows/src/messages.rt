@@ -9,12 +9,12 @@ use crate::copies::{take_ack, take_copy, take_drained};
 use bus::SlotsBody;
 use node_parts::{Draft, NodeParts};
 use repl_stream::Stream;
-use slot_store::{SlotKeys, SlotParts};
+use slot_store::SlotParts;
 use slot_table::NodeNo;
 use std::alloc::AllocError;
 
 /// Takes what that node says, and gives the requests that it writes.
-pub fn take_of_slots<S: SlotParts + SlotKeys, T: Stream>(
+pub fn take_of_slots<S: SlotParts, T: Stream>(
     node: &NodeParts<S, T>,
     from: NodeNo,
     body: &SlotsBody,

@@ -28,13 +28,13 @@ use node_step::{StepFault, Why};
 use repl_stream::Stream;
 use resp_values::{Line, Reply};
 use slot_state::{CopyId, Keys, Move};
-use slot_store::{SlotKeys, SlotParts};
+use slot_store::SlotParts;
 use slot_table::NodeNo;
 use std::alloc::AllocError;
 
 /// Copies the keys to the node at that address, and has the connection wait for the acknowledgement.
 #[inline(never)]
-pub fn migrate_keys<S: SlotParts + SlotKeys, T: Stream>(
+pub fn migrate_keys<S: SlotParts, T: Stream>(
     node: &NodeParts<S, T>,
     conn: Conn,
     target: Option<NodeNo>,
@@ -63,7 +63,7 @@ pub fn migrate_keys<S: SlotParts + SlotKeys, T: Stream>(
 
 // Copies these keys of the slot, which are there.
 #[tactic(auto, using(crate::proofs::SendingLemmas::copy_drafted, crate::proofs::SendingLemmas::copy_drafted_again, node_step::proofs::Outstanding::copied_leaves))]
-fn migrate_those<S: SlotParts + SlotKeys, T: Stream>(
+fn migrate_those<S: SlotParts, T: Stream>(
     node: &NodeParts<S, T>,
     conn: Conn,
     slot: Slot,
@@ -134,7 +134,7 @@ fn has_other_slot(place: Slot, keys: &[ByteString]) -> bool
 }
 
 // The keys that are there, each once, in the order in which they are named first.
-fn those_there<S: SlotParts + SlotKeys, T: Stream>(
+fn those_there<S: SlotParts, T: Stream>(
     node: &NodeParts<S, T>,
     named: &[ByteString],
 ) -> Result<Vec<ByteString>, AllocError>
@@ -159,7 +159,7 @@ fn add_named(keys: &mut Vec<ByteString>, key: &ByteString, is_there: bool) -> Re
 }
 
 // Sends the outstanding copy again, and the connection waits for it, too.
-fn send_again<S: SlotParts + SlotKeys, T: Stream>(
+fn send_again<S: SlotParts, T: Stream>(
     node: &NodeParts<S, T>,
     conn: Conn,
     wait: Wait,
@@ -177,7 +177,7 @@ fn send_again<S: SlotParts + SlotKeys, T: Stream>(
 }
 
 // Sends the copy that the connection then waits for. The keys are frozen from then on.
-fn send_copy<S: SlotParts + SlotKeys, T: Stream>(
+fn send_copy<S: SlotParts, T: Stream>(
     node: &NodeParts<S, T>,
     conn: Conn,
     to: NodeNo,
@@ -198,7 +198,7 @@ fn send_copy<S: SlotParts + SlotKeys, T: Stream>(
 }
 
 // The copy that is not acknowledged, of a slot with that move.
-fn outstanding<S: SlotParts + SlotKeys, T: Stream>(
+fn outstanding<S: SlotParts, T: Stream>(
     node: &NodeParts<S, T>,
     slot: Slot,
     running: Option<&Move>,
@@ -227,7 +227,7 @@ fn outstanding<S: SlotParts + SlotKeys, T: Stream>(
 }
 
 /// The copy of the keys with their values, for the node that their slot leaves to.
-pub(crate) fn copy_of<S: SlotParts + SlotKeys, T: Stream>(
+pub(crate) fn copy_of<S: SlotParts, T: Stream>(
     node: &NodeParts<S, T>,
     to: NodeNo,
     id: CopyId,
@@ -240,7 +240,7 @@ pub(crate) fn copy_of<S: SlotParts + SlotKeys, T: Stream>(
 }
 
 // The keys that are there, with their values. Long values share their bytes with the store.
-fn pairs_at<S: SlotParts + SlotKeys, T: Stream>(
+fn pairs_at<S: SlotParts, T: Stream>(
     node: &NodeParts<S, T>,
     keys: &[ByteString],
 ) -> Result<Vec<Pair>, AllocError>

@@ -22,13 +22,13 @@ use node_step::{StepFault, Why};
 use repl_stream::Stream;
 use resp_values::Reply;
 use slot_state::{ImportVerdict, MigrateVerdict, MoveNo, NodeVerdict, Order, epoch_after_import};
-use slot_store::{SlotKeys, SlotParts};
+use slot_store::SlotParts;
 use slot_table::{Claim, Epoch, NodeNo, SlotEntry};
 use std::alloc::AllocError;
 
 /// Begins or ends a move of a slot, as the order says.
 #[tactic(auto, using(crate::proofs::Obeying::importing_obeys, crate::proofs::Obeying::migrating_obeys, crate::proofs::Obeying::giving_obeys))]
-pub fn obey<S: SlotParts + SlotKeys, T: Stream>(
+pub fn obey<S: SlotParts, T: Stream>(
     node: &NodeParts<S, T>,
     conn: Conn,
     order: SlotOrder,
@@ -52,7 +52,7 @@ pub fn obey<S: SlotParts + SlotKeys, T: Stream>(
 }
 
 // Begins to import the slot, if nothing stands against it.
-fn import<S: SlotParts + SlotKeys, T: Stream>(
+fn import<S: SlotParts, T: Stream>(
     node: &NodeParts<S, T>,
     conn: Conn,
     order: Order,
@@ -69,10 +69,7 @@ fn import<S: SlotParts + SlotKeys, T: Stream>(
 }
 
 // The verdict on an order to import a slot.
-fn import_verdict<S: SlotParts + SlotKeys, T: Stream>(
-    node: &NodeParts<S, T>,
-    order: &Order,
-) -> ImportVerdict
+fn import_verdict<S: SlotParts, T: Stream>(node: &NodeParts<S, T>, order: &Order) -> ImportVerdict
     ensures { result
         ≡ import_verdict (standing node.now order.now.slot) (move_of node.now.moves order.now.slot)
         (last_move_of node.now.moves order.now.slot) order.now.node order.now.number }
@@ -82,7 +79,7 @@ fn import_verdict<S: SlotParts + SlotKeys, T: Stream>(
 }
 
 // Begins to migrate the slot, if nothing stands against it.
-fn migrate_slot<S: SlotParts + SlotKeys, T: Stream>(
+fn migrate_slot<S: SlotParts, T: Stream>(
     node: &NodeParts<S, T>,
     conn: Conn,
     order: Order,
@@ -103,10 +100,7 @@ fn migrate_slot<S: SlotParts + SlotKeys, T: Stream>(
 }
 
 // The verdict on an order to migrate a slot.
-fn migrate_verdict<S: SlotParts + SlotKeys, T: Stream>(
-    node: &NodeParts<S, T>,
-    order: &Order,
-) -> MigrateVerdict
+fn migrate_verdict<S: SlotParts, T: Stream>(node: &NodeParts<S, T>, order: &Order) -> MigrateVerdict
     ensures { result
         ≡ migrate_verdict (standing node.now order.now.slot) (move_of node.now.moves order.now.slot)
         (last_move_of node.now.moves order.now.slot) order.now.node order.now.number }
@@ -116,7 +110,7 @@ fn migrate_verdict<S: SlotParts + SlotKeys, T: Stream>(
 }
 
 // A slot without keys is drained as soon as it begins to leave.
-fn drained_at_start<S: SlotParts + SlotKeys, T: Stream>(
+fn drained_at_start<S: SlotParts, T: Stream>(
     node: &NodeParts<S, T>,
     slot: Slot,
     verdict: &MigrateVerdict,
@@ -136,7 +130,7 @@ fn drained_at_start<S: SlotParts + SlotKeys, T: Stream>(
 }
 
 // The word that none of the slot's keys is left, if that is so.
-fn drained_for<S: SlotParts + SlotKeys, T: Stream>(
+fn drained_for<S: SlotParts, T: Stream>(
     node: &NodeParts<S, T>,
     slot: Slot,
     to: NodeNo,
@@ -160,7 +154,7 @@ fn drained_for<S: SlotParts + SlotKeys, T: Stream>(
 }
 
 // Gives the slot to a node: an import ends, if it is drained.
-fn give_slot<S: SlotParts + SlotKeys, T: Stream>(
+fn give_slot<S: SlotParts, T: Stream>(
     node: &NodeParts<S, T>,
     conn: Conn,
     order: Order,
@@ -194,10 +188,7 @@ fn give_slot<S: SlotParts + SlotKeys, T: Stream>(
 }
 
 // The verdict on an order that gives a slot to a node.
-fn node_verdict<S: SlotParts + SlotKeys, T: Stream>(
-    node: &NodeParts<S, T>,
-    order: Order,
-) -> NodeVerdict
+fn node_verdict<S: SlotParts, T: Stream>(node: &NodeParts<S, T>, order: Order) -> NodeVerdict
     ensures { result ≡ ending_verdict node.now order.slot order.node order.number }
 {
     let at = node.standing(order.slot);
@@ -205,7 +196,7 @@ fn node_verdict<S: SlotParts + SlotKeys, T: Stream>(
 }
 
 // The epoch of a slot that came: above all that the node knows of.
-fn next_epoch<S: SlotParts + SlotKeys, T: Stream>(
+fn next_epoch<S: SlotParts, T: Stream>(
     node: &NodeParts<S, T>,
     slot: Slot,
     drained: Epoch,
@@ -217,7 +208,7 @@ fn next_epoch<S: SlotParts + SlotKeys, T: Stream>(
 }
 
 // The slot is the node's own in the new epoch, and claimed.
-fn end_of_import<S: SlotParts + SlotKeys, T: Stream>(
+fn end_of_import<S: SlotParts, T: Stream>(
     node: &NodeParts<S, T>,
     conn: Conn,
     slot: Slot,
@@ -241,7 +232,7 @@ fn end_of_import<S: SlotParts + SlotKeys, T: Stream>(
 }
 
 // The claim of the node once the slot is its own in that epoch.
-fn claim_with<S: SlotParts + SlotKeys, T: Stream>(
+fn claim_with<S: SlotParts, T: Stream>(
     node: &NodeParts<S, T>,
     slot: Slot,
     epoch: Epoch,

@@ -12,12 +12,12 @@ use migrate::{Resend, resent};
 use node_parts::NodeParts;
 use repl_stream::Stream;
 use slot_state::{CopyId, Move};
-use slot_store::{SlotKeys, SlotParts};
+use slot_store::SlotParts;
 use slot_table::NodeNo;
 use std::alloc::AllocError;
 
 /// What is sent again at a tick, by rising slot.
-pub fn sent_again<S: SlotParts + SlotKeys, T: Stream>(
+pub fn sent_again<S: SlotParts, T: Stream>(
     node: &NodeParts<S, T>,
 ) -> Result<Vec<(NodeNo, Body)>, AllocError>
     ensures { IfOk result
@@ -33,7 +33,7 @@ pub fn sent_again<S: SlotParts + SlotKeys, T: Stream>(
 }
 
 // Of one slot: the copy that is not acknowledged, or the word that no key is left.
-fn sent_again_in<S: SlotParts + SlotKeys, T: Stream>(
+fn sent_again_in<S: SlotParts, T: Stream>(
     node: &NodeParts<S, T>,
     slot: Slot,
     running: &Move,

@@ -22,13 +22,13 @@ use redirect::Asking;
 use repl_stream::Stream;
 use report_rows::report;
 use slot_state::Order;
-use slot_store::{SlotKeys, SlotParts};
+use slot_store::SlotParts;
 use std::alloc::AllocError;
 
 /// Answers a command about the cluster.
 #[inline(never)]
 #[tactic(auto, using(crate::proofs::AnswerLemmas::numbered_answered, crate::proofs::AnswerLemmas::failover_answered))]
-pub(crate) fn answer_about_cluster<S: SlotParts + SlotKeys, T: Stream>(
+pub(crate) fn answer_about_cluster<S: SlotParts, T: Stream>(
     node: &NodeParts<S, T>,
     conn: Conn,
     command: &ClusterCommand,
@@ -82,7 +82,7 @@ pub(crate) fn answer_about_cluster<S: SlotParts + SlotKeys, T: Stream>(
 
 // Answers a question about the cluster.
 #[tactic(auto, using(crate::proofs::AnswerLemmas::question_answered))]
-fn answer_question<S: SlotParts + SlotKeys, T: Stream>(
+fn answer_question<S: SlotParts, T: Stream>(
     node: &NodeParts<S, T>,
     conn: Conn,
     question: &ClusterCommand,
@@ -98,11 +98,7 @@ fn answer_question<S: SlotParts + SlotKeys, T: Stream>(
 }
 
 // From now on the ASK lines of the connection name the move.
-fn number_asks<S: SlotParts + SlotKeys, T: Stream>(
-    node: &NodeParts<S, T>,
-    conn: Conn,
-    draft: &mut Draft,
-)
+fn number_asks<S: SlotParts, T: Stream>(node: &NodeParts<S, T>, conn: Conn, draft: &mut Draft)
     requires { HasNothing node.now draft.old }
     ensures { Drafts node.now
         (replied (with_numbers (using_up node.now conn) conn) Told done) draft.new }
@@ -111,7 +107,7 @@ fn number_asks<S: SlotParts + SlotKeys, T: Stream>(
 }
 
 // The next request of the connection may be served in a slot that comes to this node.
-fn allow<S: SlotParts + SlotKeys, T: Stream>(
+fn allow<S: SlotParts, T: Stream>(
     node: &NodeParts<S, T>,
     conn: Conn,
     asking: Asking,

@@ -11,12 +11,12 @@ use node_parts::{NodeParts, plain};
 use node_step::{Outputs, Recorder, Response, StepFault};
 use repl_stream::{Replaces, Stream};
 use replica_rows::{answer_sync, take_piece, take_snapshot};
-use slot_store::{SlotKeys, SlotParts};
+use slot_store::SlotParts;
 use slot_table::NodeNo;
 use stream_values::{Piece, Snapshot, Sync};
 
 /// Takes what that node says.
-pub(crate) fn take_of_stream<S: SlotParts + SlotKeys + Replaces, T: Stream, K: Recorder>(
+pub(crate) fn take_of_stream<S: SlotParts + Replaces, T: Stream, K: Recorder>(
     node: &mut NodeParts<S, T>,
     ticket: u64,
     from: NodeNo,
@@ -37,7 +37,7 @@ pub(crate) fn take_of_stream<S: SlotParts + SlotKeys + Replaces, T: Stream, K: R
 
 // Answers a replica, which says how much of the stream it has.
 #[tactic(auto, using(crate::proofs::MessageLemmas::sync_drafted, node_parts::proofs::ChangeLemmas::draft_can_be_made, node_parts::proofs::ChangeLemmas::made_comes))]
-fn answer<S: SlotParts + SlotKeys, T: Stream, K: Recorder>(
+fn answer<S: SlotParts, T: Stream, K: Recorder>(
     node: &mut NodeParts<S, T>,
     ticket: u64,
     from: NodeNo,
@@ -55,7 +55,7 @@ fn answer<S: SlotParts + SlotKeys, T: Stream, K: Recorder>(
 }
 
 // Takes a piece of the own master's stream.
-fn follow_piece<S: SlotParts + SlotKeys, T: Stream, K: Recorder>(
+fn follow_piece<S: SlotParts, T: Stream, K: Recorder>(
     node: &mut NodeParts<S, T>,
     ticket: u64,
     from: NodeNo,
@@ -72,7 +72,7 @@ fn follow_piece<S: SlotParts + SlotKeys, T: Stream, K: Recorder>(
 }
 
 // Takes a snapshot of the own master's keys.
-fn follow_snapshot<S: SlotParts + SlotKeys + Replaces, T: Stream, K: Recorder>(
+fn follow_snapshot<S: SlotParts + Replaces, T: Stream, K: Recorder>(
     node: &mut NodeParts<S, T>,
     ticket: u64,
     from: NodeNo,

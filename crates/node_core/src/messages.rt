@@ -16,11 +16,11 @@ use node_parts::{Draft, NodeParts, plain};
 use node_step::{Outputs, Recorder, Response, StepFault};
 use repl_stream::{Replaces, Stream};
 use replica_rows::add_written;
-use slot_store::{SlotKeys, SlotParts};
+use slot_store::SlotParts;
 use slot_table::NodeNo;
 
 /// Takes a message for this node, of which the node took note before.
-pub(crate) fn take<S: SlotParts + SlotKeys + Replaces, T: Stream, K: Recorder>(
+pub(crate) fn take<S: SlotParts + Replaces, T: Stream, K: Recorder>(
     node: &mut NodeParts<S, T>,
     ticket: u64,
     message: &Message,
@@ -45,7 +45,7 @@ pub(crate) fn take<S: SlotParts + SlotKeys + Replaces, T: Stream, K: Recorder>(
 
 // Takes what that node says of slots.
 #[tactic(auto, using(crate::proofs::MessageLemmas::slots_taken, node_parts::proofs::ChangeLemmas::draft_can_be_made))]
-fn take_slots<S: SlotParts + SlotKeys, T: Stream, K: Recorder>(
+fn take_slots<S: SlotParts, T: Stream, K: Recorder>(
     node: &mut NodeParts<S, T>,
     ticket: u64,
     from: NodeNo,
@@ -64,7 +64,7 @@ fn take_slots<S: SlotParts + SlotKeys, T: Stream, K: Recorder>(
 }
 
 // Drafts what comes of it, with what it writes.
-fn draft_slots<S: SlotParts + SlotKeys, T: Stream>(
+fn draft_slots<S: SlotParts, T: Stream>(
     node: &NodeParts<S, T>,
     from: NodeNo,
     body: &SlotsBody,

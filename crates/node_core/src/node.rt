@@ -25,21 +25,21 @@ use node_step::{Event, Outputs, Recorder, Response, StepFault};
 use repl_stream::{Backlog, Replaces, Stream};
 use resp_values::Words;
 use slot_state::SlotMoves;
-use slot_store::{SlotKeys, SlotParts, SlotStore};
+use slot_store::{SlotParts, SlotStore};
 use slot_table::{NodeNo, SlotTable};
 use std::alloc::{AllocError, Global};
 use std::marker::Model;
 
 /// A node of the cluster: what it holds, and the steps that it takes.
 #[derive(Drop)]
-pub struct NodeCore<S: SlotParts + SlotKeys, T: Stream> {
+pub struct NodeCore<S: SlotParts, T: Stream> {
     parts: NodeParts<S, T>,
 }
 
 /// A node over the store in use, which keeps the last bytes of its stream.
 pub type Core = NodeCore<SlotStore, Backlog>;
 
-impl<S: SlotParts + SlotKeys, T: Stream> Model for NodeCore<S, T> {
+impl<S: SlotParts, T: Stream> Model for NodeCore<S, T> {
     ghost use Rattle.node_step.specs.CodedState.{coded_state};
     ghost use Rattle.node_step.specs.State.{NodeState};
 
@@ -61,7 +61,7 @@ impl NodeCore<SlotStore, Backlog> {
     }
 }
 
-impl<S: SlotParts + SlotKeys + Replaces, T: Stream> NodeCore<S, T> {
+impl<S: SlotParts + Replaces, T: Stream> NodeCore<S, T> {
     /// The node of that number over an empty store, as it begins.
     pub fn new(
         alloc: Global,

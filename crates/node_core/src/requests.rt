@@ -22,12 +22,12 @@ use node_step::{Event, StepFault, Why};
 use repl_stream::Stream;
 use replica_rows::add_request;
 use resp_values::Words;
-use slot_store::{SlotKeys, SlotParts};
+use slot_store::SlotParts;
 
 /// Drafts the answer to a request. One on a connection that isn't open, or waits for a reply, is not answered.
 #[inline(never)]
 #[tactic(auto, using(crate::proofs::AnswerLemmas::answer_is_drafted))]
-pub(crate) fn request<S: SlotParts + SlotKeys, T: Stream>(
+pub(crate) fn request<S: SlotParts, T: Stream>(
     node: &NodeParts<S, T>,
     conn: Conn,
     words: &Words,
@@ -50,7 +50,7 @@ pub(crate) fn request<S: SlotParts + SlotKeys, T: Stream>(
 }
 
 // Answers a connection that may ask, and records what the words write.
-fn answer<S: SlotParts + SlotKeys, T: Stream>(
+fn answer<S: SlotParts, T: Stream>(
     node: &NodeParts<S, T>,
     conn: Conn,
     connection: Connection,
@@ -73,7 +73,7 @@ fn answer<S: SlotParts + SlotKeys, T: Stream>(
 
 // Answers the words of a connection that may ask, and tells whether they are a write.
 #[tactic(auto, using(crate::proofs::AnswerLemmas::data_answered, crate::proofs::AnswerLemmas::fault_answered, crate::proofs::AnswerLemmas::data_written, crate::proofs::AnswerLemmas::cluster_not_written, crate::proofs::AnswerLemmas::fault_not_written))]
-fn answer_words<S: SlotParts + SlotKeys, T: Stream>(
+fn answer_words<S: SlotParts, T: Stream>(
     node: &NodeParts<S, T>,
     conn: Conn,
     connection: Connection,

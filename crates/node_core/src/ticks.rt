@@ -19,13 +19,13 @@ use node_parts::{Change, Draft, NodeParts};
 use node_step::{Outputs, Recorder, Releases, StepFault};
 use repl_stream::Stream;
 use replica_rows::append_sync;
-use slot_store::{SlotKeys, SlotParts};
+use slot_store::SlotParts;
 use slot_table::{Epoch, NodeNo};
 use std::alloc::AllocError;
 
 /// Lets a tick pass: the node grows older, an election begins, if it is due, waits end, and others are told.
 #[tactic(auto, using(crate::proofs::TickLemmas::tick_is_step, crate::proofs::TickLemmas::tick_can_be_made))]
-pub(crate) fn pass_tick<S: SlotParts + SlotKeys, T: Stream, K: Recorder>(
+pub(crate) fn pass_tick<S: SlotParts, T: Stream, K: Recorder>(
     node: &mut NodeParts<S, T>,
     ticket: u64,
 ) -> Result<(Outputs, K::Record), StepFault>
@@ -43,7 +43,7 @@ pub(crate) fn pass_tick<S: SlotParts + SlotKeys, T: Stream, K: Recorder>(
 }
 
 // Drafts a tick of a node that has grown older, and began an election in that epoch, if in any.
-fn draft_tick<S: SlotParts + SlotKeys, T: Stream>(
+fn draft_tick<S: SlotParts, T: Stream>(
     node: &NodeParts<S, T>,
     epoch: Option<Epoch>,
     draft: &mut Draft,
@@ -58,9 +58,7 @@ fn draft_tick<S: SlotParts + SlotKeys, T: Stream>(
 }
 
 // What connections get that waited as long as they wanted.
-fn released<S: SlotParts + SlotKeys, T: Stream>(
-    node: &NodeParts<S, T>,
-) -> Result<Releases, AllocError>
+fn released<S: SlotParts, T: Stream>(node: &NodeParts<S, T>) -> Result<Releases, AllocError>
     ensures { IfOk result (λ released. released ≡ (slots_tick node.now).released) }
 {
     let reply = ErrorLine::NotAcknowledged.reply();
@@ -69,7 +67,7 @@ fn released<S: SlotParts + SlotKeys, T: Stream>(
 }
 
 // What others are sent: copies again, and behind them what a tick tells.
-fn sent<S: SlotParts + SlotKeys, T: Stream>(
+fn sent<S: SlotParts, T: Stream>(
     node: &NodeParts<S, T>,
     epoch: Option<Epoch>,
 ) -> Result<Vec<(NodeNo, Body)>, AllocError>
@@ -81,7 +79,7 @@ fn sent<S: SlotParts + SlotKeys, T: Stream>(
 }
 
 // Which slots the node has, whom it suspects, how far it is as a replica, what is said of a handover, and that it asks for votes.
-fn append_told<S: SlotParts + SlotKeys, T: Stream>(
+fn append_told<S: SlotParts, T: Stream>(
     node: &NodeParts<S, T>,
     epoch: Option<Epoch>,
     bodies: &mut Vec<(NodeNo, Body)>,

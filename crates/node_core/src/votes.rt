@@ -16,12 +16,12 @@ use handover_rows::{hand_over, note_handing};
 use node_parts::{NodeParts, plain};
 use node_step::{Outputs, Recorder, Response, StepFault};
 use repl_stream::Stream;
-use slot_store::{SlotKeys, SlotParts};
+use slot_store::SlotParts;
 use slot_table::{Epoch, NodeNo};
 use stream_values::StreamId;
 
 /// Takes what that node says.
-pub(crate) fn take_of_election<S: SlotParts + SlotKeys, T: Stream, K: Recorder>(
+pub(crate) fn take_of_election<S: SlotParts, T: Stream, K: Recorder>(
     node: &mut NodeParts<S, T>,
     ticket: u64,
     from: NodeNo,
@@ -43,7 +43,7 @@ pub(crate) fn take_of_election<S: SlotParts + SlotKeys, T: Stream, K: Recorder>(
 
 // A replica wants this node, its master, to hand over.
 #[tactic(auto, using(crate::proofs::MessageLemmas::pause_drafted, node_parts::proofs::ChangeLemmas::draft_can_be_made, node_parts::proofs::ChangeLemmas::made_comes))]
-fn pause<S: SlotParts + SlotKeys, T: Stream, K: Recorder>(
+fn pause<S: SlotParts, T: Stream, K: Recorder>(
     node: &mut NodeParts<S, T>,
     ticket: u64,
     from: NodeNo,
@@ -62,7 +62,7 @@ fn pause<S: SlotParts + SlotKeys, T: Stream, K: Recorder>(
 
 // The own master tells what it hands over.
 #[tactic(auto, using(crate::proofs::MessageLemmas::paused_drafted, node_parts::proofs::ChangeLemmas::draft_can_be_made, node_parts::proofs::ChangeLemmas::made_comes))]
-fn note<S: SlotParts + SlotKeys, T: Stream, K: Recorder>(
+fn note<S: SlotParts, T: Stream, K: Recorder>(
     node: &mut NodeParts<S, T>,
     ticket: u64,
     from: NodeNo,
@@ -81,7 +81,7 @@ fn note<S: SlotParts + SlotKeys, T: Stream, K: Recorder>(
 
 // Takes the request of a node for this one's vote.
 #[tactic(auto, using(crate::proofs::VoteLemmas::vote_taken, crate::proofs::VoteLemmas::vote_drafted, node_parts::proofs::ChangeLemmas::draft_can_be_made))]
-fn ask_for_vote<S: SlotParts + SlotKeys, T: Stream, K: Recorder>(
+fn ask_for_vote<S: SlotParts, T: Stream, K: Recorder>(
     node: &mut NodeParts<S, T>,
     ticket: u64,
     from: NodeNo,
@@ -106,7 +106,7 @@ fn ask_for_vote<S: SlotParts + SlotKeys, T: Stream, K: Recorder>(
 }
 
 // Counts the vote of a node for this one, which may elect it.
-fn count_vote<S: SlotParts + SlotKeys, T: Stream, K: Recorder>(
+fn count_vote<S: SlotParts, T: Stream, K: Recorder>(
     node: &mut NodeParts<S, T>,
     ticket: u64,
     from: NodeNo,
@@ -125,7 +125,7 @@ fn count_vote<S: SlotParts + SlotKeys, T: Stream, K: Recorder>(
 }
 
 // The node is elected, and takes the place of its master, if it has one.
-fn promoted<S: SlotParts + SlotKeys, T: Stream, K: Recorder>(
+fn promoted<S: SlotParts, T: Stream, K: Recorder>(
     node: &mut NodeParts<S, T>,
     ticket: u64,
     epoch: Epoch,
@@ -148,7 +148,7 @@ fn promoted<S: SlotParts + SlotKeys, T: Stream, K: Recorder>(
 
 // The master is held failed.
 #[tactic(auto, using(crate::proofs::VoteLemmas::promotion_made, node_parts::proofs::ChangeLemmas::promotion_can_be_made))]
-fn promoted_in_place<S: SlotParts + SlotKeys, T: Stream, K: Recorder>(
+fn promoted_in_place<S: SlotParts, T: Stream, K: Recorder>(
     node: &mut NodeParts<S, T>,
     ticket: u64,
     master: NodeNo,
@@ -167,7 +167,7 @@ fn promoted_in_place<S: SlotParts + SlotKeys, T: Stream, K: Recorder>(
 
 // The master hands over. A node that hasn't all of its stream, or has noted nothing, stays a replica.
 #[tactic(auto, using(crate::proofs::VoteLemmas::promotion_made, node_parts::proofs::ChangeLemmas::promotion_can_be_made))]
-fn promoted_by_plan<S: SlotParts + SlotKeys, T: Stream, K: Recorder>(
+fn promoted_by_plan<S: SlotParts, T: Stream, K: Recorder>(
     node: &mut NodeParts<S, T>,
     ticket: u64,
     master: NodeNo,

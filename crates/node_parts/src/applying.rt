@@ -13,10 +13,10 @@ use crate::parts::NodeParts;
 use crate::succession::Succession;
 use keyspace::Plan;
 use repl_stream::{NodeStream, Stream, Written};
-use slot_store::{SlotKeys, SlotParts};
+use slot_store::SlotParts;
 use std::alloc::AllocError;
 
-impl<S: SlotParts + SlotKeys, T: Stream> NodeParts<S, T> {
+impl<S: SlotParts, T: Stream> NodeParts<S, T> {
     /// Makes the change of a draft, puts what it writes behind the stream, sets the epoch, and promotes the node, if the draft says so.
     #[inline(always)]
     pub fn apply(&mut self, draft: &mut Draft) -> Result<(), AllocError>

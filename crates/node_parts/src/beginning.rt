@@ -5,12 +5,12 @@ ghost use Rattle.node_parts.specs.Begins.{Begins, CanBegin};
 use crate::change::Change;
 use keyspace::{Plan, commit};
 use slot_state::SlotMoves;
-use slot_store::{SlotKeys, SlotParts};
+use slot_store::SlotParts;
 use std::alloc::{AllocError, Global};
 use std::mem;
 
 /// Changes keys, or lets a move begin, if the change says so. The plan is taken out then.
-pub(crate) fn begin<S: SlotParts + SlotKeys>(
+pub(crate) fn begin<S: SlotParts>(
     alloc: Global,
     store: &mut S,
     moves: &mut SlotMoves,

@@ -20,7 +20,7 @@ use keyspace::Plan;
 use node_step::{Answer, Releases, Response, Why};
 use repl_stream::{Stream, Written};
 use resp_values::Reply;
-use slot_store::{SlotKeys, SlotParts};
+use slot_store::SlotParts;
 use slot_table::{Epoch, NodeNo};
 use std::alloc::{AllocError, Global};
 
@@ -87,7 +87,7 @@ impl Draft {
     }
 }
 
-impl<S: SlotParts + SlotKeys, T: Stream> NodeParts<S, T> {
+impl<S: SlotParts, T: Stream> NodeParts<S, T> {
     /// A draft in which nothing comes out, and nothing changes.
     pub fn blank(&self) -> Draft
         ensures nothing { HasNothing self.now result }

@@ -8,10 +8,10 @@ use bus::{Body, SlotsBody};
 use key_slot::Slot;
 use repl_stream::Stream;
 use slot_state::Move;
-use slot_store::{SlotKeys, SlotParts};
+use slot_store::SlotParts;
 use slot_table::{Epoch, NodeNo};
 
-impl<S: SlotParts + SlotKeys, T: Stream> NodeParts<S, T> {
+impl<S: SlotParts, T: Stream> NodeParts<S, T> {
     /// The epoch of the slot in the table; 0 of a slot without an owner.
     pub fn slot_epoch(&self, slot: Slot) -> Epoch
         ensures { result ≡ slot_epoch self.now slot }

@@ -15,7 +15,7 @@ use crate::parts::NodeParts;
 use bus::{Body, Handing, Message, Replaced, SlotsBody};
 use election::{Candidate, Elected, Health, Members, VoteRequest, Voter, is_over, older_if_any};
 use repl_stream::Stream;
-use slot_store::{SlotKeys, SlotParts};
+use slot_store::SlotParts;
 use slot_table::{Epoch, NodeNo};
 use step_fault::StepFault;
 
@@ -57,7 +57,7 @@ impl ElectionState {
     }
 }
 
-impl<S: SlotParts + SlotKeys, T: Stream> NodeParts<S, T> {
+impl<S: SlotParts, T: Stream> NodeParts<S, T> {
     /// Who votes, and who copies whom, as the node knows it.
     pub fn members(&self) -> Members<'_>
         ensures { result ≡ members_of self.now }

@@ -23,11 +23,11 @@ use migrate::{count_copy, freeze, on_drained, on_lost, unfreeze};
 use redirect::Asking;
 use repl_stream::Stream;
 use slot_state::{CopyId, Keys};
-use slot_store::{SlotKeys, SlotParts};
+use slot_store::SlotParts;
 use slot_table::{Claim, Epoch, NodeNo, SlotEntry};
 use std::mem;
 
-impl<S: SlotParts + SlotKeys, T: Stream> NodeParts<S, T> {
+impl<S: SlotParts, T: Stream> NodeParts<S, T> {
     /// Changes all that takes no memory.
     pub(crate) fn finish(&mut self, change: &mut Change)
         ensures { Finishes self.old change.old self.new }

@@ -8,11 +8,11 @@ use crate::draft::Draft;
 use crate::parts::NodeParts;
 use node_step::{Messages, Outputs, Promoted, Recorder, Releases, Response};
 use repl_stream::Stream;
-use slot_store::{SlotKeys, SlotParts};
+use slot_store::SlotParts;
 use std::alloc::AllocError;
 use std::mem;
 
-impl<S: SlotParts + SlotKeys, T: Stream> NodeParts<S, T> {
+impl<S: SlotParts, T: Stream> NodeParts<S, T> {
     /// Makes a drafted step. Outputs and what `K` records of them are made before the node changes, so that a refusal leaves
     /// the node as it was.
     pub fn make<K: Recorder>(

@@ -6,7 +6,7 @@ ghost use Rattle.node_step.specs.State.{first_masters};
 use crate::parts::NodeParts;
 use cluster_config::{Config, NodeConfig, Role};
 use repl_stream::Stream;
-use slot_store::{SlotKeys, SlotParts};
+use slot_store::SlotParts;
 use slot_table::NodeNo;
 
 // With which masters the cluster begins: that of each node in its place, and nothing in the places behind.
@@ -72,7 +72,7 @@ fn instead(former: NodeNo, next: NodeNo, master: Option<NodeNo>) -> Option<NodeN
     }
 }
 
-impl<S: SlotParts + SlotKeys, T: Stream> NodeParts<S, T> {
+impl<S: SlotParts, T: Stream> NodeParts<S, T> {
     /// For each node the master that it is a replica of, if it is one.
     pub fn masters(&self) -> &[Option<NodeNo>]
         ensures same { result.now ≡ self.now.masters }

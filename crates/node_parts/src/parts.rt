@@ -11,14 +11,14 @@ use cluster_config::{Config, NodeConfig, Role};
 use connections::Connections;
 use repl_stream::{NodeStream, Stream};
 use slot_state::SlotMoves;
-use slot_store::{SlotKeys, SlotParts};
+use slot_store::SlotParts;
 use slot_table::{Epoch, NodeNo, SlotTable};
 use std::alloc::{AllocError, Global};
 use std::marker::Model;
 use stream_values::StreamId;
 
 /// What a node holds. The crates of a step's rows read it; only a draft that is made changes it.
-pub struct NodeParts<S: SlotParts + SlotKeys, T: Stream> {
+pub struct NodeParts<S: SlotParts, T: Stream> {
     /// Where its memory comes from.
     pub alloc: Global,
     /// The cluster.
@@ -45,7 +45,7 @@ pub struct NodeParts<S: SlotParts + SlotKeys, T: Stream> {
     pub connections: Connections,
 }
 
-impl<S: SlotParts + SlotKeys, T: Stream> Model for NodeParts<S, T> {
+impl<S: SlotParts, T: Stream> Model for NodeParts<S, T> {
     ghost use Rattle.std.specs.Prelude.{◌≡◌, length, take};
     ghost use Rattle.node_step.specs.CodedState.{coded_state};
     ghost use Rattle.node_step.specs.State.{NodeState};
@@ -78,7 +78,7 @@ impl<S: SlotParts + SlotKeys, T: Stream> Model for NodeParts<S, T> {
         (length parts.table ≡ 16384) × (parts.stream.keeps ≡ kept_in parts.config) };
 }
 
-impl<S: SlotParts + SlotKeys + Drop, T: Stream + Drop> Drop for NodeParts<S, T> {
+impl<S: SlotParts + Drop, T: Stream + Drop> Drop for NodeParts<S, T> {
     fn drop(self) {
         let NodeParts {
             alloc: _,
@@ -97,7 +97,7 @@ impl<S: SlotParts + SlotKeys + Drop, T: Stream + Drop> Drop for NodeParts<S, T> 
     }
 }
 
-impl<S: SlotParts + SlotKeys, T: Stream> NodeParts<S, T> {
+impl<S: SlotParts, T: Stream> NodeParts<S, T> {
     /// Those of the node of that number over an empty store, as it begins.
     pub fn new(
         alloc: Global,

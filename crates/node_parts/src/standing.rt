@@ -10,10 +10,10 @@ use bus::Handing;
 use key_slot::Slot;
 use repl_stream::Stream;
 use slot_state::Standing;
-use slot_store::{SlotKeys, SlotParts};
+use slot_store::SlotParts;
 use slot_table::NodeNo;
 
-impl<S: SlotParts + SlotKeys, T: Stream> NodeParts<S, T> {
+impl<S: SlotParts, T: Stream> NodeParts<S, T> {
     /// What bears on an order to move the slot.
     pub fn standing(&self, slot: Slot) -> Standing
         ensures { result ≡ standing self.now slot }

@@ -7,7 +7,7 @@ use crate::parts::NodeParts;
 use bus::Replaced;
 use node_step::{Promoted, Promotion};
 use repl_stream::Stream;
-use slot_store::{SlotKeys, SlotParts};
+use slot_store::SlotParts;
 use slot_table::{Epoch, NodeNo, SlotTable};
 use std::alloc::AllocError;
 use stream_values::StreamId;
@@ -25,7 +25,7 @@ pub struct Succession {
     pub planned: bool,
 }
 
-impl<S: SlotParts + SlotKeys, T: Stream> NodeParts<S, T> {
+impl<S: SlotParts, T: Stream> NodeParts<S, T> {
     // The promotion, as it comes out of the step, if there is one.
     pub(crate) fn promoted(&self, succession: &Option<Succession>) -> Result<Promoted, AllocError>
         ensures { IfOk result (λ promoted. promoted ≡ promoted_by self.now succession.now) }

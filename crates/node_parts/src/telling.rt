@@ -6,11 +6,11 @@ use crate::parts::NodeParts;
 use bus::Body;
 use repl_stream::Stream;
 use resp_values::{Line, Reply};
-use slot_store::{SlotKeys, SlotParts};
+use slot_store::SlotParts;
 use slot_table::NodeNo;
 use std::alloc::AllocError;
 
-impl<S: SlotParts + SlotKeys, T: Stream> NodeParts<S, T> {
+impl<S: SlotParts, T: Stream> NodeParts<S, T> {
     /// Puts this body for each other node behind these messages, by rising number.
     pub fn append_to_others(
         &self,

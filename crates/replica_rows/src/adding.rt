@@ -19,14 +19,14 @@ use crate::writes::is_recorded;
 use node_parts::{Draft, NodeParts};
 use repl_stream::{Stream, Written};
 use resp_values::Words;
-use slot_store::{SlotKeys, SlotParts};
+use slot_store::SlotParts;
 use step_fault::StepFault;
 use stream_requests::request_bytes;
 
 /// Adds the bytes of requests, if there are any, to what the draft writes: they will stand behind the node's stream, and each replica gets them as a
 /// piece.
 #[tactic(auto, using(crate::proofs::AddingLemmas::records_none, crate::proofs::AddingLemmas::records_some, crate::proofs::AddingLemmas::no_offset))]
-pub fn add_written<S: SlotParts + SlotKeys, T: Stream>(
+pub fn add_written<S: SlotParts, T: Stream>(
     node: &NodeParts<S, T>,
     bytes: Vec<u8>,
     draft: &mut Draft,
@@ -45,7 +45,7 @@ pub fn add_written<S: SlotParts + SlotKeys, T: Stream>(
 
 /// The same of a request that was answered, if it is a write that was executed without an error: it is written in its own words.
 #[tactic(auto, using(crate::proofs::AddingLemmas::request_not_written, crate::proofs::AddingLemmas::request_is_written, crate::proofs::AddingLemmas::no_offset_for_request))]
-pub fn add_request<S: SlotParts + SlotKeys, T: Stream>(
+pub fn add_request<S: SlotParts, T: Stream>(
     node: &NodeParts<S, T>,
     words: &Words,
     is_write: bool,
@@ -71,7 +71,7 @@ pub fn add_request<S: SlotParts + SlotKeys, T: Stream>(
 }
 
 // Whether nobody reads what the node writes: it has no replica, and keeps no byte for one.
-fn is_unread<S: SlotParts + SlotKeys, T: Stream>(node: &NodeParts<S, T>) -> bool
+fn is_unread<S: SlotParts, T: Stream>(node: &NodeParts<S, T>) -> bool
     ensures kept { result ≡ true → kept_in node.now.config ≡ 0 }
     ensures none { result ≡ true → replicas_of node.now.masters node.now.number ≡ [] }
 {
@@ -80,7 +80,7 @@ fn is_unread<S: SlotParts + SlotKeys, T: Stream>(node: &NodeParts<S, T>) -> bool
 
 // Counts the bytes of a request that nobody reads.
 #[tactic(auto, using(crate::proofs::PieceLemmas::none_sent))]
-fn count<S: SlotParts + SlotKeys, T: Stream>(
+fn count<S: SlotParts, T: Stream>(
     node: &NodeParts<S, T>,
     words: &Words,
     draft: &mut Draft,
@@ -100,7 +100,7 @@ fn count<S: SlotParts + SlotKeys, T: Stream>(
 }
 
 // Adds bytes behind which the stream has an offset.
-fn add<S: SlotParts + SlotKeys, T: Stream>(
+fn add<S: SlotParts, T: Stream>(
     node: &NodeParts<S, T>,
     bytes: Vec<u8>,
     draft: &mut Draft,

@@ -8,14 +8,14 @@ ghost use Rattle.stream_values.specs.Snapshot.{restored};
 
 use node_parts::NodeParts;
 use repl_stream::{OfferFault, Replaces, Stream};
-use slot_store::{SlotKeys, SlotParts};
+use slot_store::SlotParts;
 use slot_table::NodeNo;
 use std::alloc::AllocError;
 use stream_values::{Piece, Snapshot};
 
 /// Takes a piece of the own master's stream, which executes the writes there. One that can't be taken changes nothing.
 #[tactic(auto, using(crate::proofs::FollowingLemmas::own_piece, crate::proofs::FollowingLemmas::other_piece))]
-pub fn take_piece<S: SlotParts + SlotKeys, T: Stream>(
+pub fn take_piece<S: SlotParts, T: Stream>(
     node: &mut NodeParts<S, T>,
     from: NodeNo,
     piece: &Piece,
@@ -32,7 +32,7 @@ pub fn take_piece<S: SlotParts + SlotKeys, T: Stream>(
 
 // Offers the piece. Only a refusal of memory counts.
 #[tactic(auto, using(crate::proofs::FollowingLemmas::piece_taken, crate::proofs::FollowingLemmas::piece_gap, crate::proofs::FollowingLemmas::piece_of_other))]
-fn offer<S: SlotParts + SlotKeys, T: Stream>(
+fn offer<S: SlotParts, T: Stream>(
     node: &mut NodeParts<S, T>,
     piece: &Piece,
 ) -> Result<(), AllocError>
@@ -49,7 +49,7 @@ fn offer<S: SlotParts + SlotKeys, T: Stream>(
     Ok(())
 }
 
-fn is_own_master<S: SlotParts + SlotKeys, T: Stream>(node: &NodeParts<S, T>, from: NodeNo) -> bool
+fn is_own_master<S: SlotParts, T: Stream>(node: &NodeParts<S, T>, from: NodeNo) -> bool
     ensures { result ≡ is_just (own_master node.now) from }
 {
     node.own_master() == Some(from)
@@ -57,7 +57,7 @@ fn is_own_master<S: SlotParts + SlotKeys, T: Stream>(node: &NodeParts<S, T>, fro
 
 /// Takes all that the own master had, in place of what is here.
 #[tactic(auto, using(crate::proofs::FollowingLemmas::own_snapshot, crate::proofs::FollowingLemmas::other_snapshot))]
-pub fn take_snapshot<S: SlotParts + SlotKeys + Replaces, T: Stream>(
+pub fn take_snapshot<S: SlotParts + Replaces, T: Stream>(
     node: &mut NodeParts<S, T>,
     from: NodeNo,
     snapshot: &Snapshot,
@@ -72,7 +72,7 @@ pub fn take_snapshot<S: SlotParts + SlotKeys + Replaces, T: Stream>(
     Ok(())
 }
 
-fn restore<S: SlotParts + SlotKeys + Replaces, T: Stream>(
+fn restore<S: SlotParts + Replaces, T: Stream>(
     node: &mut NodeParts<S, T>,
     snapshot: &Snapshot,
 ) -> Result<(), AllocError>

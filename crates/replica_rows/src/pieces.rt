@@ -11,14 +11,14 @@ use bus::{Body, StreamBody};
 use byte_string::ByteString;
 use node_parts::NodeParts;
 use repl_stream::Stream;
-use slot_store::{SlotKeys, SlotParts};
+use slot_store::SlotParts;
 use slot_table::NodeNo;
 use std::alloc::AllocError;
 use stream_values::Piece;
 
 /// Puts a piece for each replica of the node behind these messages, by rising number. All share the bytes, if they are long.
 #[tactic(auto, using(crate::proofs::PieceLemmas::none_sent, crate::proofs::PieceLemmas::last_sent))]
-pub(crate) fn append_pieces<S: SlotParts + SlotKeys, T: Stream>(
+pub(crate) fn append_pieces<S: SlotParts, T: Stream>(
     node: &NodeParts<S, T>,
     bytes: &[u8],
     bodies: &mut Vec<(NodeNo, Body)>,
@@ -36,9 +36,7 @@ pub(crate) fn append_pieces<S: SlotParts + SlotKeys, T: Stream>(
 }
 
 // The last node that copies this one.
-pub(crate) fn last_replica<S: SlotParts + SlotKeys, T: Stream>(
-    node: &NodeParts<S, T>,
-) -> Option<NodeNo>
+pub(crate) fn last_replica<S: SlotParts, T: Stream>(node: &NodeParts<S, T>) -> Option<NodeNo>
     ensures none { IfNone result (replicas_of node.now.masters node.now.number ≡ []) }
     ensures last { IfSome result (λ last.
         replicas_of node.now.masters node.now.number ≡ replicas_below node.now last ++ last ∷ []) }
@@ -54,7 +52,7 @@ pub(crate) fn last_replica<S: SlotParts + SlotKeys, T: Stream>(
 }
 
 // The piece for each replica below that node.
-fn append_below<S: SlotParts + SlotKeys, T: Stream>(
+fn append_below<S: SlotParts, T: Stream>(
     node: &NodeParts<S, T>,
     last: NodeNo,
     piece: &Piece,
@@ -73,7 +71,7 @@ fn append_below<S: SlotParts + SlotKeys, T: Stream>(
 }
 
 // The bytes as a piece of the node's stream, behind what is there.
-fn piece_of<S: SlotParts + SlotKeys, T: Stream>(
+fn piece_of<S: SlotParts, T: Stream>(
     node: &NodeParts<S, T>,
     bytes: &[u8],
 ) -> Result<Piece, AllocError>

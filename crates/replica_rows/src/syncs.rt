@@ -12,13 +12,13 @@ use node_parts::{Change, Draft, NodeParts, listed};
 use node_step::Releases;
 use repl_stream::Stream;
 use slot_pairs::pairs;
-use slot_store::{SlotKeys, SlotParts};
+use slot_store::SlotParts;
 use slot_table::NodeNo;
 use std::alloc::AllocError;
 use stream_values::{Snapshot, Sync, SyncAnswer};
 
 /// A replica tells its master how much of its stream it received, behind these messages.
-pub fn append_sync<S: SlotParts + SlotKeys, T: Stream>(
+pub fn append_sync<S: SlotParts, T: Stream>(
     node: &NodeParts<S, T>,
     bodies: &mut Vec<(NodeNo, Body)>,
 ) -> Result<(), AllocError>
@@ -36,7 +36,7 @@ pub fn append_sync<S: SlotParts + SlotKeys, T: Stream>(
 }
 
 /// Answers what the sender of the sync misses. A replica answers nothing.
-pub fn answer_sync<S: SlotParts + SlotKeys, T: Stream>(
+pub fn answer_sync<S: SlotParts, T: Stream>(
     node: &NodeParts<S, T>,
     from: NodeNo,
     sync: &Sync,
@@ -54,7 +54,7 @@ pub fn answer_sync<S: SlotParts + SlotKeys, T: Stream>(
     Ok(())
 }
 
-fn sync_answer<S: SlotParts + SlotKeys, T: Stream>(
+fn sync_answer<S: SlotParts, T: Stream>(
     node: &NodeParts<S, T>,
     from: NodeNo,
     sync: &Sync,
@@ -73,9 +73,7 @@ fn sync_answer<S: SlotParts + SlotKeys, T: Stream>(
 }
 
 // All that the node has at the end of its last whole write.
-fn snapshot<S: SlotParts + SlotKeys, T: Stream>(
-    node: &NodeParts<S, T>,
-) -> Result<Snapshot, AllocError>
+fn snapshot<S: SlotParts, T: Stream>(node: &NodeParts<S, T>) -> Result<Snapshot, AllocError>
     ensures { IfOk result (λ snapshot.
         snapshot ≡ record { stream = node.now.stream.held.id; offset = node.now.stream.offset; pairs = fin_map.entries node.now.keyspace }) }
 {

@@ -13,12 +13,12 @@ use node_parts::NodeParts;
 use repl_stream::Stream;
 use resp_values::{Array, Reply};
 use slot_state::{Move, SlotState};
-use slot_store::{SlotKeys, SlotParts};
+use slot_store::SlotParts;
 use slot_table::{NodeNo, Run};
 use std::alloc::{AllocError, Global};
 
 /// What the node says to a question.
-pub fn report<S: SlotParts + SlotKeys, T: Stream>(
+pub fn report<S: SlotParts, T: Stream>(
     node: &NodeParts<S, T>,
     question: &ClusterCommand,
 ) -> Result<Reply, AllocError>
@@ -43,24 +43,21 @@ pub fn report<S: SlotParts + SlotKeys, T: Stream>(
 }
 
 /// The id of a node.
-fn id<S: SlotParts + SlotKeys, T: Stream>(
-    node: &NodeParts<S, T>,
-    number: NodeNo,
-) -> Result<Reply, AllocError>
+fn id<S: SlotParts, T: Stream>(node: &NodeParts<S, T>, number: NodeNo) -> Result<Reply, AllocError>
     ensures { IfOk result (λ reply. reply ≡ id_of node.now.config number) }
 {
     id_reply(node.alloc, node.config.node(number))
 }
 
 /// How many keys of the slot are here.
-fn count<S: SlotParts + SlotKeys, T: Stream>(node: &NodeParts<S, T>, slot: Slot) -> Reply
+fn count<S: SlotParts, T: Stream>(node: &NodeParts<S, T>, slot: Slot) -> Reply
     ensures { result ≡ count_reply node.now slot }
 {
     Reply::Integer(node.store.count_in_slot(slot) as i64)
 }
 
 /// The first keys of the slot that are here.
-fn keys<S: SlotParts + SlotKeys, T: Stream>(
+fn keys<S: SlotParts, T: Stream>(
     node: &NodeParts<S, T>,
     slot: Slot,
     count: u64,
@@ -76,7 +73,7 @@ fn keys<S: SlotParts + SlotKeys, T: Stream>(
 }
 
 /// What the node does with the slot.
-fn slot_state<S: SlotParts + SlotKeys, T: Stream>(
+fn slot_state<S: SlotParts, T: Stream>(
     node: &NodeParts<S, T>,
     slot: Slot,
 ) -> Result<Reply, AllocError>
@@ -109,7 +106,7 @@ fn state_word(state: &SlotState<&Move>) -> ByteString
 }
 
 // The id of the node that a slot's state is about, if there is one: the owner, or the other node of a move.
-fn id_about<S: SlotParts + SlotKeys, T: Stream>(
+fn id_about<S: SlotParts, T: Stream>(
     node: &NodeParts<S, T>,
     state: &SlotState<&Move>,
     slot: Slot,
@@ -124,7 +121,7 @@ fn id_about<S: SlotParts + SlotKeys, T: Stream>(
     }
 }
 
-fn id_of_owner<S: SlotParts + SlotKeys, T: Stream>(
+fn id_of_owner<S: SlotParts, T: Stream>(
     node: &NodeParts<S, T>,
     owner: Option<NodeNo>,
 ) -> Result<Reply, AllocError>

@@ -1,10 +1,8 @@
 //! A store with a map for each slot: a look-up goes over few keys, and the keys of a slot are counted without a scan.
 #![tactic(auto)]
 
-mod slot_keys;
 mod slot_parts;
 mod store;
 
-pub use slot_keys::SlotKeys;
 pub use slot_parts::SlotParts;
 pub use store::SlotStore;

@@ -1,15 +1,31 @@
-//! What a store has in a slot, read and changed as a store of its own.
-ghost use Rattle.std.specs.Prelude.{◌≡◌, OnOk, OnErr};
+//! What a store has in a slot: its keys, and a store of their own, which is read and changed apart.
+ghost use Rattle.std.specs.Prelude.{◌≡◌, ◌<◌, ◌^◌, IfOk, OnOk, OnErr, take};
+ghost use Rattle.std.specs.FinMap as map;
 ghost use Rattle.keyspace.specs.Keyspace.{keyspace_of};
 ghost use Rattle.keyspace.specs.Plan.{committed};
 ghost use Rattle.slot_store.specs.InSlot.{in_slot, outside_slot, IsCommittedInSlot, LiesInSlot};
 
+use byte_string::ByteString;
 use key_slot::Slot;
 use keyspace::{Plan, Store, TreeStore};
 use std::alloc::{AllocError, Global};
 
 /// A store that has the keys of each slot apart, so that who knows the slot of a key needs not compute it again.
 pub trait SlotParts: Store {
+    /// The number of keys in the slot.
+    fn count_in_slot(&self, slot: Slot) -> usize
+        ensures count { result ≡ map.len (in_slot slot (Self.contents self.now)) }
+        ensures below { result < 2 ^ 63 };
+
+    /// The first keys in the slot, at most `count`, in their byte order.
+    fn keys_in_slot(
+        &self,
+        alloc: Global,
+        slot: Slot,
+        count: usize,
+    ) -> Result<Vec<ByteString>, AllocError>
+        ensures { IfOk result (λ found. found.items ≡ take count (map.keys (in_slot slot (Self.contents self.now)))) };
+
     /// What the store has in the slot.
     fn part(&self, slot: Slot) -> &TreeStore
         ensures { keyspace_of result.now.entries ≡ in_slot slot (Self.contents self.now) };

@@ -3,7 +3,6 @@ ghost use Rattle.std.specs.Prelude.{◌≡◌, IfOk, take};
 ghost use Rattle.std.specs.FinMap as map;
 ghost use Rattle.key_map.specs.KeyMap.{keys, IsOrdered};
 
-use crate::slot_keys::SlotKeys;
 use crate::slot_parts::SlotParts;
 use byte_string::ByteString;
 use key_slot::{Slot, slot};
@@ -86,7 +85,7 @@ impl Store for SlotStore {
     }
 }
 
-impl SlotKeys for SlotStore {
+impl SlotParts for SlotStore {
     fn count_in_slot(&self, slot: Slot) -> usize {
         self.maps[slot.index()].len()
     }
@@ -99,9 +98,7 @@ impl SlotKeys for SlotStore {
     ) -> Result<Vec<ByteString>, AllocError> {
         first_keys(alloc, &self.maps[slot.index()], count)
     }
-}
 
-impl SlotParts for SlotStore {
     fn part(&self, slot: Slot) -> &TreeStore {
         &self.maps[slot.index()]
     }

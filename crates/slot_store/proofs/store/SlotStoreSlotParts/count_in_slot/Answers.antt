@@ -3,7 +3,7 @@ use Rattle.std.specs.FinMap as map
 use Rattle.slot_store.specs.InSlot.{in_slot}
 use Rattle.slot_store.proofs.Placed.{contents_of}
 use Rattle.slot_store.proofs.SlotEntries.{len_in_slot}
-use Rattle.slot_store.proofs.store.SlotStoreSlotKeys.count_in_slot.Goals as goal
+use Rattle.slot_store.proofs.store.SlotStoreSlotParts.count_in_slot.Goals as goal
 
 pub returns-clause-count : goal.returns-clause-count
 returns-clause-count c =
