@@ -10,24 +10,16 @@ use std::marker::Model;
 use std::snapshot::Snapshot;
 
 /// The bytes of writes that are put behind a stream, or only their number, where nobody reads them.
+#[derive(Drop)]
 pub struct Written {
     form: Form,
 }
 
+#[derive(Drop)]
 enum Form {
     Spelled(Vec<u8>),
     // The bytes of this request are so many.
     Counted(usize, Snapshot<Words>),
-}
-
-impl Drop for Written {
-    fn drop(self) {
-        let Written { form } = self;
-        match form {
-            Form::Spelled(_bytes) => {}
-            Form::Counted(_, _) => {}
-        }
-    }
 }
 
 impl Model for Written {
