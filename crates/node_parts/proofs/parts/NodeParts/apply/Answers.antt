@@ -14,7 +14,6 @@ returns-clause-ok g c =
       made = _;
       makes =
           subst (λ (node : NodeState). IsMade (at_epoch c.args.self.now draft.epoch) draft.plan draft.change draft.written.bytes (at_epoch node draft.epoch)) (sym c.self.view_is)
-          (made_at_epoch c.args.self.now c.change_and_write.new.self draft.epoch draft.plan draft.change draft.written.bytes
-          (subst (λ bytes. IsMade c.args.self.now draft.plan draft.change bytes c.change_and_write.new.self) c.as_slice.ensures.value c.in_ok-change_and_write.ensures.ok));
+          (made_at_epoch c.args.self.now c.change_and_write.new.self draft.epoch draft.plan draft.change draft.written.bytes c.in_ok-change_and_write.ensures.ok);
       state = by_the_taken c.succeed_by.new.self _ c.take.result draft.succession takes c.succeed_by.ensures;
     }
