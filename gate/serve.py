@@ -2,11 +2,13 @@
 
 The program is built without its proofs, which takes some three minutes. Where ./check has proved it, that build is served.
 FILE describes the cluster; without it and without --masters that is examples/six_nodes.json. Every other option is one of
-`rcluster serve`, which `./rcluster serve --help` lists, as --masters 3, --ticks 600 or --log. Where --loops isn't given it is 2.
+`rcluster serve`, which `./rcluster serve --help` lists, as --masters 3, --ticks 600 or --log. Where --loops isn't given it is 1, or 2 where
+there are two processors for each node.
 """
 
 import argparse
 import contextlib
+import json
 import os
 import sys
 import time
@@ -22,7 +24,8 @@ EXAMPLE = os.path.join(ROOT, "examples", "six_nodes.json")
 FLAGS = {"--check", "--journal", "--log", "--orders"}
 # With one of these the words say which cluster is served, or `rcluster` says what is missing beside it.
 SOURCES = {"--config", "--masters", "--replicas", "--port", "--backlog"}
-LOOPS = "2"
+# How many threads of a node serve its clients at most, where --loops isn't given.
+MOST_LOOPS = 2
 # How long the kit's own way without proofs serves at most.
 SECONDS = "3600"
 
@@ -37,7 +40,7 @@ def main(words):
     # Standard output gets what `rcluster serve` prints, and nothing else.
     with contextlib.redirect_stdout(sys.stderr):
         try:
-            return (serve_proved if asked.proved else serve)(service(words, file))
+            return (serve_proved if asked.proved else serve)(service(words, file, len(os.sched_getaffinity(0))))
         except kit.NoKit as error:
             print(error)
             return 1
@@ -65,15 +68,38 @@ def takes_value(word):
     return word.startswith("-") and "=" not in word and word not in FLAGS
 
 
-def service(words, file):
+def service(words, file, processors):
     """The words for `rcluster serve`: these, behind what is given where they don't say it."""
     words = list(words)
     if file is not None:
         words.insert(file, "--config")
     names = {it.partition("=")[0] for it in words}
-    source = [] if names & SOURCES else ["--config", EXAMPLE]
-    loops = [] if "--loops" in names else ["--loops", LOOPS]
-    return [*loops, *source, *words]
+    if not names & SOURCES:
+        words = ["--config", EXAMPLE, *words]
+    if "--loops" not in names:
+        words = ["--loops", str(max(1, min(MOST_LOOPS, processors // nodes_in(words)))), *words]
+    return words
+
+
+def nodes_in(words):
+    """How many nodes the words have the program serve, or 1 where it will say what is wrong with them."""
+    try:
+        file = value_of("--config", words)
+        if file is None:
+            return max(1, int(value_of("--masters", words)) * (1 + int(value_of("--replicas", words) or 0)))
+        with open(file, encoding="utf-8") as config:
+            return max(1, len(json.load(config)["nodes"]))
+    except (OSError, ValueError, TypeError, KeyError):
+        return 1
+
+
+def value_of(option, words):
+    """The value that the option has among the words, or None."""
+    for word, following in zip(words, [*words[1:], None]):
+        name, is_joined, value = word.partition("=")
+        if name == option:
+            return value if is_joined else following
+    return None
 
 
 def serve(words):
