@@ -5,7 +5,7 @@ a Redis Cluster of three processes.
 usage: bench/masters.py [PROGRAM] [--out FILE]    by default the program that ./check built
 
 Each load is sent to all servers in turn, by a redis-benchmark for each node. Clients have a thread each, or two threads of each node serve them in
-turn. It needs Debian's redis-server and redis-tools. The report goes to the output, and to FILE.
+turn, or one of each of the three masters. It needs Debian's redis-server and redis-tools. The report goes to the output, and to FILE.
 """
 
 import contextlib
@@ -31,7 +31,7 @@ def main(words):
 
 def one_node(report):
     with contextlib.ExitStack() as stack:
-        ports = {name: [it.port] for name, it in our_servers(stack, servers.rcluster).items()}
+        ports = {name: [it.port] for name, it in our_servers(stack, servers.rcluster, servers.WAYS).items()}
         ports["Redis"] = [stack.enter_context(servers.redis()).port]
         for name, prefix in (("spread keys", ""), ("one slot", "{b}")):
             fill(ports, [prefix])
@@ -42,7 +42,7 @@ def one_node(report):
 def three_masters(report):
     prefixes = ["{%s}" % tag for tag in TAGS]
     with contextlib.ExitStack() as stack:
-        ports = {name: it.ports for name, it in our_servers(stack, servers.three_masters).items()}
+        ports = {name: it.ports for name, it in our_servers(stack, servers.three_masters, servers.WAYS_OF_THREE).items()}
         ports["Redis"] = [stack.enter_context(servers.redis()).port] * len(TAGS)
         masters = nodes_at(next(iter(stack.enter_context(redis_cluster(5000, replicas=0)))))
         ports["Redis Cluster"] = [it["port"] for it in sorted(masters, key=lambda it: it["first"])]
@@ -50,9 +50,9 @@ def three_masters(report):
         compare(report, "a slot at each of three masters", ports, prefixes, ("Redis", "Redis Cluster"), MANY, ROUNDS)
 
 
-def our_servers(stack, make):
-    """One of these clusters for each way in which clients are served, until the stack ends."""
-    return {name: stack.enter_context(make(*options)) for name, options in servers.WAYS.items()}
+def our_servers(stack, make, ways):
+    """One of these clusters for each of these ways in which clients are served, until the stack ends."""
+    return {name: stack.enter_context(make(*options)) for name, options in ways.items()}
 
 
 def fill(ports, prefixes):
