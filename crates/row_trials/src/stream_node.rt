@@ -52,7 +52,9 @@ impl<T: Stream + Drop> Node<T> {
 
     /// A write, as a master makes it.
     pub fn write(&mut self, alloc: Global, write: &str) -> Result<()> {
-        let written = spelled(alloc, write)?;
+        let mut bytes = Vec::new(alloc);
+        bytes.extend_from_slice(request(alloc, write)?.as_slice())?;
+        let written = Written::spelled(bytes);
         self.replica.reserve(written.len())?;
         execute(alloc, &mut self.store, write)?;
         self.replica.append(&written);
@@ -151,11 +153,4 @@ fn planned(alloc: Global, store: &TreeStore, write: &str) -> Result<Plan> {
 fn request(alloc: Global, write: &str) -> Result<ByteString> {
     let words = words_of(alloc, write)?;
     Ok(block_of(alloc, vec![in alloc; words]?.as_slice())?)
-}
-
-// What a master puts behind its stream for a request.
-fn spelled(alloc: Global, write: &str) -> Result<Written> {
-    let mut bytes = Vec::new(alloc);
-    bytes.extend_from_slice(request(alloc, write)?.as_slice())?;
-    Ok(Written::spelled(bytes))
 }
