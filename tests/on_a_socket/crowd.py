@@ -15,7 +15,7 @@ from wire import OK, connect, playing, spelled, take
 # The threads have to wait for each other in ten ticks in a row, so short ticks see a crowd sooner.
 TICK_MS = 10
 # So many clients, each with so many requests in a pipeline. How long the line may take to come, and how long none is to come.
-CLIENTS, PIPELINE = 16, 200
+CLIENTS, PIPELINE = 64, 200
 PATIENCE, SILENCE = 60, 5
 REQUESTS, REPLIES = spelled(b"SET", b"a", b"1") * PIPELINE, OK * PIPELINE
 
