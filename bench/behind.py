@@ -5,8 +5,8 @@ replica each, under the same load.
 usage: bench/behind.py [PROGRAM] [--out FILE]    by default the program that ./check built
 
 Each load is sent to all in turn; clients of rcluster have a thread each, or two threads of each node serve them in turn, or one of each node where
-there are three masters. All nodes of rcluster are
-in one process, and those of Redis are a process each. It needs Debian's redis-server and redis-tools. The report goes to the output, and to FILE.
+there are three masters. All nodes of rcluster are in one process, and those of Redis are a process each. It needs Debian's redis-server and
+redis-tools. The report goes to the output, and to FILE.
 """
 
 import contextlib
@@ -42,9 +42,10 @@ def compare(report, name, count, changes):
     report.say(f"\n## {name}")
     report.say(f"\n{COUNT:,} SETs to each master over {KEYS:,} keys, from {CONNECTIONS} connections with pipelines of {PIPELINE}. Rates are sums over the masters, and times are those of the master at which they are greatest; both are medians of {ROUNDS} rounds, and so are the quotients. Memory is the most that the process of all nodes had.")
     report.table("Bytes of a value", "Served by", "SETs a second", "of Redis", "p50, ms", "p99, ms", "of Redis'", "slowest, ms", "of Redis'", "MiB")
+    ways = servers.WAYS if count == 1 else servers.WAYS_OF_THREE
     for size in SIZES:
         with contextlib.ExitStack() as stack:
-            ours = {name: stack.enter_context(servers.with_replicas(count, *options, **changes)) for name, options in (servers.WAYS if count == 1 else servers.WAYS_OF_THREE).items()}
+            ours = {name: stack.enter_context(servers.with_replicas(count, *options, **changes)) for name, options in ways.items()}
             ports = {name: server.ports[:count] for name, server in ours.items()}
             ports["Redis"] = [stack.enter_context(redis_with_replica()).port for _ in range(count)]
             seen = [{name: written(each, size) for name, each in ports.items()} for _ in range(ROUNDS)]

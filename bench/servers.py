@@ -17,7 +17,7 @@ PROGRAM = os.environ.get("RCLUSTER") or os.path.join(ROOT, "crates", "rcluster",
 PATIENCE = 60
 # The ways in which the program serves its clients, by their names in a report, each with the options of `serve`.
 WAYS = {"a thread each": (), "`--loops 2`": ("--loops", "2")}
-# And those of three masters, as `./serve` has each serve on four processors.
+# Three masters are measured with one thread each, too: so `./serve` has them serve on four processors.
 WAYS_OF_THREE = {**WAYS, "`--loops 1`": ("--loops", "1")}
 
 

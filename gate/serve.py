@@ -87,6 +87,9 @@ def nodes_in(words):
         file = value_of("--config", words)
         if file is None:
             return max(1, int(value_of("--masters", words)) * (1 + int(value_of("--replicas", words) or 0)))
+        # A pipe can be read once, by the program.
+        if not os.path.isfile(file):
+            return 1
         with open(file, encoding="utf-8") as config:
             return max(1, len(json.load(config)["nodes"]))
     except (OSError, ValueError, TypeError, KeyError):
