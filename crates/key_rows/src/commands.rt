@@ -17,13 +17,13 @@ use bus::Body;
 use command_table::DataCommand;
 use connections::{Conn, Connection};
 use key_slot::Slot;
-use keyspace::{Plan, leaves_keys, plan_command};
+use keyspace::{Plan, plan_command};
 use node_parts::{Change, Draft, NodeParts, listed};
 use node_step::Why;
 use redirect::Decision;
 use repl_stream::Stream;
 use resp_values::Reply;
-use slot_store::SlotParts;
+use slot_store::{Part, SlotParts};
 use slot_table::NodeNo;
 use std::alloc::AllocError;
 
@@ -138,7 +138,7 @@ fn drained_at<S: SlotParts, T: Stream>(
     ensures { bodies_of result ≡ drained_at node.now (Some slot) plan.now }
 {
     let word = node.drained(slot)?;
-    if node.store.count_in_slot(slot) == 0 || leaves_keys(node.store.part(slot), plan) {
+    if node.store.count_in_slot(slot) == 0 || node.store.part(slot).leaves_keys(plan) {
         return None;
     }
     Some(word)

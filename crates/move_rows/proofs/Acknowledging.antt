@@ -1,6 +1,6 @@
 -- An acknowledgement, as a node takes it.
 use Rattle.std.proofs.Common.{◌≡◌, ◌<◌, ◌&&◌, ◌||◌, ℕ, arith, List, [], ◌∷◌, Bool, true, false, not, cond, map, Option, eq-eqb, nat_eq, refl, sym, ap, subst, ◌∙◌}
-use Rattle.std.proofs.lemmas.Bool.{and_parts, false≢true, true≢false}
+use Rattle.std.proofs.lemmas.Bool.{and_parts, true≢false}
 use Rattle.std.proofs.lemmas.Cmp.{nat_list_cmp_total}
 use Rattle.std.specs.Borrow.{Bor}
 use Rattle.std.specs.Cmp.{eq_by_cmp_equiv, nat_cmp_total, unsigned_tied}
@@ -9,15 +9,12 @@ use Rattle.std.specs.Ordering.{nat_cmp}
 use Rattle.std.specs.Option.{option_copied}
 use Rattle.std.specs.Cmp.Lexicographic.{pointwise}
 use Rattle.std.specs.List.{list_all, list_any}
-use Rattle.std.specs.Map.{keys_of}
-use Rattle.key_map.specs.KeyMap.{IsOrdered, KeyMap, keys}
 use Rattle.std.specs.Prelude.{Some, None, is_some, nat_lt}
 use Rattle.keyspace.proofs.Applied.{get_changed, is_key, is_key-same, same}
 use Rattle.keyspace.proofs.FirstChange.{key_test}
 use Rattle.keyspace.proofs.KeysLeft.{has_key, no_key}
 use Rattle.keyspace.proofs.Parts.{get_part}
-use Rattle.keyspace.specs.Keyspace.{Keyspace, keyspace_of}
-use Rattle.keyspace.specs.declared.value.Value.{Value}
+use Rattle.keyspace.specs.Keyspace.{Keyspace}
 use Rattle.slot_state.specs.Moves.{Moves, move_of}
 use Rattle.slot_state.specs.declared.running.Move.{Move}
 use Rattle.slot_state.specs.declared.running.Move.TheVariants.{Leaves, Comes}
@@ -40,8 +37,7 @@ use Rattle.node_step.specs.Outcome.{release, silent}
 use Rattle.node_step.specs.Slots.{drained, drained_by, drained_since, has_keys, keys_in, slot_epoch}
 use Rattle.node_step.specs.State.{NodeState}
 use Rattle.node_step.specs.declared.outputs.Release.{Release}
-use Rattle.slot_store.specs.InSlot.{in_slot, is_in_slot}
-use Rattle.slot_pairs.proofs.PartLemmas.{entries_of_map}
+use Rattle.slot_store.specs.InSlot.{has_only, in_slot, is_in_slot}
 
 -- the slot has what was put there
 get-inserted : (m : fin_map.FinMap nat_cmp Move) (slot : ℕ) (move : Move) → fin_map.get (fin_map.insert m slot move) slot ≡ Some move
@@ -158,16 +154,11 @@ said_if false false words = refl
 some_there : (count : ℕ) → 0 < count → nat_lt 0 count ≡ true
 some_there count above = grind arith
 
--- the keys of the slot's map are those of the slot
-keys_of_part : (part : KeyMap Value) (slot : ℕ) (m : Keyspace) → IsOrdered part → keyspace_of part.entries ≡ in_slot slot m → keys part ≡ keys_in m slot
-keys_of_part part slot m ordered is =
-    ap (λ (entries : List (List ℕ × Value)). keys_of entries) (entries_of_map part ordered ∙ ap (λ (n : Keyspace). fin_map.entries n) is)
-
 -- some keys are there, and all are among these
-pub last_if : (part : KeyMap Value) (slot count : ℕ) (m : Keyspace) (among : List (List ℕ)) (all : Bool) → count ≡ fin_map.len (in_slot slot m) → 0 < count
-    → keyspace_of part.entries ≡ in_slot slot m → IsOrdered part → all ≡ list_all (is_among among) (keys part) → all ≡ are_last m slot among
-last_if part slot count m among all counted some is ordered so =
-    so ∙ ap (λ (keys : List (List ℕ)). list_all (is_among among) keys) (keys_of_part part slot m ordered is)
+pub last_if : (part : Keyspace) (slot count : ℕ) (m : Keyspace) (among : List (List ℕ)) (all : Bool) → count ≡ fin_map.len (in_slot slot m) → 0 < count
+    → part ≡ in_slot slot m → all ≡ has_only among part → all ≡ are_last m slot among
+last_if part slot count m among all counted some is so =
+    so ∙ ap (has_only among) is
     ∙ ap (λ (b : Bool). b && list_all (is_among among) (keys_in m slot)) (sym (ap (nat_lt 0) (sym counted) ∙ some_there count some))
 
 -- the word is said exactly if the keys are the last ones

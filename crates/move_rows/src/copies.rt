@@ -1,8 +1,5 @@
 //! Copies of keys, and their acknowledgements, as they arrive.
 ghost use Rattle.std.specs.Prelude.{◌≡◌, IfOk, OnOk};
-ghost use Rattle.std.specs.List.{list_all};
-ghost use Rattle.key_map.specs.KeyMap as key_map;
-ghost use Rattle.key_map.specs.KeyMap.{IsOrdered};
 ghost use Rattle.node_parts.specs.Drafts.{Drafts, HasNothing, bodies_of};
 ghost use Rattle.keyspace.specs.Keyspace.{Keyspace};
 ghost use Rattle.keyspace.specs.Plan.{committed};
@@ -19,13 +16,13 @@ use bus::{Body, SlotsBody};
 use byte_string::ByteString;
 use connections::Waiting;
 use key_slot::Slot;
-use keyspace::{Pair, Plan, TreeStore, pairs_fit};
+use keyspace::{Pair, Plan, pairs_fit};
 use migrate::{ArrivalVerdict, acknowledged_keys, arrival_verdict};
 use node_parts::{Change, Draft, NodeParts, done, listed};
 use node_step::Releases;
 use repl_stream::Stream;
 use slot_state::{CopyId, MoveNo};
-use slot_store::SlotParts;
+use slot_store::{Part, SlotParts};
 use slot_table::{Epoch, NodeNo};
 use std::alloc::{AllocError, Global};
 use stream_requests::{deletions_bytes, installed_bytes};
@@ -132,15 +129,7 @@ fn are_last<S: SlotParts, T: Stream>(
 ) -> bool
     ensures { result ≡ are_last node.now.keyspace place keys.now }
 {
-    node.store.count_in_slot(place) > 0 && are_all_among(keys, node.store.part(place))
-}
-
-// Whether all keys of the map are among these.
-fn are_all_among(keys: &[ByteString], part: &TreeStore) -> bool
-    ensures all { result ≡ list_all (is_among keys.now) (key_map.keys part.now) }
-    ensures ordered { IsOrdered part.now }
-{
-    part.keys().all(|key| is_among(keys, key))
+    node.store.count_in_slot(place) > 0 && node.store.part(place).has_only(keys)
 }
 
 /// Whether the key is one of these.

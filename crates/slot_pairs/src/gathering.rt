@@ -1,14 +1,13 @@
 //! What a store has in several slots, one slot after another.
-ghost use Rattle.std.specs.Prelude.{◌≡◌, ◌<◌, ◌++◌, filter, IfOk, OnOk};
+ghost use Rattle.std.specs.Prelude.{◌≡◌, ◌<◌, filter, IfOk};
 ghost use Rattle.std.specs.FinMap as map;
 ghost use Rattle.std.specs.List.Sorted.{IsPermutation};
-ghost use Rattle.key_map.specs.KeyMap.{IsOrdered, keys};
 ghost use Rattle.slot_pairs.specs.Several.{HaveSameKeys, is_in_one};
 
 use byte_string::ByteString;
 use key_slot::Slot;
-use keyspace::{Pair, TreeStore};
-use slot_store::SlotParts;
+use keyspace::Pair;
+use slot_store::{Part, SlotParts};
 use std::alloc::{AllocError, Global};
 
 /// All keys with their values, slot by slot.
@@ -17,7 +16,7 @@ pub(crate) fn pairs_by_slot<S: SlotParts>(alloc: Global, store: &S) -> Result<Ve
 {
     let mut pairs = Vec::with_capacity(alloc, count(store))?;
     for index in 0..Slot::COUNT {
-        push_pairs(store.part(slot_at(index)), &mut pairs)?;
+        store.part(slot_at(index)).push_pairs(&mut pairs)?;
     }
     Ok(pairs)
 }
@@ -32,7 +31,7 @@ pub(crate) fn keys_by_slot<S: SlotParts>(
 {
     let mut keys = Vec::with_capacity(alloc, count_in(store, slots))?;
     for slot in slots {
-        push_keys(store.part(*slot), &mut keys)?;
+        store.part(*slot).push_keys(&mut keys)?;
     }
     Ok(keys)
 }
@@ -41,7 +40,7 @@ pub(crate) fn keys_by_slot<S: SlotParts>(
 fn count<S: SlotParts>(store: &S) -> usize {
     let mut count: usize = 0;
     for index in 0..Slot::COUNT {
-        count = count.saturating_add(store.part(slot_at(index)).len());
+        count = count.saturating_add(store.count_in_slot(slot_at(index)));
     }
     count
 }
@@ -50,7 +49,7 @@ fn count<S: SlotParts>(store: &S) -> usize {
 fn count_in<S: SlotParts>(store: &S, slots: &[Slot]) -> usize {
     let mut count: usize = 0;
     for slot in slots {
-        count = count.saturating_add(store.part(*slot).len());
+        count = count.saturating_add(store.count_in_slot(*slot));
     }
     count
 }
@@ -60,29 +59,4 @@ fn slot_at(index: usize) -> Slot
     ensures { result ≡ index }
 {
     Slot::new(index as u16).unwrap()
-}
-
-// Puts copies of the map's pairs behind the list.
-fn push_pairs(from: &TreeStore, pairs: &mut Vec<Pair>) -> Result<(), AllocError>
-    ensures pairs { OnOk result (pairs.new.items ≡ pairs.old.items ++ from.now.entries) }
-    ensures ordered { IsOrdered from.now }
-{
-    for key in from.keys() {
-        let Some(value) = from.get(key) else {
-            continue;
-        };
-        pairs.push(Pair::new(key.clone()?, value.clone()?))?;
-    }
-    Ok(())
-}
-
-// Puts copies of the map's keys behind the list.
-fn push_keys(from: &TreeStore, listed: &mut Vec<ByteString>) -> Result<(), AllocError>
-    ensures keys { OnOk result (listed.new.items ≡ listed.old.items ++ keys from.now) }
-    ensures ordered { IsOrdered from.now }
-{
-    for key in from.keys() {
-        listed.push(key.clone()?)?;
-    }
-    Ok(())
 }

@@ -31,7 +31,7 @@ rises_from x [] above = tt
 rises_from x (e ∷ es) above = both _ _ (subst (λ r. T (is_lt r)) (sym above.0) tt) (rises_from x es above.1)
 
 -- the keys of a tree strictly rise
-rises : (es : List (List ℕ × Value)) → IsStrictlySortedBy (slice_cmp nat_cmp) (keys_of es) → T (is_sorted (slice_cmp nat_cmp) es)
+pub rises : (es : List (List ℕ × Value)) → IsStrictlySortedBy (slice_cmp nat_cmp) (keys_of es) → T (is_sorted (slice_cmp nat_cmp) es)
 unfolding IsStrictlySortedBy
 rises [] ordered = tt
 rises (e ∷ es) ordered = both _ _ (rises_from e.0 es ordered.0) (rises es ordered.1)

@@ -86,6 +86,8 @@ impl Store for SlotStore {
 }
 
 impl SlotParts for SlotStore {
+    type Part = TreeStore;
+
     fn count_in_slot(&self, slot: Slot) -> usize {
         self.maps[slot.index()].len()
     }

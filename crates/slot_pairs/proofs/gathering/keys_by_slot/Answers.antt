@@ -1,7 +1,6 @@
 use Rattle.std.proofs.Common.{ℕ, List, [], filter, sym, subst}
 use Rattle.std.proofs.lemmas.List.{take_all}
 use Rattle.std.specs.FinMap as map
-use Rattle.key_map.specs.KeyMap.{keys}
 use Rattle.slot_pairs.proofs.GatheringLemmas.{keys_more, keys_none}
 use Rattle.slot_pairs.proofs.PartLemmas.{keys_in_slot}
 use Rattle.slot_pairs.proofs.gathering.keys_by_slot.Goals as goal
@@ -15,10 +14,10 @@ loop-slot-init g c =
 pub loop-slot-preserved : goal.loop-slot-preserved
 loop-slot-preserved g c =
     let keyspace = g.S.Store.contents c.args.store.now in
-    let found = c.part.result.now in
+    let part = g.S.Part.Store.contents c.part.result.now in
     let slot = c.slot-item.result in
-    keys_more (map.keys keyspace) c.loop-slot.keys.items (keys found) c.push_keys.new.listed.items c.args.slots.now c.loop-slot.slot-index slot c.loop-slot-test.true c.slot-item.is
-    (keys_in_slot slot keyspace found c.part.ensures c.in_ok-push_keys.ensures.ordered) c.in_ok-push_keys.ensures.keys c.loop-slot.invariant
+    keys_more (map.keys keyspace) c.loop-slot.keys.items (map.keys part) c.push_keys.new.keys.items c.args.slots.now c.loop-slot.slot-index slot c.loop-slot-test.true c.slot-item.is
+    (keys_in_slot slot keyspace part c.part.ensures) c.in_ok-push_keys.ensures c.loop-slot.invariant
 
 pub returns : goal.returns
 returns g c =

@@ -14,10 +14,10 @@ loop-index-init g c =
 pub loop-index-preserved : goal.loop-index-preserved
 loop-index-preserved g c =
     let keyspace = g.S.Store.contents c.args.store.now in
-    let found = c.part.result.now in
+    let part = g.S.Part.Store.contents c.part.result.now in
     let slot = c.slot_at.result in
-    pairs_more (map.entries keyspace) c.loop-index.pairs.items found.entries c.push_pairs.new.pairs.items c.loop-index.index slot c.slot_at.ensures
-    (entries_in_slot slot keyspace found c.part.ensures c.in_ok-push_pairs.ensures.ordered) c.in_ok-push_pairs.ensures.pairs c.loop-index.invariant
+    pairs_more (map.entries keyspace) c.loop-index.pairs.items (map.entries part) c.push_pairs.new.pairs.items c.loop-index.index slot c.slot_at.ensures
+    (entries_in_slot slot keyspace part c.part.ensures) c.in_ok-push_pairs.ensures c.loop-index.invariant
 
 pub returns : goal.returns
 returns g c = pairs_all (map.entries (g.S.Store.contents c.args.store.now)) c.loop-index.pairs.items c.loop-index.index (omega arith) c.loop-index.invariant

@@ -1,9 +1,0 @@
-use Rattle.std.proofs.Common.{◌≡◌, ◌++◌}
-use Rattle.std.specs.List.{flat_map}
-use Rattle.key_map.specs.KeyMap.{keys}
-use Rattle.slot_pairs.proofs.PartLemmas.{found_in}
-use Rattle.slot_pairs.proofs.gathering.push_pairs.Given as goal
-
--- the pairs so far, and what is left
-abbrev pub invariant-loop-key : goal.invariant-loop-key
-invariant-loop-key l = l.pairs.items ++ flat_map (found_in l.from.entries) l.key-iterator ≡ l.initial.pairs.items ++ flat_map (found_in l.from.entries) (keys l.from)
