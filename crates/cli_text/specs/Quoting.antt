@@ -1,14 +1,7 @@
 -- Bytes as redis-cli prints them in double quotes.
-use Rattle.std.specs.Prelude.{◌+◌, ◌/◌, ◌%◌, ◌==◌, ◌++◌, ◌∷◌, ℕ, nat_lt, List, [], codes, if◌then◌else◌}
+use Rattle.std.specs.Prelude.{◌==◌, ◌++◌, ◌∷◌, ℕ, nat_lt, List, [], codes, if◌then◌else◌}
 use Rattle.std.specs.List.{flat_map}
-
--- `0` to `9` and `a` to `f`
-abbrev pub hex_digit : ℕ → ℕ
-hex_digit digit = if nat_lt digit 10 then 48 + digit else 87 + digit
-
--- any byte, written out
-abbrev pub hex : ℕ → List ℕ
-hex byte = codes "\\x" ++ hex_digit (byte / 16) ∷ hex_digit (byte % 16) ∷ []
+use Rattle.cli_text.specs.Hex.{hex}
 
 -- a byte from 32 to 126 as it is, any other one written out
 abbrev pub plain_or_hex : ℕ → List ℕ

@@ -3,6 +3,7 @@
 
 mod commands;
 mod fault;
+mod hex;
 mod lines;
 mod quoting;
 mod reply_text;
@@ -10,4 +11,5 @@ mod splitting;
 
 pub use commands::Commands;
 pub use fault::{CommandFault, NoCommand};
+pub use hex::print_hex;
 pub use reply_text::print_text;

@@ -1,8 +1,9 @@
 //! What stands in quotes, as redis-cli reads and prints it.
 ghost use Rattle.std.specs.Prelude.{◌≡◌, ◌<◌, ◌++◌, length, IfSome, OnOk};
 ghost use Rattle.std.specs.List.{flat_map};
-ghost use Rattle.cli_text.specs.Quoting.{hex, hex_digit, quoted, shown};
+ghost use Rattle.cli_text.specs.Quoting.{quoted, shown};
 
+use crate::hex::print_hex;
 use std::alloc::AllocError;
 
 /// How a text is quoted.
@@ -119,24 +120,5 @@ fn print_byte(byte: u8, out: &mut Vec<u8>) -> Result<(), AllocError>
         8 => out.extend_from_slice(b"\\b"),
         b' '..=b'~' => out.extend_from_slice(&[byte]),
         _ => print_hex(byte, out),
-    }
-}
-
-fn print_hex(byte: u8, out: &mut Vec<u8>) -> Result<(), AllocError>
-    ensures { OnOk result (out.new.items ≡ out.old.items ++ hex byte) }
-{
-    out.extend_from_slice(b"\\x")?;
-    out.extend_from_slice(&[hex_digit(byte / 16), hex_digit(byte % 16)])
-}
-
-// The digit in lower case.
-fn hex_digit(digit: u8) -> u8
-    requires { digit < 16 }
-    ensures { result ≡ hex_digit digit }
-{
-    if digit < 10 {
-        b'0' + digit
-    } else {
-        b'a' - 10 + digit
     }
 }

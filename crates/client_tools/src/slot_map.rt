@@ -2,15 +2,12 @@
 
 use crate::resharding::count_of;
 use byte_string::ByteString;
-use bytes::Bytes;
-use cluster_config::{Host, NodeId};
+use cluster_config::NodeId;
 use key_slot::{Slot, SlotRange};
 use redirection::Address;
+use resharder::{ENTRY_LEN, address_at};
 use resp2::{Element, Reply};
 use std::alloc::{AllocError, Global};
-
-// How many elements an entry has: two headers, two slots, and a host, a port and an id.
-const ENTRY_LEN: usize = 7;
 
 /// Slots in a row that one master has.
 #[derive(Drop)]
@@ -189,14 +186,4 @@ fn range_of(first: i64, last: i64) -> Option<SlotRange> {
 
 fn slot_of(number: i64) -> Option<Slot> {
     Slot::new(u16::try_from(number).ok()?)
-}
-
-fn address_at(alloc: Global, host: &ByteString, port: i64) -> Result<Option<Address>, AllocError> {
-    let Ok(port) = u16::try_from(port) else {
-        return Ok(None);
-    };
-    let Some(host) = Host::new(Bytes::copy_from_slice(alloc, host.as_slice())?) else {
-        return Ok(None);
-    };
-    Ok(Address::new(host, port))
 }

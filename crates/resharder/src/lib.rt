@@ -21,6 +21,7 @@ mod stage;
 
 pub use action::{Action, Event};
 pub use fault::ReshardFault;
+pub use masters::{ENTRY_LEN, address_at};
 pub use moved_slot::MovedSlot;
 pub use plan::Plan;
 pub use reshard_core::ReshardCore;

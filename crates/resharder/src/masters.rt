@@ -10,8 +10,8 @@ use resp_values::{Element, Reply};
 use std::alloc::{AllocError, Global};
 use std::collections::BTreeMap;
 
-// So many elements are an entry: two headers, two slots, and a host, a port and an id.
-const ENTRY_LEN: usize = 7;
+/// How many elements an entry of CLUSTER SLOTS has: two headers, two slots, and a host, a port and an id.
+pub const ENTRY_LEN: usize = 7;
 
 /// Where the masters are, by their ids, or None where the reply is no list of them.
 pub(crate) fn read_masters(
@@ -109,7 +109,12 @@ fn read_master(
     address_at(alloc, host, port)
 }
 
-fn address_at(alloc: Global, host: &ByteString, port: i64) -> Result<Option<Address>, AllocError>
+/// The address of this host and port, or None where they are none.
+pub fn address_at(
+    alloc: Global,
+    host: &ByteString,
+    port: i64,
+) -> Result<Option<Address>, AllocError>
     ensures { IfOk result (λ found. found ≡ place_at host.now port) }
 {
     let Ok(port) = u16::try_from(port) else {

@@ -1,14 +1,7 @@
 -- Bytes as a line shows them, in the simulator's own format.
-use Rattle.std.specs.Prelude.{◌+◌, ◌/◌, ◌%◌, ◌==◌, ◌++◌, ◌∷◌, ℕ, nat_lt, List, [], codes, if◌then◌else◌}
+use Rattle.std.specs.Prelude.{◌==◌, ◌∷◌, ℕ, List, [], codes, if◌then◌else◌}
+use Rattle.cli_text.specs.Hex.{hex}
 use Rattle.simulator.specs.Lines.{is_plain}
-
--- `0` to `9` and `a` to `f`
-abbrev pub hex_digit : ℕ → ℕ
-hex_digit digit = if nat_lt digit 10 then 48 + digit else 87 + digit
-
--- any byte, written out
-abbrev pub hex : ℕ → List ℕ
-hex byte = codes "\\x" ++ hex_digit (byte / 16) ∷ hex_digit (byte % 16) ∷ []
 
 -- CR, LF, a backslash and bytes that are not plain are written out
 abbrev pub escaped : ℕ → List ℕ

@@ -1,8 +1,9 @@
 //! Bytes as a line shows them, in the simulator's own format.
-ghost use Rattle.std.specs.Prelude.{◌≡◌, ◌<◌, ◌++◌, OnOk};
+ghost use Rattle.std.specs.Prelude.{◌≡◌, ◌++◌, OnOk};
 ghost use Rattle.std.specs.List.{flat_map};
-ghost use Rattle.simulator.specs.Escaping.{escaped, hex, hex_digit};
+ghost use Rattle.simulator.specs.Escaping.{escaped};
 
+use cli_text::print_hex;
 use std::alloc::AllocError;
 
 /// Puts the bytes behind the text, each as a line shows it.
@@ -25,24 +26,5 @@ fn print_byte(byte: u8, out: &mut Vec<u8>) -> Result<(), AllocError>
         b'\\' => out.extend_from_slice(b"\\\\"),
         b' '..=b'~' => out.extend_from_slice(&[byte]),
         _ => print_hex(byte, out),
-    }
-}
-
-fn print_hex(byte: u8, out: &mut Vec<u8>) -> Result<(), AllocError>
-    ensures { OnOk result (out.new.items ≡ out.old.items ++ hex byte) }
-{
-    out.extend_from_slice(b"\\x")?;
-    out.extend_from_slice(&[hex_digit(byte / 16), hex_digit(byte % 16)])
-}
-
-// The digit in lower case.
-fn hex_digit(digit: u8) -> u8
-    requires { digit < 16 }
-    ensures { result ≡ hex_digit digit }
-{
-    if digit < 10 {
-        b'0' + digit
-    } else {
-        b'a' - 10 + digit
     }
 }
