@@ -9,6 +9,7 @@ import kit
 ROOT = os.path.dirname(os.path.dirname(os.path.abspath(__file__)))
 PROGRAM = "rcluster"
 SPARING_CI = os.path.join(ROOT, "gate", "sparing_ci.py")
+JOINT_CI = os.path.join(ROOT, "gate", "joint_ci.py")
 PARTS = ("src", "specs", "proofs")
 STATUS = re.compile(r"\bstatus=(\d+)")
 

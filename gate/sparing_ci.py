@@ -21,11 +21,16 @@ def main(names):
     except kit.NoKit as error:
         print(error, file=sys.stderr)
         return 2
+    keep_all(rt)
+    return rt.main(["ci", *names])
+
+
+def keep_all(rt):
+    """Has the kit throw out nothing at the end of its gate."""
     if hasattr(rt, "Kept") and hasattr(rt.Kept, "shrink"):
         rt.Kept.shrink = lambda kept: None
     else:
         print("This kit may throw out proofs of other crates that it keeps.", file=sys.stderr)
-    return rt.main(["ci", *names])
 
 
 def load(script):

@@ -10,7 +10,7 @@ from copies import copy_crates, workplace
 from processes import started, with_temporary
 from refused import bodies_of, crates_with_wrong_bodies, forget, note_refused, state_of
 from report import BAD_EDIT, Report
-from sources import SPARING_CI, below
+from sources import JOINT_CI, below
 
 REFUSED = re.compile(r"must-fail \w+/(\S+): refused, as it must be")
 OF_EDIT = re.compile(rf"must-fail \w+/|.*{BAD_EDIT}")
@@ -43,7 +43,7 @@ def are_refused(crate, warning):
     with workplace("wrong-bodies-") as (copy, temporary):
         copy_crates(copy, below(crate), edits_of=[crate])
         how = {"cwd": copy, "env": with_temporary(temporary), "stderr": subprocess.STDOUT, "text": True, "errors": "replace"}
-        with started([sys.executable, "-B", SPARING_CI, crate], stdout=subprocess.PIPE, **how) as gate:
+        with started([sys.executable, "-B", JOINT_CI, crate], stdout=subprocess.PIPE, **how) as gate:
             for line in gate.stdout:
                 report.hear(line.rstrip("\n"))
             is_well = gate.wait() == 0
