@@ -4,7 +4,7 @@ import dataclasses
 import re
 
 FUNCTION = re.compile(r"( *)(?:pub(?:\([a-z]+\))? )?(?:const )?fn (\w+)")
-IMPL = re.compile(r"impl(?:<.*?>)? (?:(\w+)(?:<.*?>)? for )?(\w+)")
+IMPL = re.compile(r"impl(?:<.*>)? (?:(\w+)(?:<.*>)? for )?(\w+)(?:<.*>)? \{$")
 VERDICT = re.compile(r"fn (\S+): (.*)")
 CALLS = "it calls "
 
@@ -64,7 +64,7 @@ def around(crate, path, text, at):
 
 def impl_before(lines):
     """Returns the trait, or no text, and the type of the impl that these lines end in, or None where they end in something else."""
-    block = next((it for it in reversed(lines) if it.endswith("{") and not it.startswith((" ", "{"))), "")
+    block = next((it for it in reversed(lines) if it.endswith("{") and not it.startswith(" ")), "")
     impl = IMPL.match(block)
     return impl and (impl[1] or "", impl[2])
 

@@ -34,6 +34,7 @@ SCRIPTS = [
     ("tests/transcripts/run", "rcluster"),
     ("tests/starting/run", "rcluster"),
     ("tests/documents/run", None),
+    ("tests/wrong_bodies/run", None),
 ]
 # Where the kit's report of the last run is kept whole, with the processor's seconds of each crate behind it.
 LOG = os.path.join(ROOT, "check.log")
