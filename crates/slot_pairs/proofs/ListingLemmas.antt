@@ -26,8 +26,9 @@ use Rattle.keyspace.proofs.Applied.{is_key-same}
 use Rattle.keyspace.specs.Keyspace.{Keyspace}
 use Rattle.keyspace.specs.declared.value.Value.{Value}
 use Rattle.keyspace.specs.declared.value.Value.TheVariants.{Str}
-use Rattle.slot_pairs.proofs.PartLemmas.{IsFoundIn, finds_all, found_again, found_in, keys_rise}
+use Rattle.slot_pairs.proofs.PartLemmas.{keys_rise}
 use Rattle.slot_pairs.specs.Several.{HaveSameKeys, is_in_one}
+use Rattle.slot_store.proofs.KeyEntries.{IsFoundIn, finds_all, found_again, found_in}
 
 -- lists that strictly rise and have the same keys are equal
 same_keys : (some others : List (List ℕ)) → IsStrictlySortedBy (slice_cmp nat_cmp) some → IsStrictlySortedBy (slice_cmp nat_cmp) others → HaveSameKeys some others → some ≡ others
