@@ -16,6 +16,8 @@ import bodies
 import kit
 import sparing_ci
 
+# What is used of the kit's command.
+PARTS = ("must_fail", "checked", "edits_of", "edited", "REFUSED", "Kept")
 # A check that came to a verdict ends with this line.
 VERDICT = "logic="
 LONGEST = 160
@@ -28,8 +30,9 @@ def main(names):
         print(error, file=sys.stderr)
         return 2
     sparing_ci.keep_all(rt)
-    if all(hasattr(rt, it) for it in ("must_fail", "checked", "edits_of", "edited", "REFUSED")):
-        rt.must_fail = Joint(rt).must_fail
+    if all(hasattr(rt, it) for it in PARTS) and hasattr(rt.Kept, "keep_tried"):
+        joint = Joint(rt)
+        rt.must_fail, rt.Kept.keep_tried = joint.must_fail, lambda kept, *tried: joint.keep_tried(kept, *tried)
     else:
         print("This kit tries the wrong bodies one by one.", file=sys.stderr)
     return rt.main(["ci", *names])
@@ -39,15 +42,22 @@ class Joint:
     """Tries the edits of each crate together, once the first of them is asked for."""
 
     def __init__(self, rt):
-        self.rt, self.alone = rt, rt.must_fail
-        self.refused, self.locks, self.guard = {}, {}, threading.Lock()
+        self.rt, self.alone, self.keep = rt, rt.must_fail, rt.Kept.keep_tried
+        self.refused, self.told, self.locks, self.guard = {}, set(), {}, threading.Lock()
 
     def must_fail(self, crate, edit, flags, kept=None):
         """Stands for the kit's function of this name: returns what a try of the edit comes to, and what to say."""
         why = self.refusals(crate, flags, kept).get(edit) if kept else None
         if why is None:
             return self.alone(crate, edit, flags, kept)
-        return self.rt.REFUSED, f"must-fail {crate.name}/{os.path.basename(edit)}: refused, as it must be: {why[:LONGEST]}"
+        text = f"must-fail {crate.name}/{os.path.basename(edit)}: refused, as it must be: {why[:LONGEST]}"
+        self.told.add(text)
+        return self.rt.REFUSED, text
+
+    def keep_tried(self, kept, name, kind, text):
+        """Stands for the kit's function of this name: the gate takes no verdict from here but the kit's own."""
+        if text not in self.told:
+            self.keep(kept, name, kind, text)
 
     def refusals(self, crate, flags, kept):
         with self.guard:
