@@ -2,7 +2,7 @@
 
 usage: python3 gate/joint_ci.py NAME ..    as `rt ci NAME ..`
 
-The kit tries each edit in a check of its own. But all that the callers of a function know of it is its contract, so the bodies of
+The kit tries each edit in a check of its own. But the callers of a function are proved from its contract alone, so the bodies of
 several functions can be wrong in one check: the prover tells of each function whether it is proved. An edit is refused where it
 changes the body of one function, and that function isn't proved for a reason of its own, and not only because it calls one that
 isn't. Each other edit is tried by the kit, alone.
