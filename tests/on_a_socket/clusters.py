@@ -1,15 +1,19 @@
 """The configurations that are served, all at free ports."""
 
+import fcntl
 import json
 import os
 import random
 import socket
+import tempfile
 
 import program
 
 EXAMPLES = os.path.join(os.path.dirname(os.path.abspath(__file__)), "..", "..", "examples")
 # The ports that were given out, which nobody gets again.
 _given = set(range(7000, 7006))
+# Runs of tests beside this one keep to other ports: each has locked the bytes of its own in this file until it ends.
+_booked = open(os.path.join(tempfile.gettempdir(), f"rcluster-test-ports-{os.getuid()}"), "ab")
 
 
 def free_ports(count):
@@ -36,11 +40,14 @@ def free_row(count):
 
 
 def claim(port):
-    """Whether this port is free and was given to nobody, so that it is given out now. Rows that begin at once may come to the same one."""
+    """Whether this port is free and was given to nobody, so that it is given out now. Rows that begin at once may come to the same one, and so may
+    runs.
+    """
     with program.BEGINNING, socket.socket() as probe:
         if port in _given:
             return False
         try:
+            fcntl.lockf(_booked, fcntl.LOCK_EX | fcntl.LOCK_NB, 1, port)
             probe.bind(("127.0.0.1", port))
         except OSError:
             return False
