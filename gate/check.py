@@ -16,7 +16,7 @@ from processes import end_in_order, started
 from processor_time import ProcessorTime, ended_seconds
 from quick_check import build_programs, is_run_right, run_side_by_side, say_of_script
 from report import Progress, known_seconds
-from sources import PROGRAM, ROOT, crate_names, note_built, program_of, unproved_program
+from sources import PROGRAM, ROOT, SPARING_CI, crate_names, note_built, program_of, unproved_program
 from wrong import try_wrong_bodies
 
 # The test scripts, each with the program that it runs, if it runs one, and the words before that.
@@ -87,7 +87,7 @@ def pass_crates(words):
     """Passes the kit's gate. Returns how much passed and how much failed."""
     try:
         running = kit.version()
-        words = words if kit.keeps_what_passed() else []
+        gate = ["rt", "ci", *words] if kit.keeps_what_passed() else [sys.executable, "-B", SPARING_CI]
     except kit.NoKit as error:
         print(error, file=sys.stderr)
         return 0, 1
@@ -99,14 +99,14 @@ def pass_crates(words):
     taken.start()
     report = Progress(proofs, edits, kit.warning(running), taken.of_edits)
     how = {"stdout": subprocess.PIPE, "stderr": subprocess.STDOUT, "text": True, "errors": "replace", "env": kit.environment()}
-    with started(["rt", "ci", *words], **how) as gate, open(LOG, "w", encoding="utf-8") as log:
-        for line in gate.stdout:
+    with started(gate, **how) as run, open(LOG, "w", encoding="utf-8") as log:
+        for line in run.stdout:
             log.write(line)
             log.flush()
             report.hear(line.rstrip("\n"))
         log.writelines(f"{line}\n" for line in taken.table())
         # A gate that failed without a count is one failure. A bad edit shows nothing, so it is one, too.
-        return report.passed, max(report.failed, int(gate.wait() != 0)) + report.bad_edits
+        return report.passed, max(report.failed, int(run.wait() != 0)) + report.bad_edits
 
 
 def run_script(words):

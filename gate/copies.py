@@ -9,6 +9,8 @@ from sources import PARTS, ROOT, crate_names, folder_of
 
 # What the kit runs a program on.
 RUN = ("stdin", "stdout", "args", "status", "data")
+# What a check of a crate keeps for the next one.
+KEPT = ("rlib", "incremental")
 
 
 @contextlib.contextmanager
@@ -38,6 +40,15 @@ def copy_crates(to, names=None, edits_of=None):
             copy_part(os.path.join(crate, part), os.path.join(to, "crates", name, part))
         if name in (edits_of or ()):
             copy_part(os.path.join(crate, "wrong"), os.path.join(to, "crates", name, "must-fail"))
+
+
+def link_kept(to, names):
+    """Has the copies of these crates share what the last checks of the crates kept, for a kit that keeps nothing else."""
+    for name in names:
+        for part in KEPT:
+            kept = os.path.join(folder_of(name), "out", part)
+            if os.path.isdir(kept):
+                shutil.copytree(kept, os.path.join(to, "crates", name, "out", part), copy_function=os.link)
 
 
 def is_wanted(line, names):

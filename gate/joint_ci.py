@@ -1,6 +1,6 @@
 """Runs the kit's gate, `rt ci`, without its last act, and tries the edits of a crate together.
 
-usage: python3 gate/joint_ci.py NAME ..    as `rt ci NAME ..`
+usage: python3 gate/joint_ci.py NAME ..    as `rt ci NAME ..`, or as `rt must-fail NAME ..` where the kit's gate takes no names
 
 The kit tries each edit in a check of its own. But the callers of a function are proved from its contract alone, so the bodies of
 several functions can be wrong in one check: the prover tells of each function whether it is proved. An edit is refused where it
@@ -9,15 +9,21 @@ isn't. Each other edit is tried by the kit, alone.
 """
 
 import os
+import shutil
 import sys
+import tempfile
 import threading
 
 import bodies
 import kit
+import kit_command
 import sparing_ci
 
 # What is used of the kit's command.
-PARTS = ("must_fail", "checked", "edits_of", "edited", "REFUSED", "Kept")
+PARTS = ("must_fail", "checked", "edits_of", "edited")
+# What it has beside that where its gate takes names, and where it doesn't.
+WITH_NAMES = ("REFUSED", "Kept")
+WITHOUT_NAMES = ("must_fail_all", "edits_alone")
 # A check that came to a verdict ends with this line.
 VERDICT = "logic="
 LONGEST = 160
@@ -25,24 +31,30 @@ LONGEST = 160
 
 def main(names):
     try:
-        rt = sparing_ci.load(os.path.join(kit.folder(), "bin", "rt"))
+        rt = kit_command.load()
+        takes_names = kit.keeps_what_passed()
     except kit.NoKit as error:
         print(error, file=sys.stderr)
         return 2
-    sparing_ci.keep_all(rt)
-    if all(hasattr(rt, it) for it in PARTS) and hasattr(rt.Kept, "keep_tried"):
-        joint = Joint(rt)
+    joint = Joint(rt)
+    if not all(hasattr(rt, it) for it in (*PARTS, *(WITH_NAMES if takes_names else WITHOUT_NAMES))):
+        print("This kit tries the wrong bodies one by one.", file=sys.stderr)
+    elif takes_names:
         rt.must_fail, rt.Kept.keep_tried = joint.must_fail, lambda kept, *tried: joint.keep_tried(kept, *tried)
     else:
-        print("This kit tries the wrong bodies one by one.", file=sys.stderr)
-    return rt.main(["ci", *names])
+        rt.must_fail, rt.must_fail_all = joint.must_fail, joint.must_fail_all
+    if takes_names:
+        sparing_ci.keep_all(rt)
+        return rt.main(["ci", *names])
+    return rt.main(["must-fail", *names])
 
 
 class Joint:
     """Tries the edits of each crate together, once the first of them is asked for."""
 
     def __init__(self, rt):
-        self.rt, self.alone, self.keep = rt, rt.must_fail, rt.Kept.keep_tried
+        self.rt, self.alone = rt, rt.must_fail
+        self.keep = rt.Kept.keep_tried if hasattr(rt, "Kept") else None
         self.refused, self.told, self.locks, self.guard = {}, set(), {}, threading.Lock()
 
     def must_fail(self, crate, edit, flags, kept=None):
@@ -52,7 +64,19 @@ class Joint:
             return self.alone(crate, edit, flags, kept)
         text = f"must-fail {crate.name}/{os.path.basename(edit)}: refused, as it must be: {why[:LONGEST]}"
         self.told.add(text)
-        return self.rt.REFUSED, text
+        return getattr(self.rt, "REFUSED", True), text
+
+    def must_fail_all(self, crate, edits, flags):
+        """Stands for the older kits' function of this name, and begins with what the last check of the crate kept."""
+        before = os.path.join(crate.folder, "out", "incremental")
+        with tempfile.TemporaryDirectory(prefix="joint-edits-") as kept:
+            if os.path.isdir(before):
+                shutil.copytree(before, kept, dirs_exist_ok=True)
+            tried = [self.must_fail(crate, it, flags, kept) for it in edits]
+            is_proved = not self.rt.checked(crate, {}, flags, kept).returncode
+        if is_proved:
+            return tried
+        return [(False, f"must-fail {crate.name}/{os.path.basename(it)}: the crate isn't proved without it") for it in edits]
 
     def keep_tried(self, kept, name, kind, text):
         """Stands for the kit's function of this name: the gate takes no verdict from here but the kit's own."""
