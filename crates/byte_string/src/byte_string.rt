@@ -16,11 +16,12 @@ use std::cmp::Ordering;
 use std::fmt;
 use std::hash::{Hash, Hasher};
 use std::marker::Model;
+use std::sync::Arc;
 
 /// Any bytes, in 24 bytes of its own.
 ///
 /// At most 22 bytes lie in place, so a copy of them takes no memory. More have a block of their own, which copies share
-/// from 4,096 bytes on. A string that has grown by `append` copies its bytes once more before copies share them.
+/// from 249 bytes on. `append` copies a string whose block is shared, and else puts the bytes behind it in place.
 pub struct ByteString {
     form: Form,
 }
@@ -91,6 +92,14 @@ impl ByteString {
         Ok(ByteString { form })
     }
 
+    /// These bytes, which aren't copied where they are many.
+    pub fn from_vec(bytes: Vec<u8>) -> Result<ByteString, AllocError>
+        ensures { IfOk result (λ string. string ≡ bytes.items) }
+    {
+        let form = Form::from_vec(bytes)?;
+        Ok(ByteString { form })
+    }
+
     /// The bytes, in place.
     pub fn as_slice(&self) -> &[u8]
         ensures { result.now ≡ self.now }
@@ -108,7 +117,7 @@ impl ByteString {
     /// Puts the bytes behind the string, which stays as it is where memory is refused.
     ///
     /// A string that stays short takes no memory. Any other one then has a buffer of its own with room behind it, which
-    /// doubles when it is used up: so the string itself is copied only now and then.
+    /// doubles when it is used up: so the string itself is copied only now and then, and where a copy shares its buffer.
     pub fn append(&mut self, alloc: Global, bytes: &[u8]) -> Result<(), AllocError>
         ensures ok { OnOk result (self.new ≡ self.old ++ bytes.now) }
         ensures err { OnErr result (self.new ≡ self.old) }
@@ -121,7 +130,10 @@ impl ByteString {
                 Some(short) => Form::Short(short),
                 None => grown(alloc, short.as_slice(), bytes)?,
             },
-            Form::Owned(buffer) => return buffer.extend_from_slice(bytes),
+            Form::Buffer(buffer) => match Arc::get_mut(buffer) {
+                Some(buffer) => return buffer.extend_from_slice(bytes),
+                None => grown(alloc, buffer.as_slice(), bytes)?,
+            },
             other => grown(alloc, other.as_slice(), bytes)?,
         };
         self.form = form;

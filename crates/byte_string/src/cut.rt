@@ -2,10 +2,13 @@
 ghost use Rattle.std.specs.Prelude.{◌≡◌, ◌≤◌, length, take, drop, IfOk, OnOk, OnErr};
 
 use crate::byte_string::ByteString;
-use crate::form::{Form, LEAST_SHARED};
+use crate::form::Form;
 use bytes::{Bytes, BytesMut};
 use std::alloc::AllocError;
 use std::sync::Arc;
+
+/// From this length on, in bytes, a string that is cut off keeps the block of memory that it came in.
+const LEAST_CUT: usize = 4096;
 
 impl ByteString {
     /// Cuts this many bytes off the front of the input, which stays as it is where memory is refused.
@@ -20,7 +23,7 @@ impl ByteString {
         ensures rest { OnOk result (input.new.items ≡ drop len input.old.items) }
         ensures err { OnErr result (input.new.items ≡ input.old.items) }
     {
-        if len >= LEAST_SHARED {
+        if len >= LEAST_CUT {
             return cut_shared(input, len);
         }
         let string = ByteString::copy_from_slice(*input.allocator(), &input.as_slice()[..len])?;
@@ -41,5 +44,5 @@ fn cut_shared(input: &mut BytesMut, len: usize) -> Result<ByteString, AllocError
         return Err(AllocError);
     };
     *bytes = input.freeze_to(len)?;
-    Ok(ByteString::of(Form::Shared(block)))
+    Ok(ByteString::of(Form::Cut(block)))
 }

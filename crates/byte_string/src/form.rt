@@ -9,9 +9,8 @@ use bytes::Bytes;
 use std::alloc::{AllocError, Global};
 use std::sync::Arc;
 
-/// From this length on, in bytes, a string shares its bytes with its copies: copying them costs several times what
-/// counting one more owner does.
-pub(crate) const LEAST_SHARED: usize = 4096;
+/// From this length on, in bytes, a string shares its bytes with its copies.
+pub const LEAST_SHARED: usize = MOST_IN_BLOCK + 1;
 
 /// The bytes of a string, wherever they lie.
 #[derive(Drop)]
@@ -26,10 +25,10 @@ pub(crate) enum Form {
     In136(Block<136>),
     In184(Block<184>),
     In248(Block<248>),
-    // Bytes that copies share.
-    Shared(Arc<Bytes>),
-    // A buffer of the string's own, which may have room behind its bytes.
-    Owned(Box<Vec<u8>>),
+    // A part of the input that the string was cut off, which copies share.
+    Cut(Arc<Bytes>),
+    // A buffer, which copies share, and which may have room behind the bytes.
+    Buffer(Arc<Vec<u8>>),
 }
 
 impl Form {
@@ -43,6 +42,18 @@ impl Form {
             Some(short) => Ok(Form::Short(short)),
             None => long_copy(alloc, bytes),
         }
+    }
+
+    /// These bytes, which aren't copied where they are many.
+    pub fn from_vec(bytes: Vec<u8>) -> Result<Form, AllocError>
+        ensures bytes { IfOk result (λ form. bytes_of form ≡ bytes.items) }
+        ensures form { IfOk result (λ form. IsForm form) }
+    {
+        let alloc = *bytes.allocator();
+        if bytes.len() < LEAST_SHARED {
+            return Form::of(alloc, bytes.as_slice());
+        }
+        Ok(Form::Buffer(Arc::new(alloc, bytes)?))
     }
 
     /// The same bytes once more, which copies share where there are many.
@@ -60,8 +71,8 @@ impl Form {
             Form::In136(block) => Form::In136(block.copy()?),
             Form::In184(block) => Form::In184(block.copy()?),
             Form::In248(block) => Form::In248(block.copy()?),
-            Form::Shared(block) => Form::Shared(block.clone()?),
-            Form::Owned(buffer) => Form::of(*buffer.allocator(), buffer.as_slice())?,
+            Form::Cut(block) => Form::Cut(block.clone()?),
+            Form::Buffer(buffer) => Form::Buffer(buffer.clone()?),
         })
     }
 
@@ -79,8 +90,8 @@ impl Form {
             Form::In136(block) => block.as_slice(),
             Form::In184(block) => block.as_slice(),
             Form::In248(block) => block.as_slice(),
-            Form::Shared(block) => block.as_slice(),
-            Form::Owned(buffer) => buffer.as_slice(),
+            Form::Cut(block) => block.as_slice(),
+            Form::Buffer(buffer) => buffer.as_slice(),
         }
     }
 }
@@ -119,13 +130,9 @@ fn longest_copy(alloc: Global, bytes: &[u8]) -> Result<Form, AllocError>
     ensures bytes { IfOk result (λ form. bytes_of form ≡ bytes.now) }
     ensures form { IfOk result (λ form. IsForm form) }
 {
-    if bytes.len() >= LEAST_SHARED {
-        let bytes = Bytes::copy_from_slice(alloc, bytes)?;
-        return Ok(Form::Shared(Arc::new(alloc, bytes)?));
-    }
     let mut buffer = Vec::with_capacity(alloc, bytes.len())?;
     buffer.extend_from_slice(bytes)?;
-    Ok(Form::Owned(Box::new(alloc, buffer)?))
+    Ok(Form::Buffer(Arc::new(alloc, buffer)?))
 }
 
 /// All bytes in a buffer that has room for as many again.
@@ -137,5 +144,5 @@ pub(crate) fn grown(alloc: Global, first: &[u8], more: &[u8]) -> Result<Form, Al
     let mut buffer = Vec::with_capacity(alloc, len.saturating_mul(2))?;
     buffer.extend_from_slice(first)?;
     buffer.extend_from_slice(more)?;
-    Ok(Form::Owned(Box::new(alloc, buffer)?))
+    Ok(Form::Buffer(Arc::new(alloc, buffer)?))
 }

@@ -1,4 +1,4 @@
-//! Byte strings, as keys, values and the words of requests are: short ones in place, long ones in a block, which copies of very long ones share.
+//! Byte strings, as keys, values and the words of requests are: short ones in place, long ones in a block, which copies of those from 249 bytes on share.
 #![tactic(auto)]
 
 mod block;
@@ -9,4 +9,5 @@ mod order;
 mod short;
 
 pub use byte_string::ByteString;
+pub use form::LEAST_SHARED;
 pub use short::MOST_SHORT;

@@ -71,7 +71,7 @@ impl<'a> Word<'a> {
         self.as_slice().len()
     }
 
-    /// The word as a string of its own. A very long one shares its bytes with the hash.
+    /// The word as a string of its own. A long one may share its bytes with the hash.
     pub fn to_byte_string(&self, alloc: Global) -> Result<ByteString, AllocError>
         ensures { IfOk result (λ string. string ≡ self.now) }
     {

@@ -7,7 +7,7 @@ use resp_values::Words;
 use resp2::append_request;
 use std::alloc::{AllocError, Global};
 
-/// The bytes of the requests, one after another, in a string that its copies share from 4,096 bytes on: so the pieces that
+/// The bytes of the requests, one after another, in a string that its copies share from 249 bytes on: so the pieces that
 /// bring them to replicas don't copy them.
 #[tactic(auto, using(crate::proofs::BlockLemmas::one_more_spelled))]
 pub fn block_of(alloc: Global, requests: &[Words]) -> Result<ByteString, AllocError>
@@ -17,5 +17,5 @@ pub fn block_of(alloc: Global, requests: &[Words]) -> Result<ByteString, AllocEr
     for words in requests {
         append_request(words.as_slice(), &mut bytes)?;
     }
-    ByteString::copy_from_slice(alloc, bytes.as_slice())
+    ByteString::from_vec(bytes)
 }

@@ -1,11 +1,12 @@
 //! What is put behind a stream.
-ghost use Rattle.std.specs.Prelude.{◌≡◌, ◌==◌, false, true, length, IfNone, IfSome};
+ghost use Rattle.std.specs.Prelude.{◌≡◌, ◌==◌, false, true, length, IfNone, IfOk, IfSome};
 ghost use Rattle.resp_values.specs.Request.{request_spelling};
 ghost use Rattle.repl_stream.specs.Written.{no_writes};
 
 use crate::lengths::spelled_len;
+use byte_string::{ByteString, LEAST_SHARED};
 use resp_values::Words;
-use std::alloc::Global;
+use std::alloc::{AllocError, Global};
 use std::marker::Model;
 use std::snapshot::Snapshot;
 
@@ -18,6 +19,8 @@ pub struct Written {
 #[derive(Drop)]
 enum Form {
     Spelled(Vec<u8>),
+    // Many bytes, which the pieces for replicas share.
+    Shared(ByteString),
     // The bytes of this request are so many.
     Counted(usize, Snapshot<Words>),
 }
@@ -37,16 +40,21 @@ impl Written {
     pub fn nothing(alloc: Global) -> Written
         ensures { result ≡ no_writes }
     {
-        Written::spelled(Vec::new(alloc))
+        Written {
+            form: Form::Spelled(Vec::new(alloc)),
+        }
     }
 
-    /// These bytes.
-    pub fn spelled(bytes: Vec<u8>) -> Written
-        ensures { result ≡ record { bytes = bytes.items; is_counted = false } }
+    /// These bytes, which copies share if they are many.
+    pub fn spelled(bytes: Vec<u8>) -> Result<Written, AllocError>
+        ensures { IfOk result (λ written. written ≡ record { bytes = bytes.items; is_counted = false }) }
     {
-        Written {
-            form: Form::Spelled(bytes),
-        }
+        let form = if bytes.len() < LEAST_SHARED {
+            Form::Spelled(bytes)
+        } else {
+            Form::Shared(ByteString::from_vec(bytes)?)
+        };
+        Ok(Written { form })
     }
 
     /// The bytes of the request, counted and not spelled.
@@ -64,6 +72,7 @@ impl Written {
     {
         match &self.form {
             Form::Spelled(bytes) => bytes.len(),
+            Form::Shared(bytes) => bytes.len(),
             Form::Counted(count, _) => *count,
         }
     }
@@ -82,7 +91,20 @@ impl Written {
     {
         match &self.form {
             Form::Spelled(bytes) => Some(bytes.as_slice()),
+            Form::Shared(bytes) => Some(bytes.as_slice()),
             Form::Counted(_, _) => None,
+        }
+    }
+
+    /// The bytes once more, which this one and its copies share if they are many.
+    pub fn to_byte_string(&self, alloc: Global) -> Result<ByteString, AllocError>
+        requires { self.now.is_counted ≡ false }
+        ensures { IfOk result (λ string. string ≡ self.now.bytes) }
+    {
+        match &self.form {
+            Form::Spelled(bytes) => ByteString::copy_from_slice(alloc, bytes.as_slice()),
+            Form::Shared(bytes) => bytes.clone(),
+            Form::Counted(_, _) => unreachable!(),
         }
     }
 }

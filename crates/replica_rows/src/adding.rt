@@ -91,11 +91,11 @@ fn count<S: SlotParts, T: Stream>(
     ensures exhausted { result ≡ Err Exhausted
         → nat_lt (end_of node.now.stream.held + length (request_spelling words.now)) (2 ^ 64) ≡ false }
 {
-    let written = Written::counted(words);
-    if written.len() as u64 > u64::MAX - node.stream.received() {
+    let counted = Written::counted(words);
+    if counted.len() as u64 > u64::MAX - node.stream.received() {
         return Err(StepFault::Exhausted);
     }
-    draft.written = written;
+    draft.written = counted;
     Ok(())
 }
 
@@ -112,7 +112,8 @@ fn add<S: SlotParts, T: Stream>(
     if bytes.len() as u64 > u64::MAX - node.stream.received() {
         return Err(StepFault::Exhausted);
     }
-    append_pieces(node, bytes.as_slice(), &mut draft.bodies)?;
-    draft.written = Written::spelled(bytes);
+    let written = Written::spelled(bytes)?;
+    append_pieces(node, &written, &mut draft.bodies)?;
+    draft.written = written;
     Ok(())
 }

@@ -1,5 +1,5 @@
 //! What a step writes, as messages to the node's replicas.
-ghost use Rattle.std.specs.Prelude.{◌≡◌, ◌++◌, ◌∷◌, ◌+◌, ◌<◌, ◌^◌, [], length, IfNone, IfOk, IfSome, OnOk};
+ghost use Rattle.std.specs.Prelude.{◌≡◌, ◌++◌, ◌∷◌, ◌+◌, ◌<◌, ◌^◌, [], false, length, IfNone, IfOk, IfSome, OnOk};
 ghost use Rattle.bus.specs.declared.bodies.StreamBody.TheVariants.{Piece as SaysPiece};
 ghost use Rattle.bus.specs.declared.message.Body.TheVariants.{Stream as OfStream};
 ghost use Rattle.node_step.specs.Orders.{to_all};
@@ -8,9 +8,8 @@ ghost use Rattle.replica_rows.specs.Adding.{piece_of, pieces_of, replicas_below}
 ghost use Rattle.stream_values.specs.Stream.{end_of};
 
 use bus::{Body, StreamBody};
-use byte_string::ByteString;
 use node_parts::NodeParts;
-use repl_stream::Stream;
+use repl_stream::{Stream, Written};
 use slot_store::SlotParts;
 use slot_table::NodeNo;
 use std::alloc::AllocError;
@@ -20,16 +19,17 @@ use stream_values::Piece;
 #[tactic(auto, using(crate::proofs::PieceLemmas::none_sent, crate::proofs::PieceLemmas::last_sent))]
 pub(crate) fn append_pieces<S: SlotParts, T: Stream>(
     node: &NodeParts<S, T>,
-    bytes: &[u8],
+    written: &Written,
     bodies: &mut Vec<(NodeNo, Body)>,
 ) -> Result<(), AllocError>
-    requires { end_of node.now.stream.held + length bytes.now < 2 ^ 64 }
-    ensures { OnOk result (bodies.new.items ≡ bodies.old.items ++ pieces_of node.now bytes.now) }
+    requires spelled { written.now.is_counted ≡ false }
+    requires end { end_of node.now.stream.held + length written.now.bytes < 2 ^ 64 }
+    ensures { OnOk result (bodies.new.items ≡ bodies.old.items ++ pieces_of node.now written.now.bytes) }
 {
     let Some(last) = last_replica(node) else {
         return Ok(());
     };
-    let piece = piece_of(node, bytes)?;
+    let piece = piece_of(node, written)?;
     append_below(node, last, &piece, bodies)?;
     bodies.push((last, Body::Stream(StreamBody::Piece(piece))))?;
     Ok(())
@@ -73,12 +73,13 @@ fn append_below<S: SlotParts, T: Stream>(
 // The bytes as a piece of the node's stream, behind what is there.
 fn piece_of<S: SlotParts, T: Stream>(
     node: &NodeParts<S, T>,
-    bytes: &[u8],
+    written: &Written,
 ) -> Result<Piece, AllocError>
-    requires { end_of node.now.stream.held + length bytes.now < 2 ^ 64 }
-    ensures { IfOk result (λ piece. OfStream (SaysPiece piece) ≡ piece_of node.now bytes.now) }
+    requires spelled { written.now.is_counted ≡ false }
+    requires end { end_of node.now.stream.held + length written.now.bytes < 2 ^ 64 }
+    ensures { IfOk result (λ piece. OfStream (SaysPiece piece) ≡ piece_of node.now written.now.bytes) }
 {
     let stream = &node.stream;
-    let bytes = ByteString::copy_from_slice(node.alloc, bytes)?;
+    let bytes = written.to_byte_string(node.alloc)?;
     Ok(Piece::new(stream.id(), stream.received(), bytes, stream.former()).unwrap())
 }

@@ -54,7 +54,7 @@ impl<T: Stream + Drop> Node<T> {
     pub fn write(&mut self, alloc: Global, write: &str) -> Result<()> {
         let mut bytes = Vec::new(alloc);
         bytes.extend_from_slice(request(alloc, write)?.as_slice())?;
-        let written = Written::spelled(bytes);
+        let written = Written::spelled(bytes)?;
         self.replica.reserve(written.len())?;
         execute(alloc, &mut self.store, write)?;
         self.replica.append(&written);

@@ -9,7 +9,7 @@ use std::marker::Model;
 
 /// A part of a stream, as a master sends it to its replicas: some bytes, and the offset of the first of them.
 ///
-/// A copy of it shares the bytes from 4,096 on. They end below 2 ^ 64.
+/// A copy of it shares the bytes from 249 on. They end below 2 ^ 64.
 #[derive(Debug)]
 pub struct Piece {
     stream: StreamId,
