@@ -1,4 +1,4 @@
--- A byte in hexadecimal digits, as redis-cli and the simulator print one that has no sign of its own.
+-- A byte in hexadecimal digits, as redis-cli and this program print one that has no sign of its own.
 use Rattle.std.specs.Prelude.{◌+◌, ◌/◌, ◌%◌, ◌++◌, ◌∷◌, ℕ, nat_lt, List, [], codes, if◌then◌else◌}
 
 -- `0` to `9` and `a` to `f`

@@ -1,3 +1,4 @@
+pub mod Escaping
 pub mod Hex
 pub mod Quoting
 pub mod ReplyText

@@ -5,7 +5,7 @@ ghost use Rattle.cli_text.specs.Hex.{hex, hex_digit};
 use std::alloc::AllocError;
 
 /// Appends the byte as `\x` and two digits in lower case to the text.
-pub fn print_hex(byte: u8, out: &mut Vec<u8>) -> Result<(), AllocError>
+pub(crate) fn print_hex(byte: u8, out: &mut Vec<u8>) -> Result<(), AllocError>
     ensures { OnOk result (out.new.items ≡ out.old.items ++ hex byte) }
 {
     out.extend_from_slice(b"\\x")?;

@@ -6,10 +6,11 @@ mod fault;
 mod hex;
 mod lines;
 mod quoting;
+mod reply_bytes;
 mod reply_text;
 mod splitting;
 
 pub use commands::Commands;
 pub use fault::{CommandFault, NoCommand};
-pub use hex::print_hex;
+pub use reply_bytes::print_reply;
 pub use reply_text::print_text;

@@ -2,9 +2,8 @@
 
 use crate::failure::{ToolFailure, ToolFault};
 use crate::output::write;
-use cli_text::print_text;
+use cli_text::{print_reply, print_text};
 use resp2::Reply;
-use simulator::print_reply;
 use smart_client::ClientFault;
 use std::alloc::{AllocError, Global};
 

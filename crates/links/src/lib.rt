@@ -1,6 +1,7 @@
 //! A node with its ends of the links to the others: what it sends there, and what it takes from there.
 #![tactic(auto)]
 
+mod linked;
 mod not_taken;
 mod pace;
 mod port;

@@ -1,10 +1,9 @@
 //! What messages of other nodes change in a node.
 
-use crate::linked::HasLinks;
 use crate::witness::{Incident, Witness};
 use key_slot::Slot;
 use link_ends::Act;
-use node_cell::HoldsCell;
+use node_cell::{HasLinks, HoldsCell};
 use slot_state::Move;
 use std::alloc::Global;
 use std::rt::Clock;

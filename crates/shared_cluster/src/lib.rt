@@ -5,7 +5,6 @@ mod arrivals;
 mod carrying;
 mod changes;
 mod clients;
-mod linked;
 mod node;
 mod orders;
 mod runtime;
@@ -18,8 +17,8 @@ mod witness;
 
 pub use carrying::carry;
 pub use clients::{Clients, Refused};
-pub use linked::HasLinks;
 pub use node::Node;
+pub use node_cell::HasLinks;
 pub use orders::Orders;
 pub use runtime::Runtime;
 pub use seeing_gate::{Mail, SeeingGate};

@@ -3,12 +3,11 @@ ghost use Rattle.std.specs.Prelude.{◌≡◌, IfSome};
 
 use crate::arrivals::Arrival;
 use crate::carrying::{Replies, carry_at_once, send};
-use crate::linked::HasLinks;
 use crate::node::Node;
 use crate::shared::SharedCluster;
 use connections::Conn;
 use listener::SharedGate;
-use node_cell::{Asks, Entered, HoldsCell, NodeGate};
+use node_cell::{Asks, Entered, HasLinks, HoldsCell, NodeGate};
 use node_gate::Answered;
 use node_step::{Event, Response, StepFault};
 use resp_values::Reply;

@@ -1,4 +1,3 @@
-pub mod Escaping
 pub mod Forms
 pub mod Lines
 pub mod Playing

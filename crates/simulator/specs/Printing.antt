@@ -13,7 +13,7 @@ use Rattle.resp_values.specs.Reply.{reply_spelling}
 use Rattle.smart_client.specs.Faults.{code_of}
 use Rattle.world.specs.declared.output.Output.{Output}
 use Rattle.world.specs.declared.output.Output.TheVariants.{Answer, Admin, Sent, Promoted, Nothing}
-use Rattle.simulator.specs.Escaping.{escaped}
+use Rattle.cli_text.specs.Escaping.{escaped}
 
 -- ---- outputs
 

@@ -1,7 +1,6 @@
 //! A cluster in one process that plays a script: a step a line, and what comes out of each, a line an output.
 #![tactic(auto)]
 
-mod escaping;
 mod fault;
 mod form;
 mod incoming;
@@ -12,6 +11,6 @@ mod simulation;
 
 pub use fault::{ScriptFault, SimulationFault};
 pub use form::{FORMS, StepForm, StepRow};
-pub use printing::{print_outputs, print_reply};
+pub use printing::print_outputs;
 pub use script::read_script;
 pub use simulation::simulate;

@@ -1,16 +1,14 @@
 //! What comes out of a world as a text, in the simulator's own format: a line an output.
 ghost use Rattle.std.specs.Prelude.{◌≡◌, ◌++◌, decimal, OnOk};
 ghost use Rattle.std.specs.List.{flat_map};
-ghost use Rattle.resp_values.specs.Reply.{reply_spelling};
-ghost use Rattle.simulator.specs.Escaping.{escaped};
 ghost use Rattle.simulator.specs.Printing.{kind, kind_of_election, kind_of_slots, kind_of_stream, mark, printed, shown};
 ghost use Rattle.world.specs.declared.output.Output.TheVariants as output;
 
-use crate::escaping::print_bytes;
 use bus::{Body, ElectionBody, Message, SlotsBody, StreamBody};
+use cli_text::print_reply;
 use itoa::Buffer;
 use node_step::Promotion;
-use resp2::{Reply, append_reply};
+use resp2::Reply;
 use smart_client::ClientFault;
 use std::alloc::AllocError;
 use world::Output;
@@ -169,19 +167,4 @@ fn kind_of_election(body: &ElectionBody) -> &'static [u8]
         ElectionBody::Pause(_) => b"Pause",
         ElectionBody::Paused(_) => b"Paused",
     }
-}
-
-/// Puts the reply behind the text, as its bytes on the connection are shown. They are spelled in the first list, whose room is
-/// used again.
-pub fn print_reply(
-    reply: &Reply,
-    spelling: &mut Vec<u8>,
-    out: &mut Vec<u8>,
-) -> Result<(), AllocError>
-    ensures { OnOk result
-        (out.new.items ≡ out.old.items ++ flat_map escaped (reply_spelling reply.now)) }
-{
-    spelling.clear();
-    append_reply(reply, spelling)?;
-    print_bytes(spelling.as_slice(), out)
 }

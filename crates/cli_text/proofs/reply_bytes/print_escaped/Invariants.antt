@@ -1,7 +1,7 @@
 use Rattle.std.proofs.Common.{◌≡◌, ◌++◌, take}
 use Rattle.std.specs.List.{flat_map}
-use Rattle.simulator.specs.Escaping.{escaped}
-use Rattle.simulator.proofs.escaping.print_bytes.Given as goal
+use Rattle.cli_text.specs.Escaping.{escaped}
+use Rattle.cli_text.proofs.reply_bytes.print_escaped.Given as goal
 
 -- the bytes so far are shown
 abbrev pub invariant-loop-byte : goal.invariant-loop-byte

@@ -1,8 +1,7 @@
 //! What has a node's cell and its links with all nodes.
 
-use link_ends::{Act, PortEnd};
-use links::{Station, Web};
-use node_cell::{Deployment, HoldsCell, Log, Posted};
+use crate::holder::HoldsCell;
+use link_ends::Act;
 use std::alloc::AllocError;
 use std::sync::Wait;
 
@@ -36,41 +35,4 @@ pub trait HasLinks<R: Wait>: HoldsCell {
 
     /// Sends messages to that node as far as there is room, and says whether there was one.
     fn send_out(&mut self, rt: &R, to: usize) -> Result<bool, AllocError>;
-}
-
-impl<K: Deployment, W: Web, L: Log + Drop, E: PortEnd<Carried = Posted<K>>> HasLinks<E::Handle>
-    for Station<K, W, L, E> {
-    fn take_from(&mut self, from: usize) -> Taken {
-        let received = self.receive(from);
-        kind_of(&received)
-    }
-
-    fn lose_from(&mut self, from: usize) -> bool {
-        self.lose(from).is_some()
-    }
-
-    fn is_half_full(&mut self, from: usize) -> bool {
-        Station::is_half_full(self, from)
-    }
-
-    fn tell_act(&mut self, from: usize) -> Option<Act> {
-        Station::tell_act(self, from)
-    }
-
-    fn is_behind(&self) -> bool {
-        Station::is_behind(self)
-    }
-
-    fn send_out(&mut self, rt: &E::Handle, to: usize) -> Result<bool, AllocError> {
-        Station::send_out(self, rt, to)
-    }
-}
-
-// What was taken off a link, by what the node made of it.
-fn kind_of<A, F>(received: &Option<Result<A, F>>) -> Taken {
-    match received {
-        None => Taken::Nothing,
-        Some(Err(_)) => Taken::NoStep,
-        Some(Ok(_)) => Taken::Step,
-    }
 }
