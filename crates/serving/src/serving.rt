@@ -3,13 +3,6 @@ ghost use Rattle.std.specs.Prelude.{◌≡◌, All, IfOk, length, map, vec_len};
 ghost use Rattle.link_ends.specs.Ends.{AreLinkedFrom};
 ghost use Rattle.tickets.specs.Tickets.{IsFresh, id_of};
 
-use crate::followers::tell_followers;
-use crate::listening::{Doors, listen_at};
-use crate::logging::Logging;
-use crate::orders::start_reading;
-use crate::pace::warn_of_pace;
-use crate::reach::{host_of, warn_of_reach};
-use crate::recording::record;
 use audit::{WorldRun, gather_stations};
 use cluster::{
     Course, Hearing, NodeStop, Orders, Overseer, Place, Runtime, ServeFault, Telling, serve_nodes,
@@ -19,6 +12,10 @@ use link_ends::{Act, LinkEnd, PortEnd, PortEnds, Shim, link_ports, link_shims};
 use links::{Station, Web};
 use node_cell::{Deployment, Journal, Log, Posted};
 use program_fault::{Failure, ProgramFault};
+use serve_io::{
+    Doors, Logging, host_of, listen_at, record, start_reading, tell_followers, warn_of_pace,
+    warn_of_reach,
+};
 use std::alloc::AllocError;
 use std::collections::VecDeque;
 use std::marker::Brand;

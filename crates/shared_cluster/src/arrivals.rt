@@ -1,6 +1,6 @@
 //! The slots that arrive at a node by what its clients order.
 
-use crate::witness::Incident;
+use cluster_controls::Incident;
 use command::{ClusterCommand, Command, SlotOrder, parse};
 use key_slot::Slot;
 use node_cell::HoldsCell;

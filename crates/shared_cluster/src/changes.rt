@@ -1,6 +1,6 @@
 //! What messages of other nodes change in a node.
 
-use crate::witness::{Incident, Witness};
+use cluster_controls::{Incident, Witness};
 use key_slot::Slot;
 use link_ends::Act;
 use node_cell::{HasLinks, HoldsCell};

@@ -1,9 +1,7 @@
 //! A cluster that is served.
 
-use crate::clients::Clients;
 use crate::node::Node;
-use crate::stop::Stop;
-use crate::witness::Witness;
+use cluster_controls::{Clients, Stop, Witness};
 use node_cell::HoldsCell;
 use std::alloc::Global;
 use std::sync::Arc;

@@ -4,7 +4,7 @@ use cluster_config::{Config, NodeConfig};
 use std::net::IpAddr;
 
 /// The host of a node, as its configuration names it.
-pub(crate) fn host_of(node: &NodeConfig) -> &str {
+pub fn host_of(node: &NodeConfig) -> &str {
     str::from_utf8(node.host.as_slice()).unwrap_or("")
 }
 

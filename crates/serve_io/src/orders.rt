@@ -1,7 +1,7 @@
 //! `rcluster serve --orders`: orders that are read from standard input while the cluster is served.
 
 use client_tools::Shown;
-use cluster::Orders;
+use cluster_controls::Orders;
 use command_table::count_in;
 use program_fault::{Failure, ProgramFault};
 use std::alloc::Global;

@@ -3,7 +3,7 @@
 //! promoted or stopped, and for each message that a bad network loses, repeats or holds; and how the nodes are, at the beginning and when somebody
 //! asks. Without a log there are only the answers to orders, where these are taken, and the advice for whoever runs the cluster.
 
-use cluster::{Heard, Hearing, Incident, NodeStatus, Shortage, Witness};
+use cluster_controls::{Heard, Hearing, Incident, NodeStatus, Shortage, Witness};
 use link_ends::Act;
 use program_fault::{Failure, ProgramFault};
 use std::alloc::{AllocError, Global};
