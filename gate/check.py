@@ -35,6 +35,7 @@ SCRIPTS = [
     ("tests/starting/run", "rcluster"),
     ("tests/documents/run", None),
     ("tests/wrong_bodies/run", None),
+    ("tests/kits/run", None),
 ]
 # Where the kit's report of the last run is kept whole, with the processor's seconds of each crate behind it.
 LOG = os.path.join(ROOT, "check.log")
