@@ -27,7 +27,7 @@ def load():
 def reckon_once(rt):
     """Has the kit reckon once for each crate which libraries it stands on, and once what the sum of its files is.
 
-    Kits before 13f reckon both along each path down through crates.txt, and from `rcluster` 600,677 paths lead down. A gate
+    Kits before 13f reckon both along each path down through crates.txt, and some 460,000 paths lead down from `rcluster`. A gate
     uses these sums for nothing but to tell whether a file has changed meanwhile, and keeps nothing by them.
     """
     crate = getattr(getattr(rt, "rtlib", None), "Crate", None)
