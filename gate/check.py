@@ -13,7 +13,7 @@ import time
 
 import kit
 from processes import end_in_order, started
-from processor_time import ProcessorTime, ended_seconds
+from processor_time import EDITS, PROOF, ProcessorTime, ended_seconds
 from quick_check import build_programs, is_run_right, run_side_by_side, say_of_script
 from report import Progress, known_seconds
 from sources import PROGRAM, ROOT, SPARING_CI, crate_names, note_built, program_of, unproved_program
@@ -98,7 +98,7 @@ def pass_crates(words):
     print(f"{len(proofs)} crates took {seconds:,} s of a processor, as docs/GATE.md tells. What is kept takes none", flush=True)
     taken = ProcessorTime()
     taken.start()
-    report = Progress(proofs, edits, kit.warning(running), taken.of_edits)
+    report = Progress(proofs, edits, kit.warning(running), taken.spent)
     how = {"stdout": subprocess.PIPE, "stderr": subprocess.STDOUT, "text": True, "errors": "replace", "env": kit.environment()}
     with started(gate, **how) as run, open(LOG, "w", encoding="utf-8") as log:
         for line in run.stdout:
@@ -106,6 +106,8 @@ def pass_crates(words):
             log.flush()
             report.hear(line.rstrip("\n"))
         log.writelines(f"{line}\n" for line in taken.table())
+        all_proofs, all_edits = (sum(taken.spent(it, kind) for it in proofs) for kind in (PROOF, EDITS))
+        print(f"proofs took {all_proofs:,.0f} s of a processor, and edits {all_edits:,.0f} s", flush=True)
         # A gate that failed without a count is one failure. A bad edit shows nothing, so it is one, too.
         return report.passed, max(report.failed, int(run.wait() != 0)) + report.bad_edits
 

@@ -12,6 +12,8 @@ TICKS = os.sysconf("SC_CLK_TCK")
 CRATE = re.compile(rb"\0--crate-name\0(\w+)\0")
 # The kit tries an edit in a folder of this name.
 OF_EDIT = "/rt-edit-"
+# What a check may be of.
+PROOF, EDITS = "proof", "edits"
 
 
 class ProcessorTime(threading.Thread):
@@ -41,9 +43,9 @@ class ProcessorTime(threading.Thread):
         self.join()
         return self.lines()
 
-    def of_edits(self, crate):
-        """Returns how many seconds the edits of the crate took so far."""
-        return sum(own for name, kind, own in [*self.checks.values()] if (name, kind) == (crate, "edits"))
+    def spent(self, crate, kind):
+        """Returns how many seconds the crate's proof took so far, or its edits."""
+        return sum(own for name, its_kind, own in [*self.checks.values()] if (name, its_kind) == (crate, kind))
 
     def lines(self):
         seconds = collections.defaultdict(collections.Counter)
@@ -51,7 +53,7 @@ class ProcessorTime(threading.Thread):
             seconds[crate][kind] += own
         lines = ["processor seconds: crate, proof, edits"]
         for crate, of in sorted(seconds.items(), key=lambda it: -sum(it[1].values())):
-            lines.append(f"{crate:20} {of['proof']:6.0f} {of['edits']:6.0f}")
+            lines.append(f"{crate:20} {of[PROOF]:6.0f} {of[EDITS]:6.0f}")
         return lines
 
 
@@ -94,7 +96,7 @@ def crate_of(pid):
 def kind_of(pid):
     """Whether this process works on an edit or on a proof, unless it has ended."""
     try:
-        return "edits" if OF_EDIT in os.readlink(f"/proc/{pid}/cwd") else "proof"
+        return EDITS if OF_EDIT in os.readlink(f"/proc/{pid}/cwd") else PROOF
     except OSError:
         return None
 

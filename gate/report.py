@@ -4,6 +4,7 @@ import os
 import re
 import time
 
+from processor_time import EDITS, PROOF
 from sources import ROOT, libraries
 
 # The kit passes over an edit that it can't apply or compile.
@@ -58,8 +59,8 @@ class Report:
 class Progress(Report):
     """The same, where each crate's line says which are left to prove, and how many seconds of a processor are left."""
 
-    def __init__(self, proofs, edits, warning=None, spent=lambda crate: 0):
-        """The seconds of each crate's proof and of its edits, lowest first, and a call that tells those spent on its edits so far."""
+    def __init__(self, proofs, edits, warning=None, spent=lambda crate, kind: 0):
+        """The seconds of each crate's proof and of its edits, lowest first, and a call that tells those spent on either so far."""
         super().__init__(warning)
         self.proofs, self.edits, self.spent = dict(proofs), dict(edits), spent
 
@@ -71,10 +72,14 @@ class Progress(Report):
         self.proofs.pop(crate[1], None)
         if crate[2]:
             self.edits.pop(crate[1], None)
-        self.say(f"{crate[1]} is {'kept' if crate[2] else 'proved'}; {self.rest()}")
+        self.say(f"{crate[1]} is {'kept' if crate[2] else self.proved(crate[1])}; {self.rest()}")
+
+    def proved(self, crate):
+        seconds = self.spent(crate, PROOF)
+        return f"proved in {seconds:.0f} s of a processor" if seconds else "proved"
 
     def rest(self):
-        seconds = sum(self.proofs.values()) + sum(max(0, it - self.spent(crate)) for crate, it in self.edits.items())
+        seconds = sum(self.proofs.values()) + sum(max(0, it - self.spent(crate, EDITS)) for crate, it in self.edits.items())
         if not self.proofs:
             return f"no proof is left, but some {seconds:,.0f} s of edits" if seconds else "no crate is left"
         names = [*self.proofs]
