@@ -9,8 +9,8 @@ from sources import PARTS, ROOT, crate_names, folder_of
 
 # What the kit runs a program on.
 RUN = ("stdin", "stdout", "args", "status", "data")
-# What a check of a crate keeps for the next one.
-KEPT = ("rlib", "incremental")
+# What a check keeps of a crate for those above it, and what it keeps for its next check.
+BUILT, CHECKED = "rlib", "incremental"
 
 
 @contextlib.contextmanager
@@ -42,13 +42,18 @@ def copy_crates(to, names=None, edits_of=None):
             copy_part(os.path.join(crate, "wrong"), os.path.join(to, "crates", name, "must-fail"))
 
 
-def link_kept(to, names):
-    """Has the copies of these crates share what the last checks of the crates kept, for a kit that keeps nothing else."""
+def share_kept(to, crate, names):
+    """Has the copies share what the last checks kept, for a kit that keeps nothing else: of these crates what those above them
+    need, and of the one crate what its next check needs. That is copied, because a check writes there."""
     for name in names:
-        for part in KEPT:
-            kept = os.path.join(folder_of(name), "out", part)
-            if os.path.isdir(kept):
-                shutil.copytree(kept, os.path.join(to, "crates", name, "out", part), copy_function=os.link)
+        copy_kept(to, name, BUILT, os.link)
+    copy_kept(to, crate, CHECKED, shutil.copy2)
+
+
+def copy_kept(to, crate, part, how):
+    kept = os.path.join(folder_of(crate), "out", part)
+    if os.path.isdir(kept):
+        shutil.copytree(kept, os.path.join(to, "crates", crate, "out", part), copy_function=how)
 
 
 def is_wanted(line, names):

@@ -9,15 +9,14 @@ isn't. Each other edit is tried by the kit, alone.
 """
 
 import os
-import shutil
 import sys
-import tempfile
 import threading
 
 import bodies
 import kit
 import kit_command
 import sparing_ci
+from copies import CHECKED
 
 # What is used of the kit's command.
 PARTS = ("must_fail", "checked", "edits_of", "edited")
@@ -68,13 +67,10 @@ class Joint:
 
     def must_fail_all(self, crate, edits, flags):
         """Stands for the older kits' function of this name, and begins with what the last check of the crate kept."""
-        before = os.path.join(crate.folder, "out", "incremental")
-        with tempfile.TemporaryDirectory(prefix="joint-edits-") as kept:
-            if os.path.isdir(before):
-                shutil.copytree(before, kept, dirs_exist_ok=True)
-            tried = [self.must_fail(crate, it, flags, kept) for it in edits]
-            is_proved = not self.rt.checked(crate, {}, flags, kept).returncode
-        if is_proved:
+        kept = os.path.join(crate.folder, "out", CHECKED)
+        os.makedirs(kept, exist_ok=True)
+        tried = [self.must_fail(crate, it, flags, kept) for it in edits]
+        if not self.rt.checked(crate, {}, flags, kept).returncode:
             return tried
         return [(False, f"must-fail {crate.name}/{os.path.basename(it)}: the crate isn't proved without it") for it in edits]
 

@@ -6,7 +6,7 @@ import sys
 import time
 
 import kit
-from copies import copy_crates, link_kept, workplace
+from copies import copy_crates, share_kept, workplace
 from processes import started, with_temporary
 from refused import bodies_of, crates_with_wrong_bodies, forget, note_refused, state_of
 from report import BAD_EDIT, Report
@@ -43,7 +43,7 @@ def are_refused(crate, warning):
     with workplace("wrong-bodies-") as (copy, temporary):
         copy_crates(copy, below(crate), edits_of=[crate])
         if not kit.keeps_what_passed():
-            link_kept(copy, below(crate))
+            share_kept(copy, crate, below(crate))
         how = {"cwd": copy, "env": with_temporary(temporary), "stderr": subprocess.STDOUT, "text": True, "errors": "replace"}
         with started([sys.executable, "-B", JOINT_CI, crate], stdout=subprocess.PIPE, **how) as gate:
             for line in gate.stdout:
