@@ -1,16 +1,20 @@
 """Which state of each crate's files its wrong bodies were last refused at: the lines of gate/WRONG.
 
 A line is `NAME DATE N refused SUM`, as `./check --wrong` writes it, or `NAME DATE not tried SUM`, as `tests/documents/run --fix` writes it
-of a crate that has changed since. The sum is of the crate's folders `src`, `specs`, `proofs` and `wrong`.
+of a crate that has changed since. The sum is of the crate's folders `src`, `specs`, `proofs` and `wrong`, but for lines of comments, because
+no proof reads these.
 """
 
 import datetime
+import hashlib
 import os
 import re
 
-from sources import PARTS, ROOT, crate_names, files_of, folder_of, sum_of_files
+from sources import PARTS, ROOT, crate_names, files_of, folder_of
 
 FILE = "gate/WRONG"
+# A line of a comment alone, in code and in definitions.
+COMMENT = re.compile(rb"^[ \t]*(?://|--).*\n?", re.MULTILINE)
 LINE = re.compile(r"(\w+) +(\d{4}-\d\d-\d\d) +(?:(\d+) refused|not tried) +([0-9a-f]{16})")
 
 
@@ -36,8 +40,13 @@ def bodies_of(crate):
 
 
 def state_of(crate):
-    """Returns a sum of the crate's files on which it rests that its wrong bodies are refused."""
-    return sum_of_files(files_of(crate, (*PARTS, "wrong")))[:16]
+    """Returns a sum of what it rests on in the crate's files that its wrong bodies are refused."""
+    total = hashlib.sha256()
+    for path in sorted(files_of(crate, (*PARTS, "wrong"))):
+        with open(path, "rb") as file:
+            text = COMMENT.sub(b"", file.read())
+        total.update(f"{os.path.relpath(path, ROOT)}\0{hashlib.sha256(text).hexdigest()}\n".encode())
+    return total.hexdigest()[:16]
 
 
 def read():

@@ -12,9 +12,9 @@ use Rattle.link_ends.specs.Ends.{AllArrived, AreWired, EndView, end_at, no_end}
 use Rattle.link_ends.specs.Giving.{plain}
 use Rattle.links.specs.Ports.{PortView}
 use Rattle.links.specs.Stations.{IsStation, StationView, all_sent, all_taken, end_of, for_node, port_at, port_of, sent_by, taken_by}
-use Rattle.node_cell.specs.Journal.{no_cluster}
-use Rattle.node_cell.specs.declared.entry.Entry.{Entry}
-use Rattle.node_cell.specs.declared.entry.Entry.TheVariants.{Step, Skipped}
+use Rattle.cell_parts.specs.Journal.{no_cluster}
+use Rattle.cell_parts.specs.declared.entry.Entry.{Entry}
+use Rattle.cell_parts.specs.declared.entry.Entry.TheVariants.{Step, Skipped}
 use Rattle.node_step.specs.State.{first_state}
 use Rattle.node_step.specs.declared.event.Event.{Event}
 use Rattle.node_step.specs.declared.event.Event.TheVariants.{Open, Close, Request, Deliver, Tick}

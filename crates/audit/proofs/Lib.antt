@@ -3,7 +3,6 @@ pub mod Under
 pub mod Merging
 pub mod EachNode
 pub mod Parts
-pub mod Prefixes
 pub mod Counts
 pub mod Searching
 pub mod Sounds

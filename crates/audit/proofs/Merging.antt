@@ -8,9 +8,9 @@ use Rattle.bus.specs.declared.message.Message.{Message}
 use Rattle.cluster_config.specs.Config.{ClusterConfig}
 use Rattle.merged_run.proofs.Merging.{merged_is_run}
 use Rattle.merged_run.specs.Merged.{AllWereSent, IsJournalFrom, LeadsTo, MayHappenIn, entries_of}
-use Rattle.node_cell.specs.Journal.{IsHistory, Leads, comes_in_time, ticket_of}
-use Rattle.node_cell.specs.declared.entry.Entry.{Entry as JournalEntry}
-use Rattle.node_cell.specs.declared.entry.Entry.TheVariants as journal
+use Rattle.cell_parts.specs.Journal.{IsHistory, Leads, comes_in_time, ticket_of}
+use Rattle.cell_parts.specs.declared.entry.Entry.{Entry as JournalEntry}
+use Rattle.cell_parts.specs.declared.entry.Entry.TheVariants as journal
 use Rattle.node_step.specs.State.{NodeState, first_state}
 use Rattle.node_step.specs.declared.event.Event.TheVariants.{Open, Close, Request, Deliver, Tick}
 use Rattle.single_keyspace.proofs.Lists.{contains_first, contains_more, contains_nothing, first_or_more}

@@ -6,8 +6,8 @@ use Rattle.std.specs.List.{remove}
 use Rattle.std.specs.Prelude.{nat_lt, slice_index_or}
 use Rattle.atomic_table.specs.Seated.{TableId}
 use Rattle.cluster_config.specs.Config.{ClusterConfig}
-use Rattle.node_cell.specs.Journal.{IsHistory, Rises, tickets_of}
-use Rattle.node_cell.specs.declared.entry.Entry.{Entry as JournalEntry}
+use Rattle.cell_parts.specs.Journal.{IsHistory, Rises, tickets_of}
+use Rattle.cell_parts.specs.declared.entry.Entry.{Entry as JournalEntry}
 use Rattle.node_step.specs.State.{NodeState, first_state}
 use Rattle.single_keyspace.proofs.Lists.{contains_first, contains_more, first_or_more}
 use Rattle.tickets.specs.Tickets.{drawn, once_below, seats_of, table_of, times}

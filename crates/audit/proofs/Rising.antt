@@ -6,8 +6,8 @@ use Rattle.std.specs.List.{cons_option, filter_map, find, range_with_len}
 use Rattle.std.specs.Prelude.{⊤}
 use Rattle.single_keyspace.proofs.Lists.{contains_first, contains_more, contains_nothing, first_or_more}
 use Rattle.single_keyspace.proofs.Seen.{no_some, same_some}
-use Rattle.node_cell.specs.Journal.{Rises, ticket_of, tickets_of}
-use Rattle.node_cell.specs.declared.entry.Entry.{Entry as JournalEntry}
+use Rattle.cell_parts.specs.Journal.{Rises, ticket_of, tickets_of}
+use Rattle.cell_parts.specs.declared.entry.Entry.{Entry as JournalEntry}
 use Rattle.tickets.specs.Tickets.{times}
 use Rattle.audit.specs.Merge.{has_ticket}
 

@@ -4,8 +4,8 @@ use Rattle.std.proofs.lemmas.List.{get_or_default}
 use Rattle.std.specs.List.{find}
 use Rattle.std.specs.Prelude.{slice_index_or}
 use Rattle.bus.specs.declared.message.Message.{Message}
-use Rattle.node_cell.specs.Journal.{Rises, tickets_of}
-use Rattle.node_cell.specs.declared.entry.Entry.{Entry as JournalEntry}
+use Rattle.cell_parts.specs.Journal.{Rises, tickets_of}
+use Rattle.cell_parts.specs.declared.entry.Entry.{Entry as JournalEntry}
 use Rattle.single_keyspace.proofs.Seen.{no_some, same_some}
 use Rattle.audit.specs.Merge.{WasSent, has_ticket, journal_of, sent_in}
 use Rattle.audit.proofs.Rising.{found_among, found_is_among, found_ticket}

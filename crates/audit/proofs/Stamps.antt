@@ -54,9 +54,9 @@ use Rattle.slot_state.specs.declared.ending.NodeVerdict.TheVariants as ending
 use Rattle.slot_state.specs.declared.copy_id.CopyId.{CopyId}
 use Rattle.slot_table.specs.Claims.{merged}
 use Rattle.slot_table.specs.declared.entry.SlotEntry.{SlotEntry}
-use Rattle.node_cell.specs.Journal.{IsHistory, Leads, ticket_of}
-use Rattle.node_cell.specs.declared.entry.Entry.{Entry}
-use Rattle.node_cell.specs.declared.entry.Entry.TheVariants.{Step, Skipped}
+use Rattle.cell_parts.specs.Journal.{IsHistory, Leads, ticket_of}
+use Rattle.cell_parts.specs.declared.entry.Entry.{Entry}
+use Rattle.cell_parts.specs.declared.entry.Entry.TheVariants.{Step, Skipped}
 use Rattle.single_keyspace.proofs.Lists.{contains_nothing, contains_one}
 use Rattle.audit.specs.Merge.{sent_in}
 

@@ -4,8 +4,8 @@ use Rattle.std.proofs.lemmas.List.{length-map}
 use Rattle.std.specs.List.{range_with_len}
 use Rattle.atomic_table.specs.Seated.{TableId}
 use Rattle.cluster_config.specs.Config.{ClusterConfig}
-use Rattle.node_cell.specs.Journal.{CellView, tickets_of}
-use Rattle.node_cell.specs.declared.entry.Entry.{Entry as JournalEntry}
+use Rattle.cell_parts.specs.Journal.{CellView, tickets_of}
+use Rattle.cell_parts.specs.declared.entry.Entry.{Entry as JournalEntry}
 use Rattle.single_keyspace.proofs.Lists.{contains_nothing}
 use Rattle.tickets.specs.Tickets.{drawn, once_below, seats_of, times, total}
 use Rattle.tickets.specs.declared.seat.Seat.{Seat}

@@ -3,9 +3,9 @@ use Rattle.std.proofs.Common.{◌≡◌, ◌+◌, ◌<◌, ◌≤◌, ◌∙◌,
 use Rattle.std.specs.List.{find}
 use Rattle.std.specs.Prelude.{option_map}
 use Rattle.single_keyspace.proofs.Seen.{no_some, same_some}
-use Rattle.node_cell.specs.Journal.{ticket_of, tickets_of}
-use Rattle.node_cell.specs.declared.entry.Entry.{Entry as JournalEntry}
-use Rattle.node_cell.specs.declared.entry.Entry.TheVariants as journal
+use Rattle.cell_parts.specs.Journal.{ticket_of, tickets_of}
+use Rattle.cell_parts.specs.declared.entry.Entry.{Entry as JournalEntry}
+use Rattle.cell_parts.specs.declared.entry.Entry.TheVariants as journal
 use Rattle.tickets.specs.Tickets.{times, total}
 use Rattle.world_run.specs.Run.{Entry}
 use Rattle.audit.specs.Merge.{entry_under, has_ticket, journal_of, or_else, placed}

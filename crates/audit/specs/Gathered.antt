@@ -3,8 +3,8 @@ use Rattle.std.specs.Prelude.{◌≡◌, ◌⊎◌, ℕ, List, [], length, map, 
 use Rattle.atomic_table.specs.Seated.{TableId}
 use Rattle.cluster_config.specs.Config.{ClusterConfig}
 use Rattle.merged_run.specs.Merged.{entries_of}
-use Rattle.node_cell.specs.Journal.{CellView}
-use Rattle.node_cell.specs.declared.entry.Entry.{Entry as JournalEntry}
+use Rattle.cell_parts.specs.Journal.{CellView}
+use Rattle.cell_parts.specs.declared.entry.Entry.{Entry as JournalEntry}
 use Rattle.std.specs.List.{range_with_len}
 use Rattle.world_run.specs.Run.{Entry, IsRun}
 use Rattle.audit.specs.Law.{RunView}

@@ -3,7 +3,7 @@ use Rattle.std.specs.Prelude.{◌≡◌, ◌<◌, ℕ, List, length, map}
 use Rattle.std.specs.List.{range_with_len}
 use Rattle.cluster_config.specs.Config.{ClusterConfig}
 use Rattle.merged_run.specs.Merged.{entries_of}
-use Rattle.node_cell.specs.declared.entry.Entry.{Entry as JournalEntry}
+use Rattle.cell_parts.specs.declared.entry.Entry.{Entry as JournalEntry}
 use Rattle.world_run.specs.Run.{Entry, IsRun}
 use Rattle.audit.specs.Merge.{AreJournals, journal_of, merged, placed}
 

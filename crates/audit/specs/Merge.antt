@@ -6,9 +6,9 @@ use Rattle.cluster_config.specs.Config.{ClusterConfig}
 use Rattle.node_step.specs.State.{NodeState, first_state}
 use Rattle.node_step.specs.declared.event.Event.{Event}
 use Rattle.node_step.specs.declared.event.Event.TheVariants.{Open, Close, Request, Deliver, Tick}
-use Rattle.node_cell.specs.Journal.{IsHistory, Rises, ticket_of, tickets_of}
-use Rattle.node_cell.specs.declared.entry.Entry.{Entry as JournalEntry}
-use Rattle.node_cell.specs.declared.entry.Entry.TheVariants as journal
+use Rattle.cell_parts.specs.Journal.{IsHistory, Rises, ticket_of, tickets_of}
+use Rattle.cell_parts.specs.declared.entry.Entry.{Entry as JournalEntry}
+use Rattle.cell_parts.specs.declared.entry.Entry.TheVariants as journal
 use Rattle.atomic_table.specs.Seated.{TableId}
 use Rattle.tickets.specs.Tickets.{drawn, once_below, seats_of, table_of, times, total}
 use Rattle.tickets.specs.declared.seat.Seat.{Seat}

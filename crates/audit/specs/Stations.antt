@@ -4,7 +4,7 @@ use Rattle.std.specs.List.{range_with_len}
 use Rattle.bus.specs.declared.message.Message.{Message}
 use Rattle.link_ends.specs.Ends.{EndView}
 use Rattle.links.specs.Stations.{StationView, end_of}
-use Rattle.node_cell.specs.Journal.{CellView}
+use Rattle.cell_parts.specs.Journal.{CellView}
 
 abbrev pub cells_of : List StationView → List CellView
 cells_of stations = map (λ (station : StationView). station.cell) stations

@@ -2,7 +2,7 @@
 ghost use Rattle.std.specs.Prelude.{◌≡◌, option_copied};
 ghost use Rattle.std.specs.List.{find};
 ghost use Rattle.audit.specs.Merge.{has_ticket};
-ghost use Rattle.node_cell.specs.Journal.{Rises, tickets_of};
+ghost use Rattle.cell_parts.specs.Journal.{Rises, tickets_of};
 
 use node_cell::Entry;
 use std::marker::Model;
@@ -15,8 +15,8 @@ pub(crate) struct NodeJournal {
 
 impl Model for NodeJournal {
     ghost use Rattle.std.specs.Prelude.{List};
-    ghost use Rattle.node_cell.specs.Journal.{Rises, tickets_of};
-    ghost use Rattle.node_cell.specs.declared.entry.Entry.{Entry as JournalEntry};
+    ghost use Rattle.cell_parts.specs.Journal.{Rises, tickets_of};
+    ghost use Rattle.cell_parts.specs.declared.entry.Entry.{Entry as JournalEntry};
 
     ghost Value = { List JournalEntry };
 

@@ -7,7 +7,6 @@ mod journal;
 mod law;
 mod order;
 mod part;
-mod same;
 mod sound;
 mod stations;
 mod whole_run;

@@ -1,7 +1,7 @@
 //! What is left of a node that nobody serves any more.
 ghost use Rattle.std.specs.Prelude.{◌≡◌};
 ghost use Rattle.audit.specs.Merge.{IsOfNode};
-ghost use Rattle.node_cell.specs.Journal.{tickets_of};
+ghost use Rattle.cell_parts.specs.Journal.{tickets_of};
 ghost use Rattle.tickets.specs.Tickets.{drawn, seats_of, table_of};
 
 use crate::each_node::OfNode;
@@ -22,7 +22,7 @@ pub(crate) struct Part<K: Deployment> {
 impl<K: Deployment> Model for Part<K> {
     ghost use Rattle.std.specs.Prelude.{◌≡◌, ◌<◌, length};
     ghost use Rattle.audit.specs.Merge.{IsOfNode, PartView};
-    ghost use Rattle.node_cell.specs.Journal.{tickets_of};
+    ghost use Rattle.cell_parts.specs.Journal.{tickets_of};
     ghost use Rattle.tickets.specs.Tickets.{drawn, seats_of, table_of};
 
     ghost Value = { PartView };

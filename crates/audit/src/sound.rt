@@ -3,10 +3,10 @@ ghost use Rattle.std.specs.Prelude.{◌≡◌, true, false, All, Contains};
 ghost use Rattle.audit.specs.Merge.{AllAreSound, IsSound, WasSent, sent_in};
 
 use crate::journal::NodeJournal;
-use crate::same::is_same_message;
 use bus::Message;
 use node_cell::Entry;
 use node_core::Event;
+use same_messages::is_same_message;
 
 /// Whether each message that a node took was sent, by the step whose ticket it carries.
 pub(crate) fn are_sound(journals: &[NodeJournal]) -> bool

@@ -1,16 +1,12 @@
 //! `rcluster cli --stdin`: the commands of standard input, one after another.
 
 use crate::calling::execute;
-use crate::failure::{ToolFailure, ToolFault};
-use crate::patient::forget_refusals;
-use crate::printing::Style;
-use crate::runtime::ToolRuntime;
-use crate::watched::Seen;
 use cli_text::{CommandFault, Commands};
 use smart_client::{Client, Network};
 use std::alloc::Global;
 use std::cell::RefCell;
 use std::io::Read;
+use tool_io::{Seen, Style, ToolFailure, ToolFault, ToolRuntime, forget_refusals};
 
 /// Has the client execute all commands of standard input, a line each, and prints each reply before the next line is read. Where a line is no
 /// command, it gives a sentence that says so.

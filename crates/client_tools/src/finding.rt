@@ -1,13 +1,12 @@
 //! Where a replica is reached. No node tells where its replicas listen.
 
-use crate::failure::ToolFailure;
 use crate::questions::Questions;
 use crate::slot_map::SlotMap;
-use crate::telling::unfound_failure;
 use cluster_config::NodeId;
 use redirection::Address;
 use smart_client::Network;
 use std::alloc::{AllocError, Global};
+use tool_io::{ToolFailure, unfound_failure};
 
 /// Where the replica is reached: at the address `start`, or where its number leads to from there. At `start` these slots are listed.
 pub(crate) fn find<N: Network + Drop>(

@@ -1,23 +1,10 @@
 //! `rcluster failover`: a replica takes the place of its master, which hands its slots over.
 
-use crate::failure::ToolFailure;
 use crate::finding::find;
 use crate::moving::look_for_moves;
 use crate::node_names::id_text;
-use crate::output::write;
-use crate::patience::Patience;
-use crate::patient::end_wait;
-use crate::progress::Terminals;
 use crate::questions::{Consent, Questions};
-use crate::runtime::ToolRuntime;
-use crate::shown::Shown;
 use crate::slot_map::SlotMap;
-use crate::sockets::{Sockets, no_address};
-use crate::telling::{
-    Named, Unlisted, handover_failure, late_failure, master_failure, unknown_failure,
-};
-use crate::waiting::{Waiting, time_since};
-use crate::watched::{Seen, Watched};
 use byte_string::ByteString;
 use bytes::Bytes;
 use cluster_config::NodeId;
@@ -27,6 +14,11 @@ use std::alloc::{AllocError, Global};
 use std::cell::RefCell;
 use std::fmt;
 use std::time::{Duration, Instant};
+use tool_io::{
+    Named, Patience, Seen, Shown, Sockets, Terminals, ToolFailure, ToolRuntime, Unlisted, Waiting,
+    Watched, end_wait, handover_failure, late_failure, master_failure, no_address, time_since,
+    unknown_failure, write,
+};
 
 /// The replica that is to take the place of its master, the node that the run begins with, and for how long it waits.
 #[derive(Drop)]

@@ -1,14 +1,13 @@
 //! Slots that are on the move, as their masters report it: a master that has one hands nothing over.
 
-use crate::failure::{HandoverFault, ToolFailure, ToolFault};
 use crate::questions::Questions;
-use crate::shown::Shown;
 use crate::slot_map::{SlotMap, SlotRun};
 use crate::slot_report::SlotReport;
 use byte_string::ByteString;
 use redirection::Address;
 use smart_client::Network;
 use std::alloc::{AllocError, Global};
+use tool_io::{HandoverFault, Shown, ToolFailure, ToolFault};
 
 /// Fails where a slot is on the move from or to the master of the replica at the address.
 ///

@@ -1,7 +1,6 @@
 //! What is asked of nodes for a handover, one question at a time.
 
 use crate::calling::items_of;
-use crate::failure::{HandoverFault, ToolFailure, ToolFault};
 use crate::slot_map::SlotMap;
 use crate::slot_report::SlotReport;
 use bytes::Bytes;
@@ -11,6 +10,7 @@ use redirection::Address;
 use resp2::{Reply, Words};
 use smart_client::{Action, Event, Network};
 use std::alloc::Global;
+use tool_io::{HandoverFault, ToolFailure, ToolFault};
 
 /// Questions to nodes, over a way to them.
 #[derive(Drop)]

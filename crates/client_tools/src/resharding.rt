@@ -1,16 +1,6 @@
 //! `rcluster reshard`: slots that move from one master to another.
 
-use crate::failure::{ToolFailure, ToolFault};
 use crate::node_names::id_text;
-use crate::output::write;
-use crate::patient::Patient;
-use crate::progress::{Progress, Terminals};
-use crate::runtime::ToolRuntime;
-use crate::shown::Shown;
-use crate::sockets::{Sockets, no_address};
-use crate::telling::{run_failure, unlisted_failure};
-use crate::waiting::{Waiting, time_since};
-use crate::watched::{Seen, Watched};
 use bytes::Bytes;
 use cluster_config::NodeId;
 use command_table::number_in;
@@ -23,6 +13,10 @@ use std::cell::RefCell;
 use std::rt::Clock;
 use std::thread::sleep;
 use std::time::{Duration, Instant};
+use tool_io::{
+    Patient, Progress, Seen, Shown, Sockets, Terminals, ToolFailure, ToolFault, ToolRuntime,
+    Waiting, Watched, no_address, run_failure, time_since, unlisted_failure, write,
+};
 
 // How many milliseconds a run rests behind a slot whose keys it moved. A copy keeps its target for some 50 microseconds, and so
 // few requests of other clients meet one.

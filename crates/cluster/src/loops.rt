@@ -1,12 +1,11 @@
 //! The threads of a node that serve its clients in turn.
 
 use crate::threads::Starting;
-use client_loops::{Inbox, Poller, PollerFault, Register, serve_clients};
+use client_loops::{Inbox, Poller, PollerFault};
 use mio::Waker;
 use node_cell::{Admission, Asks, HoldsCell};
-use shared_cluster::{
-    HasLinks, Incident, Mail, Node, Runtime, SeeingGate, SharedCluster, Shortage,
-};
+use node_threads::serve_in_turn;
+use shared_cluster::{HasLinks, Node, Runtime, SharedCluster, Shortage};
 use std::alloc::{AllocError, Global};
 use std::sync::Arc;
 use std::thread;
@@ -110,48 +109,4 @@ where
         );
     });
     started.map_err(|_| Shortage::Thread)
-}
-
-// Serves clients of the node of that number, those that come to its inbox, until the node is closed and all of them have left.
-fn serve_in_turn<C: HasLinks<R> + Drop, R: Runtime>(
-    rt: R,
-    alloc: Global,
-    cluster: &SharedCluster<C>,
-    number: usize,
-    asks: Asks<C::Cluster>,
-    inbox: &Inbox<Asks<C::Cluster>>,
-    poller: Poller,
-) {
-    let Some(mut gate) = SeeingGate::new(rt, alloc, cluster, number, asks, Mail::IsSent) else {
-        return;
-    };
-    let clients = NodeClients {
-        rt,
-        cluster,
-        number,
-    };
-    serve_clients(&rt, alloc, &mut gate, &clients, inbox, poller);
-}
-
-// The clients of the node of that number.
-#[derive(Drop)]
-struct NodeClients<'a, C: HoldsCell, R: Runtime> {
-    rt: R,
-    cluster: &'a SharedCluster<C>,
-    number: usize,
-}
-
-impl<'a, C: HoldsCell, R: Runtime> Register for NodeClients<'a, C, R> {
-    fn note_left(&self, client: usize) {
-        self.cluster.clients.remove(&self.rt, client);
-    }
-
-    fn note_refused(&self, client: usize) {
-        self.cluster.clients.remove(&self.rt, client);
-        let refused = Incident::ClientRefused {
-            node: self.number,
-            shortage: Shortage::Memory,
-        };
-        self.cluster.witness().see(&self.rt, refused);
-    }
 }

@@ -1,27 +1,24 @@
 //! All nodes of a cluster, served at once.
-ghost use Rattle.std.specs.Prelude.{◌≡◌, ◌<◌, ◌+◌, ◌++◌, ◌∷◌, [], All, IfOk, OnOk, length, map, vec_len};
+ghost use Rattle.std.specs.Prelude.{◌≡◌, All, IfOk, length, map, vec_len};
 ghost use Rattle.std.specs.List.{range_with_len};
-ghost use Rattle.link_ends.specs.Ends.{AreEndsOf, AreLinkedFrom};
+ghost use Rattle.link_ends.specs.Ends.{AreLinkedFrom};
 ghost use Rattle.tickets.specs.Tickets.{IsFresh};
 
-use crate::clock::Timing;
-use crate::telling::Telling;
 use crate::threads::Starting;
 use cluster_config::Config;
-use link_ends::{PortEnd, PortEnds};
+use link_ends::PortEnd;
 use links::{Station, Web};
-use node_cell::{Admission, Deployment, HoldsCell, Log, NodeCell, Posted};
+use node_cell::{Admission, Deployment, HoldsCell, Log, Posted};
+use node_places::{Place, StationFault, nodes_at, stations_of};
+use node_threads::{Telling, Timing};
 use shared_cluster::{
     Clients, HasLinks, Node, NodeStop, Orders, Runtime, SharedCluster, Shortage, Stop, Witness,
     most_ticks,
 };
-use slot_table::NodeNo;
 use std::alloc::{AllocError, Global};
-use std::net::TcpListener;
 use std::sync::Arc;
 use std::thread::JoinHandle;
 use std::time::Duration;
-use tickets::Seat;
 
 /// Why the nodes of a cluster can't be served.
 #[derive(Clone, Copy, PartialEq, Eq, Debug)]
@@ -44,45 +41,18 @@ impl From<Shortage> for ServeFault {
     }
 }
 
+impl From<StationFault> for ServeFault {
+    fn from(fault: StationFault) -> ServeFault {
+        match fault {
+            StationFault::Memory => ServeFault::Memory,
+            StationFault::Mixed => ServeFault::Mixed,
+        }
+    }
+}
+
 impl From<AllocError> for ServeFault {
     fn from(_refused: AllocError) -> ServeFault {
         ServeFault::Memory
-    }
-}
-
-/// Where a node is served, which has ends of the kind `E`. The first place is that of the first node, and so on.
-pub struct Place<E: PortEnd> {
-    /// Its seat at the tickets.
-    pub seat: Seat,
-    /// Its ends of the links to all nodes.
-    pub ends: PortEnds<E>,
-    /// Where its clients connect.
-    pub listener: TcpListener,
-}
-
-// It does what the derive would. Written out it is one call wherever a place is let go.
-impl<E: PortEnd> Drop for Place<E> {
-    fn drop(self) {
-        let Place {
-            seat: _,
-            ends: _,
-            listener: _,
-        } = self;
-    }
-}
-
-impl<E: PortEnd> Place<E> {
-    // What is there.
-    fn into_parts(self) -> (Seat, PortEnds<E>, TcpListener)
-        ensures seat { result.0 ≡ self.seat }
-        ensures ends { result.1 ≡ self.ends }
-    {
-        let Place {
-            seat,
-            ends,
-            listener,
-        } = self;
-        (seat, ends, listener)
     }
 }
 
@@ -150,7 +120,7 @@ where
         course,
     };
     let nodes = run_all(rt, alloc, nodes, &admission, times, overseer)?;
-    stations_of(alloc, nodes)
+    Ok(stations_of(alloc, nodes)?)
 }
 
 /// The ticks of the nodes, and how their clients are served.
@@ -277,154 +247,4 @@ fn end_all<C: HasLinks<R> + Drop, R: Runtime>(
     for thread in threads {
         thread.join(rt);
     }
-}
-
-// The nodes as they begin.
-fn nodes_at<K: Deployment, W: Web, L: Log + Drop, E: PortEnd<Carried = Posted<K>>>(
-    alloc: Global,
-    config: &Config,
-    places: Vec<Place<E>>,
-) -> Result<Vec<Node<Station<K, W, L, E>>>, AllocError>
-    requires cluster { config.now ≡ K.config }
-    requires places { length places.items ≡ length config.now.nodes }
-    requires seats { All (λ place. IsFresh K.table K.seats place.seat) places.items }
-    requires links { AreLinkedFrom W.links (length config.now.nodes) 0
-        (map (λ place. place.ends) places.items) }
-    ensures { IfOk result (λ nodes. vec_len nodes ≡ length places.items) }
-{
-    let mut nodes = Vec::with_capacity(alloc, places.len())?;
-    add_nodes(alloc, config, places, &mut nodes)?;
-    Ok(nodes)
-}
-
-// Adds a node for each place, in order, to none.
-fn add_nodes<K: Deployment, W: Web, L: Log + Drop, E: PortEnd<Carried = Posted<K>>>(
-    alloc: Global,
-    config: &Config,
-    places: Vec<Place<E>>,
-    nodes: &mut Vec<Node<Station<K, W, L, E>>>,
-) -> Result<(), AllocError>
-    requires cluster { config.now ≡ K.config }
-    requires places { length places.items ≡ length config.now.nodes }
-    requires seats { All (λ place. IsFresh K.table K.seats place.seat) places.items }
-    requires links { AreLinkedFrom W.links (length config.now.nodes) 0
-        (map (λ place. place.ends) places.items) }
-    requires none { vec_len nodes.old ≡ 0 }
-    ensures { OnOk result (vec_len nodes.new ≡ length places.items) }
-{
-    for place in places {
-        add_node(alloc, config, place, nodes)?;
-    }
-    Ok(())
-}
-
-// Adds the node of the next number.
-fn add_node<K: Deployment, W: Web, L: Log + Drop, E: PortEnd<Carried = Posted<K>>>(
-    alloc: Global,
-    config: &Config,
-    place: Place<E>,
-    nodes: &mut Vec<Node<Station<K, W, L, E>>>,
-) -> Result<(), AllocError>
-    requires cluster { config.now ≡ K.config }
-    requires number { vec_len nodes.old < length config.now.nodes }
-    requires seat { IsFresh K.table K.seats place.seat }
-    requires links { AreEndsOf W.links (vec_len nodes.old) (length config.now.nodes) place.ends }
-    ensures { OnOk result (vec_len nodes.new ≡ vec_len nodes.old + 1) }
-{
-    let node = node_at(alloc, config, nodes.len(), place)?;
-    nodes.push(node).map_err(AllocError::from)
-}
-
-fn node_at<K: Deployment, W: Web, L: Log + Drop, E: PortEnd<Carried = Posted<K>>>(
-    alloc: Global,
-    config: &Config,
-    number: usize,
-    place: Place<E>,
-) -> Result<Node<Station<K, W, L, E>>, AllocError>
-    requires cluster { config.now ≡ K.config }
-    requires number { number < length config.now.nodes }
-    requires seat { IsFresh K.table K.seats place.seat }
-    requires links { AreEndsOf W.links number (length config.now.nodes) place.ends }
-{
-    let _at_most_16 = config.nodes();
-    let number = NodeNo::new(number as u8).unwrap();
-    let (seat, ends, listener) = place.into_parts();
-    let station = station_at::<K, W, L, E>(alloc, config, number, seat, ends)?;
-    Ok(Node::new(station, listener))
-}
-
-// A station of the node of that number, as it begins.
-fn station_at<K: Deployment, W: Web, L: Log + Drop, E: PortEnd<Carried = Posted<K>>>(
-    alloc: Global,
-    config: &Config,
-    number: NodeNo,
-    seat: Seat,
-    ends: PortEnds<E>,
-) -> Result<Station<K, W, L, E>, AllocError>
-    requires cluster { config.now ≡ K.config }
-    requires number { number < length config.now.nodes }
-    requires seat { IsFresh K.table K.seats seat }
-    requires links { AreEndsOf W.links number (length config.now.nodes) ends }
-{
-    let cell = NodeCell::<K, L>::new(alloc, config, number, seat)?;
-    Station::<K, W, L, E>::new(alloc, cell, ends)
-}
-
-// The stations of nodes that nobody serves any more, in the order of the nodes' numbers.
-fn stations_of<K: Deployment, W: Web, L: Log + Drop, E: PortEnd<Carried = Posted<K>>>(
-    alloc: Global,
-    nodes: Vec<Node<Station<K, W, L, E>>>,
-) -> Result<Vec<Station<K, W, L, E>>, ServeFault>
-    ensures count { IfOk result (λ stations. vec_len stations ≡ vec_len nodes) }
-    ensures nodes { IfOk result (λ stations.
-        map (λ station. station.cell.node) stations.items ≡ range_with_len 0 (vec_len nodes)) }
-{
-    let mut stations = Vec::with_capacity(alloc, nodes.len())?;
-    add_stations(nodes, &mut stations)?;
-    Ok(stations)
-}
-
-// Adds the station of each node, in order, to none.
-fn add_stations<K: Deployment, W: Web, L: Log + Drop, E: PortEnd<Carried = Posted<K>>>(
-    nodes: Vec<Node<Station<K, W, L, E>>>,
-    stations: &mut Vec<Station<K, W, L, E>>,
-) -> Result<(), ServeFault>
-    requires none { stations.old.items ≡ [] }
-    ensures count { OnOk result (vec_len stations.new ≡ vec_len nodes) }
-    ensures nodes { OnOk result
-        (map (λ station. station.cell.node) stations.new.items ≡ range_with_len 0 (vec_len nodes)) }
-{
-    for node in nodes {
-        add_station(node, stations)?;
-    }
-    Ok(())
-}
-
-// Adds the station of the node, which is to have the next number.
-fn add_station<K: Deployment, W: Web, L: Log + Drop, E: PortEnd<Carried = Posted<K>>>(
-    node: Node<Station<K, W, L, E>>,
-    stations: &mut Vec<Station<K, W, L, E>>,
-) -> Result<(), ServeFault>
-    ensures count { OnOk result (vec_len stations.new ≡ vec_len stations.old + 1) }
-    ensures nodes { OnOk result (map (λ station. station.cell.node) stations.new.items
-        ≡ map (λ station. station.cell.node) stations.old.items ++ vec_len stations.old ∷ []) }
-{
-    let station = station_of(node, stations.len())?;
-    stations.push(station).map_err(AllocError::from)?;
-    Ok(())
-}
-
-// The station of a node, which is to have that number.
-fn station_of<K: Deployment, W: Web, L: Log + Drop, E: PortEnd<Carried = Posted<K>>>(
-    node: Node<Station<K, W, L, E>>,
-    number: usize,
-) -> Result<Station<K, W, L, E>, ServeFault>
-    ensures { IfOk result (λ station. station.cell.node ≡ number) }
-{
-    // No type says which node a lock has.
-    let station = node.into_cell();
-    if station.number().index() != number {
-        return Err(ServeFault::Mixed);
-    }
-    Ok(station)
 }

@@ -1,11 +1,9 @@
 //! The threads of the nodes of a cluster.
 
-use crate::accepting::accept_clients;
-use crate::clock::pass_time;
 use crate::server::{ServeFault, Times};
-use crate::telling::{Telling, tell_status};
 use client_loops::Inbox;
 use node_cell::{Admission, Asks};
+use node_threads::{Telling, accept_clients, pass_time, tell_status};
 use shared_cluster::{HasLinks, Incident, Orders, Runtime, SharedCluster, Shortage, carry};
 use std::alloc::{AllocError, Global};
 use std::sync::Arc;

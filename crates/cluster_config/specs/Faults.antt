@@ -1,4 +1,4 @@
--- What may be wrong with a configuration whose form is right.
+-- What may be wrong with a configuration whose form is right (ours).
 use Rattle.std.specs.Prelude.{ℕ, ◌&&◌, not, nat_lt, nat_le, Bool, true, false, List, [], ◌∷◌, length, Option, Some, None, option_map, option_and_then, if◌then◌else◌, ℤ, pos, nat_abs, int_le, IsTrue}
 use Rattle.std.specs.List.{list_all, flat_map, slice_get, position_or_len}
 use Rattle.std.specs.Option.{option_map_or}

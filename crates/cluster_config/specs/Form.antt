@@ -1,4 +1,4 @@
--- The form of the JSON text: which members its objects have, of which kind their values are, and what it says of the cluster.
+-- The form of the JSON text (ours): which members its objects have, of which kind their values are, and what it says of the cluster.
 use Rattle.std.specs.Prelude.{◌≡◌, ℕ, ◌+◌, ◌==◌, ◌⊎◌, Bool, false, List, [], ◌∷◌, Option, Some, None, Result, Ok, Err, option_map, option_and_then, is_some, is_none, if◌then◌else◌, ℤ, pos, codes}
 use Rattle.std.specs.Option.{option_map_or}
 use Rattle.serde_json.specs.Data.{Data, Items, no_items, item, Members, no_members, member}

@@ -1,4 +1,4 @@
--- What a text is read as.
+-- What a text is read as (ours).
 use Rattle.std.specs.Prelude.{ℕ, List, map, Option, Some, None, option_and_then, Result, Ok, Err, nat_abs, if◌then◌else◌}
 use Rattle.std.specs.List.{filter_map}
 use Rattle.std.specs.Str.{is_utf8}

@@ -1,4 +1,4 @@
--- The connections of a node's clients.
+-- The connections of a node's clients (ours).
 use Rattle.std.specs.Prelude.{◌≡◌, ◌≢◌, ◌+◌, ◌-◌, ◌^◌, ◌==◌, ℕ, List, [], ◌∷◌, Option, Some, None, Bool, false, count_by, length, map, max, is_none, is_some, slice_index_or, slice_set, if◌then◌else◌}
 use Rattle.redirect.specs.declared.asked.Asking.TheVariants.{No}
 use Rattle.connections.specs.declared.conn.Conn.{Conn}

@@ -1,4 +1,4 @@
--- What is counted of connections.
+-- What is counted of connections (ours).
 use Rattle.std.specs.Prelude.{◌≡◌, ℕ, List, Option, true, count_by, length}
 use Rattle.connections.specs.Connections.{is_waiting}
 use Rattle.connections.specs.declared.conn.Connection.{Connection}

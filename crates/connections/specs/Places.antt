@@ -1,4 +1,4 @@
--- The places of connections.
+-- The places of connections (ours).
 use Rattle.std.specs.Prelude.{◌≡◌, ◌≢◌, ◌+◌, ◌≤◌, ℕ, List, [], ◌∷◌, Option, Some, None, Bool, true, false, All, IsTrue, count_by, is_some, length, map, max, reverse, slice_get, slice_index_or, slice_set}
 use Rattle.connections.specs.declared.conn.Connection.{Connection}
 

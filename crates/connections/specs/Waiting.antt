@@ -1,4 +1,4 @@
--- Which of the connections that wait are meant.
+-- Which of the connections that wait are meant (ours).
 use Rattle.std.specs.Prelude.{ℕ, ◌==◌, ◌&&◌, Bool}
 use Rattle.std.specs.List.{list_any}
 use Rattle.connections.specs.Connections.{is_over}

@@ -5,8 +5,8 @@ use Rattle.std.specs.Io.KnownBytes.{Consumes}
 use Rattle.std.proofs.KnownBytes.{Consumes-trans}
 use Rattle.resp2.specs.Reader.{ReaderState}
 use Rattle.resp2.specs.ReplyReader.{FailsReplyBy, HandsOutReply, HasFirstBadReplyByte, HasNoReply, WaitsForReply}
-use Rattle.resp2.specs.declared.fault.Fault.{Fault}
-use Rattle.resp2.specs.declared.fault.Fault.TheVariants as fault
+use Rattle.resp_header.specs.declared.fault.Fault.{Fault}
+use Rattle.resp_header.specs.declared.fault.Fault.TheVariants as fault
 use Rattle.resp_values.specs.declared.reply.Reply as values
 use Rattle.exchange.specs.Wire.{Inlet}
 use Rattle.exchange.specs.Exchange.{Answers, IsShort, Receives, outcome_of}

@@ -5,8 +5,8 @@ use Rattle.resp_values.specs.Reply.{reply_spelling}
 use Rattle.resp_values.specs.Request.{request_spelling}
 use Rattle.resp_values.specs.declared.reply.Reply as values
 use Rattle.resp2.specs.ReplyReader.{HasFirstBadReplyByte, HasNoReply, ReplyKeepsLimits}
-use Rattle.resp2.specs.declared.fault.Fault.{Fault}
-use Rattle.resp2.specs.declared.fault.Fault.TheVariants as fault
+use Rattle.resp_header.specs.declared.fault.Fault.{Fault}
+use Rattle.resp_header.specs.declared.fault.Fault.TheVariants as fault
 use Rattle.exchange.specs.Wire.{Inlet, Outlet, Wire}
 use Rattle.exchange.specs.declared.outcome.Outcome.{Outcome}
 use Rattle.exchange.specs.declared.outcome.Outcome.TheVariants.{Reply, BadReply, Broken, NoMemory}

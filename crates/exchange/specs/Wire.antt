@@ -3,7 +3,7 @@ use Rattle.std.specs.Prelude.{ℕ, List, Option}
 use Rattle.resp2.specs.Counting as counting
 use Rattle.resp2.specs.Reader.{ReaderState}
 use Rattle.resp2.specs.declared.counting.Counting.{Counting}
-use Rattle.resp2.specs.declared.fault.Fault.{Fault}
+use Rattle.resp_header.specs.declared.fault.Fault.{Fault}
 use Rattle.exchange.specs.Sender as sender
 use Rattle.exchange.specs.declared.sender.Sender.{Sender}
 

@@ -1,4 +1,4 @@
--- The calls of a world's clients, and what becomes of them.
+-- The calls of a world's clients, and what becomes of them (ours).
 use Rattle.std.specs.Prelude.{◌≡◌, ◌⊎◌, ◌++◌, ◌∷◌, ℕ, Bool, true, false, List, [], Option, Some, None, Ok, Err, slice_get, slice_set, if◌then◌else◌, ⊤}
 use Rattle.resp_values.specs.declared.reply.Reply.{Reply}
 use Rattle.reply_meaning.specs.Refusal.{is_refusal}

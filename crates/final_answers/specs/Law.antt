@@ -1,4 +1,5 @@
--- The laws of calls: what a client is told in the end says what became of its command, and is told for its reason.
+-- The laws of calls: what a client is told in the end says what became of its command, and is told for its reason
+-- (ours: the Redis Cluster specification has no such law).
 use Rattle.std.specs.Prelude.{◌≡◌, false, List, [], map}
 use Rattle.std.specs.List.{AllByRecursion, flat_map}
 use Rattle.cluster_config.specs.Config.{ClusterConfig, IsCluster}

@@ -1,4 +1,4 @@
--- What a world plays, step by step.
+-- What a world plays, step by step (ours).
 use Rattle.std.specs.Prelude.{◌≡◌, ◌++◌, ◌∷◌, List, []}
 use Rattle.world_run.specs.Executed.{Answered, executed}
 use Rattle.world.specs.Plays.{Plays}

@@ -1,4 +1,4 @@
--- What may happen to a node in a planned handover.
+-- What may happen to a node in a planned handover (Redis command reference, "CLUSTER FAILOVER"; the messages are ours).
 use Rattle.std.specs.Prelude.{◌≡◌, ◌≢◌, ◌≤◌, ◌+◌, ◌⊎◌, ℕ, Some, None}
 use Rattle.handovers.specs.Peers.{Peer, Peers}
 

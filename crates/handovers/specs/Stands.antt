@@ -1,4 +1,4 @@
--- What holds of planned handovers, over all nodes.
+-- What holds of planned handovers, over all nodes (ours).
 use Rattle.std.specs.Prelude.{◌≡◌, ◌≢◌, ◌<◌, ◌≤◌, ◌⊎◌, ⊤, ℕ, Some, None}
 use Rattle.handovers.specs.Peers.{Peer, Peers, Said}
 use Rattle.handovers.specs.Peers.Said.{Asks, Hands, Took, Nothing}

@@ -7,8 +7,8 @@ use crate::verbs::{
 };
 use clap::builder::ValueParser;
 use clap::{Arg, ArgAction, ArgMatches, Command, Error};
-use client_tools::Style;
 use std::alloc::{AllocError, Global};
+use tool_io::Style;
 
 // Of the program.
 const VERSION: &str = "0.1.0";
@@ -98,7 +98,7 @@ pub struct Failover<'a> {
     pub seconds: u64,
 }
 
-/// Reads the words of a command line, the program's name first. The other text is that of [`script_help`](crate::script_help).
+/// Reads the words of a command line, the program's name first. The other text is what the help of `simulate` says at its end.
 pub fn read_call<'a>(
     alloc: Global,
     words: &'a [String],

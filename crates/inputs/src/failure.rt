@@ -27,7 +27,7 @@ pub struct InputFailure {
 
 impl InputFailure {
     /// The fault, with what is wrong and where.
-    pub(crate) fn new(fault: InputFault, detail: Result<String, AllocError>) -> InputFailure {
+    pub fn new(fault: InputFault, detail: Result<String, AllocError>) -> InputFailure {
         InputFailure {
             fault,
             detail: detail.ok(),

@@ -6,13 +6,11 @@ mod failure;
 mod files;
 mod masters;
 mod source;
-mod steps;
 mod verbs;
 
 pub use arguments::{Call, Failover, Resharding, Service, read_call};
 pub use failure::{InputFailure, InputFault};
-pub use files::{no_step, open_script, read_cluster, read_file, unreadable};
+pub use files::{read_cluster, read_file, unreadable};
 pub use masters::Masters;
 pub use source::{NO_SOURCE_TEXT, Source, cluster_of};
-pub use steps::script_help;
-pub use verbs::MOST_TICKS;
+pub use verbs::{AFTER_SIMULATE, MOST_TICKS};

@@ -1,4 +1,4 @@
--- New values of keys that are decided and not put yet.
+-- New values of keys that are decided and not put yet (ours).
 use Rattle.std.specs.Prelude.{ℕ, List, [], ◌∷◌, Option, Some, None}
 use Rattle.std.specs.FinMap as map
 use Rattle.std.specs.Ordering.{nat_cmp}

@@ -1,4 +1,4 @@
--- The groups of commands that are planned apart. No public clause needs them.
+-- The groups of commands that are planned apart (ours). No public clause needs them.
 use Rattle.std.specs.Prelude.{Bool, true, false}
 use Rattle.command_table.specs.declared.command.DataCommand.{DataCommand}
 use Rattle.command_table.specs.declared.command.DataCommand.TheVariants.{Set, Mset, Setnx, Getset, Getdel, Append, Incr, Decr, Incrby, Del, Hset, Hsetnx, Hget, Hmget, Hdel, Hexists, Hlen, Hstrlen, Hkeys, Hvals, Hgetall, Hincrby}

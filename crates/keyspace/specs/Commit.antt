@@ -1,4 +1,4 @@
--- How a commit makes several changes. No public clause needs it.
+-- How a commit makes several changes (ours). No public clause needs it.
 --
 -- It puts all values, for which memory may run out, and keeps what their keys had. Where memory has run out, what was kept is put back, from the last value on,
 -- which adds no key. Else it then removes the keys that get no value.

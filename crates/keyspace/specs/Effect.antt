@@ -1,4 +1,4 @@
--- What a command does to the values at its keys.
+-- What a command does to the values at its keys (the form is ours, the commands are those of the Redis command reference).
 use Rattle.std.specs.Prelude.{List, [], ◌∷◌, Option, None}
 use Rattle.resp_values.specs.declared.reply.Reply.{Reply}
 use Rattle.resp_values.specs.declared.reply.Reply.TheVariants.{Error}

@@ -1,4 +1,4 @@
--- Changes of a hash that a command works out. No public clause needs it.
+-- Changes of a hash that a command works out (ours). No public clause needs it.
 use Rattle.std.specs.Prelude.{◌≡◌, ℤ, length}
 use Rattle.hash.specs.Pairs.{Pairs, Changes, fields_changed}
 use Rattle.hash.specs.Size.{size_of}

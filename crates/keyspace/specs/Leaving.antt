@@ -1,4 +1,4 @@
--- Which keys are there once changes are made. No public clause needs it.
+-- Which keys are there once changes are made (ours). No public clause needs it.
 use Rattle.std.specs.Prelude.{ℕ, nat_eq, nat_lt, List, Bool, false, not, ◌&&◌, Option, Some, None, is_some}
 use Rattle.std.specs.Cmp.Lexicographic.{pointwise}
 use Rattle.std.specs.FinMap as map

@@ -1,4 +1,4 @@
--- A command reads and changes its own keys, and no others.
+-- A command reads and changes its own keys, and no others (Redis command reference: key specifications).
 use Rattle.std.specs.Prelude.{◌≡◌, ℕ, List, All, Contains}
 use Rattle.std.specs.FinMap as map
 use Rattle.command_table.specs.Keys.{data_keys}

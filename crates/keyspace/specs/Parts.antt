@@ -1,4 +1,4 @@
--- A keyspace in two parts: a command whose keys are in one of them executes there as in the whole.
+-- A keyspace in two parts: a command whose keys are in one of them executes there as in the whole (ours).
 use Rattle.std.specs.Prelude.{◌≡◌, ℕ, Bool, true, not, List, All}
 use Rattle.std.specs.FinMap as map
 use Rattle.command_table.specs.Keys.{data_keys}

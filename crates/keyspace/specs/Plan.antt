@@ -1,4 +1,4 @@
--- A plan: changes that are decided and not made yet.
+-- A plan: changes that are decided and not made yet (ours).
 use Rattle.std.specs.Prelude.{ℕ, nat_lt, Bool, List, Option, Some, None}
 use Rattle.std.specs.FinMap as map
 use Rattle.keyspace.specs.Keyspace.{Keyspace, with_appended, with_fields}

@@ -1,4 +1,4 @@
--- Changes of the fields of one hash, as a plan keeps them. No public clause needs it.
+-- Changes of the fields of one hash, as a plan keeps them (ours). No public clause needs it.
 use Rattle.std.specs.Prelude.{◌≡◌, ◌-◌, ℕ, nat_eq, Bool, false, List, length, slice_get, Option, Some, None, is_some}
 use Rattle.std.specs.Cmp.Lexicographic.{pointwise}
 use Rattle.std.specs.List.{IsDistinct}

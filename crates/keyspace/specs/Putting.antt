@@ -1,4 +1,4 @@
--- Values that are put at keys, one after another.
+-- Values that are put at keys, one after another (ours).
 use Rattle.std.specs.Prelude.{ℕ, List, [], ◌∷◌}
 use Rattle.std.specs.Prelude.{map as each}
 use Rattle.std.specs.FinMap as map

@@ -1,4 +1,5 @@
--- What comes of the request that makes a key with its value.
+-- What comes of the request that makes a key with its value (Redis documentation, "Redis persistence": a rewritten append-only
+-- file holds such requests).
 use Rattle.std.specs.Prelude.{◌≡◌, ◌<◌, ℕ, List, [], ◌∷◌, length}
 use Rattle.std.specs.FinMap as map
 use Rattle.hash.specs.Pairs.{HasDistinctFields}

@@ -1,4 +1,5 @@
--- The request that makes a key with its value.
+-- The request that makes a key with its value (Redis documentation, "Redis persistence": a rewritten append-only file holds such
+-- requests).
 use Rattle.std.specs.Prelude.{ℕ, List, [], ◌∷◌, Bool, ◌&&◌, nat_le, length, codes}
 use Rattle.hash.specs.Pairs.{Pairs}
 use Rattle.hash.specs.Size.{words_of}

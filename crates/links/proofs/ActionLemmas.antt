@@ -9,8 +9,8 @@ use Rattle.links.specs.Ports.{HasGiven, HasMore, PortView}
 use Rattle.links.specs.Stations.{Arrives, IsGiven, IsStation, Loses, OnlySends, Receives, SendsNothing, StationView, port_at, said_of}
 use Rattle.links.specs.declared.not_taken.NotTaken.{NotTaken}
 use Rattle.links.proofs.StationLemmas.{with_one_sorted}
-use Rattle.node_cell.specs.Journal.{CellView, EnteredView, Enters, IsNotTaken}
-use Rattle.node_cell.specs.declared.delivery.DeliveryFault.{DeliveryFault}
+use Rattle.cell_parts.specs.Journal.{CellView, EnteredView, Enters, IsNotTaken}
+use Rattle.cell_parts.specs.declared.delivery.DeliveryFault.{DeliveryFault}
 use Rattle.node_step.specs.declared.event.Event.TheVariants.{Deliver}
 
 -- one port is another now, which received and gave the same

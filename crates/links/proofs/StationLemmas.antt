@@ -13,11 +13,11 @@ use Rattle.link_ends.specs.Giving.{GivingView}
 use Rattle.links.specs.Ports.{HasGiven, HasGivenNone, HasMore, HasSent, PortView}
 use Rattle.link_ends.specs.Ends.{AreEndsOf, EndView}
 use Rattle.links.specs.Stations.{IsPort, IsStation, StationView, all_sent, all_taken, end_of, for_node, port_at, port_of, sent_by, taken_by, taken_in}
-use Rattle.node_cell.specs.Journal.{CellView, EnteredView, Enters, IsNotTaken, IsRefused, IsTooEarly}
-use Rattle.node_cell.specs.declared.delivery.DeliveryFault.{DeliveryFault}
-use Rattle.node_cell.specs.declared.delivery.DeliveryFault.TheVariants.{Refused, Early}
-use Rattle.node_cell.specs.declared.entry.Entry.{Entry}
-use Rattle.node_cell.specs.declared.entry.Entry.TheVariants.{Step, Skipped}
+use Rattle.cell_parts.specs.Journal.{CellView, EnteredView, Enters, IsNotTaken, IsRefused, IsTooEarly}
+use Rattle.cell_parts.specs.declared.delivery.DeliveryFault.{DeliveryFault}
+use Rattle.cell_parts.specs.declared.delivery.DeliveryFault.TheVariants.{Refused, Early}
+use Rattle.cell_parts.specs.declared.entry.Entry.{Entry}
+use Rattle.cell_parts.specs.declared.entry.Entry.TheVariants.{Step, Skipped}
 use Rattle.node_gate.specs.Asks.{IsOwn}
 use Rattle.node_step.specs.declared.event.Event.{Event}
 use Rattle.node_step.specs.declared.event.Event.TheVariants.{Open, Close, Request, Deliver, Tick}

@@ -9,10 +9,10 @@ use Rattle.links.specs.Ports.{HasGiven, HasGivenNone, PortView}
 use Rattle.links.specs.Syncs.{is_sync}
 use Rattle.links.specs.declared.not_taken.NotTaken.{NotTaken}
 use Rattle.links.specs.declared.not_taken.NotTaken.TheVariants.{Refused, Needless}
-use Rattle.node_cell.specs.Journal.{CellView, EnteredView, Enters, IsNotTaken}
-use Rattle.node_cell.specs.declared.delivery.DeliveryFault.{DeliveryFault}
-use Rattle.node_cell.specs.declared.entry.Entry.{Entry}
-use Rattle.node_cell.specs.declared.entry.Entry.TheVariants.{Step, Skipped}
+use Rattle.cell_parts.specs.Journal.{CellView, EnteredView, Enters, IsNotTaken}
+use Rattle.cell_parts.specs.declared.delivery.DeliveryFault.{DeliveryFault}
+use Rattle.cell_parts.specs.declared.entry.Entry.{Entry}
+use Rattle.cell_parts.specs.declared.entry.Entry.TheVariants.{Step, Skipped}
 use Rattle.node_step.specs.declared.event.Event.{Event}
 use Rattle.node_step.specs.declared.event.Event.TheVariants.{Open, Close, Request, Deliver, Tick}
 

@@ -1,5 +1,5 @@
 -- Bytes that wait, go out, or go out in part.
-use Rattle.std.proofs.Common.{◌≡◌, ◌≢◌, ◌+◌, ℕ, List, [], ◌∷◌, ◌++◌, append_assoc, append-nil, drop, take, Ok, Err, IfOk, OnErr, OnOk, Result, arith, inl, inr, refl, sym, ◌∙◌, ap, subst}
+use Rattle.std.proofs.Common.{◌≡◌, ◌≢◌, ◌+◌, ℕ, List, [], ◌∷◌, ◌++◌, append_assoc, append-nil, drop, take, Ok, Err, IfOk, MatchResult, Result, arith, inl, inr, refl, sym, ◌∙◌, ap, subst}
 use Rattle.std.proofs.lemmas.List.{drop-drop, length-append, take-append-drop}
 use Rattle.std.specs.Io.KnownBytes.{Appends}
 use Rattle.std.proofs.KnownBytes.{Appends-nil, Appends-trans}
@@ -8,7 +8,7 @@ use Rattle.resp2.specs.Writing.{AppendsBeginning}
 use Rattle.resp2.proofs.Beginnings.{begun_behind, begun_before}
 use Rattle.listener.specs.Streams.{Fails, FailsLast, Sends, Stream, change}
 use Rattle.listener.specs.Progress.{Puts}
-use Rattle.listener.specs.Turns.{Accounts, IsLeftBy, Writes}
+use Rattle.listener.specs.Turns.{AccountsFor, IsLeftBy, WritesBy}
 use Rattle.listener.specs.declared.batch.Wrote.{Wrote}
 use Rattle.listener.specs.declared.batch.Wrote.TheVariants as wrote
 use Rattle.listener.specs.declared.outgoing.Left.{Left}
@@ -31,15 +31,6 @@ puts_nothing a x = record { sent = []; appends = Appends-nil a.bytes; all = sym 
 -- all that waited went out
 pub puts_waiting : (a b : Stream) (x y : List ℕ) → Sends (change a b) x → y ≡ [] → Puts (change a b) (change x y) []
 puts_waiting a b x y sent empty = record { sent = x; appends = sent.appends; all = ap (λ w. x ++ w) empty }
-
--- all that waited went out, and these bytes behind it
-pub puts_out : (a b : Stream) (x y p : List ℕ) → Sends (change a b) (x ++ p) → y ≡ [] → Puts (change a b) (change x y) p
-puts_out a b x y p sent empty =
-    record {
-      sent = x ++ p;
-      appends = sent.appends;
-      all = ap (λ w. (x ++ p) ++ w) empty ∙ append-nil (x ++ p);
-    }
 
 -- first these and then those bytes went out
 pub sends_both : (a b c : Stream) (x p : List ℕ) → Sends (change a b) x → Appends b.bytes c.bytes p → c.failures ≡ b.failures → Sends (change a c) (x ++ p)
@@ -83,21 +74,11 @@ puts_longer a b x y p more puts =
       all = sym (append_assoc puts.sent y more) ∙ ap (λ w. w ++ more) puts.all ∙ append_assoc x p more;
     }
 
--- two facts of a success
-pub on_ok_both : {T E P Q S : Type 0} (r : Result T E) → (P → Q → S) → OnOk r P → OnOk r Q → OnOk r S
-on_ok_both (Ok x) both p q = both p q
-on_ok_both (Err e) both p q = tt
-
--- two facts of an error
-pub on_err_both : {T E P Q S : Type 0} (r : Result T E) → (P → Q → S) → OnErr r P → OnErr r Q → OnErr r S
-on_err_both (Ok x) both p q = tt
-on_err_both (Err e) both p q = both p q
-
--- what waited went out, and then a beginning of these bytes, which waited alone
-pub fails_alone : {T E : Type 0} (r : Result T E) (a b c : Stream) (x y p : List ℕ) → Sends (change a b) x → y ≡ p → OnErr r (Fails (change b c) y) → OnErr r (Fails (change a c) (x ++ p))
-fails_alone (Ok value) a b c x y p sent alone fails = tt
-fails_alone (Err error) a b c x y p sent alone fails =
-    fails_behind a b c x p sent (subst (λ w. Fails (change b c) w) alone fails)
+-- what waited went out, and then these bytes, or a beginning of them
+pub sends_behind : {T E : Type 0} (r : Result T E) (a b c : Stream) (x p : List ℕ) → Sends (change a b) x → MatchResult r (λ _. Sends (change b c) p) (λ _. Fails (change b c) p)
+    → MatchResult r (λ _. Sends (change a c) (x ++ p)) (λ _. Fails (change a c) (x ++ p))
+sends_behind (Ok value) a b c x p sent sends = sends_both a b c x p sent sends.appends sends.same
+sends_behind (Err error) a b c x p sent fails = fails_behind a b c x p sent fails
 
 -- some of what is left of the batch went out
 pub puts_some : (a b : Stream) (batch left : List ℕ) (sent count : ℕ) → Appends a.bytes b.bytes (take count (drop sent batch)) → left ≡ drop (sent + count) batch
@@ -116,19 +97,19 @@ waits_behind [] p some = absurd (some refl)
 waits_behind (byte ∷ x) p some = λ none. cc
 
 -- what a write did to the bytes that wait is so where others wait behind them
-pub writes_more : (did : Wrote) (a b : Stream) (x y p : List ℕ) → Writes did (change a b) (change x y) → Writes did (change a b) (change (x ++ p) (y ++ p))
+pub writes_more : (did : Wrote) (a b : ℕ) (x y p : List ℕ) → WritesBy did (change a b) (change x y) → WritesBy did (change a b) (change (x ++ p) (y ++ p))
 writes_more wrote.Nothing a b x y p writes = (ap (λ w. w ++ p) writes.0, writes.1)
 writes_more wrote.Some a b x y p writes = (omega (arith, writes.0, length-append x p, length-append y p), writes.1)
 writes_more wrote.Interrupted a b x y p writes = (ap (λ w. w ++ p) writes.0, waits_behind x p writes.1, writes.2)
 writes_more wrote.Blocked a b x y p writes = (ap (λ w. w ++ p) writes.0, waits_behind x p writes.1, writes.2)
 
-pub writes_behind : {E : Type 0} (r : Result Wrote E) (a b : Stream) (x y p : List ℕ) → IfOk r (λ did. Writes did (change a b) (change x y))
-    → IfOk r (λ did. Writes did (change a b) (change (x ++ p) (y ++ p)))
-writes_behind (Ok did) a b x y p writes = writes_more did a b x y p writes
-writes_behind (Err e) a b x y p writes = tt
+pub writes_behind : {E : Type 0} (r : Result Wrote E) (a b : ℕ) (x y z p : List ℕ) → x ++ p ≡ z → IfOk r (λ did. WritesBy did (change a b) (change x y))
+    → IfOk r (λ did. WritesBy did (change a b) (change z (y ++ p)))
+writes_behind (Ok did) a b x y z p same writes = rw (sym same) (writes_more did a b x y p writes)
+writes_behind (Err e) a b x y z p same writes = tt
 
 -- what is told of the rest is true of what was sent
-pub accounts : (did : Wrote) (told : Left) (a b : Stream) (x y : List ℕ) → Writes did (change a b) (change x y) → IsLeftBy did y told → Accounts told (change a b) (change x y)
+pub accounts : (did : Wrote) (told : Left) (a b : ℕ) (x y : List ℕ) → WritesBy did (change a b) (change x y) → IsLeftBy did y told → AccountsFor told (change a b) (change x y)
 accounts wrote.Nothing left.Nothing a b x y writes is = (is, writes.1)
 accounts wrote.Some left.Nothing a b x y writes is = (is, writes.1)
 accounts wrote.Interrupted left.Nothing a b x y writes is = absurd (writes.1 (sym writes.0 ∙ is))
@@ -146,7 +127,13 @@ accounts wrote.Some left.NoMemory a b x y writes is = cc
 accounts wrote.Interrupted left.NoMemory a b x y writes is = cc
 accounts wrote.Blocked left.NoMemory a b x y writes is = cc
 
--- a beginning of what waited went out, and nothing of the bytes behind it
-pub fails_in_front : {T E : Type 0} (r : Result T E) (a b : Stream) (x p : List ℕ) → OnErr r (Fails (change a b) x) → OnErr r (Fails (change a b) (x ++ p))
-fails_in_front (Ok value) a b x p fails = tt
-fails_in_front (Err e) a b x p fails = fails_before a b x p fails
+-- some of what waited went out, and nothing of the bytes behind it
+pub puts_in_front : {T E : Type 0} (r : Result T E) (a b : Stream) (x y p : List ℕ) → MatchResult r (λ _. Puts (change a b) (change x y) []) (λ _. Fails (change a b) x)
+    → MatchResult r (λ _. Puts (change a b) (change (x ++ p) (y ++ p)) []) (λ _. Fails (change a b) (x ++ p))
+puts_in_front (Ok value) a b x y p puts =
+    record {
+      sent = puts.sent;
+      appends = puts.appends;
+      all = sym (append_assoc puts.sent y p) ∙ ap (λ w. w ++ p) (puts.all ∙ append-nil x) ∙ sym (append-nil (x ++ p));
+    }
+puts_in_front (Err e) a b x y p fails = fails_before a b x p fails

@@ -12,7 +12,7 @@ use Rattle.resp_values.specs.declared.words.TheConstants.{MOST_WORD_BYTES}
 use Rattle.resp_values.specs.Request.{IsRequest, request_spelling}
 use Rattle.resp2.specs.Stream.{IsUnfinished, stream_spelling, with_words}
 use Rattle.resp2.specs.Reader.{Breaks, HandsOut, PassesOver, ReaderState, empty_requests}
-use Rattle.resp2.specs.declared.fault.Fault.{Fault}
+use Rattle.resp_header.specs.declared.fault.Fault.{Fault}
 use Rattle.resp_values.specs.declared.reply.Reply.{Reply}
 use Rattle.resp2.proofs.Callers.{none_with_words, stream_spelling-append, with_words-append}
 use Rattle.node_gate.specs.Asks.{Asked}

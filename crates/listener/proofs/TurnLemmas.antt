@@ -7,8 +7,8 @@ use Rattle.resp_values.specs.Reply.{reply_spelling}
 use Rattle.resp_values.specs.Request.{IsRequest, request_spelling}
 use Rattle.resp2.specs.Stream.{IsUnfinished, stream_spelling}
 use Rattle.resp2.specs.Reader.{FailsBy, HandsOut, PassesOver, ReaderState, empty_requests}
-use Rattle.resp2.specs.declared.fault.Fault.{Fault}
-use Rattle.resp2.specs.declared.fault.Fault.TheVariants.{Protocol, TooLong, Memory}
+use Rattle.resp_header.specs.declared.fault.Fault.{Fault}
+use Rattle.resp_header.specs.declared.fault.Fault.TheVariants.{Protocol, TooLong, Memory}
 use Rattle.node_gate.specs.Asks.{Asked}
 use Rattle.node_gate.specs.Asks.Asked.{asking, waiting}
 use Rattle.connections.specs.declared.conn.Conn.{Conn}

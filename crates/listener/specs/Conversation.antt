@@ -6,7 +6,7 @@ use Rattle.resp2.specs.Counting.{HasRisen}
 use Rattle.resp_values.specs.Reply.{reply_spelling}
 use Rattle.resp_values.specs.Request.{IsRequest, request_spelling}
 use Rattle.resp2.specs.Stream.{stream_spelling, with_words, IsUnfinished, HasFirstBadByte, HasNoRequest}
-use Rattle.resp2.specs.declared.fault.Fault.{Fault}
+use Rattle.resp_header.specs.declared.fault.Fault.{Fault}
 use Rattle.resp_values.specs.declared.reply.Reply.{Reply}
 use Rattle.resp_values.specs.declared.reply.Reply.TheVariants.{Error}
 use Rattle.command_table.specs.ErrorLine.{error_text}

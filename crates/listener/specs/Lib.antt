@@ -1,3 +1,4 @@
+pub mod Calls
 pub mod Conversation
 pub mod InTurns
 pub mod Progress

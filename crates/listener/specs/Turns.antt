@@ -1,5 +1,5 @@
 -- A conversation between two turns: what was answered, what is left of the input, and what the client is still to be sent.
-use Rattle.std.specs.Prelude.{◌≡◌, ◌≢◌, ◌⊎◌, ◌<◌, ◌≤◌, ℕ, List, [], ◌∷◌, ◌++◌, drop, take, length, Option, None, Some, Result, Ok}
+use Rattle.std.specs.Prelude.{◌≡◌, ◌≢◌, ◌⊎◌, ◌<◌, ◌≤◌, ℕ, Bool, MatchBool, List, [], ◌∷◌, ◌++◌, drop, take, length, Option, None, Some, Result, Ok}
 use Rattle.std.specs.Io.KnownBytes.{Consumes, IsAtEnd, Keeps}
 use Rattle.resp2.specs.Counting.{HasRisen}
 use Rattle.resp_values.specs.Reply.{reply_spelling}
@@ -41,16 +41,28 @@ abbrev pub reply_in : Response → List ℕ
 reply_in (Replied answer) = reply_spelling answer.reply
 reply_in _ = []
 
+-- that of a step
+abbrev pub reply_of : {S : Type 0} → (S → Outputs) → S → List ℕ
+reply_of gave step = reply_in (gave step).response
+
 -- the bytes that stand behind the batch; none where a reply comes later
 abbrev pub held_bytes : {S : Type 0} → (S → Outputs) → Held S → List ℕ
 held_bytes gave held.Nothing = []
 held_bytes gave held.Parked = []
-held_bytes gave (held.Step step) = reply_in (gave step).response
+held_bytes gave (held.Step step) = reply_of gave step
 held_bytes gave (held.Reply reply) = reply_spelling reply
 
 -- all that the client is still to be sent
 abbrev pub waiting_of : {S : Type 0} → (S → Outputs) → Outgoing S → List ℕ
 waiting_of gave outgoing = drop outgoing.sent outgoing.batch.items ++ held_bytes gave outgoing.held
+
+-- what is left of bytes of which so many were sent
+abbrev pub unsent : List ℕ × ℕ → List ℕ
+unsent (bytes, sent) = drop sent bytes
+
+-- whether the reply to the last request is there, or comes later
+abbrev pub HasCome : {S : Type 0} → Outgoing S → Bool → Type 0
+HasCome outgoing has_come = MatchBool has_come (outgoing.held ≢ held.Parked) (outgoing.held ≡ held.Parked)
 
 -- a further reply may be put there
 pub record HasRoom {S : Type 0} (outgoing : Outgoing S) : Type 0 where
@@ -58,13 +70,25 @@ pub record HasRoom {S : Type 0} (outgoing : Outgoing S) : Type 0 where
   pub short : length outgoing.batch.items < MOST_WAITING
   pub nothing : outgoing.held ≡ held.Nothing
 
+-- a conversation, of its parts
+abbrev pub talk_of : {S : Type 0} → Conn → ReaderState → Outgoing S → Talk S
+talk_of conn requests outgoing = record { conn = conn; requests = requests; outgoing = outgoing }
+
+-- all that its client is still to be sent
+abbrev pub waiting_in : {S : Type 0} → (S → Outputs) → Talk S → List ℕ
+waiting_in gave talk = waiting_of gave talk.outgoing
+
 -- a conversation, what was asked through its gate, and its writer, as what is between two requests
 abbrev pub desk_of : {S : Type 0} → (S → Outputs) → List Asked → Talk S → Stream → Desk
-desk_of gave asked talk out = desk asked talk.requests.pending (waiting_of gave talk.outgoing) out
+desk_of gave asked talk out = desk asked talk.requests.pending (waiting_in gave talk) out
 
 -- the last request was parked: its reply comes later
 abbrev pub IsParked : {S : Type 0} → Talk S → Type 0
 IsParked talk = talk.outgoing.held ≡ held.Parked
+
+-- no reply is to come later
+abbrev pub IsHere : {S : Type 0} → Talk S → Type 0
+IsHere talk = talk.outgoing.held ≢ held.Parked
 
 -- no bad byte was found yet
 abbrev pub IsSound : {S : Type 0} → Talk S → Type 0
@@ -96,6 +120,18 @@ EndsTurn next.Hear old new outgoing = (new.fault ≡ None) × (outgoing.held ≡
 EndsTurn next.Write old new outgoing = (old.fault ≡ None → new.fault ≡ None) × (outgoing.held ≢ held.Parked)
 EndsTurn next.Answer old new outgoing = (old.fault ≡ None → new.fault ≡ None) × (outgoing.held ≢ held.Parked)
 
+-- how a turn leaves a conversation
+abbrev pub LeavesOff : {S : Type 0} → Talk S → Talk S → Next → Type 0
+LeavesOff old new comes = EndsTurn comes old.requests new.requests new.outgoing
+
+-- fewer bytes than before are not answered
+abbrev pub Advances : ReaderState → ReaderState → Type 0
+Advances old new = length new.pending < length old.pending
+
+-- a turn that stops short has answered some, where there was room for a reply and any was to be answered
+abbrev pub GoesOn : {S : Type 0} → ℕ → Outgoing S → ReaderState → ReaderState → Next → Type 0
+GoesOn most outgoing old new comes = HasRoom outgoing → 0 < most → (comes ≡ next.Write) ⊎ (comes ≡ next.Answer) → Advances old new
+
 -- the line that is still to be sent
 abbrev pub line_bytes : Option ErrorLine → List ℕ
 line_bytes None = []
@@ -112,13 +148,13 @@ pub record Hears (allowed : Asked → Type 0) (conn : Conn) (asked : Change (Lis
   pub put : waits.new ≡ waits.old ++ reply_spelling reply
 
 -- so many bytes were read, none only at the end, and stand behind those that are not answered
-pub record Reads (input : Change Stream) (count : ℕ) (old new : ReaderState) : Type 0 where
+pub record Reads {S : Type 0} (input : Change Stream) (old new : Talk S) (count : ℕ) : Type 0 where
   pub bytes : List ℕ
   pub read : Consumes input.old.bytes input.new.bytes bytes
   pub counted : length bytes ≡ count
   pub end : count ≡ 0 → IsAtEnd input.new.bytes
-  pub fed : new.pending ≡ old.pending ++ bytes
-  pub sound : new.fault ≡ old.fault
+  pub fed : new.requests.pending ≡ old.requests.pending ++ bytes
+  pub sound : new.requests.fault ≡ old.requests.fault
   pub same : input.new.failures ≡ input.old.failures
 
 -- the reader failed, or there was no memory for what it gave
@@ -133,11 +169,11 @@ pub record Leaves (allowed : Asked → Type 0) (asked : Change (List Asked)) (in
   pub talks : Talks allowed asked input output ended left
   pub told : farewell ≡ left ++ line_of ended
 
--- what a write that doesn't wait did to the bytes that wait
-abbrev pub Writes : Wrote → Change Stream → Change (List ℕ) → Type 0
-Writes wrote.Nothing out waits = (waits.new ≡ waits.old) × (out.new.failures ≡ out.old.failures)
-Writes wrote.Some out waits = (length waits.new < length waits.old) × (out.new.failures ≡ out.old.failures)
-Writes _ out waits = (waits.new ≡ waits.old) × (waits.old ≢ []) × HasRisen out.old.failures out.new.failures
+-- what a write that doesn't wait did to the bytes that wait, and to the count of failed calls
+abbrev pub WritesBy : Wrote → Change ℕ → Change (List ℕ) → Type 0
+WritesBy wrote.Nothing count waits = (waits.new ≡ waits.old) × (count.new ≡ count.old)
+WritesBy wrote.Some count waits = (length waits.new < length waits.old) × (count.new ≡ count.old)
+WritesBy _ count waits = (waits.new ≡ waits.old) × (waits.old ≢ []) × HasRisen count.old count.new
 
 -- what is told of the bytes that still wait behind such a write
 abbrev pub IsLeftBy : Wrote → List ℕ → Left → Type 0
@@ -148,22 +184,16 @@ IsLeftBy did waits left.NoMemory = did ≡ wrote.Nothing
 
 -- what was sent by one write, by what is told of the rest: only a writer whose count has risen takes the rest later, and what there is
 -- no memory for was not begun
-abbrev pub Accounts : Left → Change Stream → Change (List ℕ) → Type 0
-Accounts left.Nothing out waits = (waits.new ≡ []) × (out.new.failures ≡ out.old.failures)
-Accounts left.More out waits = (length waits.new < length waits.old) ⊎ HasRisen out.old.failures out.new.failures
-Accounts left.Blocked out waits = HasRisen out.old.failures out.new.failures
-Accounts left.NoMemory out waits = (waits.new ≡ waits.old) × (out.new.failures ≡ out.old.failures)
+abbrev pub AccountsFor : Left → Change ℕ → Change (List ℕ) → Type 0
+AccountsFor left.Nothing count waits = (waits.new ≡ []) × (count.new ≡ count.old)
+AccountsFor left.More count waits = (length waits.new < length waits.old) ⊎ HasRisen count.old count.new
+AccountsFor left.Blocked count waits = HasRisen count.old count.new
+AccountsFor left.NoMemory count waits = (waits.new ≡ waits.old) × (count.new ≡ count.old)
 
 -- what one read gave: bytes that stand in front in the room now; the end, unless there was no room; or nothing, where the reader's
 -- count has risen
-abbrev pub Gives : Came → Change Stream → List ℕ → Type 0
-Gives (came.Bytes count) input room = (0 < count) × (count ≤ length room) × Consumes input.old.bytes input.new.bytes (take count room)
+abbrev pub Gives : Change Stream → List ℕ → Came → Type 0
+Gives input room (came.Bytes count) = (0 < count) × (count ≤ length room) × Consumes input.old.bytes input.new.bytes (take count room)
     × (input.new.failures ≡ input.old.failures)
-Gives came.End input room = Keeps input.old.bytes input.new.bytes × (0 < length room → IsAtEnd input.new.bytes) × (input.new.failures ≡ input.old.failures)
-Gives _ input room = Keeps input.old.bytes input.new.bytes × HasRisen input.old.failures input.new.failures
-
--- what one read did to a conversation: what came stands behind the bytes that are not answered, once
-abbrev pub ReadsOnce : Came → Change Stream → ℕ → ReaderState → ReaderState → Type 0
-ReadsOnce (came.Bytes count) input room old new = (0 < count) × Reads input count old new
-ReadsOnce came.End input room old new = (new ≡ old) × (0 < room → IsAtEnd input.new.bytes) × Keeps input.old.bytes input.new.bytes × (input.new.failures ≡ input.old.failures)
-ReadsOnce _ input room old new = (new ≡ old) × Keeps input.old.bytes input.new.bytes × HasRisen input.old.failures input.new.failures
+Gives input room came.End = Keeps input.old.bytes input.new.bytes × (0 < length room → IsAtEnd input.new.bytes) × (input.new.failures ≡ input.old.failures)
+Gives input room _ = Keeps input.old.bytes input.new.bytes × HasRisen input.old.failures input.new.failures

@@ -1,10 +1,10 @@
 //! The batch of replies that go out together, and what is written behind it.
-ghost use Rattle.std.specs.Prelude.{◌≡◌, ◌≢◌, ◌+◌, ◌≤◌, ◌++◌, [], false, vec_len, OnOk, OnErr, IfOk, IfErr, MatchBool, drop};
+ghost use Rattle.std.specs.Prelude.{◌≡◌, ◌≢◌, ◌+◌, ◌≤◌, [], false, vec_len, OnOk, IfOk, IfErr, drop};
 ghost use Rattle.resp_values.specs.Reply.{reply_spelling};
+ghost use Rattle.listener.specs.Calls.{GrowsIf, PutsSome, SendsAll, Writes};
 ghost use Rattle.listener.specs.Conversation.{error_bytes};
-ghost use Rattle.listener.specs.Progress.{Puts};
-ghost use Rattle.listener.specs.Streams.{Fails, Sends, change, streams};
-ghost use Rattle.listener.specs.Turns.{Writes, held_bytes, reply_in};
+ghost use Rattle.listener.specs.Streams.{change};
+ghost use Rattle.listener.specs.Turns.{held_bytes, reply_in, unsent};
 
 use crate::fault::ConnFault;
 use crate::outgoing::Held;
@@ -33,8 +33,7 @@ pub(crate) enum Wrote {
 
 /// Appends the reply in the response, if it is short, where memory allows, and says whether it did.
 pub(crate) fn fits(response: &Response, batch: &mut Vec<u8>) -> bool
-    ensures { MatchBool result (batch.new.items ≡ batch.old.items ++ reply_in response.now)
-        (batch.new.items ≡ batch.old.items) }
+    ensures { GrowsIf result (change batch.old.items batch.new.items) (reply_in response.now) }
 {
     match response {
         Response::Replied(answer) => fits_in(&answer.reply, batch),
@@ -44,8 +43,7 @@ pub(crate) fn fits(response: &Response, batch: &mut Vec<u8>) -> bool
 
 /// Appends a short reply, where memory allows, and says whether it did.
 pub(crate) fn fits_in(reply: &Reply, batch: &mut Vec<u8>) -> bool
-    ensures { MatchBool result (batch.new.items ≡ batch.old.items ++ reply_spelling reply.now)
-        (batch.new.items ≡ batch.old.items) }
+    ensures { GrowsIf result (change batch.old.items batch.new.items) (reply_spelling reply.now) }
 {
     if is_long(reply) {
         return false;
@@ -55,8 +53,7 @@ pub(crate) fn fits_in(reply: &Reply, batch: &mut Vec<u8>) -> bool
 
 /// Appends the line, where memory allows, and says whether it did.
 pub(crate) fn line_fits(line: ErrorLine, batch: &mut Vec<u8>) -> bool
-    ensures { MatchBool result (batch.new.items ≡ batch.old.items ++ error_bytes line)
-        (batch.new.items ≡ batch.old.items) }
+    ensures { GrowsIf result (change batch.old.items batch.new.items) (error_bytes line) }
 {
     let reply = line.reply();
     fits_in(&reply, batch)
@@ -64,8 +61,8 @@ pub(crate) fn line_fits(line: ErrorLine, batch: &mut Vec<u8>) -> bool
 
 /// Appends what is held, however long it is, where memory allows, and says whether it did.
 pub(crate) fn puts_held<S: Answered>(held: &Held<S>, batch: &mut Vec<u8>) -> bool
-    ensures put { MatchBool result (batch.new.items ≡ batch.old.items ++ held_bytes S.gave held.now)
-        (batch.new.items ≡ batch.old.items) }
+    ensures put { GrowsIf result (change batch.old.items batch.new.items)
+        (held_bytes S.gave held.now) }
     ensures parked { held.now ≡ Held.Parked → result ≡ false }
 {
     match held {
@@ -85,11 +82,8 @@ pub(crate) fn flush<W: Write>(
     sent: &mut usize,
     writer: &mut Counting<W>,
 ) -> io::Result<()>
-    ensures ok { OnOk result
-        (Sends (streams W.contents writer.old writer.new) (drop sent.old batch.old.items)) }
+    ensures sends { SendsAll result W.Write writer.old writer.new (drop sent.old batch.old.items) }
     ensures empty { OnOk result ((batch.new.items ≡ []) × (sent.new ≡ 0)) }
-    ensures err { OnErr result
-        (Fails (streams W.contents writer.old writer.new) (drop sent.old batch.old.items)) }
 {
     if let Some(rest) = batch.get(*sent..)
         && !rest.is_empty()
@@ -108,11 +102,8 @@ pub(crate) fn send_held<W: Write, S: Answered>(
     writer: &mut Counting<W>,
 ) -> io::Result<()>
     requires { batch.old.items ≡ [] }
-    ensures ok { OnOk result
-        (Sends (streams W.contents writer.old writer.new) (held_bytes S.gave held.now)) }
+    ensures sends { SendsAll result W.Write writer.old writer.new (held_bytes S.gave held.now) }
     ensures empty { OnOk result (batch.new.items ≡ []) }
-    ensures err { OnErr result
-        (Fails (streams W.contents writer.old writer.new) (held_bytes S.gave held.now)) }
 {
     match held {
         Held::Step(step) => match step.response() {
@@ -132,11 +123,8 @@ pub(crate) fn send_alone<W: Write>(
     writer: &mut Counting<W>,
 ) -> io::Result<()>
     requires { batch.old.items ≡ [] }
-    ensures ok { OnOk result
-        (Sends (streams W.contents writer.old writer.new) (reply_spelling reply.now)) }
+    ensures sends { SendsAll result W.Write writer.old writer.new (reply_spelling reply.now) }
     ensures empty { OnOk result (batch.new.items ≡ []) }
-    ensures err { OnErr result
-        (Fails (streams W.contents writer.old writer.new) (reply_spelling reply.now)) }
 {
     // A reply of many parts is one write where it is short, and not one for each part.
     if fits_in(reply, batch) {
@@ -151,13 +139,11 @@ pub(crate) fn write_once<W: Write>(
     sent: &mut usize,
     writer: &mut Counting<W>,
 ) -> Result<Wrote, ConnFault>
-    ensures put { OnOk result (Puts (streams W.contents writer.old writer.new)
-        (change (drop sent.old batch.old.items) (drop sent.new batch.new.items)) []) }
-    ensures wrote { IfOk result (λ wrote. Writes wrote (streams W.contents writer.old writer.new)
-        (change (drop sent.old batch.old.items) (drop sent.new batch.new.items))) }
+    ensures put { PutsSome result W.Write writer.old writer.new unsent
+        (batch.old.items, sent.old) (batch.new.items, sent.new) }
+    ensures wrote { IfOk result (Writes writer.old writer.new unsent
+        (batch.old.items, sent.old) (batch.new.items, sent.new)) }
     ensures fault { IfErr result (λ fault. fault ≡ ConnFault.Writer) }
-    ensures err { OnErr result
-        (Fails (streams W.contents writer.old writer.new) (drop sent.old batch.old.items)) }
 {
     let rest = rest_of(batch.as_slice(), *sent);
     if rest.is_empty() {
@@ -184,13 +170,11 @@ fn write_on<W: Write>(
     writer: &mut Counting<W>,
 ) -> Result<Wrote, ConnFault>
     requires { drop sent.old batch.old.items ≢ [] }
-    ensures put { OnOk result (Puts (streams W.contents writer.old writer.new)
-        (change (drop sent.old batch.old.items) (drop sent.new batch.new.items)) []) }
-    ensures wrote { IfOk result (λ wrote. Writes wrote (streams W.contents writer.old writer.new)
-        (change (drop sent.old batch.old.items) (drop sent.new batch.new.items))) }
+    ensures put { PutsSome result W.Write writer.old writer.new unsent
+        (batch.old.items, sent.old) (batch.new.items, sent.new) }
+    ensures wrote { IfOk result (Writes writer.old writer.new unsent
+        (batch.old.items, sent.old) (batch.new.items, sent.new)) }
     ensures fault { IfErr result (λ fault. fault ≡ ConnFault.Writer) }
-    ensures err { OnErr result
-        (Fails (streams W.contents writer.old writer.new) (drop sent.old batch.old.items)) }
 {
     match flush(batch, sent, writer) {
         Ok(()) => Ok(Wrote::Some),

@@ -1,9 +1,10 @@
 //! A connection from its beginning to its end, served by a thread of its own.
 ghost use Rattle.std.specs.Prelude.{◌≡◌, ◌≢◌, ◌<◌, [], vec_len, length, Err, None, Some, IfOk, IfErr, IfSome, IfNone, OnOk, OnErr};
-ghost use Rattle.listener.specs.Conversation.{IsRest, Serves, Tells, line_of};
-ghost use Rattle.listener.specs.Progress.{Answers, Halts, IsOfAnswering, Stops};
-ghost use Rattle.listener.specs.Streams.{Fails, Sends, Stream, change_of, stream_of, streams};
-ghost use Rattle.listener.specs.Turns.{HasRoom, Leaves, Reads, ReadsNot, desk_of, farewell_of, waiting_of};
+ghost use Rattle.listener.specs.Calls.{SendsAll, TalkAnswers, TalkHalts, TalkLeaves, TalkStops, TellsWhy, TurnAnswers, TurnHalts};
+ghost use Rattle.listener.specs.Conversation.{IsRest, Serves, line_of};
+ghost use Rattle.listener.specs.Progress.{IsOfAnswering};
+ghost use Rattle.listener.specs.Streams.{change_of, streams};
+ghost use Rattle.listener.specs.Turns.{Advances, HasRoom, IsHere, IsSound, Reads, ReadsNot, farewell_of, waiting_in};
 
 use crate::farewell::Farewell;
 use crate::fault::ConnFault;
@@ -50,10 +51,8 @@ fn talk<R: Read, W: Write, G: NodeGate>(
     reader: &mut Counting<R>,
     writer: &mut Counting<W>,
 ) -> Over<G::Answer>
-    ensures { Leaves G.allowed
-        (change_of G.asked gate.old gate.new) (streams R.remaining reader.old reader.new)
-        (streams W.contents writer.old writer.new) result.ended
-        (farewell_of G.Answer.gave result.farewell) }
+    ensures { TalkLeaves G.NodeGate gate.old gate.new R.Read reader.old reader.new
+        W.Write writer.old writer.new G.Answer.gave result }
 {
     let Ok(mut input) = Input::new(alloc) else {
         return refused(alloc, ConnFault::Memory);
@@ -88,15 +87,14 @@ fn converse<R: Read, W: Write, G: NodeGate>(
     writer: &mut Counting<W>,
 ) -> Result<Rest, ConnFault>
     requires room { 0 < vec_len input.old.room }
-    requires begins { (talk.old.requests.pending ≡ []) × (talk.old.requests.fault ≡ None) }
-    requires empty { waiting_of G.Answer.gave talk.old.outgoing ≡ [] }
+    requires begins { (talk.old.requests.pending ≡ []) × IsSound talk.old }
+    requires empty { waiting_in G.Answer.gave talk.old ≡ [] }
     requires free { HasRoom talk.old.outgoing }
-    ensures stops { Stops G.allowed talk.old.conn result (streams R.remaining reader.old reader.new)
-        (desk_of G.Answer.gave (G.asked gate.old) talk.old (stream_of W.contents writer.old))
-        (desk_of G.Answer.gave (G.asked gate.new) talk.new (stream_of W.contents writer.new)) }
+    ensures stops { TalkStops G.NodeGate gate.old gate.new G.Answer.gave talk.old talk.new
+        W.Write writer.old writer.new R.Read reader.old reader.new result }
     ensures same { talk.new.conn ≡ talk.old.conn }
     // A bad byte is no fault here: so a word that is too long is not reported as out of memory.
-    ensures sound { OnErr result (talk.new.requests.fault ≡ None) }
+    ensures sound { OnErr result (IsSound talk.new) }
 {
     // A loop has to end, so this one counts its reads; each gives a byte at least.
     'reads: for _ in 0..u64::MAX {
@@ -123,10 +121,9 @@ fn read_some<R: Read, S: Answered + Drop>(
     reader: &mut Counting<R>,
 ) -> Result<usize, ConnFault>
     requires { 0 < length room.old }
-    ensures read { IfOk result (λ count. Reads
-        (streams R.remaining reader.old reader.new) count talk.old.requests talk.new.requests) }
-    ensures failed { IfErr result
-        (λ fault. ReadsNot (streams R.remaining reader.old reader.new) fault) }
+    ensures read { IfOk result
+        (Reads (streams R.remaining reader.old reader.new) talk.old talk.new) }
+    ensures failed { IfErr result (ReadsNot (streams R.remaining reader.old reader.new)) }
     ensures kept { OnErr result (talk.new.requests ≡ talk.old.requests) }
     ensures same { (talk.new.conn ≡ talk.old.conn) × (talk.new.outgoing ≡ talk.old.outgoing) }
 {
@@ -143,20 +140,18 @@ fn answer_all<W: Write, G: NodeGate>(
     talk: &mut Talk<G::Answer>,
     writer: &mut Counting<W>,
 ) -> Result<Rest, ConnFault>
-    requires sound { talk.old.requests.fault ≡ None }
+    requires sound { IsSound talk.old }
     requires room { HasRoom talk.old.outgoing }
-    ensures answered { OnOk result (Answers G.allowed talk.old.conn
-        (desk_of G.Answer.gave (G.asked gate.old) talk.old (stream_of W.contents writer.old))
-        (desk_of G.Answer.gave (G.asked gate.new) talk.new (stream_of W.contents writer.new))) }
+    ensures answered { OnOk result (TalkAnswers G.NodeGate gate.old gate.new G.Answer.gave
+        talk.old talk.new W.Write writer.old writer.new) }
     ensures rest { IfOk result (λ rest. IsRest rest talk.new.requests.pending) }
-    ensures here { OnOk result (talk.new.outgoing.held ≢ Held.Parked) }
-    ensures halts { IfErr result (λ fault. Halts G.allowed talk.old.conn (Err fault)
-        (desk_of G.Answer.gave (G.asked gate.old) talk.old (stream_of W.contents writer.old))
-        (desk_of G.Answer.gave (G.asked gate.new) talk.new (stream_of W.contents writer.new))) }
+    ensures here { OnOk result (IsHere talk.new) }
+    ensures halts { IfErr result (TalkHalts G.NodeGate gate.old gate.new G.Answer.gave
+        talk.old talk.new W.Write writer.old writer.new) }
     ensures fault { IfErr result IsOfAnswering }
     ensures same { talk.new.conn ≡ talk.old.conn }
-    ensures good { IfOk result (λ rest. rest ≡ Rest.Unfinished → talk.new.requests.fault ≡ None) }
-    ensures sound { OnErr result (talk.new.requests.fault ≡ None) }
+    ensures good { IfOk result (λ rest. rest ≡ Rest.Unfinished → IsSound talk.new) }
+    ensures sound { OnErr result (IsSound talk.new) }
 {
     'turns: loop {
         if let Some(rest) = take_turn(gate, talk)? {
@@ -169,29 +164,23 @@ fn answer_all<W: Write, G: NodeGate>(
 }
 
 // Answers whole requests until replies are to be written, which gives None, or there is none left.
-fn take_turn<G: NodeGate>(
+fn take_turn<S: Answered + Drop, G: NodeGate<Answer = S>>(
     gate: &mut G,
-    talk: &mut Talk<G::Answer>,
+    talk: &mut Talk<S>,
 ) -> Result<Option<Rest>, ConnFault>
-    requires sound { talk.old.requests.fault ≡ None }
+    requires sound { IsSound talk.old }
     requires room { HasRoom talk.old.outgoing }
-    ensures answered { OnOk result ((out : Stream)
-        → Answers G.allowed talk.old.conn
-        (desk_of G.Answer.gave (G.asked gate.old) talk.old out)
-        (desk_of G.Answer.gave (G.asked gate.new) talk.new out)) }
+    ensures answered { OnOk result
+        (TurnAnswers G.NodeGate gate.old gate.new S.gave talk.old talk.new) }
     ensures rest { IfOk result
         (λ found. IfSome found (λ rest. IsRest rest talk.new.requests.pending)) }
-    ensures shorter { IfOk result (λ found.
-        IfNone found (length talk.new.requests.pending < length talk.old.requests.pending)) }
-    ensures here { OnOk result (talk.new.outgoing.held ≢ Held.Parked) }
-    ensures good { IfOk result
-        (λ found. found ≢ Some Rest.BadByte → talk.new.requests.fault ≡ None) }
-    ensures halts { IfErr result (λ fault. (out : Stream)
-        → Halts G.allowed talk.old.conn (Err fault)
-        (desk_of G.Answer.gave (G.asked gate.old) talk.old out)
-        (desk_of G.Answer.gave (G.asked gate.new) talk.new out)) }
+    ensures shorter { IfOk result
+        (λ rest. IfNone rest (Advances talk.old.requests talk.new.requests)) }
+    ensures here { OnOk result (IsHere talk.new) }
+    ensures good { IfOk result (λ found. found ≢ Some Rest.BadByte → IsSound talk.new) }
+    ensures halts { IfErr result (TurnHalts G.NodeGate gate.old gate.new S.gave talk.old talk.new) }
     ensures fault { IfErr result IsOfAnswering }
-    ensures sound { OnErr result (talk.new.requests.fault ≡ None) }
+    ensures sound { OnErr result (IsSound talk.new) }
     ensures same { talk.new.conn ≡ talk.old.conn }
 {
     match talk.answer(gate, u32::MAX)? {
@@ -213,12 +202,10 @@ fn write_out<W: Write, G: NodeGate>(
     writer: &mut Counting<W>,
 ) -> io::Result<()>
     ensures asked { G.asked gate.new ≡ G.asked gate.old }
-    ensures ok { OnOk result (Sends (streams W.contents writer.old writer.new)
-        (waiting_of G.Answer.gave talk.old.outgoing)) }
-    ensures empty { OnOk result (waiting_of G.Answer.gave talk.new.outgoing ≡ []) }
-    ensures room { OnOk result (talk.old.outgoing.held ≢ Held.Parked → HasRoom talk.new.outgoing) }
-    ensures err { OnErr result (Fails (streams W.contents writer.old writer.new)
-        (waiting_of G.Answer.gave talk.old.outgoing)) }
+    ensures sends { SendsAll result W.Write writer.old writer.new
+        (waiting_in G.Answer.gave talk.old) }
+    ensures empty { OnOk result (waiting_in G.Answer.gave talk.new ≡ []) }
+    ensures room { OnOk result (IsHere talk.old → HasRoom talk.new.outgoing) }
     ensures same { (talk.new.conn ≡ talk.old.conn) × (talk.new.requests ≡ talk.old.requests) }
 {
     gate.release();
@@ -230,10 +217,9 @@ fn tell<S: Answered + Drop, W: Write>(
     over: Over<S>,
     writer: &mut Counting<W>,
 ) -> Result<(), ConnFault>
-    ensures told { over.ended ≢ Err ConnFault.Writer → Tells result over.ended
-        (streams W.contents writer.old writer.new) (farewell_of S.gave over.farewell) }
-    ensures silent { over.ended ≡ Err ConnFault.Writer
-        → (result ≡ Err ConnFault.Writer) × (writer.new ≡ writer.old) }
+    ensures told { TellsWhy W.Write writer.old writer.new S.gave over result }
+    ensures failed { over.ended ≡ Err ConnFault.Writer → result ≡ Err ConnFault.Writer }
+    ensures silent { over.ended ≡ Err ConnFault.Writer → writer.new ≡ writer.old }
 {
     let Over {
         ended,

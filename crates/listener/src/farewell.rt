@@ -1,9 +1,8 @@
 //! What a client is still to be sent once its conversation has ended.
-ghost use Rattle.std.specs.Prelude.{◌≡◌, ◌++◌, [], Err, IfOk, IfErr, OnOk, OnErr};
+ghost use Rattle.std.specs.Prelude.{◌≡◌, ◌++◌, Err, IfOk, IfErr};
+ghost use Rattle.listener.specs.Calls.{Accounts, PutsSome, SendsAll};
 ghost use Rattle.listener.specs.Conversation.{line_of};
-ghost use Rattle.listener.specs.Progress.{Puts};
-ghost use Rattle.listener.specs.Streams.{Fails, Sends, change_of, streams};
-ghost use Rattle.listener.specs.Turns.{Accounts, IsLeftBy, farewell_of, line_bytes, waiting_of};
+ghost use Rattle.listener.specs.Turns.{IsLeftBy, farewell_of, line_bytes, waiting_of};
 
 use crate::batch::Wrote;
 use crate::fault::ConnFault;
@@ -57,13 +56,11 @@ impl<S: Answered + Drop> Farewell<S> {
 
     /// Sends some of it by one write, and says what is left. An error is that the writer failed: its count has risen.
     pub fn finish<W: Write>(&mut self, writer: &mut Counting<W>) -> Result<Left, ConnFault>
-        ensures put { OnOk result (Puts (streams W.contents writer.old writer.new)
-            (change_of (farewell_of S.gave) self.old self.new) []) }
-        ensures left { IfOk result (λ left. Accounts left (streams W.contents writer.old writer.new)
-            (change_of (farewell_of S.gave) self.old self.new)) }
+        ensures put { PutsSome result W.Write writer.old writer.new
+            (farewell_of S.gave) self.old self.new }
+        ensures left { IfOk result
+            (Accounts writer.old writer.new (farewell_of S.gave) self.old self.new) }
         ensures fault { IfErr result (λ fault. fault ≡ ConnFault.Writer) }
-        ensures err { OnErr result
-            (Fails (streams W.contents writer.old writer.new) (farewell_of S.gave self.old)) }
     {
         self.settle();
         let wrote = self.outgoing.write_some(writer)?;
@@ -85,10 +82,7 @@ impl<S: Answered + Drop> Farewell<S> {
 
     /// Sends all of it, however long the writer takes.
     pub(crate) fn write_out<W: Write>(&mut self, writer: &mut Counting<W>) -> io::Result<()>
-        ensures ok { OnOk result
-            (Sends (streams W.contents writer.old writer.new) (farewell_of S.gave self.old)) }
-        ensures err { OnErr result
-            (Fails (streams W.contents writer.old writer.new) (farewell_of S.gave self.old)) }
+        ensures { SendsAll result W.Write writer.old writer.new (farewell_of S.gave self.old) }
     {
         self.outgoing.write_out(writer)?;
         send_line(self.line, writer)
@@ -97,9 +91,7 @@ impl<S: Answered + Drop> Farewell<S> {
 
 // Writes the line, if there is one.
 fn send_line<W: Write>(line: Option<ErrorLine>, writer: &mut Counting<W>) -> io::Result<()>
-    ensures ok { OnOk result (Sends (streams W.contents writer.old writer.new) (line_bytes line)) }
-    ensures err { OnErr result
-        (Fails (streams W.contents writer.old writer.new) (line_bytes line)) }
+    ensures { SendsAll result W.Write writer.old writer.new (line_bytes line) }
 {
     match line {
         Some(line) => send_reply(&line.reply(), writer),

@@ -1,10 +1,10 @@
 //! Replies on their way to a client: those of one turn go out together.
-ghost use Rattle.std.specs.Prelude.{◌≡◌, ◌≢◌, ◌++◌, [], false, OnOk, OnErr, IfOk, IfErr, MatchBool};
+ghost use Rattle.std.specs.Prelude.{◌≡◌, ◌≢◌, ◌++◌, [], false, OnOk, IfOk, IfErr, MatchBool};
 ghost use Rattle.resp_values.specs.Reply.{reply_spelling};
+ghost use Rattle.listener.specs.Calls.{GrowsIf, PutsSome, SendsAll, Writes};
 ghost use Rattle.listener.specs.Conversation.{error_bytes};
-ghost use Rattle.listener.specs.Progress.{Puts};
-ghost use Rattle.listener.specs.Streams.{Fails, Sends, change_of, streams};
-ghost use Rattle.listener.specs.Turns.{HasRoom, IsLeftBy, Writes, held_bytes, reply_in, waiting_of};
+ghost use Rattle.listener.specs.Streams.{change_of};
+ghost use Rattle.listener.specs.Turns.{HasRoom, IsLeftBy, held_bytes, reply_of, waiting_of};
 
 use crate::batch::{Wrote, fits, fits_in, flush, line_fits, puts_held, send_held, write_once};
 use crate::fault::ConnFault;
@@ -91,7 +91,7 @@ impl<S: Answered + Drop> Outgoing<S> {
     pub(crate) fn put(&mut self, step: S)
         requires { HasRoom self.old }
         ensures put { waiting_of S.gave self.new
-            ≡ waiting_of S.gave self.old ++ reply_in (S.gave step).response }
+            ≡ waiting_of S.gave self.old ++ reply_of S.gave step }
         ensures here { self.new.held ≢ Held.Parked }
     {
         if !fits(step.response(), &mut self.batch) {
@@ -115,8 +115,8 @@ impl<S: Answered + Drop> Outgoing<S> {
 
     /// Puts the line behind those that wait, where memory allows and nothing stands between, and says whether it did.
     pub(crate) fn puts_line(&mut self, line: ErrorLine) -> bool
-        ensures { MatchBool result (waiting_of S.gave self.new ≡ waiting_of S.gave self.old
-            ++ error_bytes line) (waiting_of S.gave self.new ≡ waiting_of S.gave self.old) }
+        ensures { GrowsIf result (change_of (waiting_of S.gave) self.old self.new)
+            (error_bytes line) }
     {
         self.sent == 0 && !self.has_held() && line_fits(line, &mut self.batch)
     }
@@ -135,12 +135,9 @@ impl<S: Answered + Drop> Outgoing<S> {
 
     /// Writes all that waits.
     pub(crate) fn write_out<W: Write>(&mut self, writer: &mut Counting<W>) -> io::Result<()>
-        ensures ok { OnOk result
-            (Sends (streams W.contents writer.old writer.new) (waiting_of S.gave self.old)) }
+        ensures sends { SendsAll result W.Write writer.old writer.new (waiting_of S.gave self.old) }
         ensures empty { OnOk result (waiting_of S.gave self.new ≡ []) }
         ensures room { OnOk result (self.old.held ≢ Held.Parked → HasRoom self.new) }
-        ensures err { OnErr result
-            (Fails (streams W.contents writer.old writer.new) (waiting_of S.gave self.old)) }
     {
         flush(&mut self.batch, &mut self.sent, writer)?;
         send_held(&self.held, &mut self.batch, writer)?;
@@ -165,16 +162,13 @@ impl<S: Answered + Drop> Outgoing<S> {
         &mut self,
         writer: &mut Counting<W>,
     ) -> Result<Wrote, ConnFault>
-        ensures put { OnOk result (Puts (streams W.contents writer.old writer.new)
-            (change_of (waiting_of S.gave) self.old self.new) []) }
-        ensures wrote { IfOk result (λ wrote.
-            Writes wrote (streams W.contents writer.old writer.new)
-            (change_of (waiting_of S.gave) self.old self.new)) }
-        ensures parked { (self.old.held ≡ Held.Parked → self.new.held ≡ Held.Parked)
-            × (self.old.held ≢ Held.Parked → self.new.held ≢ Held.Parked) }
+        ensures put { PutsSome result W.Write writer.old writer.new
+            (waiting_of S.gave) self.old self.new }
+        ensures wrote { IfOk result
+            (Writes writer.old writer.new (waiting_of S.gave) self.old self.new) }
+        ensures parked { self.old.held ≡ Held.Parked → self.new.held ≡ Held.Parked }
+        ensures here { self.old.held ≢ Held.Parked → self.new.held ≢ Held.Parked }
         ensures fault { IfErr result (λ fault. fault ≡ ConnFault.Writer) }
-        ensures err { OnErr result
-            (Fails (streams W.contents writer.old writer.new) (waiting_of S.gave self.old)) }
     {
         self.settle();
         write_once(&mut self.batch, &mut self.sent, writer)
@@ -183,8 +177,8 @@ impl<S: Answered + Drop> Outgoing<S> {
     // Puts what is held into the batch, where memory allows, and no part of the batch was sent.
     fn settle(&mut self)
         ensures same { waiting_of S.gave self.new ≡ waiting_of S.gave self.old }
-        ensures parked { (self.old.held ≡ Held.Parked → self.new.held ≡ Held.Parked)
-            × (self.old.held ≢ Held.Parked → self.new.held ≢ Held.Parked) }
+        ensures parked { self.old.held ≡ Held.Parked → self.new.held ≡ Held.Parked }
+        ensures here { self.old.held ≢ Held.Parked → self.new.held ≢ Held.Parked }
     {
         if self.sent == 0 && puts_held(&self.held, &mut self.batch) {
             self.held = Held::Nothing;

@@ -24,8 +24,7 @@ pub enum Came {
 
 /// Reads once, and says what came into the room. The reader may be one that doesn't wait.
 pub fn read_once<R: Read>(reader: &mut Counting<R>, room: &mut [u8]) -> Result<Came, ConnFault>
-    ensures came { IfOk result
-        (λ came. Gives came (streams R.remaining reader.old reader.new) room.new) }
+    ensures came { IfOk result (Gives (streams R.remaining reader.old reader.new) room.new) }
     ensures fault { IfErr result (λ fault. fault ≡ ConnFault.Reader) }
     ensures kept { OnErr result
         (Keeps (R.remaining reader.old.inner) (R.remaining reader.new.inner)) }

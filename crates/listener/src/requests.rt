@@ -1,11 +1,10 @@
 //! Requests on a connection: read and asked, one after another.
-ghost use Rattle.std.specs.Prelude.{◌≡◌, ◌≢◌, ◌⊎◌, ◌<◌, ◌++◌, ◌∷◌, [], List, ℕ, length, Err, None, IfOk, IfErr, OnErr, MatchBool};
-ghost use Rattle.resp_values.specs.Request.{IsRequest, request_spelling};
+ghost use Rattle.std.specs.Prelude.{◌≡◌, ◌≢◌, None, IfOk, IfErr, OnErr};
+ghost use Rattle.resp_values.specs.Request.{IsRequest};
 ghost use Rattle.node_gate.specs.Asks.{outcome_of, IsOwn};
-ghost use Rattle.node_gate.specs.Asks.Asked.{asking};
-ghost use Rattle.listener.specs.Progress.{Answers, Halts, IsOfAnswering, desk};
-ghost use Rattle.listener.specs.Streams.{Adds, Stream, change_of};
-ghost use Rattle.listener.specs.Turns.{EndsTurn, HasRoom, Parks, Turns, waiting_of};
+ghost use Rattle.listener.specs.Calls.{AsksFor, AsksOnce, HaltsFor, TakesTurn, TurnHalts};
+ghost use Rattle.listener.specs.Progress.{IsOfAnswering};
+ghost use Rattle.listener.specs.Turns.{EndsTurn, GoesOn, HasCome, HasRoom, talk_of};
 
 use crate::fault::ConnFault;
 use crate::outgoing::{Held, Outgoing};
@@ -47,15 +46,12 @@ pub(crate) fn answer_some<S: Answered + Drop, G: NodeGate<Answer = S>>(
     outgoing: &mut Outgoing<S>,
 ) -> Result<Next, ConnFault>
     requires { outgoing.old.held ≢ Held.Parked }
-    ensures turns { IfOk result (λ next. (out : Stream) → Turns G.allowed conn next
-        (desk (G.asked gate.old) requests.old.pending (waiting_of S.gave outgoing.old) out)
-        (desk (G.asked gate.new) requests.new.pending (waiting_of S.gave outgoing.new) out)) }
+    ensures turns { IfOk result (TakesTurn G.NodeGate gate.old gate.new S.gave
+        (talk_of conn requests.old outgoing.old) (talk_of conn requests.new outgoing.new)) }
     ensures ends { IfOk result (λ next. EndsTurn next requests.old requests.new outgoing.new) }
-    ensures goes_on { IfOk result (λ next. HasRoom outgoing.old → 0 < most → (next ≡ Next.Write)
-        ⊎ (next ≡ Next.Answer) → length requests.new.pending < length requests.old.pending) }
-    ensures halts { IfErr result (λ fault. (out : Stream) → Halts G.allowed conn (Err fault)
-        (desk (G.asked gate.old) requests.old.pending (waiting_of S.gave outgoing.old) out)
-        (desk (G.asked gate.new) requests.new.pending (waiting_of S.gave outgoing.new) out)) }
+    ensures goes_on { IfOk result (GoesOn most outgoing.old requests.old requests.new) }
+    ensures halts { IfErr result (TurnHalts G.NodeGate gate.old gate.new S.gave
+        (talk_of conn requests.old outgoing.old) (talk_of conn requests.new outgoing.new)) }
     ensures fault { IfErr result IsOfAnswering }
     // A bad byte is no fault here: so a word that is too long is not reported as out of memory.
     ensures sound { OnErr result (requests.old.fault ≡ None → requests.new.fault ≡ None) }
@@ -89,23 +85,11 @@ fn answer_request<S: Answered + Drop, G: NodeGate<Answer = S>>(
 ) -> Result<bool, ConnFault>
     requires request { IsRequest words }
     requires room { HasRoom outgoing.old }
-    ensures answered { IfOk result (λ has_come. (behind : List ℕ) (out : Stream)
-        → MatchBool has_come
-        (Answers G.allowed conn
-        (desk (G.asked gate.old) (request_spelling words ++ behind)
-        (waiting_of S.gave outgoing.old) out)
-        (desk (G.asked gate.new) behind (waiting_of S.gave outgoing.new) out))
-        (Parks G.allowed conn
-        (desk (G.asked gate.old) (request_spelling words ++ behind)
-        (waiting_of S.gave outgoing.old) out)
-        (desk (G.asked gate.new) behind (waiting_of S.gave outgoing.new) out))) }
-    ensures held { IfOk result (λ has_come.
-        MatchBool has_come (outgoing.new.held ≢ Held.Parked) (outgoing.new.held ≡ Held.Parked)) }
-    ensures halts { IfErr result (λ fault. (behind pending : List ℕ) (out : Stream)
-        → Halts G.allowed conn (Err fault)
-        (desk (G.asked gate.old) (request_spelling words ++ behind)
-        (waiting_of S.gave outgoing.old) out)
-        (desk (G.asked gate.new) pending (waiting_of S.gave outgoing.new) out)) }
+    ensures answered { IfOk result (AsksFor G.NodeGate gate.old gate.new S.gave
+        conn words outgoing.old outgoing.new) }
+    ensures held { IfOk result (HasCome outgoing.new) }
+    ensures halts { IfErr result (HaltsFor G.NodeGate gate.old gate.new S.gave
+        conn words outgoing.old outgoing.new) }
     ensures fault { IfErr result IsOfAnswering }
 {
     let step = ask_node(gate, Event::Request(conn, words))?;
@@ -124,8 +108,7 @@ fn answer_request<S: Answered + Drop, G: NodeGate<Answer = S>>(
 /// Asks the node once, and lets others ask it.
 pub(crate) fn ask_alone<G: NodeGate>(gate: &mut G, event: Event) -> Result<G::Answer, StepFault>
     requires { IsOwn event }
-    ensures { Adds G.allowed (change_of G.asked gate.old gate.new)
-        (asking event (outcome_of G.Answer.gave result) ∷ []) }
+    ensures { AsksOnce G.NodeGate gate.old gate.new event (outcome_of G.Answer.gave result) }
 {
     let answer = ask_node(gate, event);
     gate.release();
@@ -136,8 +119,7 @@ pub(crate) fn ask_alone<G: NodeGate>(gate: &mut G, event: Event) -> Result<G::An
 #[inline(always)]
 fn ask_node<G: NodeGate>(gate: &mut G, event: Event) -> Result<G::Answer, StepFault>
     requires { IsOwn event }
-    ensures { Adds G.allowed (change_of G.asked gate.old gate.new)
-        (asking event (outcome_of G.Answer.gave result) ∷ []) }
+    ensures { AsksOnce G.NodeGate gate.old gate.new event (outcome_of G.Answer.gave result) }
 {
     gate.step(event)
 }

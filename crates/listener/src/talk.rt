@@ -1,11 +1,11 @@
 //! A conversation between two turns.
-ghost use Rattle.std.specs.Prelude.{◌≡◌, ◌≢◌, ◌⊎◌, ◌<◌, ◌++◌, ◌∷◌, [], true, false, length, Err, Ok, None, IfOk, IfErr, OnOk, OnErr, MatchBool};
-ghost use Rattle.node_gate.specs.Asks.Asked.{waiting};
+ghost use Rattle.std.specs.Prelude.{◌≡◌, ◌++◌, [], true, false, Ok, None, IfOk, IfErr, OnOk, OnErr, MatchBool};
 ghost use Rattle.resp_values.specs.Reply.{reply_spelling};
+ghost use Rattle.listener.specs.Calls.{Accounts, PutsSome, ReadsOnce, SendsAll, TakesTurn, TurnHalts, TurnHears, WaitsOnce};
 ghost use Rattle.listener.specs.Conversation.{line_of};
-ghost use Rattle.listener.specs.Progress.{Closes, Halts, IsOfAnswering, Opens, Puts, Refuses};
-ghost use Rattle.listener.specs.Streams.{Adds, Fails, Sends, Stream, change_of, streams};
-ghost use Rattle.listener.specs.Turns.{Accounts, EndsTurn, HasRoom, Hears, IsParked, ReadsNot, ReadsOnce, Turns, desk_of, farewell_of, waiting_of};
+ghost use Rattle.listener.specs.Progress.{Closes, IsOfAnswering, Opens, Refuses};
+ghost use Rattle.listener.specs.Streams.{change_of, streams};
+ghost use Rattle.listener.specs.Turns.{GoesOn, HasRoom, IsHere, IsParked, IsSound, LeavesOff, ReadsNot, farewell_of, waiting_in};
 
 use crate::farewell::Farewell;
 use crate::fault::ConnFault;
@@ -37,13 +37,11 @@ impl<S: Answered + Drop> Talk<S> {
     /// Opens a connection at the node.
     pub fn begin<G: NodeGate<Answer = S>>(alloc: Global, gate: &mut G) -> Result<Talk<S>, ConnFault>
         ensures opened { IfOk result
-            (λ talk. Opens G.allowed (change_of G.asked gate.old gate.new) talk.conn) }
-        ensures unread { IfOk result
-            (λ talk. (talk.requests.pending ≡ []) × (talk.requests.fault ≡ None)) }
-        ensures empty { IfOk result (λ talk. waiting_of S.gave talk.outgoing ≡ []) }
+            (λ it. Opens G.allowed (change_of G.asked gate.old gate.new) it.conn) }
+        ensures unread { IfOk result (λ talk. (talk.requests.pending ≡ []) × IsSound talk) }
+        ensures empty { IfOk result (λ talk. waiting_in S.gave talk ≡ []) }
         ensures room { IfOk result (λ talk. HasRoom talk.outgoing) }
-        ensures refused { IfErr result
-            (λ fault. Refuses G.allowed (change_of G.asked gate.old gate.new) fault) }
+        ensures refused { IfErr result (Refuses G.allowed (change_of G.asked gate.old gate.new)) }
     {
         let conn = open(gate)?;
         Ok(Talk {
@@ -55,7 +53,7 @@ impl<S: Answered + Drop> Talk<S> {
 
     /// Whether the last request was parked, so that its reply is to be heard.
     pub fn is_parked(&self) -> bool
-        ensures { MatchBool result (IsParked self.now) (self.now.outgoing.held ≢ Held.Parked) }
+        ensures { MatchBool result (IsParked self.now) (IsHere self.now) }
     {
         matches!(self.outgoing.held, Held::Parked)
     }
@@ -66,11 +64,9 @@ impl<S: Answered + Drop> Talk<S> {
         reader: &mut Counting<R>,
         room: &mut [u8],
     ) -> Result<Came, ConnFault>
-        ensures read { IfOk result (λ came.
-            ReadsOnce came (streams R.remaining reader.old reader.new)
-            (length room.new) self.old.requests self.new.requests) }
-        ensures failed { IfErr result
-            (λ fault. ReadsNot (streams R.remaining reader.old reader.new) fault) }
+        ensures read { IfOk result
+            (ReadsOnce R.Read reader.old reader.new room.new self.old self.new) }
+        ensures failed { IfErr result (ReadsNot (streams R.remaining reader.old reader.new)) }
         ensures kept { OnErr result (self.new.requests ≡ self.old.requests) }
         ensures same { (self.new.conn ≡ self.old.conn) × (self.new.outgoing ≡ self.old.outgoing) }
     {
@@ -83,8 +79,9 @@ impl<S: Answered + Drop> Talk<S> {
 
     /// Takes bytes that the client sent. An error is that there is no memory for them.
     pub(crate) fn read(&mut self, bytes: &[u8]) -> Result<(), ConnFault>
-        ensures took { OnOk result ((self.new.requests.pending ≡ self.old.requests.pending
-            ++ bytes.now) × (self.new.requests.fault ≡ self.old.requests.fault)) }
+        ensures took { OnOk result
+            (self.new.requests.pending ≡ self.old.requests.pending ++ bytes.now) }
+        ensures good { OnOk result (self.new.requests.fault ≡ self.old.requests.fault) }
         ensures refused { OnErr result (self.new.requests ≡ self.old.requests) }
         ensures fault { IfErr result (λ fault. fault ≡ ConnFault.Memory) }
         ensures same { (self.new.conn ≡ self.old.conn) × (self.new.outgoing ≡ self.old.outgoing) }
@@ -104,24 +101,17 @@ impl<S: Answered + Drop> Talk<S> {
         gate: &mut G,
         most: u32,
     ) -> Result<Next, ConnFault>
-        ensures parked { IsParked self.old
-            → (result ≡ Ok Next.Hear) × (self.new ≡ self.old) × (gate.new ≡ gate.old) }
-        ensures turns { self.old.outgoing.held ≢ Held.Parked → IfOk result (λ next. (out : Stream)
-            → Turns G.allowed self.old.conn next
-            (desk_of S.gave (G.asked gate.old) self.old out)
-            (desk_of S.gave (G.asked gate.new) self.new out)) }
-        ensures ends { IfOk result (λ next. self.old.outgoing.held ≢ Held.Parked
-            → EndsTurn next self.old.requests self.new.requests self.new.outgoing) }
-        ensures goes_on { IfOk result (λ next.
-            HasRoom self.old.outgoing → 0 < most → (next ≡ Next.Write) ⊎ (next ≡ Next.Answer)
-            → length self.new.requests.pending < length self.old.requests.pending) }
-        ensures halts { IfErr result (λ fault. (out : Stream)
-            → Halts G.allowed self.old.conn (Err fault)
-            (desk_of S.gave (G.asked gate.old) self.old out)
-            (desk_of S.gave (G.asked gate.new) self.new out)) }
+        ensures parked { IsParked self.old → result ≡ Ok Next.Hear }
+        ensures waits { IsParked self.old → (self.new ≡ self.old) × (gate.new ≡ gate.old) }
+        ensures turns { IsHere self.old
+            → IfOk result (TakesTurn G.NodeGate gate.old gate.new S.gave self.old self.new) }
+        ensures ends { IsHere self.old → IfOk result (LeavesOff self.old self.new) }
+        ensures goes_on { IfOk result
+            (GoesOn most self.old.outgoing self.old.requests self.new.requests) }
+        ensures halts { IfErr result
+            (TurnHalts G.NodeGate gate.old gate.new S.gave self.old self.new) }
         ensures fault { IfErr result IsOfAnswering }
-        ensures sound { OnErr result
-            (self.old.requests.fault ≡ None → self.new.requests.fault ≡ None) }
+        ensures sound { OnErr result (IsSound self.old → IsSound self.new) }
         ensures same { self.new.conn ≡ self.old.conn }
     {
         if self.is_parked() {
@@ -140,9 +130,8 @@ impl<S: Answered + Drop> Talk<S> {
     pub fn listen<G: SharedGate<Answer = S>>(&mut self, gate: &mut G) -> bool
         requires { IsParked self.old }
         ensures heard { result ≡ true
-            → Hears G.allowed self.old.conn (change_of G.asked gate.old gate.new)
-            (change_of (waiting_of S.gave) self.old.outgoing self.new.outgoing) }
-        ensures here { result ≡ true → self.new.outgoing.held ≢ Held.Parked }
+            → TurnHears G.NodeGate gate.old gate.new S.gave self.old self.new }
+        ensures here { result ≡ true → IsHere self.new }
         ensures none { result ≡ false
             → (self.new ≡ self.old) × (G.asked gate.new ≡ G.asked gate.old) }
         ensures same { (self.new.conn ≡ self.old.conn) × (self.new.requests ≡ self.old.requests) }
@@ -158,11 +147,9 @@ impl<S: Answered + Drop> Talk<S> {
     pub fn wait<G: NodeGate<Answer = S>>(&mut self, gate: &mut G) -> Result<(), ConnFault>
         requires { IsParked self.old }
         ensures heard { OnOk result
-            (Hears G.allowed self.old.conn (change_of G.asked gate.old gate.new)
-            (change_of (waiting_of S.gave) self.old.outgoing self.new.outgoing)) }
-        ensures here { OnOk result (self.new.outgoing.held ≢ Held.Parked) }
-        ensures none { OnErr result (Adds G.allowed (change_of G.asked gate.old gate.new)
-            (waiting self.old.conn None ∷ [])) }
+            (TurnHears G.NodeGate gate.old gate.new S.gave self.old self.new) }
+        ensures here { OnOk result (IsHere self.new) }
+        ensures none { OnErr result (WaitsOnce G.NodeGate gate.old gate.new self.old.conn None) }
         ensures kept { OnErr result (self.new ≡ self.old) }
         ensures fault { IfErr result (λ fault. fault ≡ ConnFault.Unanswered) }
         ensures same { (self.new.conn ≡ self.old.conn) × (self.new.requests ≡ self.old.requests) }
@@ -177,9 +164,9 @@ impl<S: Answered + Drop> Talk<S> {
     /// Puts the reply that came later behind those that wait.
     pub(crate) fn hear(&mut self, reply: Reply)
         requires { IsParked self.old }
-        ensures put { waiting_of S.gave self.new.outgoing
-            ≡ waiting_of S.gave self.old.outgoing ++ reply_spelling reply }
-        ensures here { self.new.outgoing.held ≢ Held.Parked }
+        ensures put { waiting_in S.gave self.new
+            ≡ waiting_in S.gave self.old ++ reply_spelling reply }
+        ensures here { IsHere self.new }
         ensures same { (self.new.conn ≡ self.old.conn) × (self.new.requests ≡ self.old.requests) }
     {
         self.outgoing.hear(reply);
@@ -187,16 +174,14 @@ impl<S: Answered + Drop> Talk<S> {
 
     /// Sends some of the replies by one write, and says what is left. An error is that the writer failed: its count has risen.
     pub fn finish<W: Write>(&mut self, writer: &mut Counting<W>) -> Result<Left, ConnFault>
-        ensures put { OnOk result (Puts (streams W.contents writer.old writer.new)
-            (change_of (waiting_of S.gave) self.old.outgoing self.new.outgoing) []) }
-        ensures left { IfOk result (λ left. Accounts left (streams W.contents writer.old writer.new)
-            (change_of (waiting_of S.gave) self.old.outgoing self.new.outgoing)) }
-        ensures parked { (IsParked self.old → IsParked self.new)
-            × (self.old.outgoing.held ≢ Held.Parked → self.new.outgoing.held ≢ Held.Parked) }
+        ensures put { PutsSome result W.Write writer.old writer.new
+            (waiting_in S.gave) self.old self.new }
+        ensures left { IfOk result
+            (Accounts writer.old writer.new (waiting_in S.gave) self.old self.new) }
+        ensures parked { IsParked self.old → IsParked self.new }
+        ensures here { IsHere self.old → IsHere self.new }
         ensures same { (self.new.conn ≡ self.old.conn) × (self.new.requests ≡ self.old.requests) }
         ensures fault { IfErr result (λ fault. fault ≡ ConnFault.Writer) }
-        ensures err { OnErr result (Fails (streams W.contents writer.old writer.new)
-            (waiting_of S.gave self.old.outgoing)) }
     {
         let wrote = self.outgoing.write_some(writer)?;
         Ok(self.outgoing.left_by(wrote))
@@ -204,13 +189,9 @@ impl<S: Answered + Drop> Talk<S> {
 
     /// Sends all replies that wait, however long the writer takes.
     pub(crate) fn write_out<W: Write>(&mut self, writer: &mut Counting<W>) -> io::Result<()>
-        ensures ok { OnOk result (Sends (streams W.contents writer.old writer.new)
-            (waiting_of S.gave self.old.outgoing)) }
-        ensures empty { OnOk result (waiting_of S.gave self.new.outgoing ≡ []) }
-        ensures room { OnOk result
-            (self.old.outgoing.held ≢ Held.Parked → HasRoom self.new.outgoing) }
-        ensures err { OnErr result (Fails (streams W.contents writer.old writer.new)
-            (waiting_of S.gave self.old.outgoing)) }
+        ensures sends { SendsAll result W.Write writer.old writer.new (waiting_in S.gave self.old) }
+        ensures empty { OnOk result (waiting_in S.gave self.new ≡ []) }
+        ensures room { OnOk result (IsHere self.old → HasRoom self.new.outgoing) }
         ensures same { (self.new.conn ≡ self.old.conn) × (self.new.requests ≡ self.old.requests) }
     {
         self.outgoing.write_out(writer)
@@ -224,8 +205,7 @@ impl<S: Answered + Drop> Talk<S> {
         ended: Result<Rest, ConnFault>,
     ) -> Farewell<S>
         ensures closed { Closes G.allowed (change_of G.asked gate.old gate.new) self.conn }
-        ensures waits { farewell_of S.gave result
-            ≡ waiting_of S.gave self.outgoing ++ line_of ended }
+        ensures waits { farewell_of S.gave result ≡ waiting_in S.gave self ++ line_of ended }
     {
         close(gate, self.conn);
         Farewell::of(self.outgoing, ended)
@@ -234,9 +214,8 @@ impl<S: Answered + Drop> Talk<S> {
 
 // A new connection at the node.
 fn open<G: NodeGate>(gate: &mut G) -> Result<Conn, ConnFault>
-    ensures ok { IfOk result (λ conn. Opens G.allowed (change_of G.asked gate.old gate.new) conn) }
-    ensures err { IfErr result
-        (λ fault. Refuses G.allowed (change_of G.asked gate.old gate.new) fault) }
+    ensures ok { IfOk result (Opens G.allowed (change_of G.asked gate.old gate.new)) }
+    ensures err { IfErr result (Refuses G.allowed (change_of G.asked gate.old gate.new)) }
 {
     let step = ask_alone(gate, Event::Open)?;
     let Response::Opened(conn) = step.response() else {

@@ -1,3 +1,2 @@
 pub mod LastKeys
 pub mod Naming
-pub mod Orders

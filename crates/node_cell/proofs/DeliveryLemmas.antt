@@ -3,8 +3,8 @@ use Rattle.std.proofs.Common.{◌≡◌, ◌++◌, ℕ, refl, sym, ap, subst, in
 use Rattle.node_step.specs.declared.event.Event.{Event}
 use Rattle.node_step.specs.declared.outputs.Outputs.{Outputs}
 use Rattle.step_fault.specs.declared.fault.StepFault.{StepFault}
-use Rattle.node_cell.specs.Journal.{CellView, EnteredView, Enters, IsRefused, Makes, Skips}
-use Rattle.node_cell.specs.Undelivered.{undelivered_after}
+use Rattle.cell_parts.specs.Journal.{CellView, EnteredView, Enters, IsRefused, Makes, Skips}
+use Rattle.cell_parts.specs.Undelivered.{undelivered_after}
 
 -- a step was made and entered, and all else is as before
 pub enters_so : (old new : CellView) (ticket : ℕ) (event : Event) (entered : EnteredView) → Makes old.state old.journal ticket event entered new.state new.journal

@@ -11,10 +11,10 @@ use Rattle.node_step.specs.declared.event.Event.{Event}
 use Rattle.node_step.specs.declared.event.Event.TheVariants.{Open, Close, Request, Deliver, Tick}
 use Rattle.node_step.specs.declared.outputs.Outputs.{Outputs}
 use Rattle.node_step.specs.declared.outputs.Release.{Release}
-use Rattle.node_cell.specs.Journal.{IsGiven, released_by}
-use Rattle.node_cell.specs.Undelivered.{joined, undelivered_after}
-use Rattle.node_cell.specs.declared.entry.Entry.{Entry}
-use Rattle.node_cell.specs.declared.entry.Entry.TheVariants.{Step, Skipped}
+use Rattle.cell_parts.specs.Journal.{IsGiven, released_by}
+use Rattle.cell_parts.specs.Undelivered.{joined, undelivered_after}
+use Rattle.cell_parts.specs.declared.entry.Entry.{Entry}
+use Rattle.cell_parts.specs.declared.entry.Entry.TheVariants.{Step, Skipped}
 
 -- ---- one entry more
 

@@ -3,8 +3,8 @@ use Rattle.std.proofs.Common.{◌≡◌, ℕ, List, [], ◌∷◌, ◌++◌, ◌
 use Rattle.std.specs.Prelude.{All}
 use Rattle.std.proofs.lemmas.List.Elements.{All-nil, All-head, All-tail, All-push}
 use Rattle.node_step.specs.State.{NodeState}
-use Rattle.node_cell.specs.Journal.{IsHistory, IsJournal, Leads, Rises, ticket_of, tickets_of}
-use Rattle.node_cell.specs.declared.entry.Entry.{Entry}
+use Rattle.cell_parts.specs.Journal.{IsHistory, IsJournal, Leads, Rises, ticket_of, tickets_of}
+use Rattle.cell_parts.specs.declared.entry.Entry.{Entry}
 
 -- one entry more leads on
 history-snoc : (first last new : NodeState) (entries : List Entry) (entry : Entry) → IsHistory first entries last → Leads last entry new

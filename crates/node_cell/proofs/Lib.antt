@@ -2,4 +2,3 @@ pub mod DeliveryLemmas
 pub mod GivenLemmas
 pub mod JournalLemmas
 pub mod SentLemmas
-pub mod UndeliveredLemmas

@@ -6,8 +6,8 @@ use Rattle.node_step.specs.State.{NodeState, first_state}
 use Rattle.node_step.specs.Step.{NodeStep}
 use Rattle.node_step.specs.declared.event.Event.{Event}
 use Rattle.node_step.specs.declared.outputs.Outputs.{Outputs}
-use Rattle.node_cell.specs.Journal.{IsHistory, IsReachable, IsSent, comes_in_time}
-use Rattle.node_cell.specs.declared.entry.Entry.{Entry}
+use Rattle.cell_parts.specs.Journal.{IsHistory, IsReachable, IsSent, comes_in_time}
+use Rattle.cell_parts.specs.declared.entry.Entry.{Entry}
 
 -- the state of a cell of the cluster is one that a node of it comes to
 pub comes_to : (config own : ClusterConfig) (node : ℕ) (journal : List Entry) (state : NodeState) → own ≡ config → node < length own.nodes

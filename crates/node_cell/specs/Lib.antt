@@ -1,4 +1,1 @@
 pub mod Asks
-pub mod Journal
-pub mod Log
-pub mod Undelivered

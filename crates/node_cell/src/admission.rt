@@ -2,7 +2,7 @@
 ghost use Rattle.std.specs.Prelude.{◌≡◌, []};
 
 use crate::asks::Asks;
-use crate::deployment::Deployment;
+use cell_parts::Deployment;
 use cluster_config::Config;
 use std::marker::PhantomData;
 

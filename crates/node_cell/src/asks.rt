@@ -4,12 +4,11 @@ ghost use Rattle.node_cell.specs.Asks.{noted};
 ghost use Rattle.node_gate.specs.Asks.{IsOwn};
 ghost use Rattle.node_gate.specs.Asks.Asked.{asking, waiting};
 ghost use Rattle.node_step.specs.Released.{reply_to, without_reply_to};
-ghost use Rattle.node_cell.specs.Journal.{Enters, HasHistory, IsGiven, IsRefused, outcome_entered};
+ghost use Rattle.cell_parts.specs.Journal.{Enters, HasHistory, IsGiven, IsRefused, outcome_entered};
 
 use crate::cell::NodeCell;
-use crate::deployment::Deployment;
 use crate::entered::Entered;
-use crate::log::Log;
+use cell_parts::{Deployment, Log};
 use history::History;
 use node_core::{Conn, Event, Outputs, StepFault};
 use resp_values::Reply;

@@ -6,17 +6,14 @@ ghost use Rattle.tickets.specs.Tickets.{drawn, table_of, seats_of, IsFresh};
 ghost use Rattle.node_step.specs.State.{first_state};
 ghost use Rattle.step_fault.specs.declared.fault.StepFault.TheVariants.{Exhausted};
 ghost use Rattle.node_step.specs.Released.{reply_to, without_reply_to};
-ghost use Rattle.node_cell.specs.Undelivered.{joined, undelivered_after};
+ghost use Rattle.cell_parts.specs.Undelivered.{joined, undelivered_after};
 ghost use Rattle.node_step.specs.declared.event.Event.TheVariants.{Deliver};
-ghost use Rattle.node_cell.specs.Journal.{Advances, Enters, HasHistory, IsGiven, IsNotTaken, IsReachable, IsRefused, IsSent, Makes, Rises, Skips, comes_in_time, tickets_of};
+ghost use Rattle.cell_parts.specs.Journal.{Advances, Enters, HasHistory, IsGiven, IsNotTaken, IsReachable, IsRefused, IsSent, Makes, Rises, Skips, comes_in_time, tickets_of};
 ghost use Rattle.node_gate.specs.Asks.{IsOwn};
 
-use crate::delivery::DeliveryFault;
-use crate::deployment::Deployment;
 use crate::entered::Entered;
-use crate::log::Log;
 use crate::posted::{Posted, Sending};
-use crate::undelivered::{add_released, has_some, take_reply_to};
+use cell_parts::{DeliveryFault, Deployment, Log, add_released, has_some, take_reply_to};
 use cluster_config::Config;
 use node_core::{Conn, Core, Event, Messages, Outputs, Releases, StepFault};
 use resp_values::Reply;
@@ -46,8 +43,8 @@ impl<K: Deployment, L: Log> Model for NodeCell<K, L> {
     ghost use Rattle.std.specs.Coded.{codes};
     ghost use Rattle.tickets.specs.Tickets.{drawn, table_of, seats_of};
     ghost use Rattle.node_step.specs.State.{first_state};
-    ghost use Rattle.node_cell.specs.Journal.{CellView, IsGiven, IsJournal};
-    ghost use Rattle.node_cell.specs.Undelivered.{joined};
+    ghost use Rattle.cell_parts.specs.Journal.{CellView, IsGiven, IsJournal};
+    ghost use Rattle.cell_parts.specs.Undelivered.{joined};
 
     ghost Value = { CellView };
 

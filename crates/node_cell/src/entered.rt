@@ -1,7 +1,7 @@
 //! A step that stands in a journal.
 ghost use Rattle.std.specs.Prelude.{◌≡◌};
 
-use crate::deployment::Deployment;
+use cell_parts::Deployment;
 use node_core::{Event, Outputs, Response};
 use node_gate::Answered;
 use std::marker::{Model, PhantomData};
@@ -21,7 +21,7 @@ pub struct Entered<K: Deployment> {
 
 impl<K: Deployment> Model for Entered<K> {
     ghost use Rattle.std.specs.Prelude.{◌≡◌};
-    ghost use Rattle.node_cell.specs.Journal.{EnteredView};
+    ghost use Rattle.cell_parts.specs.Journal.{EnteredView};
 
     ghost Value = { EnteredView };
 

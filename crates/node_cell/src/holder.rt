@@ -1,21 +1,20 @@
 //! What conversations ask, behind the lock of their node.
 ghost use Rattle.std.specs.Prelude.{◌≡◌, ◌<◌, ◌==◌, ◌++◌, ◌∷◌, [], length, not, Some, IfOk, IfErr, IfNone, IfSome};
-ghost use Rattle.node_cell.specs.Journal.{Enters, HasHistory, IsGiven, IsRefused, outcome_entered};
+ghost use Rattle.cell_parts.specs.Journal.{Enters, HasHistory, IsGiven, IsRefused, outcome_entered};
 ghost use Rattle.node_gate.specs.Asks.{IsOwn};
 ghost use Rattle.node_gate.specs.Asks.Asked.{asking, waiting};
 ghost use Rattle.node_step.specs.Released.{reply_to, without_reply_to};
 
 use crate::asks::Asks;
 use crate::cell::NodeCell;
-use crate::deployment::Deployment;
 use crate::entered::Entered;
-use crate::log::Log;
+use cell_parts::{Deployment, Log};
 use node_core::{Conn, Core, Event, StepFault};
 use resp_values::Reply;
 
 /// A node's cell, or what holds one. Clauses see the cell.
 pub trait HoldsCell {
-    ghost use Rattle.node_cell.specs.Journal.{CellView};
+    ghost use Rattle.cell_parts.specs.Journal.{CellView};
 
     /// The cluster of the node.
     type Cluster: Deployment;

@@ -2,10 +2,10 @@
 ghost use Rattle.std.specs.Prelude.{◌≡◌, ◌==◌, ◌∷◌, [], All, IfNone, IfSome, List, drop, length};
 ghost use Rattle.bus.specs.declared.message.Message.{Message as Sent};
 ghost use Rattle.std.specs.Iterator.{YieldsFirst, item_count};
-ghost use Rattle.node_cell.specs.Journal.{IsSent};
+ghost use Rattle.cell_parts.specs.Journal.{IsSent};
 
-use crate::deployment::Deployment;
 use bus::Message;
+use cell_parts::Deployment;
 use link_ends::Repeated;
 use slot_table::NodeNo;
 use std::alloc::{AllocError, Global};
@@ -30,7 +30,7 @@ impl<K: Deployment> Drop for Posted<K> {
 
 impl<K: Deployment> Model for Posted<K> {
     ghost use Rattle.bus.specs.declared.message.Message.{Message as Sent};
-    ghost use Rattle.node_cell.specs.Journal.{IsSent};
+    ghost use Rattle.cell_parts.specs.Journal.{IsSent};
 
     ghost Value = { Sent };
 
@@ -95,7 +95,7 @@ impl<K: Deployment> Drop for Sending<K> {
 impl<K: Deployment> Model for Sending<K> {
     ghost use Rattle.std.specs.Prelude.{All, List};
     ghost use Rattle.bus.specs.declared.message.Message.{Message as Sent};
-    ghost use Rattle.node_cell.specs.Journal.{IsSent};
+    ghost use Rattle.cell_parts.specs.Journal.{IsSent};
 
     ghost Value = { List Sent };
 

@@ -43,7 +43,7 @@ use Rattle.node_core.specs.Comes.{AnswersAndWrites, AnswersSo}
 use Rattle.node_parts.proofs.ChangeLemmas.{records_nothing}
 use Rattle.node_parts.specs.Drafts.{Drafts, IsDraftOf, Records}
 use Rattle.node_parts.specs.declared.draft.Draft.{Draft}
-use Rattle.move_rows.specs.Orders.{Obeys}
+use Rattle.order_rows.specs.Orders.{Obeys}
 use Rattle.report_rows.specs.Questions.{IsReport, is_question}
 
 -- the reply to a question is the report that was made

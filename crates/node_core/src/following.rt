@@ -7,12 +7,13 @@ ghost use Rattle.node_parts.specs.Drafts.{Comes};
 ghost use Rattle.step_fault.specs.declared.fault.StepFault.TheVariants.{Exhausted};
 
 use bus::StreamBody;
-use node_parts::{NodeParts, plain};
+use node_parts::NodeParts;
 use node_step::{Outputs, Recorder, Response, StepFault};
 use repl_stream::{Replaces, Stream};
 use replica_rows::{answer_sync, take_piece, take_snapshot};
 use slot_store::SlotParts;
 use slot_table::NodeNo;
+use step_making::{make, plain};
 use stream_values::{Piece, Snapshot, Sync};
 
 /// Takes what that node says.
@@ -51,7 +52,7 @@ fn answer<S: SlotParts, T: Stream, K: Recorder>(
 {
     let mut draft = node.blank();
     answer_sync(node, from, sync, &mut draft)?;
-    Ok(node.make::<K>(ticket, &mut draft)?)
+    Ok(make::<S, T, K>(node, ticket, &mut draft)?)
 }
 
 // Takes a piece of the own master's stream.

@@ -12,12 +12,13 @@ use crate::following::take_of_stream;
 use crate::votes::take_of_election;
 use bus::{Body, Message, SlotsBody};
 use move_rows::take_of_slots;
-use node_parts::{Draft, NodeParts, plain};
+use node_parts::{Draft, NodeParts};
 use node_step::{Outputs, Recorder, Response, StepFault};
 use repl_stream::{Replaces, Stream};
 use replica_rows::add_written;
 use slot_store::SlotParts;
 use slot_table::NodeNo;
+use step_making::{make, plain};
 
 /// Takes a message for this node, of which the node took note before.
 pub(crate) fn take<S: SlotParts + Replaces, T: Stream, K: Recorder>(
@@ -60,7 +61,7 @@ fn take_slots<S: SlotParts, T: Stream, K: Recorder>(
 {
     let mut draft = node.blank();
     draft_slots(node, from, body, &mut draft)?;
-    Ok(node.make::<K>(ticket, &mut draft)?)
+    Ok(make::<S, T, K>(node, ticket, &mut draft)?)
 }
 
 // Drafts what comes of it, with what it writes.

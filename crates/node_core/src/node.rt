@@ -20,7 +20,7 @@ use bus::{Handing, Message, Replaced};
 use cluster_config::Config;
 use connections::Conn;
 use key_slot::Slot;
-use node_parts::{Draft, NodeParts, plain};
+use node_parts::{Draft, NodeParts};
 use node_step::{Event, Outputs, Recorder, Response, StepFault};
 use repl_stream::{Backlog, Replaces, Stream};
 use resp_values::Words;
@@ -29,6 +29,7 @@ use slot_store::{SlotParts, SlotStore};
 use slot_table::{NodeNo, SlotTable};
 use std::alloc::{AllocError, Global};
 use std::marker::Model;
+use step_making::{make, plain};
 
 /// A node of the cluster: what it holds, and the steps that it takes.
 #[derive(Drop)]
@@ -204,7 +205,7 @@ impl<S: SlotParts + Replaces, T: Stream> NodeCore<S, T> {
             → NoNumberLeft self.old (Event.Request conn words.now) }
     {
         request(&self.parts, conn, words, draft)?;
-        Ok(self.parts.make::<K>(ticket, draft)?)
+        Ok(make::<S, T, K>(&mut self.parts, ticket, draft)?)
     }
 
     // Takes a message, if it is for this node. What it tells of the others is put back where it is refused.

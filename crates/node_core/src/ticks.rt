@@ -22,6 +22,7 @@ use replica_rows::append_sync;
 use slot_store::SlotParts;
 use slot_table::{Epoch, NodeNo};
 use std::alloc::AllocError;
+use step_making::make;
 
 /// Lets a tick pass: the node grows older, an election begins, if it is due, waits end, and others are told.
 #[tactic(auto, using(crate::proofs::TickLemmas::tick_is_step, crate::proofs::TickLemmas::tick_can_be_made))]
@@ -39,7 +40,7 @@ pub(crate) fn pass_tick<S: SlotParts, T: Stream, K: Recorder>(
     let epoch = node.begin_election()?;
     let mut draft = node.blank();
     draft_tick(node, epoch, &mut draft)?;
-    Ok(node.make::<K>(ticket, &mut draft)?)
+    Ok(make::<S, T, K>(node, ticket, &mut draft)?)
 }
 
 // Drafts a tick of a node that has grown older, and began an election in that epoch, if in any.

@@ -13,11 +13,12 @@ use bus::{Candidacy, ElectionBody, Handing};
 use election::VoteRequest;
 use election_rows::{promote, promote_by_plan, write_vote};
 use handover_rows::{hand_over, note_handing};
-use node_parts::{NodeParts, plain};
+use node_parts::NodeParts;
 use node_step::{Outputs, Recorder, Response, StepFault};
 use repl_stream::Stream;
 use slot_store::SlotParts;
 use slot_table::{Epoch, NodeNo};
+use step_making::{make, plain};
 use stream_values::StreamId;
 
 /// Takes what that node says.
@@ -57,7 +58,7 @@ fn pause<S: SlotParts, T: Stream, K: Recorder>(
 {
     let mut draft = node.blank();
     hand_over(node, from, stream, &mut draft)?;
-    Ok(node.make::<K>(ticket, &mut draft)?)
+    Ok(make::<S, T, K>(node, ticket, &mut draft)?)
 }
 
 // The own master tells what it hands over.
@@ -76,7 +77,7 @@ fn note<S: SlotParts, T: Stream, K: Recorder>(
 {
     let mut draft = node.blank();
     note_handing(node, handing, &mut draft)?;
-    Ok(node.make::<K>(ticket, &mut draft)?)
+    Ok(make::<S, T, K>(node, ticket, &mut draft)?)
 }
 
 // Takes the request of a node for this one's vote.
@@ -102,7 +103,7 @@ fn ask_for_vote<S: SlotParts, T: Stream, K: Recorder>(
     let granted = node.vote(request);
     let mut draft = node.blank();
     write_vote(node, request, granted, &mut draft)?;
-    Ok(node.make::<K>(ticket, &mut draft)?)
+    Ok(make::<S, T, K>(node, ticket, &mut draft)?)
 }
 
 // Counts the vote of a node for this one, which may elect it.
@@ -162,7 +163,7 @@ fn promoted_in_place<S: SlotParts, T: Stream, K: Recorder>(
 {
     let mut draft = node.blank();
     promote(node, master, epoch, &mut draft)?;
-    Ok(node.make::<K>(ticket, &mut draft)?)
+    Ok(make::<S, T, K>(node, ticket, &mut draft)?)
 }
 
 // The master hands over. A node that hasn't all of its stream, or has noted nothing, stays a replica.
@@ -184,5 +185,5 @@ fn promoted_by_plan<S: SlotParts, T: Stream, K: Recorder>(
     };
     let mut draft = node.blank();
     promote_by_plan(node, master, epoch, &handing.slots, &mut draft)?;
-    Ok(node.make::<K>(ticket, &mut draft)?)
+    Ok(make::<S, T, K>(node, ticket, &mut draft)?)
 }

@@ -26,8 +26,8 @@ pub struct Succession {
 }
 
 impl<S: SlotParts, T: Stream> NodeParts<S, T> {
-    // The promotion, as it comes out of the step, if there is one.
-    pub(crate) fn promoted(&self, succession: &Option<Succession>) -> Result<Promoted, AllocError>
+    /// The promotion, as it comes out of the step, if there is one.
+    pub fn promoted(&self, succession: &Option<Succession>) -> Result<Promoted, AllocError>
         ensures { IfOk result (λ promoted. promoted ≡ promoted_by self.now succession.now) }
     {
         let Some(succession) = succession else {
@@ -42,8 +42,8 @@ impl<S: SlotParts, T: Stream> NodeParts<S, T> {
         Promoted::new(self.alloc, promotion)
     }
 
-    // The node is a master from now on, with a stream of its own that goes on from the last whole write.
-    pub(crate) fn succeed(&mut self, succession: Succession)
+    /// The node is a master from now on, with a stream of its own that goes on from the last whole write.
+    pub fn succeed(&mut self, succession: Succession)
         ensures { self.new ≡ succeeding self.old succession }
     {
         let Succession {

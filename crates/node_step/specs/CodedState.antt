@@ -1,4 +1,4 @@
--- That a node's state can be written down, which the prover asks of what a lock may hold. No clause speaks of it.
+-- That a node's state can be written down, which the prover asks of what a lock may hold (ours). No clause speaks of it.
 use Rattle.std.specs.Cmp.Lexicographic.{slice_cmp}
 use Rattle.std.specs.Coded.{Coded, codes, coded_list, coded_ℕ}
 use Rattle.std.specs.FinMap as map

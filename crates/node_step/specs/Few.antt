@@ -1,4 +1,4 @@
--- A list that nearly always is empty.
+-- A list that nearly always is empty (ours).
 use Rattle.std.specs.Prelude.{List, [], Option, Some, None, Box, Vec}
 
 -- the items behind a pointer, which isn't there where there is none

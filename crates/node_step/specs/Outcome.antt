@@ -1,4 +1,4 @@
--- What comes of an event at a node.
+-- What comes of an event at a node (ours: the Redis Cluster specification has no steps).
 use Rattle.std.specs.Prelude.{ℕ, List, [], map, Option, None}
 use Rattle.resp_values.specs.declared.reply.Reply.{Reply}
 use Rattle.resp_values.specs.declared.reply.Reply.TheVariants.{Error}

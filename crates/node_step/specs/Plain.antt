@@ -1,4 +1,4 @@
--- Outputs that hold no reply, no message and no promotion.
+-- Outputs that hold no reply, no message and no promotion (ours).
 use Rattle.std.specs.Prelude.{◌≡◌, [], None}
 use Rattle.node_step.specs.declared.outputs.Outputs.{Outputs}
 use Rattle.node_step.specs.declared.response.Response.{Response}

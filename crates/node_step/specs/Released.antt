@@ -1,4 +1,4 @@
--- Replies to connections that waited, as long as they are kept.
+-- Replies to connections that waited, as long as they are kept (ours).
 use Rattle.std.specs.Prelude.{◌∷◌, ◌&&◌, ◌==◌, Bool, not, List, [], Option, Some, None, if◌then◌else◌}
 use Rattle.std.specs.List.{filter}
 use Rattle.resp_values.specs.declared.reply.Reply.{Reply}

@@ -1,4 +1,4 @@
--- What comes of a request.
+-- What comes of a request (Redis command reference, "ASKING", "CLUSTER SETSLOT", "MIGRATE"; CLUSTER NUMBERED and numbers of moves are ours).
 use Rattle.std.specs.Prelude.{ℕ, ◌^◌, pos, nat_lt, Bool, false, true, List, Option, Some, None, Result, Ok, Err}
 use Rattle.std.specs.Str.{bytes_eq}
 use Rattle.std.specs.List.{position}

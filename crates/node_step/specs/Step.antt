@@ -1,4 +1,4 @@
--- What a step of a node may be.
+-- What a step of a node may be (ours: the Redis Cluster specification tells what nodes do, and has no steps).
 use Rattle.std.specs.Prelude.{◌≡◌, ◌==◌, ℕ, true, List, is_some, MatchBool}
 use Rattle.command_table.specs.Table.{command_of}
 use Rattle.connections.specs.Connections.{connection_at, may_ask, Opens, Closes}

@@ -2,6 +2,7 @@
 //! more. The words name the trials that are played; without a word all of them are.
 #![tactic(auto)]
 
+mod callers;
 mod growth;
 mod refused;
 mod replay;
@@ -9,14 +10,11 @@ mod second_tries;
 
 use anyhow::{Result, bail};
 use audit_trials::audits;
-use cell_trials::{callers, cells, seats};
 use conversation_trials::{devices, writes};
-use copy_trials::playing;
 use lock_trials::two_nodes;
 use row_trials::{failover, following, handing_over, moves, pace, race, streams};
-use station_trials::{bad_networks, deliveries, full_link, reused, syncs};
+use station_trials::{deliveries, full_link, syncs};
 use std::env;
-use std::net::{Net, TcpListener, TcpStream};
 use std::rt::Clock;
 use std::sync::Wait;
 use std::thread::Threads;
@@ -34,23 +32,18 @@ enum Trial {
     Handovers,
     Writes,
     Devices,
-    Cells,
     Deliveries,
-    Seats,
     Callers,
     Locks,
     Links,
     Syncs,
     Streams,
     Audit,
-    Copies,
-    Networks,
-    Reused,
     Pace,
 }
 
 // The words of the trials, in the order in which they are played.
-const TRIALS: [(&str, Trial); 21] = [
+const TRIALS: [(&str, Trial); 16] = [
     ("refused", Trial::Refused),
     ("moves", Trial::Moves),
     ("following", Trial::Following),
@@ -60,18 +53,13 @@ const TRIALS: [(&str, Trial); 21] = [
     ("handovers", Trial::Handovers),
     ("writes", Trial::Writes),
     ("devices", Trial::Devices),
-    ("cells", Trial::Cells),
     ("deliveries", Trial::Deliveries),
-    ("seats", Trial::Seats),
     ("callers", Trial::Callers),
     ("locks", Trial::Locks),
     ("links", Trial::Links),
     ("syncs", Trial::Syncs),
     ("streams", Trial::Streams),
     ("audit", Trial::Audit),
-    ("copies", Trial::Copies),
-    ("networks", Trial::Networks),
-    ("reused", Trial::Reused),
 ];
 
 // It measures, and is played by its word alone.
@@ -85,17 +73,7 @@ fn main(rt: HostRuntime) -> Result<()> {
 // Plays the trials that the words behind the program's name ask for, or all.
 fn play<R>(rt: R, words: &[String]) -> Result<()>
 where
-    R: AllocGlobal
-        + Print
-        + Clock
-        + Threads
-        + Wait
-        + Net<Listener = TcpListener, Stream = TcpStream>
-        + Copy
-        + Drop
-        + Send
-        + Sync
-        + 'static,
+    R: AllocGlobal + Print + Clock + Threads + Wait + Copy + Drop + Send + Sync + 'static,
 {
     match words {
         [] | [_] => try_all(rt),
@@ -143,18 +121,13 @@ fn try_out<R: Runtime>(rt: R, trial: Trial) -> Result<()> {
         Trial::Handovers => handing_over::try_out(&rt),
         Trial::Writes => writes::try_out(rt),
         Trial::Devices => devices::try_out(rt),
-        Trial::Cells => cells::try_out(&rt),
         Trial::Deliveries => deliveries::try_out(&rt),
-        Trial::Seats => seats::try_out(&rt),
         Trial::Callers => callers::try_out(&rt),
         Trial::Locks => two_nodes::try_out(rt),
         Trial::Links => full_link::try_out(rt),
         Trial::Syncs => syncs::try_out(rt),
         Trial::Streams => streams::try_out(&rt),
         Trial::Audit => audits::try_out(rt),
-        Trial::Copies => playing::try_out(rt),
-        Trial::Networks => bad_networks::try_out(rt),
-        Trial::Reused => reused::try_out(rt),
         Trial::Pace => pace::measure(&rt),
     }
 }

@@ -1,4 +1,5 @@
--- What holds of votes and elections along a run.
+-- What holds of votes and elections along a run (Redis Cluster specification, "Replica election and promotion", "Masters reply to
+-- replica vote request": a master remembers the last epoch in which it voted).
 use Rattle.std.specs.Prelude.{◌≡◌, ◌<◌, ◌≤◌, ℕ, ⊤, Bool, true, false, List, Contains, Option, Some, None, slice_get, slice_index_or}
 use Rattle.bus.specs.declared.bodies.ElectionBody.TheVariants.{Grant}
 use Rattle.bus.specs.declared.message.Body.TheVariants.{Election as OfElection}

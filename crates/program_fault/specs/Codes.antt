@@ -2,8 +2,8 @@
 use Rattle.std.specs.Prelude.{ℕ, List, Option, Some, None, codes}
 use Rattle.audit.specs.declared.gathering.AuditFault.{AuditFault}
 use Rattle.audit.specs.declared.gathering.AuditFault.TheVariants as audit
-use Rattle.client_tools.specs.declared.failure.HandoverFault.{HandoverFault}
-use Rattle.client_tools.specs.declared.failure.HandoverFault.TheVariants as handover
+use Rattle.tool_io.specs.declared.failure.HandoverFault.{HandoverFault}
+use Rattle.tool_io.specs.declared.failure.HandoverFault.TheVariants as handover
 use Rattle.cluster_config.specs.declared.fault.ConfigFault.{ConfigFault}
 use Rattle.cluster_config.specs.declared.fault.ConfigFault.TheVariants as config
 use Rattle.resharder.specs.Faults.{code_of as reshard_code}

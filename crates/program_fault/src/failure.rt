@@ -2,10 +2,10 @@
 
 use crate::fault::ProgramFault;
 use audit::AuditFault;
-use client_tools::ToolFailure;
 use inputs::InputFailure;
 use std::alloc::AllocError;
 use std::fmt;
+use tool_io::ToolFailure;
 
 /// Why the program stops: the fault, and a sentence that says what is wrong and where.
 #[derive(Drop)]

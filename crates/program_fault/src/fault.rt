@@ -3,12 +3,12 @@ ghost use Rattle.std.specs.Prelude.{◌≡◌};
 ghost use Rattle.program_fault.specs.Codes.{audit_code, code_of, config_code, handover_code, number_of};
 
 use audit::AuditFault;
-use client_tools::{HandoverFault, ToolFault};
 use cluster_config::ConfigFault;
 use inputs::InputFault;
 use resharder::ReshardFault;
 use smart_client::ClientFault;
 use std::fmt;
+use tool_io::{HandoverFault, ToolFault};
 
 /// Why the program stops. It prints the code of the fault, and ends with status 1.
 #[derive(Clone, Copy)]

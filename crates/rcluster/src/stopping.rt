@@ -1,11 +1,11 @@
 //! `rcluster serve --stop`: nodes that are stopped while the others are served on.
 
-use client_tools::Shown;
 use cluster::NodeStop;
 use cluster_config::Config;
 use command_table::{count_in, positive_in};
 use inputs::MOST_TICKS;
 use std::alloc::{AllocError, Global};
+use tool_io::Shown;
 
 /// The stops that these texts are, or a sentence for the first text that is none.
 pub fn read_stops(

@@ -1,4 +1,5 @@
--- What holds of the texts of redirections, whoever reads or writes them.
+-- What holds of the texts of redirections, whoever reads or writes them (the law is ours; the texts are those of the Redis Cluster
+-- specification, "MOVED Redirection", "ASK redirection").
 use Rattle.std.specs.Prelude.{◌≡◌, ℕ, List}
 use Rattle.redirection.specs.Redirection.{IsRedirection}
 use Rattle.redirection.specs.declared.redirection.Redirection.{Redirection}

@@ -1,4 +1,4 @@
--- How a text is split at a byte, and what the parts of a redirection are. No public clause needs it.
+-- How a text is split at a byte, and what the parts of a redirection are (ours). No public clause needs it.
 use Rattle.std.specs.Prelude.{◌≡◌, ◌<◌, ◌≤◌, ◌==◌, ◌∷◌, ◌++◌, [], not, ℕ, Bool, true, List, Option, Some, None, decimal}
 use Rattle.std.specs.List.{list_all}
 use Rattle.redirection.specs.Redirection.{IsMove}

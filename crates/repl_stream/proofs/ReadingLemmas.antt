@@ -15,8 +15,8 @@ use Rattle.resp2.specs.Law.{NoSpellingBeginsAnother, NoUnfinishedIsWhole}
 use Rattle.resp2.specs.Reader.{ReaderState, Breaks, FailsBy, Waits, empty_requests}
 use Rattle.resp2.specs.Reader as reader
 use Rattle.resp2.specs.Stream.{HasNoRequest, stream_spelling}
-use Rattle.resp2.specs.declared.fault.Fault.{Fault}
-use Rattle.resp2.specs.declared.fault.Fault.TheVariants.{Memory, Protocol, TooLong}
+use Rattle.resp_header.specs.declared.fault.Fault.{Fault}
+use Rattle.resp_header.specs.declared.fault.Fault.TheVariants.{Memory, Protocol, TooLong}
 use Rattle.resp_values.specs.Request.{IsRequest, KeepsLimits, request_spelling}
 use Rattle.resp_values.specs.declared.words.TheConstants.{MOST_WORD_BYTES}
 use Rattle.repl_stream.specs.Reading.{HandsOut, IsPlanned}

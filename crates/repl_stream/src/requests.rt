@@ -3,7 +3,7 @@ ghost use Rattle.std.specs.Prelude.{◌≡◌, ◌≢◌, ◌≤◌, None, lengt
 ghost use Rattle.keyspace.specs.Commands.{exec_words};
 ghost use Rattle.keyspace.specs.Plan.{committed};
 ghost use Rattle.repl_stream.specs.Reading.{HandsOut, IsPlanned};
-ghost use Rattle.resp2.specs.declared.fault.Fault.TheVariants.{Memory};
+ghost use Rattle.resp_header.specs.declared.fault.Fault.TheVariants.{Memory};
 ghost use Rattle.resp_values.specs.Request.{request_spelling};
 ghost use Rattle.stream_values.specs.Reading.{BeginsWithRequest};
 

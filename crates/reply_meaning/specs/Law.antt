@@ -1,4 +1,5 @@
--- What a node's answers to requests tell.
+-- What a node's answers to requests tell (the law is ours; the answers are those of the Redis Cluster specification, "MOVED Redirection",
+-- "ASK redirection").
 use Rattle.std.specs.Prelude.{◌≡◌, ◌⊎◌, ℕ, IsTrue, true, false, not, List, Option, Some, slice_get}
 use Rattle.resp_values.specs.declared.reply.Reply.{Reply}
 use Rattle.resp_values.specs.declared.reply.Reply.TheVariants.{Error}

@@ -6,9 +6,9 @@ use Rattle.std.proofs.lemmas.Bool.{ne_eqb}
 use Rattle.std.proofs.lemmas.Grind.{flat_map-append}
 use Rattle.std.proofs.lemmas.List.{length-append}
 use Rattle.resp_values.specs.Array.{is_array}
-use Rattle.resp2.specs.Header.{Gives}
+use Rattle.resp_header.specs.Header.{Gives}
 use Rattle.resp2.specs.Progress.{Refuses, word_front}
-use Rattle.resp2.specs.Reading.{Seen, Wants, Bad, Found, and_then, header_at}
+use Rattle.resp_header.specs.Reading.{Seen, Wants, Bad, Found, and_then, header_at}
 use Rattle.resp_values.specs.Reply.{element_spelling}
 use Rattle.resp2.specs.ReplyProgress.{ArePart, HasHeader, IsBegun, IsReading, TakesElement, array_front, begins_array, element_front, reading_on, to_come}
 use Rattle.resp2.specs.ReplyReading.{leaf_at, most_number, reply_at}
@@ -16,9 +16,9 @@ use Rattle.resp_values.specs.Line.{is_one_line}
 use Rattle.resp_values.specs.declared.array.Element.{Element}
 use Rattle.resp_values.specs.declared.array.Element.TheVariants as element
 use Rattle.resp2.specs.declared.array_part.ArrayPart.{ArrayPart}
-use Rattle.resp2.specs.declared.fault.Fault.{Fault}
-use Rattle.resp2.specs.declared.fault.Fault.TheVariants.{Protocol}
-use Rattle.resp2.specs.declared.header.Header.{Header}
+use Rattle.resp_header.specs.declared.fault.Fault.{Fault}
+use Rattle.resp_header.specs.declared.fault.Fault.TheVariants.{Protocol}
+use Rattle.resp_header.specs.declared.header.Header.{Header}
 use Rattle.resp2.specs.declared.leaf.Begun.{Begun}
 use Rattle.resp2.specs.declared.reply_reader.TheConstants.{MOST_DEPTH, MOST_COUNT}
 use Rattle.resp2.proofs.HeaderReading.{header_is}

@@ -1,14 +1,15 @@
 -- The first bad byte: the shortest front of the bytes that decides.
-use Rattle.std.proofs.Common.{◌≡◌, ℕ, suc, ◌+◌, ◌<◌, inl, inr, List, [], ◌∷◌, ◌++◌, length, take, drop, refl, sym, ap, subst, ◌∙◌, append_assoc, arith}
+use Rattle.std.proofs.Common.{◌≡◌, ℕ, suc, ◌+◌, ◌<◌, inl, inr, List, [], ◌∷◌, ◌++◌, length, drop, refl, sym, ap, subst, ◌∙◌, append_assoc, arith}
 use Rattle.std.specs.Prelude.{decimal}
 use Rattle.std.proofs.lemmas.Bool.{cases_lt}
 use Rattle.std.proofs.lemmas.List.{append-nil, length-append, length-take, take_all, take-append-drop}
-use Rattle.resp2.specs.declared.fault.Fault.{Fault}
-use Rattle.resp2.specs.declared.fault.Fault.TheVariants.{Protocol, TooLong, Memory}
+use Rattle.resp_header.specs.declared.fault.Fault.{Fault}
+use Rattle.resp_header.specs.declared.fault.Fault.TheVariants.{Protocol, TooLong, Memory}
 use Rattle.resp_values.specs.declared.words.TheConstants.{MOST_WORDS, MOST_WORD_BYTES, MOST_REQUEST_BYTES}
 use Rattle.resp_values.specs.Request.{request_spelling}
 use Rattle.resp2.specs.Stream.{IsBeginning, PassesLimit, IsBad, HasFirstBadByte}
-use Rattle.resp2.specs.Reading.{reading, reading_words, within_size, one_past_size, too_many, Seen, Wants, Bad, Found, header_onto, bulks_onto}
+use Rattle.resp_header.specs.Reading.{Seen, Wants, Bad, Found, header_onto}
+use Rattle.resp2.specs.Reading.{reading, reading_words, within_size, one_past_size, too_many, bulks_onto}
 use Rattle.resp2.proofs.RequestReading.{RequestMeans, header_onto-append, bulks_onto-append}
 use Rattle.resp2.proofs.RequestRoundTrip.{IsDecided}
 use Rattle.resp2.proofs.ReadingDecides.{waiting_is_beginning, waiting_passes_no_limit, bad_is_no_beginning}

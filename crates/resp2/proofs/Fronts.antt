@@ -1,11 +1,12 @@
 -- What stands in front of bytes is one of four, and no two of them at once.
 use Rattle.std.proofs.Common.{◌≡◌, ℕ, zero, suc, ◌+◌, ◌-◌, ◌*◌, ◌<◌, ltb, eqb, ◌||◌, List, [], ◌∷◌, ◌++◌, length, take, drop, refl, sym, ap, subst, ◌∙◌, arith}
-use Rattle.resp2.specs.declared.fault.Fault.{Fault}
-use Rattle.resp2.specs.declared.fault.Fault.TheVariants.{Protocol, TooLong, Memory}
+use Rattle.resp_header.specs.declared.fault.Fault.{Fault}
+use Rattle.resp_header.specs.declared.fault.Fault.TheVariants.{Protocol, TooLong, Memory}
 use Rattle.resp_values.specs.declared.words.TheConstants.{MOST_WORDS, MOST_WORD_BYTES, MOST_REQUEST_BYTES}
 use Rattle.resp2.specs.Law.{Front, Whole, Unfinished, Malformed, Overlong, HasFront, BytesHaveOneFront}
 use Rattle.resp2.specs.Stream.{IsUnfinished, IsBeginning, PassesLimit, IsBad, HasFirstBadByte}
-use Rattle.resp2.specs.Reading.{reading, reading_words, within_size, one_past_size, too_many, sized, Seen, Wants, Bad, Found, and_then, MatchSeen, after_cr, line_end_at, digits_at, number_at, header_at, body_at, word_at, with_word, words_at}
+use Rattle.resp_header.specs.Reading.{Seen, Wants, Bad, Found, and_then, MatchSeen, after_cr, digits_at, number_at, header_at}
+use Rattle.resp2.specs.Reading.{reading, reading_words, within_size, one_past_size, too_many, sized, line_end_at, body_at, word_at, with_word, words_at}
 use Rattle.resp2.proofs.ReadingDecides.{found_is, bad_has_no_request, waiting_is_unfinished, waiting_is_beginning, front_of_beginning, passing_decided}
 use Rattle.resp2.proofs.FirstBadByte.{first_bad}
 use Rattle.resp2.proofs.SizeLimit.{stays_bad, stays_found, wants_within}

@@ -4,11 +4,11 @@ use Rattle.std.specs.Prelude.{decimal, drop, Option, Some, Ok}
 use Rattle.std.proofs.lemmas.Bool.{ltb-true, ltb-false, eqb-true, eqb-false}
 use Rattle.std.proofs.lemmas.Fmt.{decimal_step_wide, decimal_digit}
 use Rattle.std.proofs.lemmas.List.{append-nil}
-use Rattle.resp2.specs.declared.fault.Fault.{Fault}
-use Rattle.resp2.specs.declared.fault.Fault.TheVariants.{Protocol, TooLong}
-use Rattle.resp2.specs.declared.header.Header.{Header}
-use Rattle.resp2.specs.Header.{Gives}
-use Rattle.resp2.specs.Reading.{Seen, Wants, Bad, Found, MatchSeen, after_cr, digits_at, number_at, header_at, header_onto}
+use Rattle.resp_header.specs.declared.fault.Fault.{Fault}
+use Rattle.resp_header.specs.declared.fault.Fault.TheVariants.{Protocol, TooLong}
+use Rattle.resp_header.specs.declared.header.Header.{Header}
+use Rattle.resp_header.specs.Header.{Gives}
+use Rattle.resp_header.specs.Reading.{Seen, Wants, Bad, Found, MatchSeen, after_cr, digits_at, number_at, header_at, header_onto}
 
 -- by cases on a test, with what it tells
 pub by_test : {A : Type 0} (P : A → Type 0) (t : Bool) (x y : A) → (t ≡ true → P x) → (t ≡ false → P y) → P (cond t x y)

@@ -5,10 +5,10 @@ use Rattle.std.specs.Fmt.{digits, digits_onto, digit_glyph, decimal}
 use Rattle.std.proofs.lemmas.Bool.{ltb-false, lt-ltb, le-ltb, ne_eqb, eq-eqb, cases_lt}
 use Rattle.std.proofs.lemmas.Fmt.{decimal_by_steps_wide}
 use Rattle.std.proofs.lemmas.List.{length-append, append-nil}
-use Rattle.resp2.specs.declared.fault.Fault.{Fault}
-use Rattle.resp2.specs.declared.fault.Fault.TheVariants.{Protocol}
+use Rattle.resp_header.specs.declared.fault.Fault.{Fault}
+use Rattle.resp_header.specs.declared.fault.Fault.TheVariants.{Protocol}
 use Rattle.resp2.proofs.HeaderReading.{by_test}
-use Rattle.resp2.specs.Reading.{Seen, Wants, Bad, Found, MatchSeen, digits_at, number_at, header_at, header_onto}
+use Rattle.resp_header.specs.Reading.{Seen, Wants, Bad, Found, MatchSeen, digits_at, number_at, header_at, header_onto}
 
 -- it is bad
 abbrev pub IsBad : {X : Type 0} → Seen X → Type 0

@@ -6,13 +6,13 @@ use Rattle.std.proofs.lemmas.Int.{to_z-of_z, to_z_pos}
 use Rattle.std.proofs.lemmas.Bool.{ne_eqb}
 use Rattle.std.proofs.lemmas.List.{take-append-drop, take_all}
 use Rattle.resp_values.specs.declared.array.Element.{Element}
-use Rattle.resp_values.specs.declared.array.Element.TheVariants as element
-use Rattle.resp2.specs.declared.fault.Fault.{Fault}
-use Rattle.resp2.specs.declared.fault.Fault.TheVariants.{Protocol}
-use Rattle.resp2.specs.declared.header.Header.{Header}
-use Rattle.resp2.specs.Header.{Gives}
+use Rattle.resp_header.specs.declared.fault.Fault.{Fault}
+use Rattle.resp_header.specs.declared.fault.Fault.TheVariants.{Protocol}
+use Rattle.resp_header.specs.declared.header.Header.{Header}
+use Rattle.resp_header.specs.Header.{Gives}
 use Rattle.resp_values.specs.Line.{is_one_line, is_text_byte}
-use Rattle.resp2.specs.Reading.{Seen, Wants, Bad, Found, and_then, after_cr, body_at, line_end_at, number_at, header_at, header_onto}
+use Rattle.resp_header.specs.Reading.{Seen, Wants, Bad, Found, and_then, after_cr, number_at, header_at, header_onto}
+use Rattle.resp2.specs.Reading.{body_at, line_end_at}
 use Rattle.resp2.specs.Progress.{word_front}
 use Rattle.resp2.specs.ReplyProgress.{StopsText, TakesElement, IsBegun, element_front}
 use Rattle.resp2.specs.ReplyReading.{as_found, leaf_at, text_at, integer_at, simple_at, error_at, number_element_at, bulk_or_null_at, bytes_at, bytes_of, most_number}

@@ -3,14 +3,15 @@ use Rattle.std.proofs.Common.{◌≡◌, ℕ, zero, suc, ◌+◌, ◌-◌, ◌<�
 use Rattle.std.specs.Prelude.{IfSome, IfNone}
 use Rattle.std.proofs.lemmas.Bool.{lt-ltb}
 use Rattle.std.proofs.lemmas.List.{length-append, length-take, take_all, take-append-le}
-use Rattle.resp2.specs.declared.fault.Fault.{Fault}
-use Rattle.resp2.specs.declared.fault.Fault.TheVariants.{Memory, Protocol, TooLong}
+use Rattle.resp_header.specs.declared.fault.Fault.{Fault}
+use Rattle.resp_header.specs.declared.fault.Fault.TheVariants.{Memory, Protocol, TooLong}
 use Rattle.resp2.specs.declared.reader.Progress.{Progress}
 use Rattle.resp2.specs.declared.reader.Progress.TheVariants.{Between, Reading, Broken}
 use Rattle.resp2.specs.declared.words.Partial.{Partial}
 use Rattle.resp_values.specs.declared.words.TheConstants.{MOST_WORD_BYTES, MOST_REQUEST_BYTES}
 use Rattle.resp2.specs.Progress.{Refuses, TakesAll, FaultOfFront, IsCounted, IsCountedOrBroken, IsProgress, word_front, partial_onto, partial_of, request_front, pending_of, fault_of}
-use Rattle.resp2.specs.Reading.{reading, reading_words, one_past_size, too_many, Seen, Wants, Bad, Found, line_end_at, word_at, words_at}
+use Rattle.resp_header.specs.Reading.{Seen, Wants, Bad, Found}
+use Rattle.resp2.specs.Reading.{reading, reading_words, one_past_size, too_many, line_end_at, word_at, words_at}
 use Rattle.resp2.specs.Reader.{remembered}
 use Rattle.resp_values.specs.Request.{request_spelling}
 use Rattle.resp2.proofs.MoreBytes.{words_stay_found}

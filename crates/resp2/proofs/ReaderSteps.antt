@@ -3,14 +3,15 @@ use Rattle.std.proofs.Common.{◌≡◌, ℕ, Bool, true, false, ◌+◌, ◌-�
 use Rattle.std.specs.Bool.{OnTrue}
 use Rattle.std.specs.Prelude.{All, IfSome, IfNone}
 use Rattle.std.proofs.lemmas.List.{length-append, append-nil}
-use Rattle.resp2.specs.declared.fault.Fault.{Fault}
-use Rattle.resp2.specs.declared.fault.Fault.TheVariants.{Protocol, TooLong, Memory}
-use Rattle.resp2.specs.declared.header.Header.{Header}
+use Rattle.resp_header.specs.declared.fault.Fault.{Fault}
+use Rattle.resp_header.specs.declared.fault.Fault.TheVariants.{Protocol, TooLong, Memory}
+use Rattle.resp_header.specs.declared.header.Header.{Header}
 use Rattle.resp2.specs.declared.reader.Progress.{Progress}
 use Rattle.resp2.specs.declared.words.Partial.{Partial}
 use Rattle.resp_values.specs.declared.words.TheConstants.{MOST_WORDS, MOST_WORD_BYTES}
-use Rattle.resp2.specs.Header.{Gives}
-use Rattle.resp2.specs.Reading.{reading, reading_words, Seen, Wants, Bad, Found, header_at, body_at, word_at, words_at, header_onto, bulks_onto}
+use Rattle.resp_header.specs.Header.{Gives}
+use Rattle.resp_header.specs.Reading.{Seen, Wants, Bad, Found, header_at, header_onto}
+use Rattle.resp2.specs.Reading.{reading, reading_words, body_at, word_at, words_at, bulks_onto}
 use Rattle.resp2.specs.Progress.{Refuses, Takes, TakesWord, HasLen, IsPartial, word_front, partial_onto, request_front, partial_of, pending_of}
 use Rattle.resp2.specs.Reader.{ReaderState, empty_requests, PassesOver, HandsOut, Waits, Breaks, FailsBy, remembered}
 use Rattle.resp_values.specs.Request.{request_spelling, header_spelling, bulks_spelling, IsRequest, KeepsLimits, WordsKeepLimits}

@@ -1,11 +1,12 @@
 -- What the reading of bytes says of requests, and of the bytes that may come.
 use Rattle.std.proofs.Common.{◌≡◌, ℕ, inl, inr, suc, List, [], ◌∷◌, ◌++◌, drop, sym, ap, subst, ◌∙◌, append_assoc, take-append-drop, arith}
-use Rattle.resp2.specs.declared.fault.Fault.{Fault}
-use Rattle.resp2.specs.declared.fault.Fault.TheVariants.{Protocol}
+use Rattle.resp_header.specs.declared.fault.Fault.{Fault}
+use Rattle.resp_header.specs.declared.fault.Fault.TheVariants.{Protocol}
 use Rattle.resp_values.specs.declared.words.TheConstants.{MOST_REQUEST_BYTES}
 use Rattle.resp_values.specs.Request.{request_spelling, KeepsLimits}
 use Rattle.resp2.specs.Stream.{stream_spelling, IsBeginning, PassesLimit, SizePasses, HasNoRequest, IsUnfinished}
-use Rattle.resp2.specs.Reading.{reading, reading_words, within_size, one_past_size, too_many, Seen, Wants, Bad, Found}
+use Rattle.resp_header.specs.Reading.{Seen, Wants, Bad, Found}
+use Rattle.resp2.specs.Reading.{reading, reading_words, within_size, one_past_size, too_many}
 use Rattle.resp2.proofs.RequestRoundTrip.{IsDecided}
 use Rattle.resp2.proofs.SizeLimit.{SizedMeans, sized_means, found_within, decided_within, long_decided}
 use Rattle.resp2.proofs.WordsDecide.{wanting_ends, ending_is_beginning, one_decided, count_passing_decided, length_passing_decided, bad_words_no_beginning}

@@ -3,7 +3,8 @@ use Rattle.std.proofs.Common.{◌≡◌, ℕ, zero, suc, pos, negsuc, ◌+◌, �
 use Rattle.std.specs.Prelude.{All, IsTrue, IfSome, IfNone, Option, None, Some, Ok}
 use Rattle.std.specs.List.{AllByRecursion, flat_map}
 use Rattle.resp_values.specs.Array.{depth_of}
-use Rattle.resp2.specs.Reading.{Seen, Wants, Bad, Found, MatchSeen, and_then, after_cr, line_end_at, body_at, digits_at, number_at}
+use Rattle.resp_header.specs.Reading.{Seen, Wants, Bad, Found, MatchSeen, and_then, after_cr, digits_at, number_at}
+use Rattle.resp2.specs.Reading.{line_end_at, body_at}
 use Rattle.resp2.specs.Reader.{ReaderState}
 use Rattle.resp_values.specs.Reply.{elements_of, is_reply, reply_spelling}
 use Rattle.resp2.specs.ReplyReader.{ReplyKeepsLimits, ElementKeepsLimits, replies_spelling, IsReplyBeginning, HasFirstBadReplyByte, HasNoReply, IsUnfinishedReply, HandsOutReply, WaitsForReply, BreaksReply, FailsReplyBy}
@@ -12,8 +13,8 @@ use Rattle.resp2.specs.ReplyProgress.{TakesReply, is_lasting}
 use Rattle.resp2.specs.ReplyReading.{as_found, marked, or_else, times, most_number, text_at, integer_at, leaf_at, array_by, reply_at, simple_at, error_at, number_element_at, bulk_or_null_at, null_at, bytes_at, bytes_of, line_feed_at}
 use Rattle.resp_values.specs.declared.array.Element.{Element}
 use Rattle.resp_values.specs.declared.array.Element.TheVariants as element
-use Rattle.resp2.specs.declared.fault.Fault.{Fault}
-use Rattle.resp2.specs.declared.fault.Fault.TheVariants.{Protocol, TooLong, Memory}
+use Rattle.resp_header.specs.declared.fault.Fault.{Fault}
+use Rattle.resp_header.specs.declared.fault.Fault.TheVariants.{Protocol, TooLong, Memory}
 use Rattle.resp_values.specs.declared.reply.Reply.{Reply}
 use Rattle.resp_values.specs.declared.reply.Reply.TheVariants as replies
 use Rattle.resp2.specs.declared.reply_reader.TheConstants.{MOST_DEPTH}

@@ -3,11 +3,11 @@ use Rattle.std.proofs.Common.{◌≡◌, ℕ, ◌<◌, ◌++◌, List, [], ◌�
 use Rattle.std.specs.List.{AllByRecursion}
 use Rattle.std.proofs.lemmas.List.{length-append}
 use Rattle.resp2.specs.Law.{NoReplyBeginsAnother, RepliesAreReadInOneWay, HasReply, ReplyFront, WholeReply, PartOfReply, NoneOfReply, HasReplyFront, HasOneReplyFront, BytesHaveOneReplyFront}
-use Rattle.resp2.specs.Reading.{Seen, Wants, Bad, Found}
+use Rattle.resp_header.specs.Reading.{Seen, Wants, Bad, Found}
 use Rattle.resp_values.specs.Reply.{elements_of, reply_spelling}
 use Rattle.resp2.specs.ReplyReader.{ReplyKeepsLimits, replies_spelling, IsReplyBeginning, HasFirstBadReplyByte, HasNoReply, IsUnfinishedReply}
 use Rattle.resp_values.specs.declared.array.Element.{Element}
-use Rattle.resp2.specs.declared.fault.Fault.{Fault}
+use Rattle.resp_header.specs.declared.fault.Fault.{Fault}
 use Rattle.resp_values.specs.declared.reply.Reply.{Reply}
 use Rattle.resp_values.proofs.ArrayLaws.{same_reply}
 use Rattle.resp2.proofs.ReplyDecides.{reading_reply, reply_again, reply_of_found, waits_unfinished, waits_begin, first_bad, no_reply, stays}

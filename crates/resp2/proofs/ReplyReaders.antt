@@ -8,10 +8,11 @@ use Rattle.std.proofs.lemmas.Fmt.{decimal_by_steps_wide}
 use Rattle.std.proofs.lemmas.Grind.{flat_map-append}
 use Rattle.resp_values.specs.declared.array.Element.{Element}
 use Rattle.resp_values.specs.declared.array.Element.TheVariants as element
-use Rattle.resp2.specs.declared.fault.Fault.{Fault}
-use Rattle.resp2.specs.declared.fault.Fault.TheVariants.{Protocol}
+use Rattle.resp_header.specs.declared.fault.Fault.{Fault}
+use Rattle.resp_header.specs.declared.fault.Fault.TheVariants.{Protocol}
 use Rattle.resp_values.specs.Line.{is_one_line, is_text_byte}
-use Rattle.resp2.specs.Reading.{Seen, Wants, Bad, Found, after_cr, number_at, body_at}
+use Rattle.resp_header.specs.Reading.{Seen, Wants, Bad, Found, after_cr, number_at}
+use Rattle.resp2.specs.Reading.{body_at}
 use Rattle.resp2.specs.ReplyReading.{as_found, marked, or_else, times, most_number, text_at, integer_at, simple_at, error_at, number_element_at, bytes_at, line_feed_at, null_at, bulk_or_null_at, leaf_at, array_by, reply_at}
 use Rattle.resp_values.specs.Request.{crlf}
 use Rattle.resp_values.specs.Reply.{element_spelling}

@@ -5,9 +5,9 @@ use Rattle.std.proofs.lemmas.Bool.{eqb-true}
 use Rattle.std.proofs.lemmas.List.{length-append}
 use Rattle.resp_values.specs.declared.array.Element.{Element}
 use Rattle.resp_values.specs.declared.array.Element.TheVariants as element
-use Rattle.resp2.specs.declared.fault.Fault.TheVariants.{Protocol}
+use Rattle.resp_header.specs.declared.fault.Fault.TheVariants.{Protocol}
 use Rattle.resp2.specs.declared.reply_reader.TheConstants.{MOST_DEPTH}
-use Rattle.resp2.specs.Reading.{Seen, Wants, Bad, Found, and_then, number_at, header_at}
+use Rattle.resp_header.specs.Reading.{Seen, Wants, Bad, Found, and_then, number_at, header_at}
 use Rattle.resp2.specs.ReplyReading.{as_found, times, leaf_at, reply_at, most_number}
 use Rattle.resp2.specs.ReplyProgress.{begins_array, backwards, rest_in, to_come}
 

@@ -4,9 +4,9 @@ use Rattle.std.specs.Prelude.{decimal, replicate}
 use Rattle.std.specs.List.{AllByRecursion}
 use Rattle.std.proofs.lemmas.Bool.{ltb-true, ltb-false, eqb-true}
 use Rattle.std.proofs.lemmas.List.{length-append, length-replicate, length-take, take-append-drop}
-use Rattle.resp2.specs.declared.fault.Fault.TheVariants.{Protocol, TooLong}
-use Rattle.resp2.specs.Reading.{Seen, Wants, Bad, Found, and_then, MatchSeen, after_cr, line_end_at, header_at}
-use Rattle.resp2.specs.Reading.{body_at, word_at, with_word, words_at, request_at, header_onto, bulk_onto, bulks_onto, request_onto}
+use Rattle.resp_header.specs.declared.fault.Fault.TheVariants.{Protocol, TooLong}
+use Rattle.resp_header.specs.Reading.{Seen, Wants, Bad, Found, and_then, MatchSeen, after_cr, header_at, header_onto}
+use Rattle.resp2.specs.Reading.{line_end_at, body_at, word_at, with_word, words_at, request_at, bulk_onto, bulks_onto, request_onto}
 use Rattle.resp2.proofs.HeaderReading.{by_test, HeaderMeans, header_means}
 
 -- ---- what follows a spelling

@@ -3,8 +3,9 @@ use Rattle.std.proofs.Common.{◌≡◌, ℕ, zero, suc, ◌+◌, ◌^◌, ◌<�
 use Rattle.std.specs.Prelude.{decimal}
 use Rattle.std.proofs.lemmas.Bool.{le-ltb}
 use Rattle.std.proofs.lemmas.List.{length-append, append-nil, take_at, drop_at}
-use Rattle.resp2.specs.declared.fault.Fault.TheVariants.{TooLong}
-use Rattle.resp2.specs.Reading.{Seen, Wants, Bad, Found, and_then, MatchSeen, header_at, body_at, word_at, with_word, words_at, request_at, header_onto, bulk_onto, bulks_onto, request_onto}
+use Rattle.resp_header.specs.declared.fault.Fault.TheVariants.{TooLong}
+use Rattle.resp_header.specs.Reading.{Seen, Wants, Bad, Found, and_then, MatchSeen, header_at, header_onto}
+use Rattle.resp2.specs.Reading.{body_at, word_at, with_word, words_at, request_at, bulk_onto, bulks_onto, request_onto}
 use Rattle.resp2.proofs.HeaderRoundTrip.{header_again, header_decides, header_passes, IsBad}
 use Rattle.resp2.proofs.RequestReading.{AreShort}
 

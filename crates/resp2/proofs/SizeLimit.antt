@@ -2,11 +2,12 @@
 use Rattle.std.proofs.Common.{◌≡◌, ℕ, zero, suc, ◌+◌, ◌-◌, ◌<◌, ◌≤◌, ◌⊎◌, inl, inr, Bool, cond, List, [], ◌∷◌, ◌++◌, length, take, drop, refl, sym, ap, subst, ◌∙◌, append_assoc, take-append-drop, arith}
 use Rattle.std.proofs.lemmas.Bool.{cases_lt, lt-ltb, le-ltb}
 use Rattle.std.proofs.lemmas.List.{length-append, length-take, take_all, take-append-le}
-use Rattle.resp2.specs.declared.fault.Fault.{Fault}
-use Rattle.resp2.specs.declared.fault.Fault.TheVariants.{TooLong}
+use Rattle.resp_header.specs.declared.fault.Fault.{Fault}
+use Rattle.resp_header.specs.declared.fault.Fault.TheVariants.{TooLong}
 use Rattle.resp_values.specs.declared.words.TheConstants.{MOST_REQUEST_BYTES}
 use Rattle.resp_values.specs.Request.{request_spelling, KeepsLimits}
-use Rattle.resp2.specs.Reading.{reading, reading_words, within_size, one_past_size, too_many, sized, Seen, Wants, Bad, Found}
+use Rattle.resp_header.specs.Reading.{Seen, Wants, Bad, Found}
+use Rattle.resp2.specs.Reading.{reading, reading_words, within_size, one_past_size, too_many, sized}
 use Rattle.resp2.proofs.MoreBytes.{words_stay_bad, words_stay_found}
 use Rattle.resp2.proofs.RequestRoundTrip.{IsDecided}
 use Rattle.resp2.proofs.WordsDecide.{found_words_are, words_are_found, front_wants}

@@ -2,7 +2,8 @@
 use Rattle.std.proofs.Common.{◌≡◌, ℕ, List, [], ◌∷◌, ◌++◌, length, refl, ap, ◌∙◌, append_assoc}
 use Rattle.std.specs.Prelude.{decimal}
 use Rattle.resp_values.specs.Request.{crlf, header_spelling, bulk_spelling, bulks_spelling, request_spelling}
-use Rattle.resp2.specs.Reading.{header_onto, bulk_onto, bulks_onto, request_onto}
+use Rattle.resp_header.specs.Reading.{header_onto}
+use Rattle.resp2.specs.Reading.{bulk_onto, bulks_onto, request_onto}
 
 pub header_spelling-onto : (mark n : ℕ) (rest : List ℕ) → header_spelling mark n ++ rest ≡ header_onto mark n rest
 header_spelling-onto mark n rest = ap (λ (t : List ℕ). mark ∷ t) (append_assoc (decimal n) crlf rest)

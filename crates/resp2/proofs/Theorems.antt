@@ -1,7 +1,8 @@
 -- The crate's laws of spellings.
 use Rattle.std.proofs.Common.{◌≡◌, ℕ, List, [], ◌∷◌, ◌++◌, refl, sym, ap, ◌∙◌, append_assoc}
 use Rattle.resp2.specs.Law.{NoSpellingBeginsAnother, NoUnfinishedIsWhole, StreamIsReadInOneWay}
-use Rattle.resp2.specs.Reading.{reading, reading_words, Wants, Found}
+use Rattle.resp_header.specs.Reading.{Wants, Found}
+use Rattle.resp2.specs.Reading.{reading, reading_words}
 use Rattle.resp_values.specs.Request.{request_spelling, KeepsLimits}
 use Rattle.resp2.specs.Stream.{stream_spelling, HasNoRequest}
 use Rattle.std.specs.List.{AllByRecursion}

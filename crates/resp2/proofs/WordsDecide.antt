@@ -3,11 +3,12 @@ use Rattle.std.proofs.Common.{◌≡◌, ℕ, ◌+◌, ◌-◌, ◌*◌, ◌^◌
 use Rattle.std.specs.Prelude.{decimal, All, replicate}
 use Rattle.std.proofs.lemmas.List.{append-nil, length-append, length-replicate}
 use Rattle.std.proofs.lemmas.List.Elements.{All-cons, All-nil}
-use Rattle.resp2.specs.declared.fault.Fault.TheVariants.{Protocol}
+use Rattle.resp_header.specs.declared.fault.Fault.TheVariants.{Protocol}
 use Rattle.resp_values.specs.declared.words.TheConstants.{MOST_WORDS, MOST_WORD_BYTES}
 use Rattle.resp_values.specs.Request.{header_spelling, bulks_spelling, request_spelling, WordsKeepLimits}
 use Rattle.resp2.specs.Stream.{stream_spelling, HasNumbers, IsBeginning, CountPasses, LengthPasses}
-use Rattle.resp2.specs.Reading.{reading_words, Seen, Wants, Bad, Found, request_at, header_onto, bulk_onto, bulks_onto, request_onto}
+use Rattle.resp_header.specs.Reading.{Seen, Wants, Bad, Found, header_onto}
+use Rattle.resp2.specs.Reading.{reading_words, request_at, bulk_onto, bulks_onto, request_onto}
 use Rattle.resp2.proofs.MoreBytes.{Goes, request_goes, words_stay_bad, words_stay_found}
 use Rattle.resp2.proofs.RequestReading.{AreShort, RequestMeans, request_means, empty_words, empty_count, empty_short, header_onto-append, bulks_onto-append}
 use Rattle.resp2.proofs.RequestRoundTrip.{request_again, request_decided, length_decided, count_decided, IsDecided}

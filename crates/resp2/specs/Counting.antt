@@ -1,4 +1,4 @@
--- How a count of failures goes.
+-- How a count of failures goes (ours).
 use Rattle.std.specs.Prelude.{◌≡◌, ◌+◌, ◌-◌, ◌^◌, min, ℕ}
 use Rattle.resp2.specs.declared.counting.Counting.{Counting}
 

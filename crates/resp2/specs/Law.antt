@@ -1,6 +1,7 @@
--- What holds of the spellings of requests and of replies, whoever reads or writes them.
+-- What holds of the spellings of requests and of replies, whoever reads or writes them (the laws are ours; the spellings are those
+-- of the RESP protocol).
 use Rattle.std.specs.Prelude.{◌≡◌, ℕ, List, ◌++◌, All}
-use Rattle.resp2.specs.declared.fault.Fault.TheVariants.{Protocol, TooLong}
+use Rattle.resp_header.specs.declared.fault.Fault.TheVariants.{Protocol, TooLong}
 use Rattle.resp_values.specs.declared.reply.Reply.{Reply}
 use Rattle.resp_values.specs.Reply.{reply_spelling}
 use Rattle.resp2.specs.ReplyReader.{ReplyKeepsLimits, replies_spelling, HasFirstBadReplyByte, HasNoReply, IsUnfinishedReply}

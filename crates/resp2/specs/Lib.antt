@@ -1,5 +1,5 @@
+pub mod Answers
 pub mod Counting
-pub mod Header
 pub mod Law
 pub mod Limits
 pub mod Parts

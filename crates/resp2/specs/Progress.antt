@@ -1,18 +1,28 @@
--- How far a reader is: what it took from the front of its input, and what a step takes more. No public clause needs it.
-use Rattle.std.specs.Prelude.{◌≡◌, ◌≤◌, ◌+◌, ℕ, Bool, true, false, List, [], ◌∷◌, ◌++◌, length, All, IfSome, IfNone, Option, None, Some, Result, Ok, Err}
-use Rattle.resp2.specs.declared.fault.Fault.{Fault}
-use Rattle.resp2.specs.declared.fault.Fault.TheVariants.{Memory}
+-- How far a reader is: what it took from the front of its input, and what a step takes more (ours). No public clause needs it.
+use Rattle.std.specs.Prelude.{◌≡◌, ◌≢◌, ◌≤◌, ◌+◌, ℕ, Bool, true, false, List, [], ◌∷◌, ◌++◌, length, All, IfSome, IfNone, IfErr, Option, None, Some, Result, Ok, Err}
+use Rattle.bytes.specs.Filled.{Filled}
+use Rattle.resp_header.specs.declared.fault.Fault.{Fault}
+use Rattle.resp_header.specs.declared.fault.Fault.TheVariants.{Memory}
 use Rattle.resp_values.specs.Limits.{most_words, most_word_bytes, most_request_bytes}
 use Rattle.resp2.specs.declared.words.Partial.{Partial}
 use Rattle.resp2.specs.declared.reader.Progress.{Progress}
 use Rattle.resp2.specs.declared.reader.Progress.TheVariants.{Between, Reading, Broken}
-use Rattle.resp2.specs.Reading.{Seen, Wants, Bad, Found, too_many, header_onto, bulks_onto}
+use Rattle.resp_header.specs.Reading.{Seen, Wants, Bad, Found, header_onto}
+use Rattle.resp2.specs.Reading.{too_many, bulks_onto, reading_words, word_at}
 
 -- ---- what a step answers
 
 -- memory may be refused at any time, a fault of the bytes is where they have it
 abbrev pub Refuses : {X : Type 0} → Fault → Seen X → Type 0
 Refuses fault seen = (fault ≡ Memory → ⊥) → seen ≡ Bad fault
+
+-- an error of the call is one of these
+abbrev pub FailsFor : {X Y : Type 0} → Result X Fault → Seen Y → Type 0
+FailsFor result seen = IfErr result (λ fault. Refuses fault seen)
+
+-- the bytes have a fault
+abbrev pub HasFault : {X : Type 0} → Seen X → Type 0
+HasFault seen = (fault : Fault) × (fault ≢ Memory) × (seen ≡ Bad fault)
 
 -- the answer is what the bytes decide, and `rest` is what is left of them
 abbrev pub Takes : {X : Type 0} → Result (Option X) Fault → Seen X → List ℕ → Type 0
@@ -39,6 +49,14 @@ abbrev pub word_front : Option ℕ → List ℕ → List ℕ
 word_front None input = input
 word_front (Some len) input = header_onto 36 len input
 
+-- the same bytes are in front
+abbrev pub SameFront : Option ℕ → Filled → Option ℕ → Filled → Type 0
+SameFront old input new left = word_front new left.items ≡ word_front old input.items
+
+-- what the bytes decide of the word ahead
+abbrev pub word_ahead : Option ℕ → List ℕ → Seen (List ℕ)
+word_ahead len input = word_at most_word_bytes (word_front len input)
+
 -- the count of a request's words, and those that were read
 abbrev pub partial_onto : Partial → List ℕ → List ℕ
 partial_onto partial input =
@@ -64,6 +82,14 @@ words_of (Broken _ _) = []
 -- all bytes that were not handed out
 abbrev pub pending_of : Progress → List ℕ → List ℕ
 pending_of progress input = request_front (partial_of progress) input
+
+-- the bytes that were not handed out are the same
+abbrev pub SamePending : Progress → Filled → Progress → Filled → Type 0
+SamePending old input new left = pending_of new left.items ≡ pending_of old input.items
+
+-- what the bytes decide of the request ahead
+abbrev pub request_ahead : Progress → List ℕ → Seen (List (List ℕ))
+request_ahead progress input = reading_words (pending_of progress input)
 
 -- what is wrong with them
 abbrev pub fault_of : Progress → Option Fault

@@ -1,7 +1,8 @@
--- What a reader of requests holds, and what its answers say of the bytes.
-use Rattle.std.specs.Prelude.{◌≡◌, ℕ, List, [], ◌++◌, replicate, Option, None, Some}
-use Rattle.resp2.specs.declared.fault.Fault.{Fault}
-use Rattle.resp2.specs.declared.fault.Fault.TheVariants.{Protocol, TooLong, Memory}
+-- What a reader of requests holds, and what its answers say of the bytes (RESP protocol, "Sending commands to a Redis server";
+-- the reader is ours).
+use Rattle.std.specs.Prelude.{◌≡◌, ℕ, List, [], ◌++◌, replicate, Option, None, Some, IfSome}
+use Rattle.resp_header.specs.declared.fault.Fault.{Fault}
+use Rattle.resp_header.specs.declared.fault.Fault.TheVariants.{Protocol, TooLong, Memory}
 use Rattle.resp_values.specs.Request.{request_spelling, IsRequest}
 use Rattle.resp2.specs.Stream.{stream_spelling, HasFirstBadByte, HasNoRequest, IsUnfinished}
 
@@ -46,6 +47,10 @@ abbrev pub FailsBy : Fault → ReaderState → ReaderState → Type 0
 FailsBy Memory old new = PassesOver old new × (new.fault ≡ old.fault)
 FailsBy Protocol old new = Breaks Protocol old new
 FailsBy TooLong old new = Breaks TooLong old new
+
+-- the fault that was found before comes again, and changes nothing
+abbrev pub FailsAgainBy : Fault → ReaderState → ReaderState → Type 0
+FailsAgainBy fault old new = IfSome old.fault (λ kept. (fault ≡ kept) × (new ≡ old))
 
 -- what a reader remembers of a fault: want of memory passes
 abbrev pub remembered : Fault → Option Fault

@@ -1,16 +1,17 @@
--- How far a reader of replies is, and what its steps say of the bytes. No public clause needs it.
-use Rattle.std.specs.Prelude.{◌≡◌, ◌≢◌, ◌≤◌, ◌<◌, ◌+◌, ◌-◌, ◌==◌, ℕ, ℤ, Bool, true, false, List, [], ◌∷◌, ◌++◌, length, take, drop, IsTrue, IfSome, Option, None, Some, Result, Ok, Err, suc}
+-- How far a reader of replies is, and what its steps say of the bytes (ours). No public clause needs it.
+use Rattle.std.specs.Prelude.{◌≡◌, ◌≢◌, ◌≤◌, ◌<◌, ◌-◌, ◌==◌, ℕ, ℤ, Bool, true, false, List, [], ◌∷◌, ◌++◌, length, take, drop, IsTrue, IfSome, Option, None, Some, Result, Ok, Err, suc}
 use Rattle.std.specs.List.{flat_map}
+use Rattle.bytes.specs.Filled.{Filled}
 use Rattle.resp_values.specs.Line.{is_one_line, is_text_byte}
 use Rattle.resp2.specs.Progress.{Refuses, word_front}
-use Rattle.resp2.specs.Reading.{Seen, Wants, Bad, Found, and_then}
+use Rattle.resp_header.specs.Reading.{Seen, Wants, Bad, Found, and_then}
 use Rattle.resp_values.specs.Reply.{element_spelling, elements_of}
 use Rattle.resp2.specs.ReplyReading.{as_found, times, reply_at}
 use Rattle.resp_values.specs.declared.array.Element.{Element}
 use Rattle.resp_values.specs.declared.array.Element.TheVariants.{Array}
 use Rattle.resp2.specs.declared.array_part.ArrayPart.{ArrayPart}
-use Rattle.resp2.specs.declared.fault.Fault.{Fault}
-use Rattle.resp2.specs.declared.fault.Fault.TheVariants.{Protocol, TooLong, Memory}
+use Rattle.resp_header.specs.declared.fault.Fault.{Fault}
+use Rattle.resp_header.specs.declared.fault.Fault.TheVariants.{Protocol, TooLong, Memory}
 use Rattle.resp2.specs.declared.leaf.Begun.{Begun}
 use Rattle.resp2.specs.declared.leaf.Integer.{Integer}
 use Rattle.resp_values.specs.declared.reply.Reply.{Reply}
@@ -53,6 +54,10 @@ is_lasting Memory = false
 abbrev pub element_front : Begun → List ℕ → List ℕ
 element_front begun input = word_front begun.len input
 
+-- fewer bytes are in front
+abbrev pub FewerBytes : Begun → Filled → Begun → Filled → Type 0
+FewerBytes old input new left = length (element_front new left.items) < length (element_front old input.items)
+
 -- a length keeps the limit, and the bytes that were looked at are the mark and a text
 pub record IsBegun (begun : Begun) (input : List ℕ) : Type 0 where
   pub short : IfSome begun.len (λ len. len ≤ most_count)
@@ -63,6 +68,10 @@ pub record IsBegun (begun : Begun) (input : List ℕ) : Type 0 where
 abbrev pub begins_array : List ℕ → Bool
 begins_array [] = false
 begins_array (b ∷ bs) = b == 42
+
+-- an array is in front
+abbrev pub BeginsArray : Begun → List ℕ → Type 0
+BeginsArray begun input = IsTrue (begins_array (element_front begun input))
 
 -- ---- what was read of an array
 
@@ -93,6 +102,22 @@ array_front elements bytes = flat_map element_spelling elements ++ bytes
 -- all bytes that were not handed out
 abbrev pub part_front : ArrayPart → Begun → List ℕ → List ℕ
 part_front part begun input = array_front part.elements.items (element_front begun input)
+
+-- the bytes that were not handed out are the same
+abbrev pub SamePart : ArrayPart → Begun → Filled → ArrayPart → Begun → Filled → Type 0
+SamePart old front input new begun left = part_front new begun left.items ≡ part_front old front input.items
+
+-- what the bytes decide of the reply ahead
+abbrev pub reply_ahead : ArrayPart → Begun → List ℕ → Seen (List Element)
+reply_ahead part begun input = reply_at most_depth (part_front part begun input)
+
+-- what they decide of the elements that are to come of its array
+abbrev pub rest_ahead : ArrayPart → Begun → List ℕ → Seen (List Element)
+rest_ahead part begun input = to_come part.left part.outer.items (element_front begun input)
+
+-- no reply of the array is to come
+abbrev pub HasEnded : ArrayPart → Type 0
+HasEnded part = (part.left ≡ 0) × (part.outer.items ≡ [])
 
 -- the first element is a header, where there is one
 abbrev pub HasHeader : List Element → Type 0

@@ -7,8 +7,8 @@ use Rattle.resp_values.specs.Reply.{elements_of, is_reply, reply_spelling}
 use Rattle.resp2.specs.Reader.{ReaderState}
 use Rattle.resp_values.specs.declared.array.Element.{Element}
 use Rattle.resp_values.specs.declared.array.Element.TheVariants.{Simple, Error, Integer, Bulk, Null, Array}
-use Rattle.resp2.specs.declared.fault.Fault.{Fault}
-use Rattle.resp2.specs.declared.fault.Fault.TheVariants.{Protocol, TooLong, Memory}
+use Rattle.resp_header.specs.declared.fault.Fault.{Fault}
+use Rattle.resp_header.specs.declared.fault.Fault.TheVariants.{Protocol, TooLong, Memory}
 use Rattle.resp_values.specs.declared.reply.Reply.{Reply}
 use Rattle.resp2.specs.Limits.{most_depth, most_count}
 

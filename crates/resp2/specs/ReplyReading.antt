@@ -1,11 +1,12 @@
--- Reading replies from the front of a list, with what the bytes so far decide. It ties the code to the definitions: no public
+-- Reading replies from the front of a list, with what the bytes so far decide (ours). It ties the code to the definitions: no public
 -- clause speaks of it.
 use Rattle.std.specs.Prelude.{◌-◌, ◌^◌, ◌==◌, if◌then◌else◌, zero, suc, ℕ, ℤ, pos, negsuc, List, [], ◌∷◌}
 use Rattle.std.specs.List.{flat_map}
 use Rattle.resp_values.specs.declared.array.Element.{Element}
 use Rattle.resp_values.specs.declared.array.Element.TheVariants as element
-use Rattle.resp2.specs.declared.fault.Fault.TheVariants.{Protocol}
-use Rattle.resp2.specs.Reading.{Seen, Wants, Bad, Found, and_then, after_cr, number_at, body_at}
+use Rattle.resp_header.specs.declared.fault.Fault.TheVariants.{Protocol}
+use Rattle.resp_header.specs.Reading.{Seen, Wants, Bad, Found, and_then, after_cr, number_at}
+use Rattle.resp2.specs.Reading.{body_at}
 
 -- counts and lengths are at most this
 abbrev pub most_number : ℕ

@@ -1,7 +1,8 @@
--- Requests one after another, as a client sends them: which bytes begin them, and which byte is the first that can't.
+-- Requests one after another, as a client sends them: which bytes begin them, and which byte is the first that can't
+-- (RESP protocol, "Sending commands to a Redis server"; the limits are ours).
 use Rattle.std.specs.Prelude.{◌≡◌, ◌≢◌, ◌<◌, ◌≤◌, ◌+◌, ◌^◌, ℕ, List, [], ◌∷◌, ◌++◌, length, decimal, All, ◌⊎◌}
-use Rattle.resp2.specs.declared.fault.Fault.{Fault}
-use Rattle.resp2.specs.declared.fault.Fault.TheVariants.{Protocol, TooLong, Memory}
+use Rattle.resp_header.specs.declared.fault.Fault.{Fault}
+use Rattle.resp_header.specs.declared.fault.Fault.TheVariants.{Protocol, TooLong, Memory}
 use Rattle.resp_values.specs.Limits.{most_words, most_word_bytes, most_request_bytes}
 use Rattle.resp_values.specs.Request.{header_spelling, bulks_spelling, request_spelling, WordsKeepLimits, KeepsLimits}
 

@@ -4,6 +4,7 @@ ghost use Rattle.std.specs.List.{flat_map};
 ghost use Rattle.resp_values.specs.Reply.{element_spelling, line_spelling, reply_spelling};
 ghost use Rattle.resp_values.specs.Request.{bulk_spelling, header_spelling, request_spelling};
 ghost use Rattle.resp2.specs.Writing.{StayInFront};
+ghost use Rattle.resp2.specs.Parts.{elements_spelling};
 
 use byte_string::ByteString;
 use itoa::Buffer;
@@ -93,7 +94,7 @@ fn append_front(reply: &Reply, out: &mut Vec<u8>) -> Result<(), AllocError>
 
 #[tactic(auto, using(crate::proofs::Appended::stays_behind))]
 fn append_elements(elements: &[Element], out: &mut Vec<u8>) -> Result<(), AllocError>
-    ensures ok { OnOk result (out.new.items ≡ out.old.items ++ flat_map element_spelling elements.now) }
+    ensures ok { OnOk result (out.new.items ≡ out.old.items ++ elements_spelling elements.now) }
     ensures err { OnErr result (StayInFront out.old.items out.new.items) }
 {
     for element in elements {

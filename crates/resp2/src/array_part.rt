@@ -1,19 +1,18 @@
 //! An array of which some replies are still to come.
 ghost use Rattle.std.specs.Bool.{OnTrue, OnFalse};
-ghost use Rattle.std.specs.Prelude.{◌≡◌, ◌≢◌, ◌+◌, ◌<◌, ◌≤◌, [], length, IsTrue, IfOk, IfErr, IfSome, IfNone, OnOk, OnErr, vec_len, vec_capacity};
-ghost use Rattle.resp2.specs.declared.fault.Fault.TheVariants.{Protocol};
+ghost use Rattle.std.specs.Prelude.{◌≡◌, ◌≢◌, ◌+◌, ◌<◌, [], OnErr, vec_len, vec_capacity};
+ghost use Rattle.resp_header.specs.declared.fault.Fault.TheVariants.{Protocol};
 ghost use Rattle.resp2.specs.declared.reply_reader.TheConstants.{MOST_DEPTH, MOST_COUNT};
-ghost use Rattle.resp2.specs.Header.{Gives};
-ghost use Rattle.resp2.specs.Progress.{Refuses, Takes};
-ghost use Rattle.resp2.specs.Reading.{header_at, Wants};
-ghost use Rattle.resp2.specs.ReplyProgress.{IsArrayPart, IsReading, begins_array, element_front, part_front, to_come};
-ghost use Rattle.resp2.specs.ReplyReading.{reply_at};
+ghost use Rattle.resp_header.specs.Header.{Gives};
+ghost use Rattle.resp2.specs.Progress.{Takes, FailsFor};
+ghost use Rattle.resp_header.specs.Reading.{header_at, Wants};
+ghost use Rattle.resp2.specs.ReplyProgress.{IsArrayPart, IsReading, part_front, FewerBytes, BeginsArray, SamePart, reply_ahead, rest_ahead, HasEnded};
+ghost use Rattle.resp2.specs.Answers.{IfOkSome, OnOkNone, OnOkTrue, OnOkFalse};
 
-use crate::fault::Fault;
-use crate::header::{Bounds, Header, read_header};
 use crate::leaf::{Begun, take_leaf};
 use crate::reply_reader::{MOST_COUNT, MOST_DEPTH};
 use bytes::BytesMut;
+use resp_header::{Bounds, Fault, Header, read_header};
 use resp_values::{Array, Element};
 use std::alloc::Global;
 use std::mem;
@@ -47,14 +46,12 @@ impl ArrayPart {
     /// An error leaves what can be gone on with: nothing is lost.
     pub fn take(&mut self, input: &mut BytesMut, begun: &mut Begun) -> Result<Option<Array>, Fault>
         requires reading { IsReading self.old begun.old input.old.items }
-        requires begins { self.old.elements.items ≡ [] → IsTrue (begins_array (element_front begun.old input.old.items)) }
-        ensures takes { Takes result (reply_at MOST_DEPTH (part_front self.old begun.old input.old.items)) input.new.items }
+        requires begins { self.old.elements.items ≡ [] → BeginsArray begun.old input.old.items }
+        ensures takes { Takes result (reply_ahead self.old begun.old input.old.items) input.new.items }
         ensures reading { IsReading self.new begun.new input.new.items }
-        ensures next { IfOk result (λ found. IfSome found (λ array. part_front self.new begun.new input.new.items ≡ input.new.items)) }
-        ensures unfinished { IfOk result (λ found. IfNone found
-            (part_front self.new begun.new input.new.items ≡ part_front self.old begun.old input.old.items)) }
-        ensures err { OnErr result
-            (part_front self.new begun.new input.new.items ≡ part_front self.old begun.old input.old.items) }
+        ensures next { IfOkSome result (λ array. part_front self.new begun.new input.new.items ≡ input.new.items) }
+        ensures unfinished { OnOkNone result (SamePart self.old begun.old input.old self.new begun.new input.new) }
+        ensures err { OnErr result (SamePart self.old begun.old input.old self.new begun.new input.new) }
     {
         if self.elements.is_empty() && !self.begin(input, begun)? {
             return Ok(None);
@@ -69,14 +66,12 @@ impl ArrayPart {
     fn begin(&mut self, input: &mut BytesMut, begun: &mut Begun) -> Result<bool, Fault>
         requires reading { IsReading self.old begun.old input.old.items }
         requires none { self.old.elements.items ≡ [] }
-        requires begins { IsTrue (begins_array (element_front begun.old input.old.items)) }
+        requires begins { BeginsArray begun.old input.old.items }
         ensures reading { IsReading self.new begun.new input.new.items }
-        ensures some { IfOk result (λ whole. OnTrue whole (self.new.elements.items ≢ [])) }
-        ensures kept { part_front self.new begun.new input.new.items ≡ part_front self.old begun.old input.old.items }
-        ensures unfinished { IfOk result (λ whole. OnFalse whole
-            (reply_at MOST_DEPTH (part_front self.old begun.old input.old.items) ≡ Wants)) }
-        ensures err { IfErr result (λ fault.
-            Refuses fault (reply_at MOST_DEPTH (part_front self.old begun.old input.old.items))) }
+        ensures some { OnOkTrue result (self.new.elements.items ≢ []) }
+        ensures kept { SamePart self.old begun.old input.old self.new begun.new input.new }
+        ensures unfinished { OnOkFalse result (reply_ahead self.old begun.old input.old.items ≡ Wants) }
+        ensures err { FailsFor result (reply_ahead self.old begun.old input.old.items) }
     {
         self.elements.reserve(1)?;
         let Some(header) = read_count(input.as_slice())? else {
@@ -95,12 +90,10 @@ impl ArrayPart {
         requires some { self.old.elements.items ≢ [] }
         ensures reading { IsReading self.new begun.new input.new.items }
         ensures some { self.new.elements.items ≢ [] }
-        ensures kept { part_front self.new begun.new input.new.items ≡ part_front self.old begun.old input.old.items }
-        ensures whole { IfOk result (λ whole. OnTrue whole ((self.new.left ≡ 0) × (self.new.outer.items ≡ []))) }
-        ensures unfinished { IfOk result (λ whole. OnFalse whole
-            (reply_at MOST_DEPTH (part_front self.old begun.old input.old.items) ≡ Wants)) }
-        ensures err { IfErr result (λ fault.
-            Refuses fault (reply_at MOST_DEPTH (part_front self.old begun.old input.old.items))) }
+        ensures kept { SamePart self.old begun.old input.old self.new begun.new input.new }
+        ensures whole { OnOkTrue result (HasEnded self.new) }
+        ensures unfinished { OnOkFalse result (reply_ahead self.old begun.old input.old.items ≡ Wants) }
+        ensures err { FailsFor result (reply_ahead self.old begun.old input.old.items) }
     {
         'elements: while !self.end_arrays() {
             if !self.take_element(input, begun)? {
@@ -116,7 +109,8 @@ impl ArrayPart {
         requires some { self.old.elements.items ≢ [] }
         ensures part { IsArrayPart self.new }
         ensures elements { self.new.elements.items ≡ self.old.elements.items }
-        ensures all { OnTrue result ((self.new.left ≡ 0) × (self.new.outer.items ≡ []) × (self.old.left ≡ 0)) }
+        ensures all { OnTrue result (HasEnded self.new) }
+        ensures was { OnTrue result (self.old.left ≡ 0) }
         ensures open { OnFalse result (0 < self.new.left) }
     {
         'arrays: while self.left == 0 {
@@ -135,13 +129,10 @@ impl ArrayPart {
         requires open { 0 < self.old.left }
         ensures reading { IsReading self.new begun.new input.new.items }
         ensures some { self.new.elements.items ≢ [] }
-        ensures kept { part_front self.new begun.new input.new.items ≡ part_front self.old begun.old input.old.items }
-        ensures unfinished { IfOk result (λ taken. OnFalse taken
-            (to_come self.old.left self.old.outer.items (element_front begun.old input.old.items) ≡ Wants)) }
-        ensures err { IfErr result (λ fault.
-            Refuses fault (to_come self.old.left self.old.outer.items (element_front begun.old input.old.items))) }
-        ensures shrinks { IfOk result (λ taken. OnTrue taken
-            (length (element_front begun.new input.new.items) < length (element_front begun.old input.old.items))) }
+        ensures kept { SamePart self.old begun.old input.old self.new begun.new input.new }
+        ensures unfinished { OnOkFalse result (rest_ahead self.old begun.old input.old.items ≡ Wants) }
+        ensures err { FailsFor result (rest_ahead self.old begun.old input.old.items) }
+        ensures shrinks { OnOkTrue result (FewerBytes begun.old input.old begun.new input.new) }
     {
         self.elements.reserve(1)?;
         if begun.begins_array(input) {
@@ -160,17 +151,14 @@ impl ArrayPart {
         requires reading { IsReading self.old begun.old input.old.items }
         requires some { self.old.elements.items ≢ [] }
         requires open { 0 < self.old.left }
-        requires begins { IsTrue (begins_array (element_front begun.old input.old.items)) }
+        requires begins { BeginsArray begun.old input.old.items }
         requires room { vec_len self.old.elements < vec_capacity self.old.elements }
         ensures reading { IsReading self.new begun.new input.new.items }
         ensures some { self.new.elements.items ≢ [] }
-        ensures kept { part_front self.new begun.new input.new.items ≡ part_front self.old begun.old input.old.items }
-        ensures unfinished { IfOk result (λ taken. OnFalse taken
-            (to_come self.old.left self.old.outer.items (element_front begun.old input.old.items) ≡ Wants)) }
-        ensures err { IfErr result (λ fault.
-            Refuses fault (to_come self.old.left self.old.outer.items (element_front begun.old input.old.items))) }
-        ensures shrinks { IfOk result (λ taken. OnTrue taken
-            (length (element_front begun.new input.new.items) < length (element_front begun.old input.old.items))) }
+        ensures kept { SamePart self.old begun.old input.old self.new begun.new input.new }
+        ensures unfinished { OnOkFalse result (rest_ahead self.old begun.old input.old.items ≡ Wants) }
+        ensures err { FailsFor result (rest_ahead self.old begun.old input.old.items) }
+        ensures shrinks { OnOkTrue result (FewerBytes begun.old input.old begun.new input.new) }
     {
         if self.outer.len() + 1 == MOST_DEPTH {
             return Err(Fault::Protocol);
@@ -191,7 +179,7 @@ impl ArrayPart {
     fn hand_out(&mut self) -> Array
         requires part { IsArrayPart self.old }
         requires some { self.old.elements.items ≢ [] }
-        requires whole { (self.old.left ≡ 0) × (self.old.outer.items ≡ []) }
+        requires whole { HasEnded self.old }
         ensures array { result ≡ self.old.elements.items }
         ensures elements { self.new.elements.items ≡ [] }
         ensures part { IsArrayPart self.new }

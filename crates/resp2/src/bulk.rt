@@ -1,10 +1,11 @@
 //! The bytes of a bulk string, and the end of its line: of a word of a request, and of a reply.
-ghost use Rattle.std.specs.Prelude.{◌≡◌, ◌+◌, ◌≤◌, length, take, drop, IfOk, IfErr};
-ghost use Rattle.std.specs.Bool.{OnTrue, OnFalse};
-ghost use Rattle.resp2.specs.Reading.{Wants, Bad, Found, body_at};
+ghost use Rattle.std.specs.Prelude.{◌≡◌, ◌+◌, ◌≤◌, length, take, drop, IfErr};
+ghost use Rattle.resp_header.specs.Reading.{Wants, Bad, Found};
+ghost use Rattle.resp2.specs.Reading.{body_at};
+ghost use Rattle.resp2.specs.Answers.{OnOkTrue, OnOkFalse};
 
-use crate::fault::Fault;
 use bytes::BytesMut;
+use resp_header::Fault;
 
 /// Asks at once for the room that a whole word takes, so that a long one doesn't move as its bytes
 /// come. Where that is refused, the input grows with them.
@@ -17,10 +18,9 @@ pub(crate) fn make_room(input: &mut BytesMut, len: usize)
 
 /// Whether the bytes begin with a word of this length and the end of its line.
 pub(crate) fn is_whole(bytes: &[u8], len: usize) -> Result<bool, Fault>
-    ensures whole { IfOk result (λ whole. OnTrue whole
-        (body_at len bytes.now ≡ Found (take len bytes.now) (drop (len + 2) bytes.now))) }
-    ensures long { IfOk result (λ whole. OnTrue whole (len + 2 ≤ length bytes.now)) }
-    ensures unfinished { IfOk result (λ whole. OnFalse whole (body_at len bytes.now ≡ Wants)) }
+    ensures whole { OnOkTrue result (body_at len bytes.now ≡ Found (take len bytes.now) (drop (len + 2) bytes.now)) }
+    ensures long { OnOkTrue result (len + 2 ≤ length bytes.now) }
+    ensures unfinished { OnOkFalse result (body_at len bytes.now ≡ Wants) }
     ensures err { IfErr result (λ fault. body_at len bytes.now ≡ Bad fault) }
 {
     if bytes.len() <= len {

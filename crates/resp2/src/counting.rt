@@ -2,10 +2,10 @@
 ghost use Rattle.std.specs.Prelude.{◌≡◌, OnOk, OnErr};
 ghost use Rattle.std.specs.Borrow.{sem, follows};
 ghost use Rattle.std.specs.Io.{ReadsAtMost, WritesAtMost};
-ghost use Rattle.std.specs.Io.KnownBytes.{Appends, Keeps, ReadConsumes, WriteAppends};
+ghost use Rattle.std.specs.Io.KnownBytes.{Keeps, ReadConsumes, WriteAppends};
 ghost use Rattle.resp2.specs.contracts.counting.Counting.{the_row};
 ghost use Rattle.resp2.specs.Counting.{inner_of, failures_of, failed_of, with_inner, HasRisen};
-ghost use Rattle.resp2.specs.Writing.{AppendsBeginning};
+ghost use Rattle.resp2.specs.Writing.{Sends, SendsPart};
 
 use crate::whole::write_whole;
 use std::io;
@@ -89,8 +89,7 @@ impl<R: Read> Read for Counting<R> {
 
     fn read(&mut self, buf: &mut [u8]) -> io::Result<usize>
         ensures bound { ReadsAtMost result buf.new }
-        ensures bytes { ReadConsumes (R.remaining (inner_of self.old))
-            (R.remaining (inner_of self.new)) result buf.new }
+        ensures bytes { ReadConsumes (R.remaining (inner_of self.old)) (R.remaining (inner_of self.new)) result buf.new }
         ensures ok { OnOk result (failures_of self.new ≡ failures_of self.old) }
         ensures err { OnErr result (HasRisen (failures_of self.old) (failures_of self.new)) }
         ensures left { OnErr result (failed_of self.new ≡ inner_of self.new) }
@@ -105,8 +104,7 @@ impl<W: Write> Write for Counting<W> {
 
     fn write(&mut self, buf: &[u8]) -> io::Result<usize>
         ensures bound { WritesAtMost result buf.now }
-        ensures bytes { WriteAppends (W.contents (inner_of self.old))
-            (W.contents (inner_of self.new)) result buf.now }
+        ensures bytes { WriteAppends (W.contents (inner_of self.old)) (W.contents (inner_of self.new)) result buf.now }
         ensures ok { OnOk result (failures_of self.new ≡ failures_of self.old) }
         ensures err { OnErr result (HasRisen (failures_of self.old) (failures_of self.new)) }
         ensures left { OnErr result (failed_of self.new ≡ inner_of self.new) }
@@ -116,8 +114,7 @@ impl<W: Write> Write for Counting<W> {
     }
 
     fn flush(&mut self) -> io::Result<()>
-        ensures bytes { Keeps (W.contents (inner_of self.old))
-            (W.contents (inner_of self.new)) }
+        ensures bytes { Keeps (W.contents (inner_of self.old)) (W.contents (inner_of self.new)) }
         ensures ok { OnOk result (failures_of self.new ≡ failures_of self.old) }
         ensures err { OnErr result (HasRisen (failures_of self.old) (failures_of self.new)) }
         ensures left { OnErr result (failed_of self.new ≡ inner_of self.new) }
@@ -127,10 +124,8 @@ impl<W: Write> Write for Counting<W> {
     }
 
     fn write_all(&mut self, buf: &[u8]) -> io::Result<()>
-        ensures bytes { OnOk result (Appends (W.contents (inner_of self.old))
-            (W.contents (inner_of self.new)) buf.now) }
-        ensures begun { OnErr result (AppendsBeginning (W.contents (inner_of self.old))
-            (W.contents (inner_of self.new)) buf.now) }
+        ensures bytes { OnOk result (Sends W.contents self.old self.new buf.now) }
+        ensures begun { OnErr result (SendsPart W.contents self.old self.new buf.now) }
         ensures ok { OnOk result (failures_of self.new ≡ failures_of self.old) }
         ensures err { OnErr result (HasRisen (failures_of self.old) (failures_of self.new)) }
         ensures left { OnErr result (failed_of self.new ≡ inner_of self.new) }

@@ -1,18 +1,17 @@
 //! Replies that are no arrays, from the front of bytes that come in any pieces.
 ghost use Rattle.std.specs.Bool.{OnTrue, OnFalse};
-ghost use Rattle.std.specs.Prelude.{◌≡◌, ◌≢◌, ◌+◌, ◌-◌, ◌<◌, ◌≤◌, ◌^◌, IsTrue, length, take, drop, slice_get, Some, None, IfOk, IfErr, IfSome, IfNone, OnOk, OnErr};
+ghost use Rattle.std.specs.Prelude.{◌≡◌, ◌≢◌, ◌+◌, ◌-◌, ◌<◌, ◌≤◌, IsTrue, length, take, drop, slice_get, Some, None, OnErr};
 ghost use Rattle.resp_values.specs.Line.{is_one_line};
-ghost use Rattle.resp2.specs.Progress.{Takes};
-ghost use Rattle.resp2.specs.Reading.{Wants, Bad};
+ghost use Rattle.resp2.specs.Progress.{SameFront, Takes};
 ghost use Rattle.resp2.specs.ReplyProgress.{GivesInteger, TakesElement, IsBegun, StopsText, begins_array, element_front};
 ghost use Rattle.resp2.specs.ReplyReading.{leaf_at, text_at, bytes_of, number_element_at, bulk_or_null_at, null_at, integer_at};
+ghost use Rattle.resp2.specs.Answers.{IfOkSome, OnOkNone};
 
 use crate::bulk::{is_whole, make_room};
-use crate::fault::Fault;
-use crate::header::{Bounds, read_header};
 use crate::reply_reader::MOST_COUNT;
 use byte_string::ByteString;
 use bytes::{Bytes, BytesMut};
+use resp_header::{Bounds, Fault, read_header};
 use resp_values::{Element, Line, is_text_byte};
 
 /// For so many bytes of a bulk string room is made as soon as its length is known, and for more as
@@ -62,11 +61,9 @@ pub(crate) fn take_leaf(input: &mut BytesMut, begun: &mut Begun) -> Result<Optio
     requires { IsBegun begun.old input.old.items }
     ensures takes { TakesElement result (leaf_at (element_front begun.old input.old.items)) input.new.items }
     ensures begun { IsBegun begun.new input.new.items }
-    ensures next { IfOk result (λ found. IfSome found (λ element. begun.new.len ≡ None)) }
-    ensures unfinished { IfOk result (λ found. IfNone found
-        (element_front begun.new input.new.items ≡ element_front begun.old input.old.items)) }
-    ensures err { OnErr result
-        (element_front begun.new input.new.items ≡ element_front begun.old input.old.items) }
+    ensures next { IfOkSome result (λ element. begun.new.len ≡ None) }
+    ensures unfinished { OnOkNone result (SameFront begun.old.len input.old begun.new.len input.new) }
+    ensures err { OnErr result (SameFront begun.old.len input.old begun.new.len input.new) }
     ensures shrinks { length input.new.items ≤ length input.old.items }
 {
     match begun.len {
@@ -81,9 +78,8 @@ fn take_marked(input: &mut BytesMut, begun: &mut Begun) -> Result<Option<Element
     requires begun { IsBegun begun.old input.old.items }
     ensures takes { TakesElement result (leaf_at input.old.items) input.new.items }
     ensures begun { IsBegun begun.new input.new.items }
-    ensures next { IfOk result (λ found. IfSome found (λ element. begun.new.len ≡ None)) }
-    ensures unfinished { IfOk result (λ found. IfNone found
-        (element_front begun.new input.new.items ≡ input.old.items)) }
+    ensures next { IfOkSome result (λ element. begun.new.len ≡ None) }
+    ensures unfinished { OnOkNone result (element_front begun.new input.new.items ≡ input.old.items) }
     ensures err { OnErr result (element_front begun.new input.new.items ≡ input.old.items) }
     ensures shrinks { length input.new.items ≤ length input.old.items }
 {
@@ -107,7 +103,7 @@ fn take_line(input: &mut BytesMut, begun: &mut Begun) -> Result<Option<Line>, Fa
     ensures takes { Takes result (text_at (drop 1 input.old.items)) input.new.items }
     ensures begun { IsBegun begun.new input.new.items }
     ensures next { begun.new.len ≡ None }
-    ensures unfinished { IfOk result (λ found. IfNone found (input.new.items ≡ input.old.items)) }
+    ensures unfinished { OnOkNone result (input.new.items ≡ input.old.items) }
     ensures err { OnErr result (input.new.items ≡ input.old.items) }
     ensures shrinks { length input.new.items ≤ length input.old.items }
 {
@@ -147,7 +143,7 @@ fn take_integer(input: &mut BytesMut, begun: &mut Begun) -> Result<Option<Elemen
     ensures takes { TakesElement result (number_element_at (drop 1 input.old.items)) input.new.items }
     ensures begun { IsBegun begun.new input.new.items }
     ensures next { begun.new.len ≡ None }
-    ensures unfinished { IfOk result (λ found. IfNone found (input.new.items ≡ input.old.items)) }
+    ensures unfinished { OnOkNone result (input.new.items ≡ input.old.items) }
     ensures err { OnErr result (input.new.items ≡ input.old.items) }
     ensures shrinks { length input.new.items ≤ length input.old.items }
 {
@@ -216,9 +212,8 @@ fn take_bulk(input: &mut BytesMut, begun: &mut Begun) -> Result<Option<Element>,
     requires begun { IsBegun begun.old input.old.items }
     ensures takes { TakesElement result (bulk_or_null_at (drop 1 input.old.items)) input.new.items }
     ensures begun { IsBegun begun.new input.new.items }
-    ensures next { IfOk result (λ found. IfSome found (λ element. begun.new.len ≡ None)) }
-    ensures unfinished { IfOk result (λ found. IfNone found
-        (element_front begun.new input.new.items ≡ input.old.items)) }
+    ensures next { IfOkSome result (λ element. begun.new.len ≡ None) }
+    ensures unfinished { OnOkNone result (element_front begun.new input.new.items ≡ input.old.items) }
     ensures err { OnErr result (element_front begun.new input.new.items ≡ input.old.items) }
     ensures shrinks { length input.new.items ≤ length input.old.items }
 {
@@ -249,7 +244,7 @@ fn take_null(input: &mut BytesMut, begun: &mut Begun) -> Result<Option<Element>,
     ensures takes { TakesElement result (null_at (drop 2 input.old.items)) input.new.items }
     ensures begun { IsBegun begun.new input.new.items }
     ensures next { begun.new.len ≡ None }
-    ensures unfinished { IfOk result (λ found. IfNone found (input.new.items ≡ input.old.items)) }
+    ensures unfinished { OnOkNone result (input.new.items ≡ input.old.items) }
     ensures err { OnErr result (input.new.items ≡ input.old.items) }
     ensures shrinks { length input.new.items ≤ length input.old.items }
 {
@@ -273,11 +268,9 @@ fn take_bytes(input: &mut BytesMut, begun: &mut Begun, len: usize) -> Result<Opt
     requires begun { IsBegun begun.old input.old.items }
     ensures takes { TakesElement result (bytes_of len input.old.items) input.new.items }
     ensures begun { IsBegun begun.new input.new.items }
-    ensures next { IfOk result (λ found. IfSome found (λ element. begun.new.len ≡ None)) }
-    ensures unfinished { IfOk result (λ found. IfNone found
-        (element_front begun.new input.new.items ≡ element_front begun.old input.old.items)) }
-    ensures err { OnErr result
-        (element_front begun.new input.new.items ≡ element_front begun.old input.old.items) }
+    ensures next { IfOkSome result (λ element. begun.new.len ≡ None) }
+    ensures unfinished { OnOkNone result (SameFront begun.old.len input.old begun.new.len input.new) }
+    ensures err { OnErr result (SameFront begun.old.len input.old begun.new.len input.new) }
     ensures shrinks { length input.new.items ≤ length input.old.items }
 {
     if !is_whole(input.as_slice(), len)? {

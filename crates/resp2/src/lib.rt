@@ -5,8 +5,6 @@ mod appending;
 mod array_part;
 mod bulk;
 mod counting;
-mod fault;
-mod header;
 mod law;
 mod leaf;
 mod parts;
@@ -19,7 +17,6 @@ mod writing;
 
 pub use appending::{append_command, append_count, append_reply, append_request, append_word};
 pub use counting::Counting;
-pub use fault::Fault;
 pub use law::{
     a_stream_is_read_in_one_way, bytes_have_one_front, bytes_have_one_reply_front,
     no_reply_begins_another, no_spelling_begins_another, no_unfinished_is_whole,
@@ -27,6 +24,7 @@ pub use law::{
 };
 pub use reader::Reader;
 pub use reply_reader::{MOST_COUNT, MOST_DEPTH, ReplyReader};
+pub use resp_header::Fault;
 pub use resp_values::{
     Array, Element, Line, MOST_REQUEST_BYTES, MOST_WORD_BYTES, MOST_WORDS, Reply, Words,
     array_determines_replies, array_is_one_deeper, arrays_are_of_replies,

@@ -1,15 +1,16 @@
 //! Requests from bytes that come in any pieces.
-ghost use Rattle.std.specs.Bool.{OnTrue};
-ghost use Rattle.std.specs.Prelude.{◌≡◌, ◌≢◌, ◌+◌, ◌<◌, ◌≤◌, [], ◌++◌, length, take, Some, None, Ok, Err, IfOk, IfErr, IfSome, IfNone, OnOk, OnErr, unwrap_or};
-ghost use Rattle.resp2.specs.declared.fault.Fault.TheVariants.{Memory, TooLong};
+ghost use Rattle.std.specs.Prelude.{◌≡◌, ◌+◌, ◌<◌, ◌≤◌, [], ◌++◌, length, take, Some, None, Ok, Err, IfOk, IfErr, IfNone, OnOk, OnErr, unwrap_or};
+ghost use Rattle.resp_header.specs.declared.fault.Fault.TheVariants.{Memory, TooLong};
 ghost use Rattle.resp_values.specs.declared.words.TheConstants.{MOST_REQUEST_BYTES};
-ghost use Rattle.resp2.specs.Reading.{Wants, Bad, reading, reading_words};
-ghost use Rattle.resp2.specs.Reader.{HandsOut, Waits, FailsBy, remembered};
-ghost use Rattle.resp2.specs.Progress.{Takes, TakesAll, Refuses, IsProgress, IsWhole, IsCounted, IsCountedOrBroken, FaultOfFront, BeginsOr, partial_of, fault_of, pending_of, words_of};
+ghost use Rattle.resp_header.specs.Reading.{Wants};
+ghost use Rattle.resp2.specs.Reading.{reading};
+ghost use Rattle.resp2.specs.Reader.{HandsOut, Waits, FailsBy, remembered, FailsAgainBy};
+ghost use Rattle.resp2.specs.Progress.{Takes, TakesAll, Refuses, IsProgress, IsWhole, IsCounted, IsCountedOrBroken, FaultOfFront, BeginsOr, partial_of, fault_of, pending_of, words_of, FailsFor, HasFault, SamePending, request_ahead};
+ghost use Rattle.resp2.specs.Answers.{IfOkSome, OnOkNone, OnOkTrue};
 
-use crate::fault::Fault;
 use crate::words::{Frame, Partial};
 use bytes::BytesMut;
+use resp_header::Fault;
 use resp_values::{MOST_REQUEST_BYTES, Words};
 use std::alloc::{AllocError, Global};
 use std::marker::Model;
@@ -98,8 +99,7 @@ impl Reader {
     /// An error is the fault that a `next` found, or `Fault::Memory`.
     pub fn feed(&mut self, bytes: &[u8]) -> Result<(), Fault>
         ensures sound { OnOk result (self.old.fault ≡ None) }
-        ensures fed { OnOk result
-            (self.new ≡ record self.old { pending = self.old.pending ++ bytes.now }) }
+        ensures fed { OnOk result (self.new ≡ record self.old { pending = self.old.pending ++ bytes.now }) }
         ensures fault { IfErr result (λ fault. fault ≡ unwrap_or self.old.fault Fault.Memory) }
         ensures unchanged { OnErr result (self.new ≡ self.old) }
     {
@@ -113,13 +113,10 @@ impl Reader {
     /// After `Fault::Memory` the call can be made again: nothing is lost. Another error is what is
     /// wrong with the first byte after which no request can come, and it ends the reader.
     pub fn next(&mut self) -> Result<Option<Words>, Fault>
-        ensures request { IfOk result
-            (λ found. IfSome found (λ words. HandsOut self.old words self.new)) }
-        ensures unfinished { IfOk result (λ found. IfNone found (Waits self.old self.new)) }
-        ensures fault { IfErr result
-            (λ fault. IfNone self.old.fault (FailsBy fault self.old self.new)) }
-        ensures again { IfErr result
-            (λ fault. IfSome self.old.fault (λ kept. (fault ≡ kept) × (self.new ≡ self.old))) }
+        ensures request { IfOkSome result (λ words. HandsOut self.old words self.new) }
+        ensures unfinished { OnOkNone result (Waits self.old self.new) }
+        ensures fault { IfErr result (λ fault. IfNone self.old.fault (FailsBy fault self.old self.new)) }
+        ensures again { IfErr result (λ fault. FailsAgainBy fault self.old self.new) }
     {
         self.progress.check()?;
         'requests: loop {
@@ -143,12 +140,9 @@ fn take_request(
     requires progress { IsProgress progress.old }
     requires sound { fault_of progress.old ≡ None }
     requires counted { IsCounted consumed.old progress.old input.old.items }
-    ensures takes { Takes result (reading (pending_of progress.old input.old.items))
-        (pending_of progress.new input.new.items) }
-    ensures unfinished { IfOk result (λ found. IfNone found
-        (pending_of progress.new input.new.items ≡ pending_of progress.old input.old.items)) }
-    ensures unchanged { OnErr result
-        (pending_of progress.new input.new.items ≡ pending_of progress.old input.old.items) }
+    ensures takes { Takes result (reading (pending_of progress.old input.old.items)) (pending_of progress.new input.new.items) }
+    ensures unfinished { OnOkNone result (SamePending progress.old input.old progress.new input.new) }
+    ensures unchanged { OnErr result (SamePending progress.old input.old progress.new input.new) }
     ensures sound { OnOk result (fault_of progress.new ≡ None) }
     ensures fault { IfErr result (λ fault. fault_of progress.new ≡ remembered fault) }
     ensures progress { IsProgress progress.new }
@@ -180,7 +174,8 @@ fn hand_out(progress: &mut Progress, consumed: &mut usize) -> Result<Frame, Faul
     ensures frame { IfOk result (λ frame. frame ≡ words_of progress.old) }
     ensures again { OnOk result ((progress.new ≡ Progress.Between) × (consumed.new ≡ 0)) }
     ensures many { IfErr result (λ fault. (fault ≡ TooLong) × (MOST_REQUEST_BYTES < consumed.old)) }
-    ensures broken { OnErr result ((fault_of progress.new ≡ Some TooLong) × (partial_of progress.new ≡ partial_of progress.old)) }
+    ensures broken { OnErr result (fault_of progress.new ≡ Some TooLong) }
+    ensures kept { OnErr result (partial_of progress.new ≡ partial_of progress.old) }
 {
     if *consumed > MOST_REQUEST_BYTES {
         progress.stop_at(Fault::TooLong);
@@ -198,7 +193,8 @@ fn wait(progress: &mut Progress, pending: usize) -> Result<(), Fault>
     requires { fault_of progress.old ≡ None }
     ensures few { OnOk result ((progress.new ≡ progress.old) × (pending ≤ MOST_REQUEST_BYTES)) }
     ensures many { IfErr result (λ fault. (fault ≡ TooLong) × (MOST_REQUEST_BYTES < pending)) }
-    ensures broken { OnErr result ((fault_of progress.new ≡ Some TooLong) × (partial_of progress.new ≡ partial_of progress.old)) }
+    ensures broken { OnErr result (fault_of progress.new ≡ Some TooLong) }
+    ensures kept { OnErr result (partial_of progress.new ≡ partial_of progress.old) }
 {
     if pending > MOST_REQUEST_BYTES {
         progress.stop_at(Fault::TooLong);
@@ -218,10 +214,10 @@ fn first_fault(
     requires progress { IsProgress progress.old }
     requires sound { fault_of progress.old ≡ None }
     requires counted { consumed + length input.old.items ≡ length (pending_of progress.old input.old.items) }
-    requires refuses { Refuses fault (reading_words (pending_of progress.old input.old.items)) }
+    requires refuses { Refuses fault (request_ahead progress.old input.old.items) }
     ensures refuses { Refuses result (reading (pending_of progress.old input.old.items)) }
     ensures few { result ≡ Memory → consumed + length input.old.items ≤ MOST_REQUEST_BYTES + 1 + length input.new.items }
-    ensures kept { pending_of progress.new input.new.items ≡ pending_of progress.old input.old.items }
+    ensures kept { SamePending progress.old input.old progress.new input.new }
     ensures progress { IsProgress progress.new }
     ensures sound { fault_of progress.new ≡ None }
     ensures shrinks { length input.new.items ≤ length input.old.items }
@@ -245,9 +241,9 @@ fn fault_within(progress: &mut Progress, input: &mut BytesMut, len: usize) -> Fa
     requires progress { IsProgress progress.old }
     requires sound { fault_of progress.old ≡ None }
     requires within { len < length input.old.items }
-    requires bad { (fault : Fault) × (fault ≢ Memory) × (reading_words (pending_of progress.old input.old.items) ≡ Bad fault) }
-    ensures fault { FaultOfFront result (reading_words (pending_of progress.old (take len input.old.items))) }
-    ensures kept { pending_of progress.new input.new.items ≡ pending_of progress.old input.old.items }
+    requires bad { HasFault (request_ahead progress.old input.old.items) }
+    ensures fault { FaultOfFront result (request_ahead progress.old (take len input.old.items)) }
+    ensures kept { SamePending progress.old input.old progress.new input.new }
     ensures progress { IsProgress progress.new }
     ensures sound { fault_of progress.new ≡ None }
     ensures shrinks { length input.new.items ≤ length input.old.items }
@@ -281,9 +277,9 @@ impl Progress {
     fn take_words(&mut self, input: &mut BytesMut) -> Result<bool, Fault>
         requires progress { IsProgress self.old }
         requires sound { fault_of self.old ≡ None }
-        ensures takes { TakesAll result (reading_words (pending_of self.old input.old.items)) (words_of self.new) input.new.items }
-        ensures whole { IfOk result (λ all. OnTrue all (IsWhole self.new)) }
-        ensures kept { pending_of self.new input.new.items ≡ pending_of self.old input.old.items }
+        ensures takes { TakesAll result (request_ahead self.old input.old.items) (words_of self.new) input.new.items }
+        ensures whole { OnOkTrue result (IsWhole self.new) }
+        ensures kept { SamePending self.old input.old self.new input.new }
         ensures sound { fault_of self.new ≡ None }
         ensures progress { IsProgress self.new }
         ensures shrinks { length input.new.items ≤ length input.old.items }
@@ -299,11 +295,9 @@ impl Progress {
     fn begin(&mut self, input: &mut BytesMut) -> Result<(), Fault>
         requires progress { IsProgress self.old }
         requires sound { fault_of self.old ≡ None }
-        ensures begins { OnOk result
-            (BeginsOr self.new (reading_words (pending_of self.old input.old.items) ≡ Wants)) }
-        ensures err { IfErr result
-            (λ fault. Refuses fault (reading_words (pending_of self.old input.old.items))) }
-        ensures kept { pending_of self.new input.new.items ≡ pending_of self.old input.old.items }
+        ensures begins { OnOk result (BeginsOr self.new (request_ahead self.old input.old.items ≡ Wants)) }
+        ensures err { FailsFor result (request_ahead self.old input.old.items) }
+        ensures kept { SamePending self.old input.old self.new input.new }
         ensures sound { fault_of self.new ≡ None }
         ensures progress { IsProgress self.new }
         ensures shrinks { length input.new.items ≤ length input.old.items }

@@ -1,15 +1,16 @@
 //! Replies from bytes that come in any pieces.
-ghost use Rattle.std.specs.Prelude.{◌≡◌, ◌≢◌, ◌++◌, ◌∷◌, [], IsTrue, Some, None, IfOk, IfErr, IfSome, IfNone, OnOk, OnErr, unwrap_or};
-ghost use Rattle.resp2.specs.declared.fault.Fault.TheVariants.{Memory, Protocol};
+ghost use Rattle.std.specs.Prelude.{◌≡◌, ◌++◌, ◌∷◌, [], IsTrue, Some, None, IfErr, IfNone, OnOk, OnErr, unwrap_or};
+ghost use Rattle.resp_header.specs.declared.fault.Fault.TheVariants.{Memory, Protocol};
 ghost use Rattle.resp_values.specs.Reply.{elements_of, is_reply};
-ghost use Rattle.resp2.specs.ReplyProgress.{TakesReply, IsReading, HasHeader, is_lasting, part_front};
+ghost use Rattle.resp2.specs.ReplyProgress.{TakesReply, IsReading, HasHeader, is_lasting, part_front, SamePart, reply_ahead};
 ghost use Rattle.resp2.specs.ReplyReader.{HandsOutReply, WaitsForReply, FailsReplyBy};
-ghost use Rattle.resp2.specs.ReplyReading.{reply_at};
+ghost use Rattle.resp2.specs.Answers.{IfOkSome, OnOkNone};
+ghost use Rattle.resp2.specs.Reader.{FailsAgainBy};
 
 use crate::array_part::ArrayPart;
-use crate::fault::Fault;
 use crate::leaf::{Begun, take_leaf};
 use bytes::BytesMut;
+use resp_header::Fault;
 use resp_values::{Element, Reply};
 use std::alloc::Global;
 use std::marker::Model;
@@ -44,7 +45,7 @@ impl Model for ReplyReader {
 
     ghost use Rattle.std.specs.Prelude.{Some, None, if◌then◌else◌};
     ghost use Rattle.resp2.specs.ReplyProgress.{IsReading, part_front};
-    ghost use Rattle.resp2.specs.declared.fault.Fault.TheVariants.{Protocol};
+    ghost use Rattle.resp_header.specs.declared.fault.Fault.TheVariants.{Protocol};
 
     ghost view = { λ reader. record {
       pending = part_front reader.array reader.begun reader.input.items;
@@ -85,8 +86,7 @@ impl ReplyReader {
     /// An error is the fault that a `next` found, or `Fault::Memory`.
     pub fn feed(&mut self, bytes: &[u8]) -> Result<(), Fault>
         ensures sound { OnOk result (self.old.fault ≡ None) }
-        ensures fed { OnOk result
-            (self.new ≡ record self.old { pending = self.old.pending ++ bytes.now }) }
+        ensures fed { OnOk result (self.new ≡ record self.old { pending = self.old.pending ++ bytes.now }) }
         ensures fault { IfErr result (λ fault. fault ≡ unwrap_or self.old.fault Fault.Memory) }
         ensures unchanged { OnErr result (self.new ≡ self.old) }
     {
@@ -103,13 +103,10 @@ impl ReplyReader {
     /// no reply can come of the bytes, of which one is the first that none can have there, and it ends
     /// the reader. Another error doesn't come.
     pub fn next(&mut self) -> Result<Option<Reply>, Fault>
-        ensures reply { IfOk result
-            (λ found. IfSome found (λ reply. HandsOutReply self.old reply self.new)) }
-        ensures unfinished { IfOk result (λ found. IfNone found (WaitsForReply self.old self.new)) }
-        ensures fault { IfErr result
-            (λ fault. IfNone self.old.fault (FailsReplyBy fault self.old self.new)) }
-        ensures again { IfErr result
-            (λ fault. IfSome self.old.fault (λ kept. (fault ≡ kept) × (self.new ≡ self.old))) }
+        ensures reply { IfOkSome result (λ reply. HandsOutReply self.old reply self.new) }
+        ensures unfinished { OnOkNone result (WaitsForReply self.old self.new) }
+        ensures fault { IfErr result (λ fault. IfNone self.old.fault (FailsReplyBy fault self.old self.new)) }
+        ensures again { IfErr result (λ fault. FailsAgainBy fault self.old self.new) }
     {
         if self.is_broken {
             return Err(Fault::Protocol);
@@ -141,14 +138,11 @@ fn take_reply(
     array: &mut ArrayPart,
 ) -> Result<Option<Reply>, Fault>
     requires { IsReading array.old begun.old input.old.items }
-    ensures takes { TakesReply result (reply_at MOST_DEPTH (part_front array.old begun.old input.old.items))
-        (part_front array.new begun.new input.new.items) }
+    ensures takes { TakesReply result (reply_ahead array.old begun.old input.old.items) (part_front array.new begun.new input.new.items) }
     ensures reading { IsReading array.new begun.new input.new.items }
-    ensures sound { IfOk result (λ found. IfSome found (λ reply. IsTrue (is_reply reply))) }
-    ensures unfinished { IfOk result (λ found. IfNone found
-        (part_front array.new begun.new input.new.items ≡ part_front array.old begun.old input.old.items)) }
-    ensures err { OnErr result
-        (part_front array.new begun.new input.new.items ≡ part_front array.old begun.old input.old.items) }
+    ensures sound { IfOkSome result (λ reply. IsTrue (is_reply reply)) }
+    ensures unfinished { OnOkNone result (SamePart array.old begun.old input.old array.new begun.new input.new) }
+    ensures err { OnErr result (SamePart array.old begun.old input.old array.new begun.new input.new) }
 {
     if !array.elements.is_empty() || begun.begins_array(input) {
         let Some(array) = array.take(input, begun)? else {

@@ -1,10 +1,8 @@
 //! Requests as bytes on a connection, as a client sends them.
 ghost use Rattle.std.specs.Prelude.{◌≡◌, OnOk, OnErr};
-ghost use Rattle.std.specs.List.{flat_map};
-ghost use Rattle.std.specs.Io.KnownBytes.{Appends};
-ghost use Rattle.resp_values.specs.Request.{bulk_spelling, request_spelling};
+ghost use Rattle.resp_values.specs.Request.{bulks_spelling, request_spelling};
 ghost use Rattle.resp2.specs.Counting.{inner_of, failures_of, failed_of, HasRisen};
-ghost use Rattle.resp2.specs.Writing.{AppendsBeginning};
+ghost use Rattle.resp2.specs.Writing.{Writes, WritesPart, Sends, SendsPart};
 
 use crate::counting::Counting;
 use crate::parts::{Parts, bulk};
@@ -21,10 +19,8 @@ use std::io::Write;
 /// It allocates nothing and copies the words' bytes into `out` alone. An error is the one that
 /// `out` gave; a beginning of the request is then written.
 pub fn write_words<W: Write>(words: &Words, out: &mut W) -> io::Result<()>
-    ensures written { OnOk result
-        (Appends (W.contents out.old) (W.contents out.new) (request_spelling words.now)) }
-    ensures begun { OnErr result
-        (AppendsBeginning (W.contents out.old) (W.contents out.new) (request_spelling words.now)) }
+    ensures written { OnOk result (Writes W.contents out.old out.new (request_spelling words.now)) }
+    ensures begun { OnErr result (WritesPart W.contents out.old out.new (request_spelling words.now)) }
 {
     let words = words.as_slice();
     let mut digits = Buffer::new();
@@ -37,10 +33,8 @@ pub fn write_words<W: Write>(words: &Words, out: &mut W) -> io::Result<()>
 
 /// Writes the request where failures are counted: an error is one that was counted.
 pub fn send_words<W: Write>(words: &Words, out: &mut Counting<W>) -> io::Result<()>
-    ensures written { OnOk result
-        (Appends (W.contents (inner_of out.old)) (W.contents (inner_of out.new)) (request_spelling words.now)) }
-    ensures begun { OnErr result
-        (AppendsBeginning (W.contents (inner_of out.old)) (W.contents (inner_of out.new)) (request_spelling words.now)) }
+    ensures written { OnOk result (Sends W.contents out.old out.new (request_spelling words.now)) }
+    ensures begun { OnErr result (SendsPart W.contents out.old out.new (request_spelling words.now)) }
     ensures ok { OnOk result (failures_of out.new ≡ failures_of out.old) }
     ensures err { OnErr result (HasRisen (failures_of out.old) (failures_of out.new)) }
     ensures left { OnErr result (failed_of out.new ≡ inner_of out.new) }
@@ -50,10 +44,8 @@ pub fn send_words<W: Write>(words: &Words, out: &mut Counting<W>) -> io::Result<
 }
 
 fn write_bulks<W: Write>(words: &[ByteString], out: &mut W) -> io::Result<()>
-    ensures written { OnOk result
-        (Appends (W.contents out.old) (W.contents out.new) (flat_map bulk_spelling words.now)) }
-    ensures begun { OnErr result
-        (AppendsBeginning (W.contents out.old) (W.contents out.new) (flat_map bulk_spelling words.now)) }
+    ensures written { OnOk result (Writes W.contents out.old out.new (bulks_spelling words.now)) }
+    ensures begun { OnErr result (WritesPart W.contents out.old out.new (bulks_spelling words.now)) }
 {
     for word in words {
         write_parts(&bulk(word, &mut Buffer::new()), out)?;

@@ -1,7 +1,6 @@
 //! Bytes that are written as a whole.
 ghost use Rattle.std.specs.Prelude.{OnOk, OnErr};
-ghost use Rattle.std.specs.Io.KnownBytes.{Appends};
-ghost use Rattle.resp2.specs.Writing.{AppendsBeginning};
+ghost use Rattle.resp2.specs.Writing.{Writes, WritesPart};
 
 use std::io;
 use std::io::{ErrorKind, Write};
@@ -10,8 +9,8 @@ use std::io::{ErrorKind, Write};
 ///
 /// It does what `write_all` of `std` does, which tells nothing of the bytes where it fails.
 pub(crate) fn write_whole<W: Write>(bytes: &[u8], out: &mut W) -> io::Result<()>
-    ensures written { OnOk result (Appends (W.contents out.old) (W.contents out.new) bytes.now) }
-    ensures begun { OnErr result (AppendsBeginning (W.contents out.old) (W.contents out.new) bytes.now) }
+    ensures written { OnOk result (Writes W.contents out.old out.new bytes.now) }
+    ensures begun { OnErr result (WritesPart W.contents out.old out.new bytes.now) }
 {
     let mut rest = bytes;
     // A loop has to end, so this one counts its turns.

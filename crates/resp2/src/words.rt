@@ -1,15 +1,15 @@
 //! The words of a request as they come: those that came whole, and a request of which some are still to come.
-ghost use Rattle.std.specs.Prelude.{◌≡◌, ◌<◌, ◌≤◌, [], length, take, drop, Some, None, IfOk, IfErr, IfSome, IfNone, OnOk, OnErr, vec_len, vec_capacity};
-ghost use Rattle.std.specs.Bool.{OnTrue, OnFalse};
+ghost use Rattle.std.specs.Prelude.{◌≡◌, ◌<◌, ◌≤◌, [], length, take, Some, None, IfErr, IfSome, IfNone, OnErr, vec_len, vec_capacity};
 ghost use Rattle.resp_values.specs.Request.{IsRequest, KeepsLimits};
-ghost use Rattle.resp2.specs.Reading.{Wants, Bad, Found, body_at, word_at, reading_words};
-ghost use Rattle.resp2.specs.Progress.{TakesWord, TakesAll, Refuses, HasLen, IsPartial, word_front, partial_onto};
+ghost use Rattle.resp_header.specs.Reading.{Wants, Bad};
+ghost use Rattle.resp2.specs.Reading.{body_at, word_at, reading_words};
+ghost use Rattle.resp2.specs.Progress.{TakesWord, TakesAll, HasLen, IsPartial, word_front, partial_onto, FailsFor, SameFront, word_ahead};
+ghost use Rattle.resp2.specs.Answers.{IfOkSome, OnOkNone, OnOkTrue, OnOkFalse};
 
 use crate::bulk::{is_whole, make_room};
-use crate::fault::Fault;
-use crate::header::{Bounds, read_header};
 use byte_string::ByteString;
 use bytes::BytesMut;
+use resp_header::{Bounds, Fault, read_header};
 use resp_values::{MOST_WORD_BYTES, MOST_WORDS, Words};
 use std::alloc::Global;
 use std::marker::Model;
@@ -64,12 +64,11 @@ pub struct Partial {
 impl Partial {
     /// The request whose header is in front, or None where the header isn't whole.
     pub fn begin(input: &mut BytesMut) -> Result<Option<Partial>, Fault>
-        ensures partial { IfOk result (λ begun. IfSome begun (λ partial. IsPartial partial)) }
-        ensures begun { IfOk result (λ begun. IfSome begun
-            (λ partial. partial_onto partial input.new.items ≡ input.old.items)) }
-        ensures unfinished { IfOk result (λ begun. IfNone begun (reading_words input.old.items ≡ Wants)) }
-        ensures same { IfOk result (λ begun. IfNone begun (input.new.items ≡ input.old.items)) }
-        ensures err { IfErr result (λ fault. Refuses fault (reading_words input.old.items)) }
+        ensures partial { IfOkSome result (λ partial. IsPartial partial) }
+        ensures begun { IfOkSome result (λ partial. partial_onto partial input.new.items ≡ input.old.items) }
+        ensures unfinished { OnOkNone result (reading_words input.old.items ≡ Wants) }
+        ensures same { OnOkNone result (input.new.items ≡ input.old.items) }
+        ensures err { FailsFor result (reading_words input.old.items) }
         ensures unchanged { OnErr result (input.new.items ≡ input.old.items) }
         ensures shrinks { length input.new.items ≤ length input.old.items }
     {
@@ -96,7 +95,7 @@ impl Partial {
     pub fn take_words(&mut self, input: &mut BytesMut) -> Result<bool, Fault>
         requires { IsPartial self.old }
         ensures takes { TakesAll result (reading_words (partial_onto self.old input.old.items)) self.new.words.items input.new.items }
-        ensures all { IfOk result (λ all. OnTrue all (self.new.left ≡ 0)) }
+        ensures all { OnOkTrue result (self.new.left ≡ 0) }
         ensures partial { IsPartial self.new }
         ensures kept { partial_onto self.new input.new.items ≡ partial_onto self.old input.old.items }
         ensures shrinks { length input.new.items ≤ length input.old.items }
@@ -133,13 +132,10 @@ fn take_word(
 ) -> Result<bool, Fault>
     requires len { HasLen len.old }
     requires room { vec_len words.old < vec_capacity words.old }
-    ensures takes { TakesWord result (word_at MOST_WORD_BYTES (word_front len.old input.old.items))
-        words.old.items words.new.items input.new.items }
-    ensures next { IfOk result (λ taken. OnTrue taken (len.new ≡ None)) }
-    ensures unfinished { IfOk result (λ taken. OnFalse taken
-        (word_front len.new input.new.items ≡ word_front len.old input.old.items)) }
-    ensures err { OnErr result
-        (word_front len.new input.new.items ≡ word_front len.old input.old.items) }
+    ensures takes { TakesWord result (word_ahead len.old input.old.items) words.old.items words.new.items input.new.items }
+    ensures next { OnOkTrue result (len.new ≡ None) }
+    ensures unfinished { OnOkFalse result (SameFront len.old input.old len.new input.new) }
+    ensures err { OnErr result (SameFront len.old input.old len.new input.new) }
     ensures len { HasLen len.new }
     ensures shrinks { length input.new.items ≤ length input.old.items }
 {
@@ -152,12 +148,10 @@ fn take_word(
 /// The word's length, which is read and remembered where it wasn't yet.
 fn take_len(input: &mut BytesMut, len: &mut Option<usize>) -> Result<Option<usize>, Fault>
     requires { HasLen len.old }
-    ensures known { IfOk result (λ known. IfSome known (λ number. len.new ≡ Some number)) }
-    ensures unfinished { IfOk result (λ known. IfNone known
-        (word_at MOST_WORD_BYTES (word_front len.old input.old.items) ≡ Wants)) }
-    ensures err { IfErr result (λ fault.
-        word_at MOST_WORD_BYTES (word_front len.old input.old.items) ≡ Bad fault) }
-    ensures kept { word_front len.new input.new.items ≡ word_front len.old input.old.items }
+    ensures known { IfOkSome result (λ number. len.new ≡ Some number) }
+    ensures unfinished { OnOkNone result (word_ahead len.old input.old.items ≡ Wants) }
+    ensures err { IfErr result (λ fault. word_ahead len.old input.old.items ≡ Bad fault) }
+    ensures kept { SameFront len.old input.old len.new input.new }
     ensures len { HasLen len.new }
     ensures shrinks { length input.new.items ≤ length input.old.items }
 {
@@ -170,9 +164,8 @@ fn take_len(input: &mut BytesMut, len: &mut Option<usize>) -> Result<Option<usiz
 /// Reads the header of a word.
 fn read_len(input: &mut BytesMut, len: &mut Option<usize>) -> Result<Option<usize>, Fault>
     requires { len.old ≡ None }
-    ensures known { IfOk result (λ known. IfSome known (λ number. len.new ≡ Some number)) }
-    ensures unfinished { IfOk result (λ known. IfNone known
-        (word_at MOST_WORD_BYTES input.old.items ≡ Wants)) }
+    ensures known { IfOkSome result (λ number. len.new ≡ Some number) }
+    ensures unfinished { OnOkNone result (word_at MOST_WORD_BYTES input.old.items ≡ Wants) }
     ensures err { IfErr result (λ fault. word_at MOST_WORD_BYTES input.old.items ≡ Bad fault) }
     ensures kept { word_front len.new input.new.items ≡ input.old.items }
     ensures len { HasLen len.new }
@@ -201,13 +194,10 @@ fn take_body(
     requires len { len.old ≡ Some known }
     requires limit { HasLen len.old }
     requires room { vec_len words.old < vec_capacity words.old }
-    ensures takes { TakesWord result (body_at known input.old.items)
-        words.old.items words.new.items input.new.items }
-    ensures next { IfOk result (λ taken. OnTrue taken (len.new ≡ None)) }
-    ensures unfinished { IfOk result (λ taken. OnFalse taken
-        (word_front len.new input.new.items ≡ word_front len.old input.old.items)) }
-    ensures err { OnErr result
-        (word_front len.new input.new.items ≡ word_front len.old input.old.items) }
+    ensures takes { TakesWord result (body_at known input.old.items) words.old.items words.new.items input.new.items }
+    ensures next { OnOkTrue result (len.new ≡ None) }
+    ensures unfinished { OnOkFalse result (SameFront len.old input.old len.new input.new) }
+    ensures err { OnErr result (SameFront len.old input.old len.new input.new) }
     ensures len { HasLen len.new }
     ensures shrinks { length input.new.items ≤ length input.old.items }
 {

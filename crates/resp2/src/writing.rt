@@ -1,11 +1,9 @@
 //! Replies as bytes on a connection.
 ghost use Rattle.std.specs.Prelude.{◌≡◌, OnOk, OnErr};
-ghost use Rattle.std.specs.List.{flat_map};
-ghost use Rattle.std.specs.Io.KnownBytes.{Appends};
 ghost use Rattle.resp2.specs.Counting.{inner_of, failures_of, failed_of, HasRisen};
-ghost use Rattle.resp_values.specs.Reply.{element_spelling, reply_spelling};
-ghost use Rattle.resp2.specs.Writing.{AppendsBeginning};
-ghost use Rattle.resp2.specs.Parts.{parts_spelling};
+ghost use Rattle.resp_values.specs.Reply.{reply_spelling};
+ghost use Rattle.resp2.specs.Writing.{Writes, WritesPart, Sends, SendsPart};
+ghost use Rattle.resp2.specs.Parts.{parts_spelling, joined, elements_spelling};
 
 use crate::counting::Counting;
 use crate::parts::{Parts, Pieces, parts_of, pieces_of};
@@ -20,10 +18,8 @@ use std::io::Write;
 /// It allocates nothing and copies the reply's bytes into `out` alone. An error is the one that
 /// `out` gave; a beginning of the reply is then written.
 pub fn write_reply<W: Write>(reply: &Reply, out: &mut W) -> io::Result<()>
-    ensures written { OnOk result
-        (Appends (W.contents out.old) (W.contents out.new) (reply_spelling reply.now)) }
-    ensures begun { OnErr result
-        (AppendsBeginning (W.contents out.old) (W.contents out.new) (reply_spelling reply.now)) }
+    ensures written { OnOk result (Writes W.contents out.old out.new (reply_spelling reply.now)) }
+    ensures begun { OnErr result (WritesPart W.contents out.old out.new (reply_spelling reply.now)) }
 {
     let mut digits = Buffer::new();
     match pieces_of(reply, &mut digits) {
@@ -35,10 +31,8 @@ pub fn write_reply<W: Write>(reply: &Reply, out: &mut W) -> io::Result<()>
 /// Writes the reply where failures are counted: an error is one that was counted.
 #[inline(never)]
 pub fn send_reply<W: Write>(reply: &Reply, out: &mut Counting<W>) -> io::Result<()>
-    ensures written { OnOk result
-        (Appends (W.contents (inner_of out.old)) (W.contents (inner_of out.new)) (reply_spelling reply.now)) }
-    ensures begun { OnErr result
-        (AppendsBeginning (W.contents (inner_of out.old)) (W.contents (inner_of out.new)) (reply_spelling reply.now)) }
+    ensures written { OnOk result (Sends W.contents out.old out.new (reply_spelling reply.now)) }
+    ensures begun { OnErr result (SendsPart W.contents out.old out.new (reply_spelling reply.now)) }
     ensures ok { OnOk result (failures_of out.new ≡ failures_of out.old) }
     ensures err { OnErr result (HasRisen (failures_of out.old) (failures_of out.new)) }
     ensures left { OnErr result (failed_of out.new ≡ inner_of out.new) }
@@ -48,10 +42,8 @@ pub fn send_reply<W: Write>(reply: &Reply, out: &mut Counting<W>) -> io::Result<
 }
 
 fn write_elements<W: Write>(elements: &[Element], out: &mut W) -> io::Result<()>
-    ensures written { OnOk result
-        (Appends (W.contents out.old) (W.contents out.new) (flat_map element_spelling elements.now)) }
-    ensures begun { OnErr result
-        (AppendsBeginning (W.contents out.old) (W.contents out.new) (flat_map element_spelling elements.now)) }
+    ensures written { OnOk result (Writes W.contents out.old out.new (elements_spelling elements.now)) }
+    ensures begun { OnErr result (WritesPart W.contents out.old out.new (elements_spelling elements.now)) }
 {
     for element in elements {
         write_parts(&parts_of(element, &mut Buffer::new()), out)?;
@@ -60,10 +52,8 @@ fn write_elements<W: Write>(elements: &[Element], out: &mut W) -> io::Result<()>
 }
 
 pub(crate) fn write_parts<W: Write>(parts: &Parts, out: &mut W) -> io::Result<()>
-    ensures written { OnOk result
-        (Appends (W.contents out.old) (W.contents out.new) (parts_spelling parts.now)) }
-    ensures begun { OnErr result
-        (AppendsBeginning (W.contents out.old) (W.contents out.new) (parts_spelling parts.now)) }
+    ensures written { OnOk result (Writes W.contents out.old out.new (parts_spelling parts.now)) }
+    ensures begun { OnErr result (WritesPart W.contents out.old out.new (parts_spelling parts.now)) }
 {
     match parts {
         Parts::Line(mark, text) => write_slices(&[&[*mark], text, b"\r\n"], out),
@@ -72,10 +62,8 @@ pub(crate) fn write_parts<W: Write>(parts: &Parts, out: &mut W) -> io::Result<()
 }
 
 fn write_slices<W: Write>(slices: &[&[u8]], out: &mut W) -> io::Result<()>
-    ensures written { OnOk result
-        (Appends (W.contents out.old) (W.contents out.new) (flat_map (λ slice. slice.now) slices.now)) }
-    ensures begun { OnErr result
-        (AppendsBeginning (W.contents out.old) (W.contents out.new) (flat_map (λ slice. slice.now) slices.now)) }
+    ensures written { OnOk result (Writes W.contents out.old out.new (joined slices.now)) }
+    ensures begun { OnErr result (WritesPart W.contents out.old out.new (joined slices.now)) }
 {
     for slice in slices {
         write_whole(slice, out)?;

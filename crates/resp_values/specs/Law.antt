@@ -1,4 +1,4 @@
--- What holds of arrays, whoever reads or writes them.
+-- What holds of arrays, whoever reads or writes them (RESP protocol, "Arrays").
 use Rattle.std.specs.Prelude.{◌≡◌, ◌+◌, ◌↔◌, List, IsTrue}
 use Rattle.std.specs.List.{AllPass}
 use Rattle.resp_values.specs.declared.array.Element.{Element}

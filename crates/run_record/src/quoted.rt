@@ -1,8 +1,8 @@
 //! Bytes and connections as a line shows them.
 
-use client_tools::Shown;
 use connections::Conn;
 use std::fmt;
+use tool_io::Shown;
 
 /// Bytes in double quotes, of which the first hundred are shown.
 #[derive(Clone, Copy)]

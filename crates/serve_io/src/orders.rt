@@ -1,6 +1,5 @@
 //! `rcluster serve --orders`: orders that are read from standard input while the cluster is served.
 
-use client_tools::Shown;
 use cluster_controls::Orders;
 use command_table::count_in;
 use program_fault::{Failure, ProgramFault};
@@ -9,6 +8,7 @@ use std::io::BufRead;
 use std::sync::{Arc, Wait};
 use std::thread;
 use std::thread::Threads;
+use tool_io::Shown;
 
 // An order.
 #[derive(Clone, Copy, PartialEq, Eq)]

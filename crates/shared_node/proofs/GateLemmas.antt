@@ -7,8 +7,8 @@ use Rattle.node_gate.specs.Asks.{Asked}
 use Rattle.node_gate.specs.Asks.Asked.{asking, waiting}
 use Rattle.node_step.specs.State.{NodeState, first_state}
 use Rattle.node_step.specs.declared.event.Event.{Event}
-use Rattle.node_cell.specs.Journal.{CellView, EnteredView, Enters, IsGiven, IsHistory, IsReachable, IsReason, IsRefused, outcome_entered}
-use Rattle.node_cell.specs.declared.entry.Entry.{Entry}
+use Rattle.cell_parts.specs.Journal.{CellView, EnteredView, Enters, IsGiven, IsHistory, IsReachable, IsReason, IsRefused, outcome_entered}
+use Rattle.cell_parts.specs.declared.entry.Entry.{Entry}
 use Rattle.step_fault.specs.declared.fault.StepFault.{StepFault}
 use Rattle.step_fault.specs.declared.fault.StepFault.TheVariants.{Memory, Exhausted}
 use Rattle.resp_values.specs.declared.reply.Reply.{Reply}

@@ -11,8 +11,8 @@ use Rattle.node_step.specs.declared.event.Event.{Event}
 use Rattle.step_fault.specs.declared.fault.StepFault.{StepFault}
 use Rattle.step_fault.specs.declared.fault.StepFault.TheVariants.{Memory, Exhausted}
 use Rattle.node_step.specs.declared.outputs.Outputs.{Outputs}
-use Rattle.node_cell.specs.Journal.{IsGiven, IsReachable}
-use Rattle.node_cell.specs.declared.entry.Entry.{Entry}
+use Rattle.cell_parts.specs.Journal.{IsGiven, IsReachable}
+use Rattle.cell_parts.specs.declared.entry.Entry.{Entry}
 use Rattle.resp_values.specs.declared.reply.Reply.{Reply}
 
 -- these are the outputs of a step for the event, from a state that a node of the cluster comes to

@@ -1,4 +1,5 @@
--- What of a cluster's nodes and messages bears on planned handovers.
+-- What of a cluster's nodes and messages bears on planned handovers (Redis command reference, "CLUSTER FAILOVER"; the messages
+-- are ours).
 use Rattle.std.specs.Prelude.{ℕ, max, List, [], ◌∷◌, Option, Some, None, option_map, slice_get, if◌then◌else◌}
 use Rattle.bus.specs.declared.message.Body.{Body}
 use Rattle.bus.specs.declared.bodies.ElectionBody.TheVariants.{Pause, Paused}

@@ -1,4 +1,5 @@
--- The slots of a cluster, each seen over all nodes.
+-- The slots of a cluster, each seen over all nodes (Redis Cluster specification, "Key distribution model"; the view over all
+-- nodes is ours).
 use Rattle.std.specs.Prelude.{ℕ, ◌==◌, Bool, true, List, Option, Some, None, unwrap_or, length, slice_get, if◌then◌else◌}
 use Rattle.std.specs.FinMap as fin_map
 use Rattle.keyspace.specs.Keyspace.{Keyspace}

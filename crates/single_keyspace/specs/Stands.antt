@@ -1,4 +1,4 @@
--- What holds of a cluster in a run, slot by slot.
+-- What holds of a cluster in a run, slot by slot (ours).
 use Rattle.std.specs.Prelude.{◌≡◌, ◌≢◌, ◌≤◌, ◌⊎◌, Bool, true, false, None, ℕ, List, [], ◌∷◌, length, Contains, Some, Result, Ok, Err, slice_get}
 use Rattle.command_table.specs.Keys.{keys_of}
 use Rattle.command_table.specs.Table.{command_of}

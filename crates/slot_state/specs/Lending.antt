@@ -1,4 +1,4 @@
--- A move that is lent to be changed.
+-- A move that is lent to be changed (ours).
 use Rattle.std.specs.Prelude.{◌≡◌, ℕ, Option, OnSome}
 use Rattle.std.specs.Borrow.{LendsSo, MutBor, Fml}
 use Rattle.slot_state.specs.Moves.{Moves, changed}

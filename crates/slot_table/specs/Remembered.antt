@@ -1,4 +1,4 @@
--- What a table remembers beside its entries. Nobody sees it: it spares a look at each slot where nothing has changed.
+-- What a table remembers beside its entries (ours). Nobody sees it: it spares a look at each slot where nothing has changed.
 use Rattle.std.specs.Prelude.{◌≡◌, ◌≤◌, ℕ, ⊤, List, [], Option, Some, None, length, get_or}
 use Rattle.slot_table.specs.declared.entry.SlotEntry.{SlotEntry}
 use Rattle.slot_table.specs.declared.runs.Run.{Run}

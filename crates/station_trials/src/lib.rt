@@ -1,8 +1,6 @@
-//! Trials of stations and of the links between them: messages that come late, twice or never.
+//! Trials of stations and of the links between them: many messages, a link that is full, and syncs that need no answer.
 #![tactic(auto)]
 
-pub mod bad_networks;
 pub mod deliveries;
 pub mod full_link;
-pub mod reused;
 pub mod syncs;

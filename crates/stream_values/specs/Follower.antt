@@ -1,4 +1,5 @@
--- A replica: what it has of its master's stream, and the keyspace that the writes there left.
+-- A replica: what it has of its master's stream, and the keyspace that the writes there left (Redis documentation, "Redis
+-- replication").
 use Rattle.keyspace.specs.Keyspace.{Keyspace}
 use Rattle.stream_values.specs.Stream.{StreamView}
 

@@ -15,17 +15,6 @@ pub struct Two {
     pub second: Seat,
 }
 
-/// A table and its three seats.
-#[derive(Drop)]
-pub struct Three {
-    /// The table.
-    pub table: Table,
-    /// The seats.
-    pub first: Seat,
-    pub second: Seat,
-    pub third: Seat,
-}
-
 /// The only seat of a table.
 pub fn deal_one(alloc: Global) -> Result<Seat, AllocError>
     ensures { IfOk result (λ seat. IsFresh (table_of seat) (seats_of seat) seat) }
@@ -46,23 +35,5 @@ pub fn deal_two(alloc: Global) -> Result<Two, AllocError>
         table,
         first,
         second,
-    })
-}
-
-/// A table with three seats.
-pub fn deal_three(alloc: Global) -> Result<Three, AllocError>
-    ensures first { IfOk result (λ dealt. IsFresh (id_of dealt.table) 3 dealt.first) }
-    ensures second { IfOk result (λ dealt. IsFresh (id_of dealt.table) 3 dealt.second) }
-    ensures third { IfOk result (λ dealt. IsFresh (id_of dealt.table) 3 dealt.third) }
-{
-    let (table, mut seats) = open(alloc, 3)?;
-    let third = seats.pop().unwrap();
-    let second = seats.pop().unwrap();
-    let first = seats.pop().unwrap();
-    Ok(Three {
-        table,
-        first,
-        second,
-        third,
     })
 }

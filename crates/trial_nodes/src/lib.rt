@@ -13,7 +13,7 @@ pub use clusters::{
     node_of, one_replica, three_masters, two_masters, with_elections, with_long_streams,
     with_replicas,
 };
-pub use dealing::{Three, Two, deal_one, deal_three, deal_two};
+pub use dealing::{Two, deal_one, deal_two};
 pub use nodes::{Shared, cell_of, shared_node_of};
 pub use runtime::Runtime;
 pub use telling::{say, tell, tell_count};

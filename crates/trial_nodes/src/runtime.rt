@@ -1,10 +1,9 @@
 //! What the trials ask of the program's runtime.
-use std::net::{Net, TcpListener, TcpStream};
 use std::rt::Clock;
 use std::sync::Wait;
 use std::thread::Threads;
 
-/// A runtime for all trials: it has memory, prints, tells the time, starts threads, has them wait, and reaches the network.
+/// A runtime for all trials: it has memory, prints, tells the time, starts threads, and has them wait.
 ///
 /// Whatever can do these is one.
 pub trait Runtime: AllocGlobal
@@ -12,7 +11,6 @@ pub trait Runtime: AllocGlobal
     + Clock
     + Threads
     + Wait
-    + Net<Listener = TcpListener, Stream = TcpStream>
     + Copy
     + Drop
     + Send
@@ -21,15 +19,5 @@ pub trait Runtime: AllocGlobal
 
 impl<R> Runtime for R
 where
-    R: AllocGlobal
-        + Print
-        + Clock
-        + Threads
-        + Wait
-        + Net<Listener = TcpListener, Stream = TcpStream>
-        + Copy
-        + Drop
-        + Send
-        + Sync
-        + 'static,
+    R: AllocGlobal + Print + Clock + Threads + Wait + Copy + Drop + Send + Sync + 'static,
 {}

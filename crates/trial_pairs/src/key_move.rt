@@ -2,14 +2,10 @@
 ghost use Rattle.node_gate.specs.Asks.{IsOwn};
 
 use anyhow::Result;
-use key_slot::Slot;
 use node_cell::{Asks, HoldsCell};
-use node_core::{Conn, Event, Response};
+use node_core::Event;
 use std::alloc::{AllocError, Global};
 use trial_nodes::{conn_of, words_of};
-
-// The slot of `b`.
-const SLOT: u16 = 3300;
 
 // What the first client of each node asks: the key `b` and its slot go from node 0 to node 1.
 const SET: &str = "SET b 1";
@@ -46,25 +42,7 @@ impl<C: HoldsCell> Both<C> {
         ask(alloc, asks, &mut self.first, SET)?;
         ask(alloc, asks, &mut self.second, IMPORT)?;
         ask(alloc, asks, &mut self.first, MIGRATE_SLOT)?;
-        self.ask_to_migrate(alloc, asks)
-    }
-
-    /// Asks the first one to send its key.
-    pub fn ask_to_migrate(&mut self, alloc: Global, asks: &mut Asks<C::Cluster>) -> Result<()> {
         ask(alloc, asks, &mut self.first, MIGRATE_KEY)
-    }
-
-    /// Whether the first one answers a request on that connection at once.
-    pub fn is_answered(
-        &mut self,
-        alloc: Global,
-        asks: &mut Asks<C::Cluster>,
-        conn: Conn,
-    ) -> Result<bool> {
-        let entered = self
-            .first
-            .ask(asks, Event::Request(conn, words_of(alloc, "PING")?))?;
-        Ok(matches!(entered.response(), Response::Replied(_)))
     }
 }
 
@@ -105,12 +83,4 @@ pub fn step<C: HoldsCell>(asks: &mut Asks<C::Cluster>, cell: &mut C, event: Even
 {
     drop(cell.ask(asks, event)?);
     Ok(())
-}
-
-/// How many keys the node has in the slot of the key that moves.
-pub fn keys_of_move<C: HoldsCell>(node: &C) -> usize {
-    match Slot::new(SLOT) {
-        Some(slot) => node.core().count_in_slot(slot),
-        None => 0,
-    }
 }

@@ -8,5 +8,5 @@ mod stations;
 
 pub use carrying::carry;
 pub use cells::both_cells;
-pub use key_move::{Both, keys_of_move, step};
+pub use key_move::{Both, step};
 pub use stations::both_stations;

@@ -1,4 +1,4 @@
--- What holds of replicas of true streams.
+-- What holds of replicas of true streams (ours).
 use Rattle.std.specs.FinMap as map
 use Rattle.std.specs.List.{AllByRecursion}
 use Rattle.std.specs.Prelude.{List}

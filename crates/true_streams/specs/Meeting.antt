@@ -1,4 +1,5 @@
--- What a replica meets, and what comes of it: the step that the contracts of its calls speak of.
+-- What a replica meets, and what comes of it: the step that the contracts of its calls speak of (Redis documentation,
+-- "Redis replication": partial and full resynchronization; the form is ours).
 use Rattle.std.specs.Prelude.{◌≡◌, ◌⊎◌, List, [], ◌∷◌}
 use Rattle.stream_values.specs.Follower.{Follower}
 use Rattle.stream_values.specs.Piece.{PieceView, TakesPiece}

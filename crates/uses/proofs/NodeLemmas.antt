@@ -40,7 +40,7 @@ use Rattle.node_step.specs.declared.event.Event.{Event}
 use Rattle.node_step.specs.declared.event.Event.TheVariants.{Open, Request}
 use Rattle.node_step.specs.declared.outputs.Outputs.{Outputs}
 use Rattle.node_step.specs.declared.response.Response.TheVariants.{Opened}
-use Rattle.node_cell.specs.Journal.{CellView, EnteredView, Enters}
+use Rattle.cell_parts.specs.Journal.{CellView, EnteredView, Enters}
 use Rattle.uses.specs.Serving.{IsServedBy, served}
 use Rattle.uses.proofs.KeyLemmas.{get_set}
 

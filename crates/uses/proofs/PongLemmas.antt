@@ -7,7 +7,7 @@ use Rattle.resp2.specs.Law.{IsStream, NoUnfinishedIsWhole, StreamIsReadInOneWay}
 use Rattle.resp_values.specs.Reply.{reply_spelling}
 use Rattle.resp_values.specs.Request.{IsRequest, KeepsLimits}
 use Rattle.resp2.specs.Stream.{IsUnfinished, HasFirstBadByte, stream_spelling, with_words}
-use Rattle.resp2.specs.declared.fault.Fault.{Fault}
+use Rattle.resp_header.specs.declared.fault.Fault.{Fault}
 use Rattle.resp_values.specs.declared.reply.Reply.{Reply}
 use Rattle.node_gate.specs.Asks.{Asked}
 use Rattle.node_gate.specs.Asks.Asked.{asking}

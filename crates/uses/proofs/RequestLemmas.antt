@@ -10,8 +10,8 @@ use Rattle.resp_values.specs.Request.{request_spelling, IsRequest, KeepsLimits}
 use Rattle.resp2.specs.Stream.{stream_spelling, with_words}
 use Rattle.resp_values.specs.declared.words.TheConstants.{MOST_WORD_BYTES}
 use Rattle.resp2.proofs.Callers.{none_with_words, stream_spelling-append, stream_spelling-push, with_words-append}
-use Rattle.resp2.specs.declared.fault.Fault.{Fault}
-use Rattle.resp2.specs.declared.fault.Fault.TheVariants.{Protocol, TooLong, Memory}
+use Rattle.resp_header.specs.declared.fault.Fault.{Fault}
+use Rattle.resp_header.specs.declared.fault.Fault.TheVariants.{Protocol, TooLong, Memory}
 use Rattle.uses.specs.WholeRequests.{AreAllRequests, AreRefusedBy, AreSpoiltBy}
 
 -- a request without words keeps all limits

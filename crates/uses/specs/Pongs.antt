@@ -4,7 +4,7 @@ use Rattle.resp2.specs.Law.{IsStream}
 use Rattle.resp_values.specs.Reply.{reply_spelling}
 use Rattle.resp2.specs.Stream.{stream_spelling, with_words, IsUnfinished, HasFirstBadByte}
 use Rattle.resp_values.specs.Request.{IsRequest}
-use Rattle.resp2.specs.declared.fault.Fault.{Fault}
+use Rattle.resp_header.specs.declared.fault.Fault.{Fault}
 use Rattle.resp_values.specs.declared.reply.Reply.{Reply}
 use Rattle.resp_values.specs.declared.reply.Reply.TheVariants.{Simple}
 use Rattle.command_table.specs.declared.error_line.ErrorLine.TheVariants as line

@@ -2,8 +2,8 @@
 use Rattle.std.specs.Prelude.{◌≡◌, ℕ, List}
 use Rattle.resp2.specs.Law.{IsStream}
 use Rattle.resp2.specs.Stream.{IsUnfinished, HasFirstBadByte, with_words}
-use Rattle.resp2.specs.declared.fault.Fault.{Fault}
-use Rattle.resp2.specs.declared.fault.Fault.TheVariants.{Protocol, TooLong, Memory}
+use Rattle.resp_header.specs.declared.fault.Fault.{Fault}
+use Rattle.resp_header.specs.declared.fault.Fault.TheVariants.{Protocol, TooLong, Memory}
 
 -- the bytes are requests, those with words being these, and then the beginning of one; and in no other way are they requests
 pub record AreAllRequests (input : List ℕ) (requests : List (List (List ℕ))) : Type 0 where

@@ -1,4 +1,4 @@
--- What comes of the steps of a client.
+-- What comes of the steps of a client (ours).
 use Rattle.std.specs.Prelude.{◌≡◌, ◌⊎◌, ◌++◌, ◌∷◌, ℕ, Bool, true, false, List, [], Option, Some, None, IsSome, MatchBool, ⊤}
 use Rattle.cluster_config.specs.declared.config.NodeConfig.{NodeConfig}
 use Rattle.command_table.specs.declared.error_line.ErrorLine.TheVariants.{Exhausted}

@@ -1,4 +1,4 @@
--- A step of a node, and its entry.
+-- A step of a node, and its entry (ours).
 use Rattle.std.specs.Prelude.{◌≡◌, ◌++◌, ◌∷◌, ◌-◌, ◌^◌, ℕ, min, List, [], length, reverse}
 use Rattle.node_step.specs.Numbers.{NoNumberLeft}
 use Rattle.node_step.specs.State.{NodeState}

@@ -1,4 +1,4 @@
--- What a line of the entries stands for. No public clause needs it.
+-- What a line of the entries stands for (ours). No public clause needs it.
 use Rattle.world_run.specs.Run.{Deed}
 use Rattle.world_run.specs.Run.Deed.{Made as MadeStep, Skipped as NoStep}
 use Rattle.world.specs.declared.entries.Doing.{Doing}

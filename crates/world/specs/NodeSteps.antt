@@ -1,4 +1,4 @@
--- What comes of the steps of nodes.
+-- What comes of the steps of nodes (ours).
 use Rattle.std.specs.Prelude.{◌≡◌, ◌⊎◌, ◌++◌, ◌&&◌, ◌||◌, ◌∷◌, ℕ, zero, suc, Bool, false, List, [], map, Option, Some, None, MatchBool, slice_get, codes, ⊤}
 use Rattle.std.specs.Str.{str_eq_ignore_ascii_case}
 use Rattle.bus.specs.declared.message.Message.{Message}

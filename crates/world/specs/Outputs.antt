@@ -1,4 +1,4 @@
--- What comes out of a step of a node, as the world shows it.
+-- What comes out of a step of a node, as the world shows it (ours).
 use Rattle.std.specs.Prelude.{ℕ, ◌+◌, List, [], ◌∷◌, ◌++◌, map, length, Option, Some, None}
 use Rattle.bus.specs.declared.message.Message.{Message}
 use Rattle.node_step.specs.declared.outputs.Outputs.{Outputs as NodeOutputs}

@@ -1,4 +1,4 @@
--- What comes of a step of a world.
+-- What comes of a step of a world (ours).
 use Rattle.std.specs.Prelude.{◌≡◌, ◌++◌, ◌∷◌, ℕ, true, List, [], map, Option, Some, None, MatchBool, slice_get, slice_set}
 use Rattle.std.specs.List.{flat_map}
 use Rattle.world.specs.Calls.{Begins, Carries, Cuts, Lingers, Returns}

@@ -1,4 +1,4 @@
--- What holds of each world.
+-- What holds of each world (ours).
 use Rattle.std.specs.Prelude.{◌≡◌, false, List, []}
 use Rattle.cluster_config.specs.Config.{IsCluster}
 use Rattle.world_run.specs.Executed.{KeepsAsking}

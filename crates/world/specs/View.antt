@@ -1,4 +1,4 @@
--- A world of nodes.
+-- A world of nodes (ours).
 use Rattle.std.specs.Prelude.{◌≡◌, ◌++◌, ◌&&◌, ℕ, nat_lt, not, Bool, true, false, List, [], length, replicate, reverse, slice_index_or, All}
 use Rattle.bus.specs.declared.message.Message.{Message}
 use Rattle.cluster_config.specs.Config.{ClusterConfig}

@@ -1,4 +1,5 @@
--- The commands that were executed in a run, and what their clients were told before.
+-- The commands that were executed in a run, and what their clients were told before (Redis Cluster
+-- specification, "ASK redirection"; that an ASK names its move is ours).
 use Rattle.std.specs.Prelude.{◌≡◌, ℕ, Bool, true, false, List, [], ◌∷◌, map, Contains, Option, Some, None, if◌then◌else◌}
 use Rattle.std.specs.List.{filter_map}
 use Rattle.keyspace.specs.Commands.{replay}

@@ -1,4 +1,5 @@
--- The laws of the cluster: its replies are those of one keyspace, and no epoch has two masters.
+-- The laws of the cluster: its replies are those of one keyspace (ours: the Redis Cluster specification has no such law), and no epoch has
+-- two masters (Redis Cluster specification, "Masters reply to replica vote request": a master votes once an epoch).
 use Rattle.std.specs.Prelude.{◌≡◌, ◌≢◌, ℕ, true, List, [], Contains}
 use Rattle.std.specs.List.{AllPairs}
 use Rattle.cluster_config.specs.Config.{ClusterConfig, IsCluster}

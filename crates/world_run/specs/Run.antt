@@ -1,4 +1,5 @@
--- A run of a cluster: steps of its nodes, one after another, over a network that loses, repeats and delays messages.
+-- A run of a cluster: steps of its nodes, one after another, over a network that loses, repeats and delays messages (ours: the Redis
+-- Cluster specification has no runs).
 use Rattle.std.specs.Prelude.{◌≡◌, ℕ, List, [], ◌∷◌, map, length, Contains, Some, slice_get, slice_set}
 use Rattle.std.specs.List.{flat_map, range_with_len}
 use Rattle.bus.specs.declared.message.Message.{Message}

@@ -1,6 +1,6 @@
 use Rattle.std.proofs.Common.{ℕ, ◌<◌}
 use Rattle.std.specs.Prelude.{slice_index_or}
-use Rattle.node_cell.specs.declared.entry.Entry.{Entry as JournalEntry}
+use Rattle.cell_parts.specs.declared.entry.Entry.{Entry as JournalEntry}
 use Rattle.audit.specs.Merge.{IsSound}
 use Rattle.audit.proofs.sound.is_sound_in.Given as goal
 

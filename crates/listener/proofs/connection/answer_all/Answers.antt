@@ -23,7 +23,7 @@ turns-preserved g c =
     let so_far = c.turns.invariant in
     let answered = answers_again _ _ _ _ _ so_far.answers (rw so_far.same at c.in_ok-rest.ensures.answered (stream_of g.W.Write.contents c.turns.writer)) in
     record {
-      answers = rw (c.in-Ok.ensures.asked, c.in-Ok.ensures.same.1) (answers_flush _ _ _ _ _ _ answered c.in-Ok.ensures.ok c.in-Ok.ensures.empty);
+      answers = rw (c.in-Ok.ensures.asked, c.in-Ok.ensures.same.1) (answers_flush _ _ _ _ _ _ answered c.in-Ok.ensures.sends c.in-Ok.ensures.empty);
       good = rw c.in-Ok.ensures.same.1 (c.in_ok-rest.ensures.good (c.in_default.not-Some BadByte));
       room = c.in-Ok.ensures.room c.in_ok-rest.ensures.here;
       same = c.in-Ok.ensures.same.0 ∙ c.in_ok-rest.ensures.same ∙ so_far.same;
@@ -33,4 +33,4 @@ pub returns-in_default-write_out-clause-halts : goal.returns-in_default-write_ou
 returns-in_default-write_out-clause-halts g c =
     let so_far = c.turns.invariant in
     let answered = answers_again _ _ _ _ _ so_far.answers (rw so_far.same at c.in_ok-rest.ensures.answered (stream_of g.W.Write.contents c.turns.writer)) in
-    rw c.in_default-write_out.ensures.asked (halts_again _ _ _ _ _ _ answered (halts_unsent _ _ _ _ _ _ c.in_default-write_out.ensures.err))
+    rw c.in_default-write_out.ensures.asked (halts_again _ _ _ _ _ _ answered (halts_unsent _ _ _ _ _ _ c.in_default-write_out.ensures.sends))

@@ -65,7 +65,7 @@ returns-in_default-clause-stops g c =
     rw (c.in_default.ensures.asked, c.requires.empty)
     (stops_fed _ _ _ _ _ _ _ _ _ _ _ _ so_far.read got.read so_far.answers got.fed
     (halts_again _ _ _ _ _ _ (rw (c.read_some.ensures.same.0, c.read_some.ensures.same.1, so_far.same) at c.in_ok-answer_all.ensures.answered)
-    (halts_unsent _ _ _ _ _ _ c.in_default.ensures.err))
+    (halts_unsent _ _ _ _ _ _ c.in_default.ensures.sends))
     (got.same ∙ so_far.reader))
 
 pub reads-preserved : goal.reads-preserved
@@ -80,7 +80,7 @@ reads-preserved g c =
       read = Consumes-trans _ _ _ _ _ so_far.read got.read;
       long = more_came _ _ _ so_far.long (omega (arith, got.counted, c.if-count-eq0.false));
       answers = rw (c.in-Ok.ensures.asked, c.in-Ok.ensures.same.1)
-          (answers_flush _ _ _ _ _ _ answered c.in-Ok.ensures.ok c.in-Ok.ensures.empty);
+          (answers_flush _ _ _ _ _ _ answered c.in-Ok.ensures.sends c.in-Ok.ensures.empty);
       unfinished = rw (c.in-Ok.ensures.same.1) (rw c.in-Unfinished.is at c.in_ok-answer_all.ensures.rest);
       good = rw (c.in-Ok.ensures.same.1) (c.in_ok-answer_all.ensures.good c.in-Unfinished.is);
       empty = c.in-Ok.ensures.empty;

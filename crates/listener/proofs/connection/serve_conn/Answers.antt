@@ -6,4 +6,4 @@ use Rattle.listener.proofs.connection.serve_conn.Goals as goal
 pub returns : goal.returns
 returns g c =
     serves_left _ _ _ _ _ _ _ _ _ c.talk-over.ensures c.tell.ensures.told
-    (λ e. let quiet = c.tell.ensures.silent e in (quiet.0, ap (stream_of g.W.Write.contents) quiet.1))
+    (λ e. (c.tell.ensures.failed e, ap (stream_of g.W.Write.contents) (c.tell.ensures.silent e)))

@@ -1,6 +1,6 @@
 use Rattle.std.proofs.Common.{arith, inl, refl}
 use Rattle.std.proofs.lemmas.Result.{err_from_is_err_and}
-use Rattle.resp2.specs.declared.fault.Fault.TheVariants.{Protocol, TooLong}
+use Rattle.resp_header.specs.declared.fault.Fault.TheVariants.{Protocol, TooLong}
 use Rattle.listener.specs.Streams.{Stream}
 use Rattle.listener.proofs.DeskLemmas.{answers_again, answers_before, answers_nothing, answers_over, halts_again, halts_here}
 use Rattle.listener.proofs.TurnLemmas.{grows_shorter, parks_again, passes_over, stays_sound}

@@ -1,4 +1,4 @@
-use Rattle.node_cell.specs.Undelivered.{joined}
+use Rattle.cell_parts.specs.Undelivered.{joined}
 use Rattle.node_cell.proofs.GivenLemmas.{given_after, given_after_skip}
 use Rattle.node_cell.proofs.SentLemmas.{sent_by_step}
 use Rattle.node_cell.proofs.cell.advance.Goals as goal

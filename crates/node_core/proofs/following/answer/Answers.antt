@@ -12,5 +12,5 @@ make-requires g c =
 
 pub returns-clause-taken : goal.returns-clause-taken
 returns-clause-taken g c =
-    made_comes c.args.ticket c.args.node.now (MayBeTaken c.args.node.now c.args.from (Stream (Sync c.args.sync.now))) c.answer_sync.new.draft c.in_ok-make.field-0.0 c.make.new.self
+    made_comes c.args.ticket c.args.node.now (MayBeTaken c.args.node.now c.args.from (Stream (Sync c.args.sync.now))) c.answer_sync.new.draft c.in_ok-make.field-0.0 c.make.new.node
     (sync_drafted c.args.ticket c.args.node.now c.args.from c.answer_sync.new.draft c.args.sync.now c.in_ok-answer_sync.ensures) c.in_ok-make.ensures.outputs c.in_ok-make.ensures.state

@@ -14,4 +14,4 @@ make-requires g c =
 pub returns-clause-taken : goal.returns-clause-taken
 returns-clause-taken g c =
     vote_taken c.args.ticket c.args.node.now c.vote-granted.new.self c.args.from c.args.request.now c.vote-granted.result c.write_vote.new.draft c.vote-granted.ensures.granted
-    c.vote-granted.ensures.state c.in_ok-make.field-0.0 c.make.new.self c.in_ok-write_vote.ensures c.in_ok-make.ensures.outputs c.in_ok-make.ensures.state
+    c.vote-granted.ensures.state c.in_ok-make.field-0.0 c.make.new.node c.in_ok-write_vote.ensures c.in_ok-make.ensures.outputs c.in_ok-make.ensures.state

@@ -12,5 +12,5 @@ make-requires g c =
 
 pub returns-clause-taken : goal.returns-clause-taken
 returns-clause-taken g c =
-    made_comes c.args.ticket c.args.node.now (MayBeTaken c.args.node.now c.args.from (Election (Paused c.args.handing.now))) c.note_handing.new.draft c.in_ok-make.field-0.0 c.make.new.self
+    made_comes c.args.ticket c.args.node.now (MayBeTaken c.args.node.now c.args.from (Election (Paused c.args.handing.now))) c.note_handing.new.draft c.in_ok-make.field-0.0 c.make.new.node
     (paused_drafted c.args.ticket c.args.node.now c.args.from c.note_handing.new.draft c.args.handing.now c.in_ok-note_handing.ensures) c.in_ok-make.ensures.outputs c.in_ok-make.ensures.state

@@ -14,5 +14,5 @@ pub returns-clause-promoted : goal.returns-clause-promoted
 returns-clause-promoted g c =
     let node = c.args.node.now in
     let same = handed_over node c.args.epoch c.args.master (option_copied c.handed_over.result) c.in-Some.handing.now c.handed_over.ensures (ap option_copied c.in-Some.is) in
-    promotion_made c.args.ticket node _ c.promote_by_plan.new.draft c.in_ok-make.field-0.0 c.make.new.self
+    promotion_made c.args.ticket node _ c.promote_by_plan.new.draft c.in_ok-make.field-0.0 c.make.new.node
     (subst (λ (outcome : Outcome). Promotes node outcome c.promote_by_plan.new.draft) same c.in_ok-promote_by_plan.ensures) c.in_ok-make.ensures.outputs c.in_ok-make.ensures.state

@@ -1,6 +1,6 @@
 use Rattle.std.proofs.Common.{◌-◌, ◌^◌, length, drop, refl, arith}
 use Rattle.std.proofs.lemmas.List.{take_all, length-drop}
-use Rattle.resp2.specs.declared.fault.Fault.TheVariants.{Protocol}
+use Rattle.resp_header.specs.declared.fault.Fault.TheVariants.{Protocol}
 use Rattle.resp2.proofs.HeaderReading.{header_is}
 use Rattle.resp2.proofs.LeafSteps.{negated, negative_found}
 use Rattle.resp2.proofs.leaf.read_negative.Goals as goal

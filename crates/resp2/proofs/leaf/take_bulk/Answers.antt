@@ -1,7 +1,7 @@
 use Rattle.std.proofs.Common.{rules, ◌∙◌, sym, ap, refl, arith}
-use Rattle.resp2.specs.declared.fault.Fault.TheVariants.{Protocol}
+use Rattle.resp_header.specs.declared.fault.Fault.TheVariants.{Protocol}
 use Rattle.resp2.specs.declared.reply_reader.TheConstants.{MOST_COUNT}
-use Rattle.resp2.specs.Reading.{header_onto}
+use Rattle.resp_header.specs.Reading.{header_onto}
 use Rattle.resp2.proofs.HeaderReading.{header_is}
 use Rattle.resp2.proofs.LeafSteps.{waits_in_front, fails_in_front}
 use Rattle.resp2.proofs.leaf.take_bulk.Goals as goal

@@ -1,5 +1,5 @@
 use Rattle.std.proofs.Common.{◌∙◌, ap, sym}
-use Rattle.resp2.specs.Reading.{header_onto}
+use Rattle.resp_header.specs.Reading.{header_onto}
 use Rattle.resp2.proofs.ReaderSteps.{length_is}
 use Rattle.resp2.proofs.words.read_len.Goals as goal
 

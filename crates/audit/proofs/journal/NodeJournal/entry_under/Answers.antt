@@ -1,8 +1,8 @@
 use Rattle.std.proofs.Common.{rules, ◌≡◌, ◌∙◌, sym, ap, subst, List}
 use Rattle.std.proofs.lemmas.Fn.{always_returns_same}
 use Rattle.std.specs.List.{find}
-use Rattle.node_cell.specs.Journal.{Rises, ticket_of, tickets_of}
-use Rattle.node_cell.specs.declared.entry.Entry.{Entry as JournalEntry}
+use Rattle.cell_parts.specs.Journal.{Rises, ticket_of, tickets_of}
+use Rattle.cell_parts.specs.declared.entry.Entry.{Entry as JournalEntry}
 use Rattle.audit.specs.Merge.{has_ticket}
 use Rattle.audit.proofs.Searching.{found_nowhere, found_there}
 use Rattle.audit.proofs.journal.NodeJournal.entry_under.Goals as goal

@@ -1,5 +1,5 @@
 use Rattle.std.proofs.Common.{rules, ◌≡◌, ◌<◌, ◌∙◌, List, length, map, ap, sym}
-use Rattle.node_cell.specs.declared.entry.Entry.{Entry as JournalEntry}
+use Rattle.cell_parts.specs.declared.entry.Entry.{Entry as JournalEntry}
 use Rattle.merged_run.specs.Merged.{entries_of}
 use Rattle.audit.specs.Law.{RunView}
 use Rattle.audit.specs.Merge.{journal_of, placed}

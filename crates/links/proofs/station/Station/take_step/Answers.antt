@@ -1,5 +1,5 @@
 use Rattle.std.proofs.Common.{ap, sym, ◌∙◌}
-use Rattle.node_cell.specs.Journal.{CellView}
+use Rattle.cell_parts.specs.Journal.{CellView}
 use Rattle.links.proofs.StationLemmas.{with_same_journal, with_step_taken}
 use Rattle.links.proofs.station.Station.take_step.Goals as goal
 

@@ -2,7 +2,7 @@ use Rattle.std.proofs.Common.{ap, subst}
 use Rattle.std.specs.Prelude.{IfSome}
 use Rattle.resp_values.specs.declared.reply.Reply.{Reply}
 use Rattle.links.specs.Stations.{StationView}
-use Rattle.node_cell.specs.Journal.{CellView, IsGiven}
+use Rattle.cell_parts.specs.Journal.{CellView, IsGiven}
 use Rattle.links.proofs.StationLemmas.{with_same_journal}
 use Rattle.links.proofs.station.StationHoldsCell.take_reply.Goals as goal
 

@@ -3,10 +3,10 @@ use Rattle.std.proofs.lemmas.Result.{err_from_is_err_and}
 use Rattle.listener.proofs.BatchLemmas.{accounts, fails_before, writes_more}
 use Rattle.listener.proofs.farewell.Farewell.finish.Goals as goal
 
-pub returns-in_err-wrote-clause-err : goal.returns-in_err-wrote-clause-err
-returns-in_err-wrote-clause-err g c =
+pub returns-in_err-wrote-clause-put : goal.returns-in_err-wrote-clause-put
+returns-in_err-wrote-clause-put g c =
     let p = err_from_is_err_and c.from_residual.result c.from_residual.ensures.1 in
-    rw (p.1, sym c.settle.ensures) (fails_before _ _ _ _ c.in_err-wrote.ensures.err)
+    rw (p.1, sym c.settle.ensures) (fails_before _ _ _ _ c.in_err-wrote.ensures.put)
 
 pub returns-clause-left : goal.returns-clause-left
 returns-clause-left g c =

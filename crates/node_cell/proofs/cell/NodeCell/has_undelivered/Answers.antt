@@ -1,6 +1,6 @@
 use Rattle.std.proofs.Common.{rules, ◌≡◌, ◌==◌, ◌∙◌, length, not}
 use Rattle.std.specs.List.{list_any}
-use Rattle.node_cell.specs.Undelivered.{joined}
+use Rattle.cell_parts.specs.Undelivered.{joined}
 use Rattle.node_cell.proofs.GivenLemmas.{any_there}
 use Rattle.node_cell.proofs.cell.NodeCell.has_undelivered.Goals as goal
 

@@ -1,6 +1,6 @@
 use Rattle.std.proofs.Common.{rules, refl, sym, ap, ◌∙◌}
-use Rattle.node_cell.specs.Undelivered.{joined}
-use Rattle.node_cell.specs.declared.entry.Entry.TheVariants.{Skipped}
+use Rattle.cell_parts.specs.Undelivered.{joined}
+use Rattle.cell_parts.specs.declared.entry.Entry.TheVariants.{Skipped}
 use Rattle.node_cell.proofs.DeliveryLemmas.{enters_so, is_refused_so}
 use Rattle.node_cell.proofs.GivenLemmas.{given_after_skip}
 use Rattle.node_cell.proofs.JournalLemmas.{journal_adds}

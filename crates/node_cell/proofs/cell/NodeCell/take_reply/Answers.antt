@@ -1,6 +1,6 @@
 use Rattle.std.proofs.Common.{rules, ◌≡◌}
-use Rattle.node_cell.specs.Journal.{IsGiven}
-use Rattle.node_cell.specs.Undelivered.{joined}
+use Rattle.cell_parts.specs.Journal.{IsGiven}
+use Rattle.cell_parts.specs.Undelivered.{joined}
 use Rattle.node_cell.proofs.GivenLemmas.{given_left, taken_is_given}
 use Rattle.node_cell.proofs.cell.NodeCell.take_reply.Goals as goal
 

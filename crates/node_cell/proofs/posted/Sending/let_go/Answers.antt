@@ -1,7 +1,7 @@
 use Rattle.std.proofs.Common.{◌∙◌, ap, drop, List}
 use Rattle.std.proofs.lemmas.List.Elements.{All-drop, All-same}
 use Rattle.bus.specs.declared.message.Message.{Message}
-use Rattle.node_cell.specs.Journal.{IsSent}
+use Rattle.cell_parts.specs.Journal.{IsSent}
 use Rattle.node_cell.proofs.posted.Sending.let_go.Goals as goal
 
 pub invariant_of-self : goal.invariant_of-self

@@ -1,5 +1,5 @@
 use Rattle.std.proofs.lemmas.List.Elements.{All-drop}
-use Rattle.node_cell.specs.Journal.{IsSent}
+use Rattle.cell_parts.specs.Journal.{IsSent}
 use Rattle.node_cell.proofs.posted.SendingIterator.next.Goals as goal
 
 pub invariant_of-self-2 : goal.invariant_of-self-2

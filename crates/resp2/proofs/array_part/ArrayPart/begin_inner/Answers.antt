@@ -1,7 +1,6 @@
-use Rattle.std.proofs.Common.{rules, ◌≡◌, ◌∙◌, ◌++◌, ◌∷◌, ◌-◌, ◌+◌, [], List, drop, sym, ap, refl, arith}
+use Rattle.std.proofs.Common.{rules, ◌≡◌, ◌∙◌, ◌++◌, ◌∷◌, ◌-◌, [], List, drop, sym, ap, refl, arith}
 use Rattle.std.proofs.lemmas.Result.{err_from_is_err_and}
 use Rattle.resp2.specs.ReplyProgress.{element_front}
-use Rattle.resp2.specs.declared.reply_reader.TheConstants.{MOST_DEPTH}
 use Rattle.resp2.proofs.ArraySteps.{fresh, front_is, inner_fails, inner_taken, inner_waits, kept_after, none_in_front, reading_after, shrinks_after}
 use Rattle.resp2.proofs.array_part.ArrayPart.begin_inner.Goals as goal
 

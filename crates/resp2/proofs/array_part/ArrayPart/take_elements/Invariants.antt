@@ -1,5 +1,5 @@
-use Rattle.std.proofs.Common.{◌≡◌, ◌≢◌, [], length}
-use Rattle.resp2.specs.ReplyProgress.{IsReading, element_front, part_front}
+use Rattle.std.proofs.Common.{◌≢◌, [], length}
+use Rattle.resp2.specs.ReplyProgress.{IsReading, SamePart, element_front}
 use Rattle.resp2.proofs.array_part.ArrayPart.take_elements.Given as goal
 
 -- elements were taken, and the same bytes are pending
@@ -7,7 +7,7 @@ abbrev pub invariant-elements : goal.invariant-elements
 invariant-elements l = record {
   reading : IsReading l.self l.begun l.input.items;
   some : l.self.elements.items ≢ [];
-  kept : part_front l.self l.begun l.input.items ≡ part_front l.fn.self l.fn.begun l.fn.input.items;
+  kept : SamePart l.fn.self l.fn.begun l.fn.input l.self l.begun l.input;
 }
 
 abbrev pub decreases-elements : goal.decreases-elements

@@ -1,6 +1,6 @@
 use Rattle.std.proofs.Common.{◌∙◌, None, ap, sym, refl}
 use Rattle.resp2.specs.declared.words.Partial.{Partial}
-use Rattle.resp2.specs.Reading.{header_onto}
+use Rattle.resp_header.specs.Reading.{header_onto}
 use Rattle.resp2.proofs.ReaderSteps.{count_is, begins, begun_onto}
 use Rattle.resp2.proofs.words.Partial.begin.Goals as goal
 

@@ -1,9 +1,0 @@
--- The entry that a line of a ghost journal stands for. Only the type of such a journal cites it.
-use Rattle.node_cell.specs.declared.entry.Entry.{Entry}
-use Rattle.node_cell.specs.declared.entry.Entry.TheVariants as entry
-use Rattle.node_cell.specs.declared.log.Line.{Line}
-use Rattle.node_cell.specs.declared.log.Line.TheVariants.{Step, Skipped}
-
-abbrev pub entry_of : Line → Entry
-entry_of (Step event outputs) = entry.Step event.value outputs.value
-entry_of (Skipped ticket) = entry.Skipped ticket

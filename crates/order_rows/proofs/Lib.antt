@@ -1,0 +1,3 @@
+mod OrderLemmas
+pub mod Obeying
+pub mod Positions

@@ -1,0 +1,7 @@
+use Rattle.std.proofs.Common.{◌≡◌, length}
+use Rattle.same_messages.proofs.Prefixes.{AreSameBelow}
+use Rattle.same_messages.proofs.same.are_same_pairs.Given as goal
+
+-- the pairs so far are the same
+abbrev pub invariant-loop-place : goal.invariant-loop-place
+invariant-loop-place l = AreSameBelow l.place l.one l.other × (length l.one ≡ length l.other)

@@ -1,0 +1,3 @@
+mod ClearedSlots
+mod RemovedKeys
+mod HalfLemmas
