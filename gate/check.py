@@ -14,25 +14,25 @@ import time
 import kit
 from processes import end_in_order, started
 from processor_time import EDITS, PROOF, ProcessorTime, ended_seconds
-from quick_check import build_programs, is_run_right, run_side_by_side, say_of_script
+from quick_check import BUILD, build_programs, is_run_right, run_side_by_side, say_of_script
 from report import Progress, known_seconds
-from sources import PROGRAM, ROOT, SPARING_CI, crate_names, note_built, program_of, unproved_program
+from sources import PROGRAM, ROOT, SPARING_CI, TRIALS, crate_names, note_built, program_of, unproved_program
 from wrong import try_wrong_bodies
 
 # The test scripts, each with the program that it runs, if it runs one, and the words before that.
 SCRIPTS = [
-    ("tests/refused_memory", "node_trials"),
-    ("tests/refused_moves", "node_trials"),
-    ("tests/refused_audit", "node_trials"),
-    ("tests/refused_calls", "rcluster"),
-    ("tests/simulated/run", "rcluster"),
-    ("tests/drawings/run", "rcluster"),
-    ("tests/cases/run", "rcluster"),
-    ("tests/on_a_socket/run", "rcluster"),
-    ("tests/on_a_socket/run", "rcluster", "--loops", "2"),
-    ("tests/fixtures/run", "rcluster"),
-    ("tests/transcripts/run", "rcluster"),
-    ("tests/starting/run", "rcluster"),
+    ("tests/refused_memory", TRIALS),
+    ("tests/refused_moves", TRIALS),
+    ("tests/refused_audit", TRIALS),
+    ("tests/refused_calls", PROGRAM),
+    ("tests/simulated/run", PROGRAM),
+    ("tests/drawings/run", PROGRAM),
+    ("tests/cases/run", PROGRAM),
+    ("tests/on_a_socket/run", PROGRAM),
+    ("tests/on_a_socket/run", PROGRAM, "--loops", "2"),
+    ("tests/fixtures/run", PROGRAM),
+    ("tests/transcripts/run", PROGRAM),
+    ("tests/starting/run", PROGRAM),
     ("tests/documents/run", None),
     ("tests/wrong_bodies/run", None),
     ("tests/kits/run", None),
@@ -57,11 +57,15 @@ def main(words):
 def check(words):
     begun = time.monotonic()
     # What needs no program takes seconds, so it tells first what is wrong.
-    are_well = [run_script(words_of(program_of, *it)) for it in SCRIPTS if not it[1]]
-    passed, failed = pass_crates(words)
+    are_well = [run_script(words_of(built_program, *it)) for it in SCRIPTS if not it[1]]
+    # Where this fails, it is built once more below, and then says why.
+    with started([sys.executable, "-B", BUILD, TRIALS], stdout=subprocess.DEVNULL, stderr=subprocess.DEVNULL) as building:
+        passed, failed = pass_crates(words)
+        building.wait()
     if not failed:
         note_built(program_of(PROGRAM), PROGRAM)
-    are_well += [run_script(words_of(program_of, *it)) for it in SCRIPTS if it[1]]
+    are_well.append(TRIALS in build_programs([TRIALS]) and is_run_right(TRIALS))
+    are_well += [run_script(words_of(built_program, *it)) for it in SCRIPTS if it[1]]
     passed, failed = passed + are_well.count(True), failed + are_well.count(False)
     print(f"in {time.monotonic() - begun:.0f} s on {os.cpu_count()} cores, {ended_seconds():.0f} s of a processor")
     print(f"{passed} passed, {failed} failed")
@@ -119,6 +123,11 @@ def run_script(words):
         is_well = running.wait() == 0
     say_of_script(words, is_well, begun)
     return is_well
+
+
+def built_program(crate):
+    """Returns where the program lies that a test script runs: the proved one, or that of the trials, which aren't proved."""
+    return unproved_program(crate) if crate == TRIALS else program_of(crate)
 
 
 def words_of(place, script, program, *options):

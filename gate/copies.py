@@ -5,7 +5,7 @@ import os
 import shutil
 
 from processes import temporary_folder
-from sources import PARTS, ROOT, crate_names, folder_of
+from sources import CRATES, PARTS, ROOT, TRIALS_LINE, crate_names, folder_of
 
 # What the kit runs a program on.
 RUN = ("stdin", "stdout", "args", "status", "data")
@@ -32,8 +32,10 @@ def copy_crates(to, names=None, edits_of=None):
     """
     names = crate_names() if names is None else names
     shutil.copy(os.path.join(ROOT, "HANDLES"), to)
-    with open(os.path.join(ROOT, "crates.txt"), encoding="utf-8") as file, open(os.path.join(to, "crates.txt"), "w", encoding="utf-8") as copy:
-        copy.writelines(line for line in file if is_wanted(line, names))
+    with open(os.path.join(to, CRATES), "w", encoding="utf-8") as copy:
+        for path in (CRATES, TRIALS_LINE):
+            with open(os.path.join(ROOT, path), encoding="utf-8") as file:
+                copy.writelines(line for line in file if is_wanted(line, names))
     for name in names:
         crate = folder_of(name)
         for part in (*PARTS, *RUN):

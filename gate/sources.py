@@ -8,14 +8,19 @@ import kit
 
 ROOT = os.path.dirname(os.path.dirname(os.path.abspath(__file__)))
 PROGRAM = "rcluster"
+# The program that plays the trials. It is a test: no crate of the repository, and not proved.
+TRIALS = "trials"
 SPARING_CI = os.path.join(ROOT, "gate", "sparing_ci.py")
 JOINT_CI = os.path.join(ROOT, "gate", "joint_ci.py")
 PARTS = ("src", "specs", "proofs")
+CRATES = "crates.txt"
+# The line of the trials, as it would stand among those of the crates.
+TRIALS_LINE = os.path.join("tests", TRIALS, "libraries.txt")
 STATUS = re.compile(r"\bstatus=(\d+)")
 
 
 def folder_of(crate):
-    return os.path.join(ROOT, "crates", crate)
+    return os.path.join(ROOT, "tests" if crate == TRIALS else "crates", crate)
 
 
 def program_of(crate):
@@ -68,7 +73,7 @@ def sum_of_files(paths):
 
 def sources(crate):
     """The files that a build of the crate's program reads."""
-    yield from (os.path.join(ROOT, "crates.txt"), os.path.join(ROOT, "HANDLES"))
+    yield from (os.path.join(ROOT, it) for it in (*lists_for(crate), "HANDLES"))
     for name in below(crate):
         yield from files_of(name, PARTS)
 
@@ -80,25 +85,30 @@ def files_of(crate, parts):
             yield from (os.path.join(at, it) for it in names)
 
 
+def lists_for(crate):
+    """The lists of crates, from the root of the repository on, that a build of this one reads."""
+    return (CRATES, TRIALS_LINE) if crate == TRIALS else (CRATES,)
+
+
 def crate_names():
     """Returns the names of all crates."""
     return sorted(os.listdir(os.path.join(ROOT, "crates")))
 
 
-def libraries():
-    """Returns for each crate the names of those that its line of crates.txt cites, the kit's too, lowest first."""
-    return {head.split()[0]: cited.split() for head, cited in lines()}
+def libraries(lists=(CRATES,)):
+    """Returns for each crate the names of those that its line in these lists cites, the kit's too, lowest first."""
+    return {head.split()[0]: cited.split() for it in lists for head, cited in lines(it)}
 
 
 def status_of(crate):
     """Returns the status with which the crate's program ends as it is run by the gate."""
-    found = next((STATUS.search(head) for head, _ in lines() if head.split()[0] == crate), None)
+    found = next((STATUS.search(head) for head, _ in lines(CRATES) if head.split()[0] == crate), None)
     return int(found[1]) if found else 0
 
 
-def lines():
-    """The lines of crates.txt: what stands before the colon and what behind it."""
-    with open(os.path.join(ROOT, "crates.txt"), encoding="utf-8") as file:
+def lines(path):
+    """The lines of such a list: what stands before the colon and what behind it."""
+    with open(os.path.join(ROOT, path), encoding="utf-8") as file:
         for line in file:
             head, colon, cited = line.partition("#")[0].partition(":")
             if colon:
@@ -107,7 +117,7 @@ def lines():
 
 def below(crate):
     """Returns the crate and all crates of the repository that it stands on."""
-    cited, found, left = libraries(), set(), [crate]
+    cited, found, left = libraries(lists_for(crate)), set(), [crate]
     while left:
         name = left.pop()
         if name in cited and name not in found:
