@@ -20,6 +20,16 @@ pub record ClusterConfig : Type 0 where
   pub nodes : List NodeConfig
   pub voters : List ℕ
 
+-- the cluster of these parts
+abbrev pub cluster_with : ℕ → ℕ → ℕ → List NodeConfig → List ℕ → ClusterConfig
+cluster_with tick_ms node_timeout backlog nodes voters = record {
+  tick_ms = tick_ms;
+  node_timeout = node_timeout;
+  backlog = backlog;
+  nodes = nodes;
+  voters = voters;
+}
+
 -- the test passes for each element with each later one
 abbrev pub all_pairs : {A : Type 0} → (A → A → Bool) → List A → Bool
 all_pairs test [] = true

@@ -1,5 +1,2 @@
 pub mod Texts
 pub mod Config
-pub mod Form
-pub mod Faults
-pub mod Reading

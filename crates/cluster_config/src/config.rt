@@ -1,8 +1,6 @@
 //! What a cluster consists of from its start.
 ghost use Rattle.std.specs.Prelude.{◌≡◌, ◌++◌, IfOk, OnOk, slice_get, option_copied};
-ghost use Rattle.cluster_config.specs.Config.{IsCluster, first_owners, runs_of};
-
-mod building;
+ghost use Rattle.cluster_config.specs.Config.{IsCluster, cluster_with, first_owners, runs_of};
 
 use crate::names::{Host, NodeId};
 use key_slot::SlotRange;
@@ -87,6 +85,27 @@ impl Model for Config {
 }
 
 impl Config {
+    /// The cluster with ticks of so many milliseconds, of which a node may be silent for so many, with these nodes and voters. A node keeps
+    /// so many of the last bytes of its stream.
+    pub fn new(
+        tick_ms: u32,
+        node_timeout: u32,
+        backlog: u32,
+        nodes: Vec<NodeConfig>,
+        voters: Vec<NodeNo>,
+    ) -> Config
+        requires { IsCluster (cluster_with tick_ms node_timeout backlog nodes.items voters.items) }
+        ensures { result ≡ cluster_with tick_ms node_timeout backlog nodes.items voters.items }
+    {
+        Config {
+            tick_ms,
+            node_timeout,
+            backlog,
+            nodes,
+            voters,
+        }
+    }
+
     /// The length of a tick, in milliseconds.
     pub fn tick_ms(&self) -> u32
         ensures { result ≡ self.now.tick_ms }

@@ -106,7 +106,7 @@ impl Host {
 }
 
 /// Whether the text is the id of a node.
-pub(crate) fn is_id(text: &[u8]) -> bool
+pub fn is_id(text: &[u8]) -> bool
     ensures { result ≡ is_id text.now }
 {
     text.len() == NodeId::LEN && text.iter().all(|byte| is_id_digit(*byte))
@@ -119,7 +119,7 @@ fn is_id_digit(byte: u8) -> bool
 }
 
 /// Whether the text is a host.
-pub(crate) fn is_host(text: &[u8]) -> bool
+fn is_host(text: &[u8]) -> bool
     ensures { result ≡ is_host text.now }
 {
     (1..=Host::MOST_LEN).contains(&text.len()) && text.iter().all(|byte| is_host_character(*byte))

@@ -6,7 +6,7 @@ use crate::numbers::check_numbers;
 use crate::slots::check_slots;
 use crate::voters::check_voters;
 use crate::wrong::Halt;
-use cluster_config::ConfigFault;
+use config_text::ConfigFault;
 use std::alloc::{AllocError, Global};
 
 /// The first thing of the fault's kind that is wrong with the text, and where it stands, as in

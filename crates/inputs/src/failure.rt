@@ -1,6 +1,6 @@
 //! Why an input can't be taken.
 
-use cluster_config::ConfigFault;
+use config_text::ConfigFault;
 use std::alloc::AllocError;
 
 /// Why an input can't be taken.

@@ -1,7 +1,8 @@
 //! The files that the program reads.
 
 use crate::failure::{InputFailure, InputFault};
-use cluster_config::{Config, ConfigFault, read_config};
+use cluster_config::Config;
+use config_text::{ConfigFault, read_config};
 use config_report::report;
 use std::alloc::{AllocError, Global};
 use std::io::ErrorKind;

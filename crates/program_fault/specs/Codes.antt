@@ -4,8 +4,8 @@ use Rattle.audit.specs.declared.gathering.AuditFault.{AuditFault}
 use Rattle.audit.specs.declared.gathering.AuditFault.TheVariants as audit
 use Rattle.tool_io.specs.declared.failure.HandoverFault.{HandoverFault}
 use Rattle.tool_io.specs.declared.failure.HandoverFault.TheVariants as handover
-use Rattle.cluster_config.specs.declared.fault.ConfigFault.{ConfigFault}
-use Rattle.cluster_config.specs.declared.fault.ConfigFault.TheVariants as config
+use Rattle.config_text.specs.declared.fault.ConfigFault.{ConfigFault}
+use Rattle.config_text.specs.declared.fault.ConfigFault.TheVariants as config
 use Rattle.resharder.specs.Faults.{code_of as reshard_code}
 use Rattle.smart_client.specs.Faults.{code_of as client_code}
 use Rattle.program_fault.specs.declared.fault.ProgramFault.{ProgramFault}

@@ -3,7 +3,7 @@ ghost use Rattle.std.specs.Prelude.{◌≡◌};
 ghost use Rattle.program_fault.specs.Codes.{audit_code, code_of, config_code, handover_code, number_of};
 
 use audit::AuditFault;
-use cluster_config::ConfigFault;
+use config_text::ConfigFault;
 use inputs::InputFault;
 use resharder::ReshardFault;
 use smart_client::ClientFault;

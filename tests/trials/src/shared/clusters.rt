@@ -1,6 +1,7 @@
 //! The clusters of the trials.
 
-use cluster_config::{Config, ConfigFault, read_config};
+use cluster_config::Config;
+use config_text::{ConfigFault, read_config};
 use node_core::Core;
 use slot_table::NodeNo;
 use std::alloc::{AllocError, Global};

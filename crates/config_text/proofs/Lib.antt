@@ -1,0 +1,5 @@
+mod BuildLemmas
+mod FormLemmas
+mod PairLemmas
+mod TextLemmas
+mod WorkedValues
