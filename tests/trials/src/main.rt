@@ -19,7 +19,7 @@ use crate::conversations::{devices, writes};
 use crate::locks::two_nodes;
 use crate::shared::Runtime;
 use crate::stations::{deliveries, full_link, syncs};
-use crate::steps::{failover, following, handing_over, moves, pace, race, streams};
+use crate::steps::{failover, following, handing_over, moves, pace, race, streams, twins};
 use anyhow::{Result, bail};
 use std::env;
 use std::rt::Clock;
@@ -44,12 +44,13 @@ enum Trial {
     Links,
     Syncs,
     Streams,
+    Twins,
     Audit,
     Pace,
 }
 
 // The words of the trials, in the order in which they are played.
-const TRIALS: [(&str, Trial); 16] = [
+const TRIALS: [(&str, Trial); 17] = [
     ("refused", Trial::Refused),
     ("moves", Trial::Moves),
     ("following", Trial::Following),
@@ -65,6 +66,7 @@ const TRIALS: [(&str, Trial); 16] = [
     ("links", Trial::Links),
     ("syncs", Trial::Syncs),
     ("streams", Trial::Streams),
+    ("twins", Trial::Twins),
     ("audit", Trial::Audit),
 ];
 
@@ -133,6 +135,7 @@ fn try_out<R: Runtime>(rt: R, trial: Trial) -> Result<()> {
         Trial::Links => full_link::try_out(rt),
         Trial::Syncs => syncs::try_out(rt),
         Trial::Streams => streams::try_out(&rt),
+        Trial::Twins => twins::try_out(&rt),
         Trial::Audit => audits::try_out(rt),
         Trial::Pace => pace::measure(&rt),
     }

@@ -9,7 +9,7 @@ mod telling;
 
 pub use acts::{Act, conn_of, push_outputs, push_response, words_of};
 pub use clusters::{
-    node_of, one_replica, three_masters, two_masters, with_elections, with_long_streams,
+    one_replica, three_masters, two_masters, with_elections, with_long_streams,
     with_replicas,
 };
 pub use dealing::{Two, deal_one, deal_two};

@@ -2,9 +2,7 @@
 
 use cluster_config::Config;
 use config_text::{ConfigFault, read_config};
-use node_core::Core;
-use slot_table::NodeNo;
-use std::alloc::{AllocError, Global};
+use std::alloc::Global;
 
 // Two masters with half of the slots each.
 const TWO_MASTERS: &[u8] = b"{\"tick_ms\":10,\"node_timeout\":20,\"nodes\":[\
@@ -93,9 +91,4 @@ pub fn with_long_streams(alloc: Global) -> Result<Config, ConfigFault> {
 /// for a tick.
 pub fn with_elections(alloc: Global) -> Result<Config, ConfigFault> {
     read_config(alloc, WITH_ELECTIONS)
-}
-
-/// The node of that number as it begins.
-pub fn node_of(alloc: Global, config: &Config, number: NodeNo) -> Result<Core, AllocError> {
-    Core::begin(alloc, config.clone()?, number)
 }

@@ -4,8 +4,10 @@
 use crate::shared::{tell, with_elections};
 use crate::steps::rows::{Rows, other_answer};
 use anyhow::Result;
+use slot_store::SlotStore;
 
-const CASES: [Rows; 4] = [ELECTION, SIGN_OF_LIFE, ONE_VOTE, AHEAD];
+/// What is played.
+pub const CASES: [Rows; 4] = [ELECTION, SIGN_OF_LIFE, ONE_VOTE, AHEAD];
 
 // Node 0 is silent. Most voters suspect it once nodes 1 and 2 do. Node 2 begins an election at the tick behind that, and node 1 votes once it
 // holds node 0 failed, too. A vote counts once. Node 3 then follows node 2 from the end of what it has, and takes nothing of node 0 any more.
@@ -125,6 +127,6 @@ const AHEAD: Rows = &[
 /// Says whether another answer came of a step than without a refusal.
 pub fn try_out<R: AllocGlobal + Print>(rt: &R) -> Result<()> {
     let config = with_elections(rt.alloc())?;
-    let other = other_answer(rt.alloc(), &config, &CASES)?;
+    let other = other_answer::<SlotStore>(rt.alloc(), &config, &CASES)?;
     Ok(tell(rt, "failover", other)?)
 }

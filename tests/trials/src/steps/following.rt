@@ -4,8 +4,10 @@
 use crate::shared::{tell, with_long_streams, with_replicas};
 use crate::steps::rows::{Rows, other_answer};
 use anyhow::Result;
+use slot_store::SlotStore;
 
-const CASES: [Rows; 4] = [WHOLE_MOVE, LIST_OF_KEYS, SHORT_BACKLOG, LOST_PIECE];
+/// What is played.
+pub const CASES: [Rows; 4] = [WHOLE_MOVE, LIST_OF_KEYS, SHORT_BACKLOG, LOST_PIECE];
 
 // A key moves: its source writes its deletion, its target the request that makes it, and both replicas follow.
 const WHOLE_MOVE: Rows = &[
@@ -120,13 +122,13 @@ const LONG_WRITE: Rows = &[
 /// Says whether another answer came of a step than without a refusal.
 pub fn try_out<R: AllocGlobal + Print>(rt: &R) -> Result<()> {
     let config = with_replicas(rt.alloc())?;
-    let other = other_answer(rt.alloc(), &config, &CASES)?;
+    let other = other_answer::<SlotStore>(rt.alloc(), &config, &CASES)?;
     Ok(tell(rt, "following", other)?)
 }
 
 /// Says whether another answer came of a step where much is written at once.
 pub fn try_long_write<R: AllocGlobal + Print>(rt: &R) -> Result<()> {
     let config = with_long_streams(rt.alloc())?;
-    let other = other_answer(rt.alloc(), &config, &[LONG_WRITE])?;
+    let other = other_answer::<SlotStore>(rt.alloc(), &config, &[LONG_WRITE])?;
     Ok(tell(rt, "long write", other)?)
 }

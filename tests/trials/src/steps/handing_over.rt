@@ -3,8 +3,10 @@
 use crate::shared::{tell, with_elections};
 use crate::steps::rows::{Rows, other_answer};
 use anyhow::Result;
+use slot_store::SlotStore;
 
-const CASES: [Rows; 3] = [HANDOVER, ANOTHER_MASTER, MOVE];
+/// What is played.
+pub const CASES: [Rows; 3] = [HANDOVER, ANOTHER_MASTER, MOVE];
 
 // Node 0 serves nothing from its pause on. Node 2 lacks a write, so it asks for votes only once it has that. It takes the slots that node 0 named,
 // and node 3 follows it.
@@ -110,6 +112,6 @@ const MOVE: Rows = &[
 /// Says whether another answer came of a step than without a refusal.
 pub fn try_out<R: AllocGlobal + Print>(rt: &R) -> Result<()> {
     let config = with_elections(rt.alloc())?;
-    let other = other_answer(rt.alloc(), &config, &CASES)?;
+    let other = other_answer::<SlotStore>(rt.alloc(), &config, &CASES)?;
     Ok(tell(rt, "handovers", other)?)
 }

@@ -3,8 +3,10 @@
 use crate::shared::{tell, three_masters};
 use crate::steps::rows::{Rows, other_answer};
 use anyhow::Result;
+use slot_store::SlotStore;
 
-const CASES: [Rows; 6] = [WHOLE_MOVE, LISTS, LATE_COPY, LOST_COPY, REFUSALS, COMMANDS];
+/// What is played.
+pub const CASES: [Rows; 6] = [WHOLE_MOVE, LISTS, LATE_COPY, LOST_COPY, REFUSALS, COMMANDS];
 
 // A hash keeps the order of its fields.
 const WHOLE_MOVE: Rows = &[
@@ -137,6 +139,6 @@ const COMMANDS: Rows = &[
 /// Says whether another answer came of a step than without a refusal.
 pub fn try_out<R: AllocGlobal + Print>(rt: &R) -> Result<()> {
     let config = three_masters(rt.alloc())?;
-    let other = other_answer(rt.alloc(), &config, &CASES)?;
+    let other = other_answer::<SlotStore>(rt.alloc(), &config, &CASES)?;
     Ok(tell(rt, "moves", other)?)
 }

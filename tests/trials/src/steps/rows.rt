@@ -1,12 +1,14 @@
 //! Steps of nodes, a row each, and what comes of them. A node that is refused memory is as it was, so each step is made at a second
 //! try.
 
-use crate::shared::{Act, node_of, push_outputs};
+use crate::shared::{Act, push_outputs};
 use anyhow::{Context, Result};
 use bus::Message;
 use cluster_config::Config;
 use node_cell::Journal;
-use node_core::{Core, Event, Outputs, StepFault};
+use node_core::{Event, NodeCore, Outputs, StepFault};
+use repl_stream::{Backlog, Replaces, Stream};
+use slot_store::SlotParts;
 use slot_table::NodeNo;
 use std::alloc::{AllocError, Global};
 
@@ -18,10 +20,19 @@ const CONNECTIONS: usize = 2;
 /// on, in the order in which they were sent.
 pub type Rows = &'static [&'static str];
 
+/// A store of which a node begins with an empty one.
+pub trait NodeStore: SlotParts + Replaces {}
+
+impl<S: SlotParts + Replaces> NodeStore for S {}
+
 /// What came in place of what had to come, if something did. The nodes begin anew with each case.
-pub fn other_answer(alloc: Global, config: &Config, cases: &[Rows]) -> Result<Option<String>> {
+pub fn other_answer<S: NodeStore>(
+    alloc: Global,
+    config: &Config,
+    cases: &[Rows],
+) -> Result<Option<String>> {
     for rows in cases {
-        let other = other_answer_in(alloc, config, rows)?;
+        let other = other_answer_in::<S>(alloc, config, rows)?;
         if other.is_some() {
             return Ok(other);
         }
@@ -29,15 +40,23 @@ pub fn other_answer(alloc: Global, config: &Config, cases: &[Rows]) -> Result<Op
     Ok(None)
 }
 
-fn other_answer_in(alloc: Global, config: &Config, rows: &[&str]) -> Result<Option<String>> {
-    let mut world = World::new(alloc);
+fn other_answer_in<S: NodeStore>(
+    alloc: Global,
+    config: &Config,
+    rows: &[&str],
+) -> Result<Option<String>> {
+    let mut world = World::<S>::new(alloc);
     world.open_all(alloc, config)?;
     let other = other_answer_at(alloc, &mut world, rows);
     drop(world);
     other
 }
 
-fn other_answer_at(alloc: Global, world: &mut World, rows: &[&str]) -> Result<Option<String>> {
+fn other_answer_at<S: NodeStore>(
+    alloc: Global,
+    world: &mut World<S>,
+    rows: &[&str],
+) -> Result<Option<String>> {
     for row in rows {
         let (step, wanted) = row.split_once(" | ").context("a step without an answer")?;
         let given = world.make(alloc, step)?;
@@ -49,13 +68,13 @@ fn other_answer_at(alloc: Global, world: &mut World, rows: &[&str]) -> Result<Op
 }
 
 // Nodes, and the messages that they sent.
-struct World {
-    nodes: Vec<Core>,
+struct World<S: NodeStore> {
+    nodes: Vec<NodeCore<S, Backlog>>,
     messages: Vec<Message>,
 }
 
 // It does what the derive would. Written out it is one call wherever a world is let go.
-impl Drop for World {
+impl<S: NodeStore> Drop for World<S> {
     fn drop(self) {
         let World {
             nodes: _,
@@ -64,9 +83,9 @@ impl Drop for World {
     }
 }
 
-impl World {
+impl<S: NodeStore> World<S> {
     // No node yet, and no message.
-    fn new(alloc: Global) -> World {
+    fn new(alloc: Global) -> World<S> {
         World {
             nodes: Vec::new(alloc),
             messages: Vec::new(alloc),
@@ -140,9 +159,13 @@ fn act_of(text: &str) -> Act<'_> {
 }
 
 /// A node with its connections.
-pub fn open_node(alloc: Global, config: &Config, number: u8) -> Result<Core> {
+pub fn open_node<S: NodeStore>(
+    alloc: Global,
+    config: &Config,
+    number: u8,
+) -> Result<NodeCore<S, Backlog>> {
     let number = NodeNo::new(number).context("there are too many nodes")?;
-    let mut node = node_of(alloc, config, number)?;
+    let mut node = NodeCore::new(alloc, config.clone()?, number, S::empty(alloc)?)?;
     match open_connections(&mut node) {
         Ok(()) => Ok(node),
         Err(fault) => {
@@ -152,7 +175,7 @@ pub fn open_node(alloc: Global, config: &Config, number: u8) -> Result<Core> {
     }
 }
 
-fn open_connections(node: &mut Core) -> Result<(), StepFault> {
+fn open_connections<S: NodeStore>(node: &mut NodeCore<S, Backlog>) -> Result<(), StepFault> {
     for _ in 0..CONNECTIONS {
         drop(outputs_of(node, &Event::Open)?);
     }
@@ -160,7 +183,10 @@ fn open_connections(node: &mut Core) -> Result<(), StepFault> {
 }
 
 /// What comes of the event. The number of the step changes nothing.
-pub fn outputs_of(node: &mut Core, event: &Event) -> Result<Outputs, StepFault> {
+pub fn outputs_of<S: NodeStore, T: Stream>(
+    node: &mut NodeCore<S, T>,
+    event: &Event,
+) -> Result<Outputs, StepFault> {
     let outcome = match node.step::<Journal>(0, event) {
         Err(StepFault::Memory) => node.step::<Journal>(0, event),
         outcome => outcome,
