@@ -4,7 +4,7 @@ use Rattle.std.specs.Prelude.{◌≡◌, ℕ, Bool, true, false, List, [], ◌�
 use Rattle.std.specs.List.{filter_map}
 use Rattle.keyspace.specs.Commands.{replay}
 use Rattle.redirect.specs.declared.decision.Decision.{Decision}
-use Rattle.redirect.specs.declared.decision.Decision.TheVariants.{Serve, ServeImport, CrossSlot, Down, TryAgain, Ask, Moved}
+use Rattle.redirect.specs.Decision as redirect
 use Rattle.node_step.specs.declared.event.Event.TheVariants.{Open, Close, Request, Deliver, Tick}
 use Rattle.node_step.specs.declared.response.Answer.{Answer}
 use Rattle.node_step.specs.declared.response.Response.{Response}
@@ -52,13 +52,7 @@ decision_in TakesOver = None
 
 -- the decision is to execute
 abbrev pub is_served : Option Decision → Bool
-is_served (Some Serve) = true
-is_served (Some (ServeImport number)) = true
-is_served (Some CrossSlot) = false
-is_served (Some Down) = false
-is_served (Some (TryAgain reason)) = false
-is_served (Some (Ask slot to number)) = false
-is_served (Some (Moved slot to)) = false
+is_served (Some decision) = redirect.is_served decision
 is_served None = false
 
 abbrev pub if_served : Option Answered → Option Answered
