@@ -3,12 +3,15 @@
 The module checks at run time whatever a program could do wrong, fills each local before it is set, and is compiled without
 optimization. Of these checks those stay that a release build of Rust has, too: that an index is within its bounds, that no divisor is
 zero, that nothing is reached that can't be, and each other `requires` that the kit looks at. Sums wrap where they overflow, and what only
-unsafe code can break isn't looked at. A program of which every function is proved breaks none of them.
+unsafe code can break isn't looked at. A program of which every function is proved breaks none of them. What is to be inlined, and what
+never, is as the sources say (inlining.py).
 """
 
 import os
 import re
 import subprocess
+
+from inlining import asked_of_functions, with_word
 
 # Of the words with which `rt try` calls clang, these are left out.
 SLOW = ("-O0", "-fsanitize=address")
@@ -52,8 +55,8 @@ def released(module, clang, made):
 
 def as_released(lines):
     """Yields the lines of a module without the checks that a release build doesn't make, and without the filling of locals."""
-    is_check = False
+    is_check, asked = False, asked_of_functions()
     for line in lines:
         is_check = line != "}\n" and (is_check or bool(CHECK.match(line)))
         if not FILL.fullmatch(line):
-            yield PASS if is_check and line == LOOK else line
+            yield PASS if is_check and line == LOOK else with_word(line, asked)

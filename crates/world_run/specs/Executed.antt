@@ -5,6 +5,7 @@ use Rattle.std.specs.List.{filter_map}
 use Rattle.keyspace.specs.Commands.{replay}
 use Rattle.redirect.specs.declared.decision.Decision.{Decision}
 use Rattle.redirect.specs.Decision as redirect
+use Rattle.redirect.specs.declared.decision.Decision.TheVariants.{Serve, ServeImport, CrossSlot, Down, TryAgain, Ask, Moved}
 use Rattle.node_step.specs.declared.event.Event.TheVariants.{Open, Close, Request, Deliver, Tick}
 use Rattle.node_step.specs.declared.response.Answer.{Answer}
 use Rattle.node_step.specs.declared.response.Response.{Response}
