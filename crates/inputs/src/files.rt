@@ -2,8 +2,8 @@
 
 use crate::failure::{InputFailure, InputFault};
 use cluster_config::Config;
-use config_text::{ConfigFault, read_config};
 use config_report::report;
+use config_text::{ConfigFault, read_config};
 use std::alloc::{AllocError, Global};
 use std::io::ErrorKind;
 use std::rt::Files;

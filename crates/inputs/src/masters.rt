@@ -3,8 +3,8 @@
 use crate::failure::{InputFailure, InputFault};
 use crate::verbs::FIRST_PORT;
 use cluster_config::Config;
-use config_text::read_config;
 use config_report::report;
+use config_text::read_config;
 use std::alloc::{AllocError, Global};
 use std::fmt::Write;
 
