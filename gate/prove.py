@@ -17,8 +17,9 @@ import kit_command
 from report import known_seconds
 from sources import ROOT, below, crate_names, folder_of, libraries
 
-# A check is given one processor, because others run beside it.
-ONE_JOB = ("--jobs", "1")
+# A check takes more of a processor with each further one, so it gets another only where no other check wants it: first the one behind
+# which most is left.
+MOST_JOBS = 3
 
 
 def main(names):
@@ -67,13 +68,17 @@ def prove(crates, at_once):
     with ThreadPoolExecutor(at_once) as pool:
         while left or running:
             ready = [it for it in left if all(lower.name in proved for lower in it.below())]
-            for crate in sorted(ready, key=lambda it: -behind[it.name])[:at_once - len(running)]:
+            idle = at_once - sum(jobs for _crate, jobs in running.values())
+            for place, crate in enumerate(sorted(ready, key=lambda it: -behind[it.name])[:idle]):
+                jobs = min(MOST_JOBS, max(1, idle - (len(ready) - place - 1)))
+                idle -= jobs
                 left.remove(crate)
-                running[pool.submit(check, crate)] = crate
+                running[pool.submit(check, crate, jobs)] = crate, jobs
             if not running:
                 break
             for done in wait(running, return_when=FIRST_COMPLETED).done:
-                name, (status, seconds) = running.pop(done).name, done.result()
+                (crate, _jobs), (status, seconds) = running.pop(done), done.result()
+                name = crate.name
                 if status:
                     failed.append(name)
                 else:
@@ -83,13 +88,13 @@ def prove(crates, at_once):
     return failed + [it.name for it in left]
 
 
-def check(crate):
-    """Returns the status of a check of the crate, and how long it took."""
-    begun, crate = time.monotonic(), copy.copy(crate)
+def check(crate, jobs):
+    """Returns the status of a check of the crate with so many processors, and how long it took."""
+    begun, crate, words = time.monotonic(), copy.copy(crate), ("--jobs", str(jobs))
     os.makedirs(os.path.join(folder_of(crate.name), "out"), exist_ok=True)
     with open(os.path.join(folder_of(crate.name), "out", "prove.log"), "w", encoding="utf-8", errors="replace") as crate.out:
         try:
-            status = crate.build_rlib(ONE_JOB, anew=False) if crate.makes_rlib() else crate.check(list(ONE_JOB))
+            status = crate.build_rlib(words, anew=False) if crate.makes_rlib() else crate.check(list(words))
         except SystemExit as end:
             status = end.code
     return status, time.monotonic() - begun
