@@ -76,11 +76,22 @@ impl ByteString {
         }
     }
 
-    pub(crate) fn of(form: Form) -> ByteString
-        requires { IsForm form }
-        ensures { result ≡ bytes_of form }
+    /// These bytes, which are there for as long as the program runs, and so are never copied.
+    pub fn from_static(bytes: &'static [u8]) -> ByteString
+        ensures { result ≡ bytes.now }
     {
-        ByteString { form }
+        ByteString {
+            form: Form::Static(bytes),
+        }
+    }
+
+    /// The bytes of a buffer, which the string shares from now on.
+    pub fn from_shared(buffer: Arc<Vec<u8>>) -> ByteString
+        ensures { result ≡ buffer.value.items }
+    {
+        ByteString {
+            form: Form::Buffer(buffer),
+        }
     }
 
     /// A copy of these bytes.

@@ -5,7 +5,6 @@ ghost use Rattle.byte_string.specs.declared.block.TheConstants.{MOST_IN_BLOCK};
 
 use crate::block::{Block, MOST_IN_BLOCK};
 use crate::short::Short;
-use bytes::Bytes;
 use std::alloc::{AllocError, Global};
 use std::sync::Arc;
 
@@ -25,8 +24,8 @@ pub(crate) enum Form {
     In136(Block<136>),
     In184(Block<184>),
     In248(Block<248>),
-    // A part of the input that the string was cut off, which copies share.
-    Cut(Arc<Bytes>),
+    // Bytes that are there for as long as the program runs.
+    Static(&'static [u8]),
     // A buffer, which copies share, and which may have room behind the bytes.
     Buffer(Arc<Vec<u8>>),
 }
@@ -71,7 +70,7 @@ impl Form {
             Form::In136(block) => Form::In136(block.copy()?),
             Form::In184(block) => Form::In184(block.copy()?),
             Form::In248(block) => Form::In248(block.copy()?),
-            Form::Cut(block) => Form::Cut(block.clone()?),
+            Form::Static(bytes) => Form::Static(*bytes),
             Form::Buffer(buffer) => Form::Buffer(buffer.clone()?),
         })
     }
@@ -90,7 +89,7 @@ impl Form {
             Form::In136(block) => block.as_slice(),
             Form::In184(block) => block.as_slice(),
             Form::In248(block) => block.as_slice(),
-            Form::Cut(block) => block.as_slice(),
+            Form::Static(bytes) => *bytes,
             Form::Buffer(buffer) => buffer.as_slice(),
         }
     }

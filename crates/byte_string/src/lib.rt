@@ -3,7 +3,6 @@
 
 mod block;
 mod byte_string;
-mod cut;
 mod form;
 mod order;
 mod short;

@@ -6,7 +6,6 @@ use crate::node_names::id_text;
 use crate::questions::{Consent, Questions};
 use crate::slot_map::SlotMap;
 use byte_string::ByteString;
-use bytes::Bytes;
 use cluster_config::NodeId;
 use redirection::Address;
 use smart_client::{Connections, Network};
@@ -52,7 +51,7 @@ impl Handover {
 
 // The id that the text stands for.
 fn id_in(alloc: Global, text: &str) -> Result<Option<NodeId>, AllocError> {
-    let id = Bytes::copy_from_slice(alloc, id_text(text).as_bytes())?;
+    let id = ByteString::copy_from_slice(alloc, id_text(text).as_bytes())?;
     Ok(NodeId::new(id))
 }
 

@@ -3,7 +3,6 @@
 use crate::calling::items_of;
 use crate::slot_map::SlotMap;
 use crate::slot_report::SlotReport;
-use bytes::Bytes;
 use cluster_config::NodeId;
 use command_table::ErrorLine;
 use redirection::Address;
@@ -37,10 +36,10 @@ impl<N: Network + Drop> Questions<N> {
     /// The id of the node at the address.
     pub(crate) fn id(&mut self, at: &Address) -> Result<NodeId, ToolFailure> {
         let reply = self.ask(at, &["CLUSTER", "MYID"])?;
-        let Reply::Bulk(id) = &reply else {
+        let Reply::Bulk(id) = reply else {
             return Err(ToolFailure::from(HandoverFault::BadReply));
         };
-        match NodeId::new(Bytes::copy_from_slice(self.alloc, id.as_slice())?) {
+        match NodeId::new(id) {
             Some(id) => Ok(id),
             None => Err(ToolFailure::from(HandoverFault::BadReply)),
         }

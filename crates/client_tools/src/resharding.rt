@@ -1,7 +1,7 @@
 //! `rcluster reshard`: slots that move from one master to another.
 
 use crate::node_names::id_text;
-use bytes::Bytes;
+use byte_string::ByteString;
 use cluster_config::NodeId;
 use command_table::number_in;
 use key_slot::{Slot, SlotRange};
@@ -234,7 +234,7 @@ fn tell_of_one_master<R: Eprint>(rt: &R) {
 
 // A text that can't be an id is listed by nobody.
 fn id_in(alloc: Global, text: &str) -> Result<NodeId, ToolFailure> {
-    match NodeId::new(Bytes::copy_from_slice(alloc, text.as_bytes())?) {
+    match NodeId::new(ByteString::copy_from_slice(alloc, text.as_bytes())?) {
         Some(id) => Ok(id),
         None => Err(ToolFailure::new(
             ToolFault::Reshard(ReshardFault::NotListed),

@@ -2,13 +2,13 @@
 ghost use Rattle.std.specs.Prelude.{◌≡◌, IsTrue, SomeIff};
 ghost use Rattle.cluster_config.specs.Texts.{is_id, is_id_digit, is_host, is_host_character};
 
-use bytes::Bytes;
+use byte_string::ByteString;
 use std::marker::Model;
 
 /// The id of a node: 40 hexadecimal digits, `0` to `9` and `a` to `f`.
 #[derive(Clone, Debug)]
 pub struct NodeId {
-    text: Bytes,
+    text: ByteString,
 }
 
 impl Drop for NodeId {
@@ -33,7 +33,7 @@ impl NodeId {
     pub const LEN: usize = 40;
 
     /// The id that is written so, or `None` where the text is no id.
-    pub fn new(text: Bytes) -> Option<NodeId>
+    pub fn new(text: ByteString) -> Option<NodeId>
         ensures { SomeIff result (IsTrue (is_id text)) text }
     {
         if !is_id(text.as_slice()) {
@@ -43,7 +43,7 @@ impl NodeId {
     }
 
     /// The digits, to be shared.
-    pub fn bytes(&self) -> &Bytes
+    pub fn bytes(&self) -> &ByteString
         ensures text { result.now ≡ self.now }
         ensures id { IsTrue (is_id self.now) }
     {
@@ -54,7 +54,7 @@ impl NodeId {
 /// Where clients reach a node: 1 to 255 printing ASCII characters, none of them `:`.
 #[derive(Clone, Debug)]
 pub struct Host {
-    text: Bytes,
+    text: ByteString,
 }
 
 impl Drop for Host {
@@ -79,7 +79,7 @@ impl Host {
     pub const MOST_LEN: usize = 255;
 
     /// The host that is written so, or `None` where the text is no host.
-    pub fn new(text: Bytes) -> Option<Host>
+    pub fn new(text: ByteString) -> Option<Host>
         ensures { SomeIff result (IsTrue (is_host text)) text }
     {
         if !is_host(text.as_slice()) {
@@ -97,7 +97,7 @@ impl Host {
     }
 
     /// The characters, to be shared.
-    pub fn bytes(&self) -> &Bytes
+    pub fn bytes(&self) -> &ByteString
         ensures text { result.now ≡ self.now }
         ensures host { IsTrue (is_host self.now) }
     {

@@ -1,7 +1,7 @@
 //! The members of a cluster and of its nodes, and the kinds of their values.
 use crate::json::{items_of, nodes_of, number_in};
 use crate::wrong::{Halt, Place, wrong};
-use bytes::Bytes;
+use byte_string::ByteString;
 use cluster_config::Host;
 use serde_json::Value;
 use std::alloc::{AllocError, Global};
@@ -141,6 +141,6 @@ fn check_host(alloc: Global, value: Option<&Value>, place: Place<'_>) -> Result<
 }
 
 fn is_host(alloc: Global, text: &str) -> Result<bool, AllocError> {
-    let text = Bytes::copy_from_slice(alloc, text.as_bytes())?;
+    let text = ByteString::copy_from_slice(alloc, text.as_bytes())?;
     Ok(Host::new(text).is_some())
 }

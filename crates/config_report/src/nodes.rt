@@ -1,7 +1,7 @@
 //! The nodes beside each other: their ids, their masters, how many they are, and their addresses.
 use crate::json::{nodes_of, number_of, text_of};
 use crate::wrong::{Halt, Place, wrong};
-use bytes::Bytes;
+use byte_string::ByteString;
 use cluster_config::NodeId;
 use serde_json::Value;
 use slot_table::NodeNo;
@@ -27,7 +27,7 @@ pub(crate) fn check_ids(alloc: Global, cluster: &Value) -> Result<(), Halt> {
 }
 
 fn is_id(alloc: Global, text: &str) -> Result<bool, AllocError> {
-    let text = Bytes::copy_from_slice(alloc, text.as_bytes())?;
+    let text = ByteString::copy_from_slice(alloc, text.as_bytes())?;
     Ok(NodeId::new(text).is_some())
 }
 

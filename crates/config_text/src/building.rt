@@ -8,7 +8,7 @@ ghost use Rattle.cluster_config.specs.declared.config.NodeConfig.{NodeConfig};
 
 use crate::checks::{number_of, range_from};
 use crate::form::{Draft, NodeDraft, RoleDraft};
-use bytes::Bytes;
+use byte_string::ByteString;
 use cluster_config::{Config, NodeConfig, NodeId, Role, SlotRanges};
 use key_slot::SlotRange;
 use slot_table::NodeNo;
@@ -73,7 +73,7 @@ fn ranges_of(alloc: Global, pairs: &[(i128, i128)]) -> Result<Vec<SlotRange>, Al
     pairs.iter().filter_map(range_from).collect(alloc)
 }
 
-fn voters_of(alloc: Global, nodes: &[NodeDraft], ids: &[Bytes]) -> Result<Vec<NodeNo>, AllocError>
+fn voters_of(alloc: Global, nodes: &[NodeDraft], ids: &[ByteString]) -> Result<Vec<NodeNo>, AllocError>
     requires few { length nodes.now ≤ 16 }
     requires known { All (λ id. number_of nodes.now id < length nodes.now) ids.now }
     ensures { IfOk result (λ voters. voters.items ≡ map (number_of nodes.now) ids.now) }

@@ -8,7 +8,7 @@ ghost use Rattle.config_text.specs.declared.fault.ConfigFault.TheVariants.{Memor
 
 use crate::fault::{ConfigFault, hold};
 use crate::form::{Draft, NodeDraft, RoleDraft};
-use bytes::Bytes;
+use byte_string::ByteString;
 use cluster_config::is_id;
 use key_slot::{Slot, SlotRange};
 use slot_table::NodeNo;
@@ -107,7 +107,7 @@ fn follows_master(nodes: &[NodeDraft], role: &RoleDraft) -> bool
 }
 
 /// How many nodes stand before the one that has the id; all of them, if none has it.
-pub(crate) fn number_of(nodes: &[NodeDraft], id: &Bytes) -> usize
+pub(crate) fn number_of(nodes: &[NodeDraft], id: &ByteString) -> usize
     ensures { result ≡ number_of nodes.now id.now }
 {
     let found = nodes.iter().position(|node| node.id == *id);
@@ -115,7 +115,7 @@ pub(crate) fn number_of(nodes: &[NodeDraft], id: &Bytes) -> usize
 }
 
 // Each is the id of a node, there is one, and none stands twice.
-fn are_voters(nodes: &[NodeDraft], voters: &[Bytes]) -> bool
+fn are_voters(nodes: &[NodeDraft], voters: &[ByteString]) -> bool
     ensures { result ≡ are_voters nodes.now voters.now }
 {
     voters.iter().all(|id| number_of(nodes, id) < nodes.len())

@@ -6,7 +6,7 @@ ghost use Rattle.serde_json.specs.Find.{as_str};
 ghost use Rattle.config_text.specs.Form.{IsReadAs, backlog_in, draft_in, form_at, has_all_members, has_backlog, has_members, host_in, integer_in, items_in, node_in, pair_in, role_in};
 
 use crate::fault::{ConfigFault, hold};
-use bytes::Bytes;
+use byte_string::ByteString;
 use cluster_config::Host;
 use serde_json::{Index, Number, Value};
 use std::alloc::Global;
@@ -36,13 +36,13 @@ pub(crate) struct Draft {
     pub(crate) node_timeout: i128,
     pub(crate) backlog: i128,
     pub(crate) nodes: List<NodeDraft>,
-    pub(crate) voters: List<Bytes>,
+    pub(crate) voters: List<ByteString>,
 }
 
 /// What it says of a node.
 #[derive(Drop)]
 pub(crate) struct NodeDraft {
-    pub(crate) id: Bytes,
+    pub(crate) id: ByteString,
     pub(crate) host: Host,
     pub(crate) port: i128,
     pub(crate) role: RoleDraft,
@@ -52,7 +52,7 @@ pub(crate) struct NodeDraft {
 #[derive(Drop)]
 pub(crate) enum RoleDraft {
     Slots(List<(i128, i128)>),
-    ReplicaOf(Bytes),
+    ReplicaOf(ByteString),
 }
 
 /// What is read of a JSON value, or `Syntax` where the value is of another form.
@@ -72,12 +72,12 @@ impl FromJson for i128 {
     }
 }
 
-impl FromJson for Bytes {
+impl FromJson for ByteString {
     ghost form = { as_str };
 
-    fn from_json(alloc: Global, value: &Value) -> Result<Bytes, ConfigFault> {
+    fn from_json(alloc: Global, value: &Value) -> Result<ByteString, ConfigFault> {
         let text = value.as_str().ok_or(ConfigFault::Syntax)?;
-        Ok(Bytes::copy_from_slice(alloc, text.as_bytes())?)
+        Ok(ByteString::copy_from_slice(alloc, text.as_bytes())?)
     }
 }
 
@@ -85,7 +85,7 @@ impl FromJson for Host {
     ghost form = { host_in };
 
     fn from_json(alloc: Global, value: &Value) -> Result<Host, ConfigFault> {
-        Host::new(Bytes::from_json(alloc, value)?).ok_or(ConfigFault::Syntax)
+        Host::new(ByteString::from_json(alloc, value)?).ok_or(ConfigFault::Syntax)
     }
 }
 

@@ -8,7 +8,7 @@ ghost use Rattle.std.specs.Ordering.{eq_of_both, on};
 ghost use Rattle.redirection.specs.Splitting.{IsHostAndPort, IsNoHostAndPort, IsNumber, IsNoNumber};
 
 use crate::splitting::{short_in, split_at};
-use bytes::Bytes;
+use byte_string::ByteString;
 use cluster_config::Host;
 use std::alloc::{AllocError, Global};
 use std::marker::Model;
@@ -100,7 +100,7 @@ fn copied(alloc: Global, host: &[u8], port: u16) -> Result<Option<Address>, Allo
     ensures found { IfOk result (λ found. IfSome found (λ address. address ≡ record { host = host.now; port = port })) }
     ensures none { IfOk result (λ found. IfNone found (¬ IsTrue (is_host host.now))) }
 {
-    match Host::new(Bytes::copy_from_slice(alloc, host)?) {
+    match Host::new(ByteString::copy_from_slice(alloc, host)?) {
         Some(host) => Ok(Some(Address { host, port })),
         None => Ok(None),
     }

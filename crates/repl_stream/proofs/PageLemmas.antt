@@ -74,10 +74,9 @@ parted_more most last n count old middle new slice pages page some there is befo
 pub parted_whole : (most last n : ℕ) (pages : Pages) (old middle new slice string : List ℕ) → length pages.full.items ≡ 8 → old ≡ []
     → n ≡ last - length pages.last.items → slice ≡ pages.last.items
     → middle ≡ take most (old ++ keep_last n (bytes_in (take 8 pages.full.items))) → new ≡ take most (middle ++ keep_last last slice)
-    → string ≡ take (length new) new
+    → string ≡ new
     → string ≡ take most (keep_last last (bytes_of pages))
 parted_whole most last n pages old middle new slice string eight none before same first second all =
-    all ∙ take_all (length new) new (omega arith)
-    ∙ parted most last n old middle new (bytes_in pages.full.items) slice pages.last.items before same
+    all ∙ parted most last n old middle new (bytes_in pages.full.items) slice pages.last.items before same
     (first ∙ ap (λ (t : List (Vec ℕ Global)). take most (old ++ keep_last n (bytes_in t))) (take_all 8 pages.full.items (omega arith))) second
     ∙ ap (λ (t : List ℕ). take most (t ++ keep_last last (bytes_of pages))) none

@@ -5,7 +5,6 @@ ghost use Rattle.circular_buffer.specs.Buffer.{buffer, keep_last, last_item};
 ghost use Rattle.repl_stream.specs.Pages.{bytes_in, bytes_of, IsPage, Keeps};
 
 use byte_string::ByteString;
-use bytes::BytesMut;
 use circular_buffer::HeapCircularBuffer;
 use std::alloc::{AllocError, Global};
 use std::mem;
@@ -145,17 +144,16 @@ impl Pages {
         ensures { IfOk result (λ part. part ≡ take most (keep_last count (bytes_of self.now))) }
     {
         let before = count.saturating_sub(self.last.len());
-        let mut part = BytesMut::with_capacity(alloc, most.min(count))?;
+        let mut part = Vec::with_capacity(alloc, most.min(count))?;
         append_last_pages(&mut part, &self.full, PAGES, before, most)?;
         append_last(&mut part, self.last.as_slice(), count, most)?;
-        let len = part.len();
-        ByteString::cut_from(&mut part, len)
+        ByteString::from_vec(part)
     }
 }
 
 /// Puts the last `last` bytes of the first `count` pages behind the others, of which there are at most `most` then.
 fn append_last_pages(
-    bytes: &mut BytesMut,
+    bytes: &mut Vec<u8>,
     pages: &HeapCircularBuffer<Vec<u8>>,
     count: usize,
     last: usize,
@@ -185,7 +183,7 @@ fn append_last_pages(
 
 /// Puts the last `last` bytes of a page behind the others, of which there are at most `most` then.
 fn append_last(
-    bytes: &mut BytesMut,
+    bytes: &mut Vec<u8>,
     page: &[u8],
     last: usize,
     most: usize,

@@ -3,7 +3,6 @@ ghost use Rattle.std.specs.Prelude.{◌≡◌, [], ◌<◌, IfOk, IfSome, IfNone
 ghost use Rattle.resharder.specs.Replies.{master_in, masters_in, masters_onto, place_at, with_master};
 
 use byte_string::ByteString;
-use bytes::Bytes;
 use cluster_config::Host;
 use redirection::Address;
 use resp_values::{Element, Reply};
@@ -120,7 +119,7 @@ pub fn address_at(
     let Ok(port) = u16::try_from(port) else {
         return Ok(None);
     };
-    let Some(host) = Host::new(Bytes::copy_from_slice(alloc, host.as_slice())?) else {
+    let Some(host) = Host::new(host.clone()?) else {
         return Ok(None);
     };
     Ok(Address::new(host, port))

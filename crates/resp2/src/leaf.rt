@@ -10,7 +10,7 @@ ghost use Rattle.resp2.specs.Answers.{IfOkSome, OnOkNone};
 use crate::bulk::{is_whole, make_room};
 use crate::reply_reader::MOST_COUNT;
 use byte_string::ByteString;
-use bytes::{Bytes, BytesMut};
+use bytes::BytesMut;
 use resp_header::{Bounds, Fault, read_header};
 use resp_values::{Element, Line, is_text_byte};
 
@@ -112,7 +112,7 @@ fn take_line(input: &mut BytesMut, begun: &mut Begun) -> Result<Option<Line>, Fa
     if !is_whole(input.as_slice(), end)? {
         return Ok(None);
     }
-    let text = Bytes::copy_from_slice(*input.allocator(), &input.as_slice()[1..end])?;
+    let text = ByteString::copy_from_slice(*input.allocator(), &input.as_slice()[1..end])?;
     input.advance(end + 2);
     *begun = Begun::nothing();
     Ok(Some(Line::of(text)))
@@ -277,7 +277,7 @@ fn take_bytes(input: &mut BytesMut, begun: &mut Begun, len: usize) -> Result<Opt
         make_room(input, len.min(MOST_ROOM));
         return Ok(None);
     }
-    let bytes = ByteString::cut_from(input, len)?;
+    let bytes = take_front(input, len)?;
     input.advance(2);
     *begun = Begun::nothing();
     Ok(Some(Element::Bulk(bytes)))

@@ -6,7 +6,7 @@ ghost use Rattle.resp2.specs.Reading.{body_at, word_at, reading_words};
 ghost use Rattle.resp2.specs.Progress.{TakesWord, TakesAll, HasLen, IsPartial, word_front, partial_onto, FailsFor, SameFront, word_ahead};
 ghost use Rattle.resp2.specs.Answers.{IfOkSome, OnOkNone, OnOkTrue, OnOkFalse};
 
-use crate::bulk::{is_whole, make_room};
+use crate::bulk::{is_whole, make_room, take_front};
 use byte_string::ByteString;
 use bytes::BytesMut;
 use resp_header::{Bounds, Fault, read_header};
@@ -205,7 +205,7 @@ fn take_body(
         make_room(input, known);
         return Ok(false);
     }
-    let word = ByteString::cut_from(input, known)?;
+    let word = take_front(input, known)?;
     words.push_reserved(word);
     input.advance(2);
     *len = None;

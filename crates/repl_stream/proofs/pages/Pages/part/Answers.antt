@@ -8,10 +8,10 @@ use Rattle.repl_stream.proofs.pages.Pages.part.Goals as goal
 pub returns : goal.returns
 returns c =
     let all : List ℕ = c.append_last.new.bytes.items in
-    IfOk-weaker c.cut_from.result (λ (string : List ℕ). string ≡ take c.len-len.result all)
+    IfOk-weaker c.from_vec.result (λ (string : List ℕ). string ≡ all)
     (λ (string : List ℕ). string ≡ take c.args.most (keep_last c.args.count (bytes_of c.args.self.now)))
     (λ string is. parted_whole c.args.most c.args.count c.saturating_sub-before.result c.args.self.now c.in_ok-part.part.items
     c.append_last_pages.new.bytes.items all c.as_slice.result.now string c.requires c.in_ok-part.ensures.items
     (omega arith) c.as_slice.ensures.value c.in_ok-append_last_pages.ensures.ok c.in_ok-append_last.ensures
-    (is ∙ ap (λ (n : ℕ). take n all) c.len-len.ensures.value))
-    c.cut_from.ensures.front
+    is)
+    c.from_vec.ensures
