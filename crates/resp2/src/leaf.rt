@@ -7,7 +7,7 @@ ghost use Rattle.resp2.specs.ReplyProgress.{GivesInteger, TakesElement, IsBegun,
 ghost use Rattle.resp2.specs.ReplyReading.{leaf_at, text_at, bytes_of, number_element_at, bulk_or_null_at, null_at, integer_at};
 ghost use Rattle.resp2.specs.Answers.{IfOkSome, OnOkNone};
 
-use crate::bulk::{is_whole, make_room};
+use crate::bulk::{is_whole, make_room, take_front};
 use crate::reply_reader::MOST_COUNT;
 use byte_string::ByteString;
 use bytes::BytesMut;
