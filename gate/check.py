@@ -16,7 +16,7 @@ from processes import end_in_order, started
 from processor_time import EDITS, PROOF, ProcessorTime, ended_seconds
 from quick_check import BUILD, build_programs, is_run_right, run_side_by_side, say_of_script
 from report import Progress, known_seconds
-from sources import PROGRAM, ROOT, SPARING_CI, TRIALS, crate_names, note_built, program_of, unproved_program
+from sources import PROGRAM, ROOT, TRIALS, WHOLE_CI, crate_names, note_built, program_of, unproved_program
 from wrong import try_wrong_bodies
 
 # The test scripts, each with the program that it runs, if it runs one, and the words before that.
@@ -92,7 +92,8 @@ def pass_crates(words):
     """Passes the kit's gate. Returns how much passed and how much failed."""
     try:
         running = kit.version()
-        gate = ["rt", "ci", *words] if kit.keeps_what_passed() else [sys.executable, "-B", SPARING_CI]
+        # A kit that keeps nothing proves everything again in any case, and may not know the word.
+        gate = [sys.executable, "-B", WHOLE_CI, *(words if kit.keeps_what_passed() else [])]
     except kit.NoKit as error:
         print(error, file=sys.stderr)
         return 0, 1
@@ -103,7 +104,7 @@ def pass_crates(words):
     taken = ProcessorTime()
     taken.start()
     report = Progress(proofs, edits, kit.warning(running), taken.spent)
-    how = {"stdout": subprocess.PIPE, "stderr": subprocess.STDOUT, "text": True, "errors": "replace", "env": kit.environment()}
+    how = {"stdout": subprocess.PIPE, "stderr": subprocess.STDOUT, "text": True, "errors": "replace"}
     with started(gate, **how) as run, open(LOG, "w", encoding="utf-8") as log:
         for line in run.stdout:
             log.write(line)

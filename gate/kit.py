@@ -7,7 +7,7 @@ import subprocess
 HERE = os.path.dirname(os.path.abspath(__file__))
 # A line a version, as `rt version` prints it.
 VERSIONS = os.path.join(HERE, "KITS")
-# No check of a crate here takes more memory, in bytes. The kit reckons with up to twice as much, and would leave processors idle.
+# No check of a crate here takes more memory, in bytes.
 CHECK_MEMORY = 5 << 30
 
 
@@ -39,10 +39,10 @@ def keeps_what_passed():
     return "--anew" in asked.stdout
 
 
-def environment():
-    """Returns the environment for the kit's gate: as many checks at once as there are processors and memory for, where nobody has set that."""
+def checks_at_once():
+    """Returns how many checks may run at once: as many as there are processors and memory for, or what RT_JOBS says."""
     jobs = min(len(os.sched_getaffinity(0)), free_memory() // CHECK_MEMORY)
-    return {"RT_JOBS": str(max(jobs, 1)), **os.environ}
+    return int(os.environ.get("RT_JOBS", max(jobs, 1)))
 
 
 def free_memory():

@@ -30,7 +30,7 @@ def main(names):
     os.chdir(ROOT)
     try:
         rt = kit_command.load()
-        at_once = int(kit.environment()["RT_JOBS"])
+        at_once = kit.checks_at_once()
     except kit.NoKit as error:
         print(error, file=sys.stderr)
         return 2

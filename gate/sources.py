@@ -11,6 +11,7 @@ PROGRAM = "rcluster"
 # The program that plays the trials. It is a test: no crate of the repository, and not proved.
 TRIALS = "trials"
 SPARING_CI = os.path.join(ROOT, "gate", "sparing_ci.py")
+WHOLE_CI = os.path.join(ROOT, "gate", "whole_ci.py")
 JOINT_CI = os.path.join(ROOT, "gate", "joint_ci.py")
 PARTS = ("src", "specs", "proofs")
 CRATES = "crates.txt"
