@@ -53,7 +53,7 @@ pub struct NodeConfig {
 }
 
 /// A cluster: its nodes by their numbers, who votes, its times, and how much of its stream a node keeps.
-#[derive(Debug, Drop)]
+#[derive(Debug)]
 pub struct Config {
     tick_ms: u32,
     node_timeout: u32,
@@ -82,6 +82,18 @@ impl Model for Config {
       nodes = config.nodes.items;
       voters = config.voters.items;
     }) };
+}
+
+impl Drop for Config {
+    fn drop(self) {
+        let Config {
+            tick_ms: _,
+            node_timeout: _,
+            backlog: _,
+            nodes: _,
+            voters: _,
+        } = self;
+    }
 }
 
 impl Config {

@@ -10,7 +10,6 @@ use std::marker::Model;
 use std::sync::Wait;
 
 /// A node's ends of its links with all nodes, itself among them, by their numbers.
-#[derive(Drop)]
 pub struct NodeEnds<T, R: Wait> {
     ends: Vec<LinkEnd<T, R>>,
 }
@@ -22,6 +21,12 @@ impl<T, R: Wait> Model for NodeEnds<T, R> {
     ghost Value = { List (EndView T) };
 
     ghost view = { λ ends. ends.ends.items };
+}
+
+impl<T: Drop, R: Wait + Drop> Drop for NodeEnds<T, R> {
+    fn drop(self) {
+        let NodeEnds { ends: _ } = self;
+    }
 }
 
 impl<T: Drop, R: Wait + Drop> NodeEnds<T, R> {

@@ -14,7 +14,6 @@ use std::marker::Model;
 use std::sync::Wait;
 
 /// A node's ends of its links with all nodes, itself among them, by their numbers: plain ones, or such with a bad network in front of them.
-#[derive(Drop)]
 pub struct PortEnds<E: PortEnd> {
     ends: Vec<E>,
 }
@@ -26,6 +25,12 @@ impl<E: PortEnd> Model for PortEnds<E> {
     ghost Value = { List (EndView E.Carried) };
 
     ghost view = { λ ends. map (λ end. (E.giving end).end) ends.ends.items };
+}
+
+impl<E: PortEnd> Drop for PortEnds<E> {
+    fn drop(self) {
+        let PortEnds { ends: _ } = self;
+    }
 }
 
 impl<E: PortEnd> PortEnds<E> {

@@ -10,7 +10,6 @@ use std::snapshot::Snapshot;
 /// A step that a cell of this cluster made and entered. Only [`Asks`](crate::Asks) and [`deliver`](crate::NodeCell::deliver) make one.
 ///
 /// Clauses also see the event and all that came out. The program keeps the ticket and the response here.
-#[derive(Drop)]
 pub struct Entered<K: Deployment> {
     ticket: u64,
     response: Response,
@@ -31,6 +30,18 @@ impl<K: Deployment> Model for Entered<K> {
     ghost invariant = { λ entered.
         (entered.ticket ≡ entered.outputs.value.ticket)
         × (entered.response ≡ entered.outputs.value.response) };
+}
+
+impl<K: Deployment> Drop for Entered<K> {
+    fn drop(self) {
+        let Entered {
+            ticket: _,
+            response: _,
+            event: _,
+            outputs: _,
+            cluster: _,
+        } = self;
+    }
 }
 
 impl<K: Deployment> Entered<K> {

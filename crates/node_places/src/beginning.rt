@@ -8,7 +8,7 @@ use cluster_config::Config;
 use link_ends::{PortEnd, PortEnds};
 use links::{Station, Web};
 use node_cell::{Deployment, Log, NodeCell, Posted};
-use shared_cluster::Node;
+use shared_node::Node;
 use slot_table::NodeNo;
 use std::alloc::{AllocError, Global};
 use tickets::Seat;

@@ -5,7 +5,7 @@ ghost use Rattle.std.specs.List.{range_with_len};
 use link_ends::PortEnd;
 use links::{Station, Web};
 use node_cell::{Deployment, HoldsCell, Log, Posted};
-use shared_cluster::Node;
+use shared_node::Node;
 use std::alloc::{AllocError, Global};
 
 /// Why the stations of nodes that were served don't come back.

@@ -14,7 +14,7 @@ use std::alloc::{AllocError, Global};
 use std::marker::Model;
 
 /// Where clients reach a node: a host, and a port from 1 on.
-#[derive(Debug, Drop)]
+#[derive(Debug)]
 pub struct Address {
     host: Host,
     port: u16,
@@ -29,6 +29,15 @@ impl Model for Address {
     ghost view = { λ address. record { host = address.host; port = address.port } };
 
     ghost invariant = { λ address. 1 ≤ address.port };
+}
+
+impl Drop for Address {
+    fn drop(self) {
+        let Address {
+            host: _,
+            port: _,
+        } = self;
+    }
 }
 
 impl Address {

@@ -4,7 +4,6 @@
 mod arrivals;
 mod carrying;
 mod changes;
-mod node;
 mod seeing_gate;
 mod shared;
 mod status;
@@ -14,8 +13,8 @@ pub use cluster_controls::{
     Clients, Heard, Hearing, Incident, NodeStatus, NodeStop, Orders, Refused, Runtime, Shortage,
     Spares, Stop, Witness, most_ticks,
 };
-pub use node::Node;
 pub use node_cell::HasLinks;
 pub use seeing_gate::{Mail, SeeingGate};
 pub use shared::SharedCluster;
+pub use shared_node::Node;
 pub use status::ClusterStatus;

@@ -1,13 +1,12 @@
 //! A cluster that is served.
 
-use crate::node::Node;
 use cluster_controls::{Clients, Stop, Witness};
 use node_cell::HoldsCell;
+use shared_node::Node;
 use std::alloc::Global;
 use std::sync::Arc;
 
 /// A cluster that is served, as all of its threads share it.
-#[derive(Drop)]
 pub struct SharedCluster<C: HoldsCell> {
     /// The nodes, by their numbers.
     pub nodes: Vec<Node<C>>,
@@ -15,6 +14,16 @@ pub struct SharedCluster<C: HoldsCell> {
     pub clients: Arc<Clients, Global>,
     /// Whether the cluster ends.
     pub stop: Stop,
+}
+
+impl<C: HoldsCell + Drop> Drop for SharedCluster<C> {
+    fn drop(self) {
+        let SharedCluster {
+            nodes: _,
+            clients: _,
+            stop: _,
+        } = self;
+    }
 }
 
 impl<C: HoldsCell> SharedCluster<C> {

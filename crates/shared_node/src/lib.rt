@@ -2,7 +2,9 @@
 #![tactic(auto)]
 
 mod gate;
+mod node;
 mod shared;
 
 pub use gate::Gate;
+pub use node::Node;
 pub use shared::SharedNode;

@@ -1,7 +1,7 @@
 //! A node of a cluster that is served.
 
+use crate::shared::SharedNode;
 use node_cell::HoldsCell;
-use shared_node::SharedNode;
 use slot_table::NodeNo;
 use std::io;
 use std::net::{Net, SocketAddr, TcpListener, TcpStream};
@@ -14,7 +14,6 @@ use std::time::Duration;
 const WAKING: u64 = 100;
 
 /// A node whose cell is in a `C`, and where its clients connect.
-#[derive(Drop)]
 pub struct Node<C: HoldsCell> {
     /// The node behind its lock.
     pub shared: SharedNode<C>,
@@ -24,6 +23,17 @@ pub struct Node<C: HoldsCell> {
     pub address: Option<SocketAddr>,
     // The node whose messages are taken first the next time.
     first_sender: AtomicU64,
+}
+
+impl<C: HoldsCell + Drop> Drop for Node<C> {
+    fn drop(self) {
+        let Node {
+            shared: _,
+            listener: _,
+            address: _,
+            first_sender: _,
+        } = self;
+    }
 }
 
 impl<C: HoldsCell + Drop> Node<C> {
@@ -43,12 +53,13 @@ impl<C: HoldsCell + Drop> Node<C> {
         self.shared.into_cell()
     }
 
-    // The number of the node whose messages are taken first. It may be greater than that of the last node.
-    pub(crate) fn first_sender(&self) -> usize {
+    /// The number of the node whose messages are taken first. It may be greater than that of the last node.
+    pub fn first_sender(&self) -> usize {
         self.first_sender.load(Ordering::Relaxed) as usize % NodeNo::COUNT
     }
 
-    pub(crate) fn note_first_sender(&self, number: usize) {
+    /// Notes whose messages are taken first the next time.
+    pub fn note_first_sender(&self, number: usize) {
         self.first_sender.store(number as u64, Ordering::Relaxed);
     }
 
