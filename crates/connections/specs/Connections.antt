@@ -1,6 +1,7 @@
 -- The connections of a node's clients (ours).
-use Rattle.std.specs.Prelude.{◌≡◌, ◌≢◌, ◌+◌, ◌-◌, ◌^◌, ◌==◌, ℕ, List, [], ◌∷◌, Option, Some, None, Bool, false, count_by, length, map, max, is_none, is_some, slice_index_or, slice_set, if◌then◌else◌}
+use Rattle.std.specs.Prelude.{◌≡◌, ◌≢◌, ◌+◌, ◌-◌, ◌^◌, ◌==◌, ℕ, List, [], ◌∷◌, Option, Some, None, Bool, false, count_by, length, map, max, is_none, is_some, slice_index_or, slice_set, if◌then◌else◌, true}
 use Rattle.redirect.specs.declared.asked.Asking.TheVariants.{No}
+use Rattle.redirect.specs.declared.asked.Asking.{Asking}
 use Rattle.connections.specs.declared.conn.Conn.{Conn}
 use Rattle.connections.specs.declared.conn.Connection.{Connection}
 use Rattle.connections.specs.declared.conn.Wait.{Wait}
@@ -73,6 +74,18 @@ updated table key change (Some connection) = with_connection table key (change c
 
 abbrev pub with_change : ConnectionTable → Conn → (Connection → Connection) → ConnectionTable
 with_change table conn change = updated table conn.key change (connection_at table conn)
+
+-- the connection, whose next request has this asking
+abbrev pub connection_asking : Asking → Connection → Connection
+connection_asking asking connection = record connection { asking = asking }
+
+-- the connection, whose ASK lines name the move
+abbrev pub connection_numbered : Connection → Connection
+connection_numbered connection = record connection { numbered = true }
+
+-- the connection, which waits so
+abbrev pub connection_waiting : Wait → Connection → Connection
+connection_waiting wait connection = record connection { waits = Some wait }
 
 -- ---- connections that wait
 

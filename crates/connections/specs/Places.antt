@@ -29,3 +29,7 @@ pub record Fills (old new : List (Option Connection)) (key : ℕ) (connection : 
   pub others : (other : ℕ) → other ≢ key → slice_index_or new other None ≡ slice_index_or old other None
   pub len : length new ≡ max (length old) (key + 1)
   pub places : length new ≡ max (length old) (count_by is_some new)
+
+-- the places, of which the one at the key is changed so
+abbrev pub with_place : (Option Connection → Option Connection) → List (Option Connection) → ℕ → List (Option Connection)
+with_place change slots key = slice_set slots key (change (slice_index_or slots key None))

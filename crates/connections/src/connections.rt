@@ -1,10 +1,10 @@
 //! The connections of a node's clients.
-ghost use Rattle.std.specs.Prelude.{◌≡◌, ◌≢◌, ◌+◌, ◌-◌, ◌^◌, ◌<◌, ◌≤◌, ℕ, max, [], Some, true, is_some, IsSome, slice_index_or, vec_capacity, vec_len, MatchBool, IfOk, IfErr, OnOk, OnErr};
-ghost use Rattle.connections.specs.Connections.{connection_at, open_at, Opens, Closes, IsUsedUp, may_ask, with_change, with_connection, waiting, all_freed, all_aged};
+ghost use Rattle.std.specs.Prelude.{◌≡◌, ◌+◌, ◌<◌, ◌≤◌, max, [], is_some, IsSome, slice_index_or, vec_capacity, vec_len, MatchBool, IfOk, OnErr};
+ghost use Rattle.connections.specs.Connections.{connection_at, open_at, Opens, Closes, IsUsedUp, may_ask, with_change, with_connection, waiting, all_freed, all_aged, connection_asking, connection_numbered, connection_waiting};
 ghost use Rattle.connections.specs.Waiting.{test_of};
-ghost use Rattle.connections.specs.declared.conn.Connection.{Connection};
+ghost use Rattle.connections.specs.Counting.{KeepsOthers};
 ghost use Rattle.redirect.specs.declared.asked.Asking.TheVariants.{No};
-ghost use Rattle.step_fault.specs.declared.fault.StepFault.TheVariants.{Memory, Exhausted};
+ghost use Rattle.step_fault.specs.declared.fault.StepFault.TheVariants.{Exhausted};
 
 use crate::conn::{Conn, Connection, Wait};
 use crate::places::Places;
@@ -107,14 +107,14 @@ impl Connections {
 
     /// The next request of the connection has no ASKING before it. It takes no memory.
     pub fn use_up(&mut self, conn: Conn)
-        ensures { self.new ≡ with_change self.old conn (λ (connection : Connection). record connection { asking = No }) }
+        ensures { self.new ≡ with_change self.old conn (connection_asking No) }
     {
         self.allow(conn, Asking::No);
     }
 
     /// The next request of the connection has this ASKING before it. It takes no memory.
     pub fn allow(&mut self, conn: Conn, asking: Asking)
-        ensures { self.new ≡ with_change self.old conn (λ (connection : Connection). record connection { asking = asking }) }
+        ensures { self.new ≡ with_change self.old conn (connection_asking asking) }
     {
         if let Some(asker) = self.get(conn) {
             self.put(conn.key, Connection { asking, ..asker });
@@ -123,7 +123,7 @@ impl Connections {
 
     /// The ASK lines of the connection end with the number of the move from now on. It takes no memory.
     pub fn number(&mut self, conn: Conn)
-        ensures { self.new ≡ with_change self.old conn (λ (connection : Connection). record connection { numbered = true }) }
+        ensures { self.new ≡ with_change self.old conn connection_numbered }
     {
         if let Some(connection) = self.get(conn) {
             self.put(
@@ -138,7 +138,7 @@ impl Connections {
 
     /// The connection waits for this. It takes no memory.
     pub fn park(&mut self, conn: Conn, wait: Wait)
-        ensures { self.new ≡ with_change self.old conn (λ (connection : Connection). record connection { waits = Some wait }) }
+        ensures { self.new ≡ with_change self.old conn (connection_waiting wait) }
     {
         if let Some(connection) = self.get(conn) {
             self.put(
@@ -207,7 +207,7 @@ fn set_count(counts: &mut Vec<u64>, key: usize, count: u64)
     requires next { key ≤ vec_len counts.old }
     requires room { vec_len counts.old < vec_capacity counts.old }
     ensures set { slice_index_or counts.new.items key 0 ≡ count }
-    ensures others { (other : ℕ) → other ≢ key → slice_index_or counts.new.items other 0 ≡ slice_index_or counts.old.items other 0 }
+    ensures others { KeepsOthers key counts.old.items counts.new.items }
     ensures len { vec_len counts.new ≡ max (vec_len counts.old) (key + 1) }
 {
     if key == counts.len() {

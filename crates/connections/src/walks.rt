@@ -1,8 +1,9 @@
 //! Walks over all connections that are open.
-ghost use Rattle.std.specs.Prelude.{◌≡◌, ◌+◌, None, map, slice_index_or, slice_set, IfOk};
+ghost use Rattle.std.specs.Prelude.{◌≡◌, ◌+◌, None, map, slice_index_or, IfOk};
 ghost use Rattle.connections.specs.Connections.{aged, freed, is_waiting, shortened, waiting_from};
 ghost use Rattle.connections.specs.Counting.{count_of_waits};
 ghost use Rattle.connections.specs.Waiting.{test_of};
+ghost use Rattle.connections.specs.Places.{with_place};
 
 use crate::conn::{Conn, Connection, Wait};
 use crate::places::Places;
@@ -49,7 +50,7 @@ pub(crate) fn free_in(places: &mut Places, which: &Waiting) -> usize
 // Lets the connection with that key wait no more, if it is meant, and says whether it was.
 fn free_at(places: &mut Places, key: usize, which: &Waiting) -> bool
     ensures meant { result ≡ is_waiting (test_of which.now) (slice_index_or places.old.slots key None) }
-    ensures freed { places.new.slots ≡ slice_set places.old.slots key (freed (test_of which.now) (slice_index_or places.old.slots key None)) }
+    ensures freed { places.new.slots ≡ with_place (freed (test_of which.now)) places.old.slots key }
 {
     let Some(connection) = places.get(key).copied() else {
         return false;
@@ -78,7 +79,7 @@ pub(crate) fn age_in(places: &mut Places)
 
 // Takes a tick from the wait of the connection with that key.
 fn age_at(places: &mut Places, key: usize)
-    ensures { places.new.slots ≡ slice_set places.old.slots key (aged (slice_index_or places.old.slots key None)) }
+    ensures { places.new.slots ≡ with_place aged places.old.slots key }
 {
     if let Some(connection) = places.get(key).copied() {
         places.put(

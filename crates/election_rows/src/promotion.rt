@@ -1,12 +1,10 @@
 //! A replica takes the place of its master.
-ghost use Rattle.std.specs.Prelude.{◌≡◌, IfOk, OnOk, Some, false, length, map, true};
+ghost use Rattle.std.specs.Prelude.{◌≡◌, IfOk, OnOk, Some, length, map};
 ghost use Rattle.node_parts.specs.Drafts.{HasNothing, Promotes};
-ghost use Rattle.node_parts.specs.Succession.{replacement};
-ghost use Rattle.node_step.specs.Orders.{others, to_all};
-ghost use Rattle.node_step.specs.Promotion.{entry_after, promotion, promotion_to, table_handed, table_of_master};
+ghost use Rattle.node_parts.specs.Succession.{replacement, planned_promotion, promotion_of};
+ghost use Rattle.node_parts.specs.Telling.{claims_by};
+ghost use Rattle.node_step.specs.Promotion.{entry_after, promotion, table_handed, table_of_master};
 ghost use Rattle.slot_table.specs.Claims.{is_above};
-ghost use Rattle.slot_table.specs.Runs.{runs_of};
-ghost use Rattle.slot_table.specs.Table.{claim_at};
 
 use bus::{Body, Replaced, SlotsBody};
 use key_slot::Slot;
@@ -46,7 +44,8 @@ pub fn promote_by_plan<S: SlotParts, T: Stream>(
     draft: &mut Draft,
 ) -> Result<(), AllocError>
     requires { HasNothing node.now draft.old }
-    ensures { OnOk result (Promotes node.now (promotion_to node.now master epoch true (table_handed node.now slots.now epoch)) draft.new) }
+    ensures { OnOk result (Promotes node.now
+        (planned_promotion node.now master epoch slots.now) draft.new) }
 {
     let succession = Succession {
         table: table_handed(node, slots, epoch)?,
@@ -64,7 +63,7 @@ fn promote_by<S: SlotParts, T: Stream>(
     draft: &mut Draft,
 ) -> Result<(), AllocError>
     requires { HasNothing node.now draft.old }
-    ensures { OnOk result (Promotes node.now (promotion_to node.now succession.master succession.epoch succession.planned succession.table) draft.new) }
+    ensures { OnOk result (Promotes node.now (promotion_of node.now succession) draft.new) }
 {
     let replaced = replaced(node, succession.master, succession.epoch);
     let bodies = claims(node, &succession.table, replaced)?;
@@ -78,7 +77,7 @@ fn claims<S: SlotParts, T: Stream>(
     table: &SlotTable,
     replaced: Replaced,
 ) -> Result<Vec<(NodeNo, Body)>, AllocError>
-    ensures { IfOk result (λ bodies. bodies.items ≡ to_all (others node.now) (Body.Slots (SlotsBody.Claim (runs_of (claim_at table.now node.now.number)) (Some replaced)))) }
+    ensures { IfOk result (λ bodies. bodies.items ≡ claims_by node.now table.now replaced) }
 {
     let claim = table.claim_of(node.alloc, node.number)?;
     let claim = Body::Slots(SlotsBody::Claim(claim, Some(replaced)));

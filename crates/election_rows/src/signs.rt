@@ -2,8 +2,8 @@
 ghost use Rattle.std.specs.Prelude.{◌≡◌, ◌++◌, IfOk, OnOk};
 ghost use Rattle.election.specs.Failing.{suspected};
 ghost use Rattle.node_step.specs.Failing.{members_of};
-ghost use Rattle.node_step.specs.Orders.{claim_of, others, to_all};
 ghost use Rattle.node_step.specs.Ticks.{signs};
+ghost use Rattle.node_parts.specs.Telling.{claims_of, own_claim, reports_of};
 
 use bus::{Body, SlotsBody, Suspects};
 use node_parts::NodeParts;
@@ -30,7 +30,7 @@ fn append_claims<S: SlotParts, T: Stream>(
     node: &NodeParts<S, T>,
     bodies: &mut Vec<(NodeNo, Body)>,
 ) -> Result<(), AllocError>
-    ensures { OnOk result (bodies.new.items ≡ bodies.old.items ++ to_all (others node.now) (Body.Slots (SlotsBody.Claim (claim_of node.now) node.now.replaced))) }
+    ensures { OnOk result (bodies.new.items ≡ bodies.old.items ++ claims_of node.now) }
 {
     let claim = claim(node)?;
     node.append_to_others(&claim, bodies)?;
@@ -42,7 +42,7 @@ fn append_reports<S: SlotParts, T: Stream>(
     node: &NodeParts<S, T>,
     bodies: &mut Vec<(NodeNo, Body)>,
 ) -> Result<(), AllocError>
-    ensures { OnOk result (bodies.new.items ≡ bodies.old.items ++ to_all (others node.now) (Body.Report (suspected node.now.health (members_of node.now)))) }
+    ensures { OnOk result (bodies.new.items ≡ bodies.old.items ++ reports_of node.now) }
 {
     let report = report(node);
     node.append_to_others(&report, bodies)?;
@@ -51,7 +51,7 @@ fn append_reports<S: SlotParts, T: Stream>(
 
 // The slots of the node, and whose place it took.
 fn claim<S: SlotParts, T: Stream>(node: &NodeParts<S, T>) -> Result<Body, AllocError>
-    ensures { IfOk result (λ body. body ≡ Body.Slots (SlotsBody.Claim (claim_of node.now) node.now.replaced)) }
+    ensures { IfOk result (λ body. body ≡ own_claim node.now) }
 {
     let claim = node.table.claim_of(node.alloc, node.number)?;
     Ok(Body::Slots(SlotsBody::Claim(claim, node.election.replaced)))

@@ -2,11 +2,10 @@
 ghost use Rattle.std.specs.Prelude.{◌≡◌, ◌++◌, IfOk, OnOk};
 ghost use Rattle.election.specs.Members.{is_voter};
 ghost use Rattle.node_parts.specs.Drafts.{Drafts, HasNothing};
+ghost use Rattle.node_parts.specs.Telling.{telling, vote_requests};
 ghost use Rattle.node_step.specs.Failing.{members_of};
 ghost use Rattle.node_step.specs.Orders.{to_all};
-ghost use Rattle.node_step.specs.Outcome.{silent};
-ghost use Rattle.node_step.specs.State.{own_master};
-ghost use Rattle.node_step.specs.Voting.{grant_to, requests_in, voters_of};
+ghost use Rattle.node_step.specs.Voting.{grant_to, voters_of};
 
 use bus::{Body, Candidacy, ElectionBody};
 use election::VoteRequest;
@@ -23,7 +22,7 @@ pub fn append_requests<S: SlotParts, T: Stream>(
     epoch: Option<Epoch>,
     bodies: &mut Vec<(NodeNo, Body)>,
 ) -> Result<(), AllocError>
-    ensures { OnOk result (bodies.new.items ≡ bodies.old.items ++ requests_in node.now epoch (own_master node.now)) }
+    ensures { OnOk result (bodies.new.items ≡ bodies.old.items ++ vote_requests node.now epoch) }
 {
     let Some(epoch) = epoch else {
         return Ok(());
@@ -71,7 +70,7 @@ pub fn write_vote<S: SlotParts, T: Stream>(
     draft: &mut Draft,
 ) -> Result<(), AllocError>
     requires { HasNothing node.now draft.old }
-    ensures { OnOk result (Drafts node.now (record (silent node.now) { sent = grant_to request granted }) draft.new) }
+    ensures { OnOk result (Drafts node.now (telling node.now (grant_to request granted)) draft.new) }
 {
     let bodies = grant_to(node.alloc, request, granted)?;
     node.draft_releases(draft, Releases::new(), bodies, Change::Nothing);

@@ -1,9 +1,7 @@
 //! A replica asks its master to hand over.
 ghost use Rattle.std.specs.Prelude.{◌≡◌, ◌++◌, OnOk};
 ghost use Rattle.node_parts.specs.Drafts.{Drafts, HasNothing};
-ghost use Rattle.node_step.specs.Handovers.{asked_again, failover};
-ghost use Rattle.node_step.specs.Requests.{using_up};
-ghost use Rattle.node_step.specs.State.{own_master};
+ghost use Rattle.node_parts.specs.Telling.{failover_on, pause_again};
 
 use bus::{Body, ElectionBody};
 use command_table::ErrorLine;
@@ -22,7 +20,7 @@ pub fn ask_master<S: SlotParts, T: Stream>(
     draft: &mut Draft,
 ) -> Result<(), AllocError>
     requires { HasNothing node.now draft.old }
-    ensures { OnOk result (Drafts node.now (failover (using_up node.now conn) (own_master node.now)) draft.new) }
+    ensures { OnOk result (Drafts node.now (failover_on node.now conn) draft.new) }
 {
     let Some(master) = node.own_master() else {
         node.tell(draft, conn, Why::TakesOver, ErrorLine::NotReplica.reply());
@@ -40,7 +38,7 @@ pub fn append_pause<S: SlotParts, T: Stream>(
     node: &NodeParts<S, T>,
     bodies: &mut Vec<(NodeNo, Body)>,
 ) -> Result<(), AllocError>
-    ensures { OnOk result (bodies.new.items ≡ bodies.old.items ++ asked_again node.now.handover.asked node.now.stream.held.id (own_master node.now)) }
+    ensures { OnOk result (bodies.new.items ≡ bodies.old.items ++ pause_again node.now) }
 {
     if !node.asks_master {
         return Ok(());

@@ -1,8 +1,8 @@
 //! A master hands its slots over to a replica.
 ghost use Rattle.std.specs.Prelude.{◌≡◌, ◌++◌, IfOk, OnOk};
 ghost use Rattle.node_parts.specs.Drafts.{Drafts, HasNothing, bodies_of};
-ghost use Rattle.node_step.specs.Handovers.{asked_to_pause, handed_again, handed_to, handing_of, is_free_for, may_pause};
-ghost use Rattle.node_step.specs.Orders.{claim_of};
+ghost use Rattle.node_parts.specs.Telling.{paused_again};
+ghost use Rattle.node_step.specs.Handovers.{asked_to_pause, handed_to, handing_of, is_free_for, may_pause};
 
 use bus::{Body, ElectionBody, Handing};
 use node_parts::{Change, Draft, NodeParts, listed};
@@ -78,7 +78,7 @@ pub fn append_paused<S: SlotParts, T: Stream>(
     node: &NodeParts<S, T>,
     bodies: &mut Vec<(NodeNo, Body)>,
 ) -> Result<(), AllocError>
-    ensures { OnOk result (bodies.new.items ≡ bodies.old.items ++ handed_again node.now node.now.paused (claim_of node.now)) }
+    ensures { OnOk result (bodies.new.items ≡ bodies.old.items ++ paused_again node.now) }
 {
     let Some(replica) = node.paused else {
         return Ok(());

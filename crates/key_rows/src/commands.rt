@@ -7,10 +7,7 @@ ghost use Rattle.keyspace.specs.Keyspace.{Keyspace};
 ghost use Rattle.keyspace.specs.Plan.{committed};
 ghost use Rattle.node_parts.specs.Drafts.{Drafts, HasNothing, bodies_of};
 ghost use Rattle.key_rows.specs.Places.{IsPlaceOf, drained_at};
-ghost use Rattle.key_rows.specs.Serving.{served_change};
-ghost use Rattle.node_step.specs.Commands.{command_outcome, decision_on, drained_by_command, executed, served};
-ghost use Rattle.node_step.specs.Requests.{using_up};
-ghost use Rattle.slot_store.specs.InSlot.{IsCommittedInSlot};
+ghost use Rattle.key_rows.specs.Serving.{served_change, Executes, answer_on, drained_by_executing, served_on};
 
 use crate::decisions::{decision, refusal};
 use bus::Body;
@@ -38,8 +35,7 @@ pub fn answer_on_keys<S: SlotParts, T: Stream>(
     requires nothing { HasNothing node.now draft.old }
     requires plan { (keyspace : Keyspace) → committed keyspace draft.old.plan ≡ keyspace }
     ensures { OnOk result
-        (Drafts node.now (command_outcome (using_up node.now conn) connection.numbered command.now
-        (decision_on node.now command.now connection.asking)) draft.new) }
+        (Drafts node.now (answer_on node.now conn connection command.now) draft.new) }
 {
     let (decision, slot) = decision(node, command, connection.asking)?;
     if decision.is_served() {
@@ -63,7 +59,7 @@ fn serve<S: SlotParts, T: Stream>(
     requires nothing { HasNothing node.now draft.old }
     requires plan { (keyspace : Keyspace) → committed keyspace draft.old.plan ≡ keyspace }
     ensures { OnOk result
-        (Drafts node.now (served (using_up node.now conn) command.now decision) draft.new) }
+        (Drafts node.now (served_on node.now conn command.now decision) draft.new) }
 {
     let place = place_of(&slot);
     let (reply, bodies) = execute(node, slot, place, command, &mut draft.plan)?;
@@ -85,10 +81,9 @@ fn execute<S: SlotParts, T: Stream>(
     requires slot { IsPlaceOf slot (data_keys command.now) }
     requires place { IfSome slot (λ slot. place ≡ slot) }
     ensures reply { IfOk result (λ made. made.0 ≡ (exec node.now.keyspace command.now).reply) }
-    ensures after { OnOk result (IsCommittedInSlot place plan.new node.now.keyspace
-        (exec node.now.keyspace command.now).after) }
-    ensures sent { IfOk result (λ made. made.1.items
-        ≡ drained_by_command node.now (executed node.now command.now) (data_keys command.now)) }
+    ensures after { OnOk result (Executes node.now.keyspace command.now place plan.new) }
+    ensures sent { IfOk result
+        (λ made. made.1.items ≡ drained_by_executing node.now command.now) }
 {
     let reply = plan_in_slot(node, place, command, plan)?;
     let bodies = drained_by(node, slot, plan)?;
@@ -105,8 +100,7 @@ fn plan_in_slot<S: SlotParts, T: Stream>(
     requires nothing { (keyspace : Keyspace) → committed keyspace plan.old ≡ keyspace }
     requires slot { All (λ key. hash_slot key ≡ slot) (data_keys command.now) }
     ensures reply { IfOk result (λ reply. reply ≡ (exec node.now.keyspace command.now).reply) }
-    ensures after { OnOk result (IsCommittedInSlot slot plan.new node.now.keyspace
-        (exec node.now.keyspace command.now).after) }
+    ensures after { OnOk result (Executes node.now.keyspace command.now slot plan.new) }
 {
     plan_command(node.alloc, node.store.part(slot), plan, command)
 }

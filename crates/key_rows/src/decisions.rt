@@ -1,13 +1,13 @@
 //! What a node decides on a command, and the replies to those that it doesn't serve.
-ghost use Rattle.std.specs.Prelude.{◌≡◌, ◌≢◌, ◌∷◌, [], All, IfOk, Some, is_some, map, slice_get};
+ghost use Rattle.std.specs.Prelude.{◌≡◌, IfOk, Some, is_some, map, slice_get};
 ghost use Rattle.std.specs.FinMap as fin_map;
 ghost use Rattle.command_table.specs.Keys.{data_keys};
 ghost use Rattle.key_slot.specs.Slot.{hash_slot};
-ghost use Rattle.key_rows.specs.Places.{IsPlaceOf};
+ghost use Rattle.key_rows.specs.Places.{IsOneSlot, IsPlaceFor};
 ghost use Rattle.key_rows.specs.Refusals.{refusal};
+ghost use Rattle.key_rows.specs.Serving.{decision_on_key};
 ghost use Rattle.node_step.specs.Commands.{ask_reply, decision_on, moved_reply, named, reason_line};
 ghost use Rattle.redirect.specs.Asked.{bytes_of};
-ghost use Rattle.redirect.specs.Decision.{decision};
 ghost use Rattle.redirect.specs.Meaning.{IsSlotOf};
 ghost use Rattle.slot_state.specs.Moves.{move_of};
 
@@ -34,8 +34,7 @@ pub(crate) fn decision<S: SlotParts, T: Stream>(
     asking: Asking,
 ) -> Result<(Decision, Option<Slot>), AllocError>
     ensures decision { IfOk result (λ found. found.0 ≡ decision_on node.now command.now asking) }
-    ensures place { IfOk result
-        (λ found. found.0 ≢ Decision.CrossSlot → IsPlaceOf found.1 (data_keys command.now)) }
+    ensures place { IfOk result (λ found. IsPlaceFor command.now found.0 found.1) }
 {
     // A command with one key needs no list of keys.
     if let Some(key) = command.only_key() {
@@ -62,14 +61,7 @@ fn decision_on_key<S: SlotParts, T: Stream>(
     asking: Asking,
 ) -> Decision
     requires { hash_slot key.now ≡ slot }
-    ensures { result ≡ decision node.now.table node.now.moves node.now.number
-        (record {
-          keys = key.now ∷ [];
-          there = is_some
-              (fin_map.get node.now.keyspace key.now) ∷ [];
-          asking = asking;
-          paused = is_some node.now.paused;
-        }) }
+    ensures { result ≡ decision_on_key node.now key.now asking }
 {
     let at = node.standing(slot);
     let Some(running) = node.moves.get(slot) else {
@@ -93,8 +85,7 @@ fn decision_in_move<S: SlotParts, T: Stream>(
     requires slot { IsSlotOf slot (data_keys command.now) }
     requires under_way { Some running.now ≡ move_of node.now.moves slot }
     ensures decision { IfOk result (λ made. made ≡ decision_on node.now command.now asking) }
-    ensures one_slot { IfOk result (λ made.
-        made ≢ Decision.CrossSlot → All (λ key. hash_slot key ≡ slot) (data_keys command.now)) }
+    ensures one_slot { IfOk result (λ made. IsOneSlot command.now slot made) }
 {
     let words = command.key_words(node.alloc)?;
     let there = are_in(node.alloc, &node.store, words.as_slice())?;

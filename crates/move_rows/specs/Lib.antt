@@ -1,2 +1,4 @@
 pub mod LastKeys
 pub mod Naming
+pub mod Copying
+pub mod Lost

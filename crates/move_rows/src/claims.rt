@@ -1,11 +1,10 @@
 //! Claims of other nodes to slots.
-ghost use Rattle.std.specs.Prelude.{◌≡◌, ◌≢◌, ◌==◌, ℕ, IfOk, OnOk};
-ghost use Rattle.std.specs.List.{list_any};
-ghost use Rattle.slot_table.specs.Claims.{merged};
+ghost use Rattle.std.specs.Prelude.{◌≢◌, IfOk, OnOk};
 ghost use Rattle.node_parts.specs.Drafts.{Drafts, HasNothing};
-ghost use Rattle.node_step.specs.Claiming.{claim, is_lost};
+ghost use Rattle.node_step.specs.Claiming.{claim};
 ghost use Rattle.node_step.specs.Streams.{written_by_claim};
-ghost use Rattle.resp2.specs.Stream.{stream_spelling};
+ghost use Rattle.stream_requests.specs.Spelling.{Spells};
+ghost use Rattle.move_rows.specs.Lost.{AreLost};
 
 use command_table::ErrorLine;
 use connections::Waiting;
@@ -27,8 +26,7 @@ pub(crate) fn take_claim<S: SlotParts, T: Stream>(
 ) -> Result<Vec<u8>, AllocError>
     requires { HasNothing node.now draft.old }
     ensures draft { OnOk result (Drafts node.now (claim node.now from taken.now) draft.new) }
-    ensures written { IfOk result
-        (λ bytes. bytes.items ≡ stream_spelling (written_by_claim node.now from taken.now)) }
+    ensures written { Spells result (written_by_claim node.now from taken.now) }
 {
     if from == node.number {
         node.draft_change(draft, Change::Nothing);
@@ -52,8 +50,7 @@ fn lost_to<S: SlotParts, T: Stream>(
     claim: &Claim,
 ) -> Result<Vec<Slot>, AllocError>
     requires { from ≢ node.now.number }
-    ensures { IfOk result (λ lost. (slot : ℕ) → list_any (λ other. other == slot) lost.items
-        ≡ is_lost node.now (merged node.now.table claim.now from) slot) }
+    ensures { IfOk result (λ lost. AreLost node.now from claim.now lost.items) }
 {
     let changes = node.table.changes(node.alloc, from, claim)?;
     let mut lost = Vec::new(node.alloc);

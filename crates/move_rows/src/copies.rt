@@ -1,16 +1,11 @@
 //! Copies of keys, and their acknowledgements, as they arrive.
 ghost use Rattle.std.specs.Prelude.{◌≡◌, IfOk, OnOk};
 ghost use Rattle.node_parts.specs.Drafts.{Drafts, HasNothing, bodies_of};
-ghost use Rattle.keyspace.specs.Keyspace.{Keyspace};
-ghost use Rattle.keyspace.specs.Plan.{committed};
 ghost use Rattle.migrate.specs.Sending.{is_among};
 ghost use Rattle.move_rows.specs.LastKeys.{are_last, drained_by_ack};
-ghost use Rattle.migrate.specs.Acknowledging.{acknowledged_keys};
-ghost use Rattle.migrate.specs.Arriving.{arrival_verdict};
-ghost use Rattle.node_step.specs.Copies.{ack_by, acknowledgement, arrival, keep_limits, noted, with_copied};
-ghost use Rattle.node_step.specs.Streams.{written_by_ack, written_by_copy};
-ghost use Rattle.resp2.specs.Stream.{stream_spelling};
-ghost use Rattle.slot_state.specs.Moves.{move_of};
+ghost use Rattle.move_rows.specs.Copying.{PlansPairs, written_by_arrival, written_on_ack};
+ghost use Rattle.node_step.specs.Copies.{ack_by, acknowledgement, arrival, noted};
+ghost use Rattle.stream_requests.specs.Spelling.{Spells};
 
 use bus::{Body, SlotsBody};
 use byte_string::ByteString;
@@ -37,10 +32,7 @@ pub(crate) fn take_copy<S: SlotParts, T: Stream>(
 ) -> Result<Vec<u8>, AllocError>
     requires { HasNothing node.now draft.old }
     ensures draft { OnOk result (Drafts node.now (arrival node.now from id pairs.now) draft.new) }
-    ensures written { IfOk result (λ bytes.
-        bytes.items ≡ stream_spelling (written_by_copy node.now.keyspace pairs.now
-        (arrival_verdict (move_of node.now.moves id.slot) from id.number id.copy
-        (keep_limits pairs.now)))) }
+    ensures written { Spells result (written_by_arrival node.now from id pairs.now) }
 {
     let CopyId { slot, number, copy } = id;
     let fits = pairs_fit(pairs);
@@ -69,8 +61,7 @@ pub(crate) fn take_copy<S: SlotParts, T: Stream>(
 
 // The plan that puts all pairs. Long values share their bytes with the message.
 fn plan_of(alloc: Global, pairs: &[Pair]) -> Result<Plan, AllocError>
-    ensures { IfOk result
-        (λ plan. (keyspace : Keyspace) → committed keyspace plan ≡ with_copied keyspace pairs.now) }
+    ensures { IfOk result (λ plan. PlansPairs pairs.now plan) }
 {
     let mut copied = Vec::with_capacity(alloc, pairs.len())?;
     for pair in pairs {
@@ -88,8 +79,7 @@ pub(crate) fn take_ack<S: SlotParts, T: Stream>(
 ) -> Result<Vec<u8>, AllocError>
     requires { HasNothing node.now draft.old }
     ensures draft { OnOk result (Drafts node.now (acknowledgement node.now from id) draft.new) }
-    ensures written { IfOk result (λ bytes. bytes.items ≡ stream_spelling (written_by_ack
-        (acknowledged_keys (move_of node.now.moves id.slot) from id.number id.copy))) }
+    ensures written { Spells result (written_on_ack node.now from id) }
 {
     let CopyId { slot, number, copy } = id;
     let Some(keys) = acknowledged_keys(node.moves.get(slot), from, number, copy) else {

@@ -1,8 +1,8 @@
 //! What another node says of slots.
-ghost use Rattle.std.specs.Prelude.{◌≡◌, IfOk, OnOk};
+ghost use Rattle.std.specs.Prelude.{OnOk};
 ghost use Rattle.node_parts.specs.Drafts.{Drafts, HasNothing};
 ghost use Rattle.node_step.specs.Messages.{taken_of_slots, written_by_slots};
-ghost use Rattle.resp2.specs.Stream.{stream_spelling};
+ghost use Rattle.stream_requests.specs.Spelling.{Spells};
 
 use crate::claims::take_claim;
 use crate::copies::{take_ack, take_copy, take_drained};
@@ -23,8 +23,7 @@ pub fn take_of_slots<S: SlotParts, T: Stream>(
     requires { HasNothing node.now draft.old }
     ensures draft { OnOk result
         (Drafts node.now (taken_of_slots node.now from body.now) draft.new) }
-    ensures written { IfOk result (λ bytes.
-        bytes.items ≡ stream_spelling (written_by_slots node.now from body.now)) }
+    ensures written { Spells result (written_by_slots node.now from body.now) }
 {
     match body {
         SlotsBody::Copy { id, pairs } => take_copy(node, from, *id, pairs.as_slice(), draft),

@@ -1,19 +1,16 @@
 //! MIGRATE: keys are copied to the node that their slot goes to.
-ghost use Rattle.std.specs.Prelude.{◌≡◌, ◌++◌, [], IfOk, OnOk, Err, Some, true, false};
+ghost use Rattle.std.specs.Prelude.{◌≡◌, ◌++◌, [], IfOk, OnOk, Err, true};
 ghost use Rattle.std.specs.List.{cons_option};
 ghost use Rattle.std.specs.Option.{option_copied};
 ghost use Rattle.bus.specs.declared.bodies.SlotsBody.TheVariants.{Copy};
 ghost use Rattle.bus.specs.declared.message.Body.TheVariants.{Slots};
-ghost use Rattle.migrate.specs.Sending.{copy_verdict, frozen};
 ghost use Rattle.move_rows.specs.Naming.{with_named};
+ghost use Rattle.move_rows.specs.Copying.{LeavesFrozen, NoNumber, copy_ordered, copying, sending_for, sending_frozen, verdict_in};
 ghost use Rattle.node_parts.specs.Drafts.{Drafts, HasNothing, bodies_of};
 ghost use Rattle.step_fault.specs.declared.fault.StepFault.TheVariants.{Exhausted};
-ghost use Rattle.node_step.specs.Copies.{copy_outcome, copy_verdict_on, first_slot, outstanding, pair_with, pairs_at, sending, those_there};
+ghost use Rattle.node_step.specs.Copies.{copy_verdict_on, first_slot, outstanding, pair_with, pairs_at, those_there};
 ghost use Rattle.redirect.specs.Decision.{has_other_slot};
-ghost use Rattle.node_step.specs.Orders.{with_moves};
 ghost use Rattle.node_step.specs.Requests.{has_copy_number, using_up};
-ghost use Rattle.slot_state.specs.Moves.{move_of};
-ghost use Rattle.slot_state.specs.declared.running.Move.TheVariants.{Leaves};
 
 use crate::copies::is_among;
 use bus::{Body, SlotsBody};
@@ -43,13 +40,12 @@ pub fn migrate_keys<S: SlotParts, T: Stream>(
     draft: &mut Draft,
 ) -> Result<(), StepFault>
     requires { HasNothing node.now draft.old }
-    ensures draft { OnOk result (Drafts node.now (copy_outcome (using_up node.now conn) conn
-        (first_slot named.now) (those_there node.now.keyspace named.now) ticks
-        (copy_verdict_on node.now named.now target)) draft.new) }
+    ensures draft { OnOk result
+        (Drafts node.now (copy_ordered node.now conn named.now target ticks) draft.new) }
     ensures number { OnOk result
         (has_copy_number (copy_verdict_on node.now named.now target) ≡ true) }
     ensures exhausted { result ≡ Err Exhausted
-        → has_copy_number (copy_verdict_on node.now named.now target) ≡ false }
+        → NoNumber (copy_verdict_on node.now named.now target) }
 {
     let slot = first_slot(named);
     if has_other_slot(slot, named) {
@@ -74,12 +70,11 @@ fn migrate_those<S: SlotParts, T: Stream>(
 ) -> Result<(), StepFault>
     requires { HasNothing node.now draft.old }
     ensures draft { OnOk result
-        (Drafts node.now (copy_outcome (using_up node.now conn) conn slot keys ticks
-        (copy_verdict (move_of node.now.moves slot) target keys)) draft.new) }
+        (Drafts node.now (copying node.now conn slot target keys ticks) draft.new) }
     ensures number { OnOk result
-        (has_copy_number (copy_verdict (move_of node.now.moves slot) target keys) ≡ true) }
+        (has_copy_number (verdict_in node.now slot target keys) ≡ true) }
     ensures exhausted { result ≡ Err Exhausted
-        → has_copy_number (copy_verdict (move_of node.now.moves slot) target keys) ≡ false }
+        → NoNumber (verdict_in node.now slot target keys) }
 {
     let verdict = copy_verdict(node.moves.get(slot), target, keys.as_slice());
     match verdict {
@@ -167,7 +162,7 @@ fn send_again<S: SlotParts, T: Stream>(
 ) -> Result<(), AllocError>
     requires { HasNothing node.now draft.old }
     ensures { OnOk result
-        (Drafts node.now (sending (using_up node.now conn) conn wait.id wait.ticks) draft.new) }
+        (Drafts node.now (sending_for (using_up node.now conn) conn wait) draft.new) }
 {
     let id = wait.id;
     let body = outstanding(node, id.slot, node.moves.get(id.slot))?;
@@ -185,11 +180,9 @@ fn send_copy<S: SlotParts, T: Stream>(
     wait: Wait,
     draft: &mut Draft,
 ) -> Result<(), AllocError>
-    requires leaves { move_of (frozen node.now.moves wait.id.slot wait.id.copy keys) wait.id.slot
-        ≡ Some (Leaves to wait.id.number wait.id.copy (Some keys)) }
+    requires leaves { LeavesFrozen node.now.moves to wait keys }
     requires nothing { HasNothing node.now draft.old }
-    ensures { OnOk result (Drafts node.now (sending (with_moves (using_up node.now conn)
-        (frozen node.now.moves wait.id.slot wait.id.copy keys)) conn wait.id wait.ticks) draft.new) }
+    ensures { OnOk result (Drafts node.now (sending_frozen node.now conn wait keys) draft.new) }
 {
     let body = copy_of(node, to, wait.id, keys.as_slice())?;
     let bodies = listed(node.alloc, Some(body))?;

@@ -1,9 +1,8 @@
 //! What is sent again at a tick, since it isn't acknowledged.
 ghost use Rattle.std.specs.Prelude.{◌≡◌, IfOk};
-ghost use Rattle.std.specs.List.{flat_map};
 ghost use Rattle.node_parts.specs.Drafts.{bodies_of};
 ghost use Rattle.node_step.specs.Ticks.{sent_again};
-ghost use Rattle.slot_state.specs.Moves.{running_moves};
+ghost use Rattle.move_rows.specs.Lost.{all_sent_again};
 
 use crate::migrations::copy_of;
 use bus::Body;
@@ -20,8 +19,7 @@ use std::alloc::AllocError;
 pub fn sent_again<S: SlotParts, T: Stream>(
     node: &NodeParts<S, T>,
 ) -> Result<Vec<(NodeNo, Body)>, AllocError>
-    ensures { IfOk result
-        (λ bodies. bodies.items ≡ flat_map (sent_again node.now) (running_moves node.now.moves)) }
+    ensures { IfOk result (λ bodies. bodies.items ≡ all_sent_again node.now) }
 {
     let mut bodies = Vec::new(node.alloc);
     for (slot, running) in node.moves.iter() {

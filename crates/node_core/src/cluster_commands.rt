@@ -1,15 +1,12 @@
 //! Commands about the cluster: reports, orders, and what a connection tells of its next requests.
-ghost use Rattle.std.specs.Prelude.{◌≡◌, IsTrue, OnOk, Err, Ok, false};
+ghost use Rattle.std.specs.Prelude.{◌≡◌, IsTrue, OnOk, Err, Ok};
 ghost use Rattle.command_table.specs.declared.command.Command.TheVariants.{Cluster};
-ghost use Rattle.connections.specs.declared.conn.Connection.{Connection};
-ghost use Rattle.node_core.specs.Comes.{AnswersSo};
+ghost use Rattle.node_core.specs.Comes.{AnswersSo, LacksNumber, told};
 ghost use Rattle.node_parts.specs.Drafts.{Drafts, HasNothing};
+ghost use Rattle.node_parts.specs.Becomes.{allowing};
 ghost use Rattle.report_rows.specs.Questions.{is_question};
 ghost use Rattle.step_fault.specs.declared.fault.StepFault.TheVariants.{Exhausted};
-ghost use Rattle.node_step.specs.Orders.{done};
-ghost use Rattle.node_step.specs.Outcome.{replied};
-ghost use Rattle.node_step.specs.Requests.{asking_for, at_connection, has_number, using_up, with_numbers};
-ghost use Rattle.node_step.specs.declared.response.Why.TheVariants.{Told};
+ghost use Rattle.node_step.specs.Requests.{asking_for, using_up, with_numbers};
 
 use command_table::ClusterCommand;
 use connections::Conn;
@@ -38,7 +35,7 @@ pub(crate) fn answer_about_cluster<S: SlotParts, T: Stream>(
     requires { HasNothing node.now draft.old }
     ensures answer { OnOk result (AnswersSo node.now conn (Ok (Cluster command.now)) draft.new) }
     ensures exhausted { result ≡ Err Exhausted
-        → has_number (using_up node.now conn) (Ok (Cluster command.now)) ≡ false }
+        → LacksNumber node.now conn (Ok (Cluster command.now)) }
 {
     match command {
         ClusterCommand::SetSlot {
@@ -101,8 +98,7 @@ fn answer_question<S: SlotParts, T: Stream>(
 // From now on the ASK lines of the connection name the move.
 fn number_asks<S: SlotParts, T: Stream>(node: &NodeParts<S, T>, conn: Conn, draft: &mut Draft)
     requires { HasNothing node.now draft.old }
-    ensures { Drafts node.now
-        (replied (with_numbers (using_up node.now conn) conn) Told done) draft.new }
+    ensures { Drafts node.now (told (with_numbers (using_up node.now conn) conn)) draft.new }
 {
     node.draft_reply(draft, Why::Told, done(), Change::Numbers { conn });
 }
@@ -115,8 +111,7 @@ fn allow<S: SlotParts, T: Stream>(
     draft: &mut Draft,
 )
     requires { HasNothing node.now draft.old }
-    ensures { Drafts node.now (replied (at_connection (using_up node.now conn) conn
-        (λ (connection : Connection). record connection { asking = asking })) Told done) draft.new }
+    ensures { Drafts node.now (told (allowing node.now conn asking)) draft.new }
 {
     node.draft_reply(draft, Why::Told, done(), Change::Allows { conn, asking });
 }

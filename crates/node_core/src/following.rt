@@ -2,8 +2,7 @@
 ghost use Rattle.std.specs.Prelude.{◌≡◌, ◌≢◌, Err, IfOk, OnErr};
 ghost use Rattle.bus.specs.declared.bodies.StreamBody.TheVariants.{Piece as SaysPiece, Snapshot as SaysSnapshot, Sync as SaysSync};
 ghost use Rattle.bus.specs.declared.message.Body.TheVariants.{Stream as OfStream};
-ghost use Rattle.node_core.specs.Comes.{MayBeTaken};
-ghost use Rattle.node_parts.specs.Drafts.{Comes};
+ghost use Rattle.node_core.specs.Comes.{Takes};
 ghost use Rattle.step_fault.specs.declared.fault.StepFault.TheVariants.{Exhausted};
 
 use bus::StreamBody;
@@ -23,8 +22,7 @@ pub(crate) fn take_of_stream<S: SlotParts + Replaces, T: Stream, K: Recorder>(
     from: NodeNo,
     body: &StreamBody,
 ) -> Result<(Outputs, K::Record), StepFault>
-    ensures taken { IfOk result
-        (λ made. Comes ticket (MayBeTaken node.old from (OfStream body.now)) made.0 node.new) }
+    ensures taken { Takes ticket node.old from (OfStream body.now) result node.new }
     ensures recorded { IfOk result (λ made. K.recorded made.1 ≡ made.0) }
     ensures err { OnErr result (node.new ≡ node.old) }
     ensures exhausted { result ≢ Err Exhausted }
@@ -44,8 +42,7 @@ fn answer<S: SlotParts, T: Stream, K: Recorder>(
     from: NodeNo,
     sync: &Sync,
 ) -> Result<(Outputs, K::Record), StepFault>
-    ensures taken { IfOk result (λ made.
-        Comes ticket (MayBeTaken node.old from (OfStream (SaysSync sync.now))) made.0 node.new) }
+    ensures taken { Takes ticket node.old from (OfStream (SaysSync sync.now)) result node.new }
     ensures recorded { IfOk result (λ made. K.recorded made.1 ≡ made.0) }
     ensures err { OnErr result (node.new ≡ node.old) }
     ensures exhausted { result ≢ Err Exhausted }
@@ -62,8 +59,7 @@ fn follow_piece<S: SlotParts, T: Stream, K: Recorder>(
     from: NodeNo,
     piece: &Piece,
 ) -> Result<(Outputs, K::Record), StepFault>
-    ensures taken { IfOk result
-        (λ made. Comes ticket (MayBeTaken node.old from (OfStream (SaysPiece piece.now))) made.0 node.new) }
+    ensures taken { Takes ticket node.old from (OfStream (SaysPiece piece.now)) result node.new }
     ensures recorded { IfOk result (λ made. K.recorded made.1 ≡ made.0) }
     ensures err { OnErr result (node.new ≡ node.old) }
     ensures exhausted { result ≢ Err Exhausted }
@@ -79,8 +75,7 @@ fn follow_snapshot<S: SlotParts + Replaces, T: Stream, K: Recorder>(
     from: NodeNo,
     snapshot: &Snapshot,
 ) -> Result<(Outputs, K::Record), StepFault>
-    ensures taken { IfOk result (λ made.
-        Comes ticket (MayBeTaken node.old from (OfStream (SaysSnapshot snapshot.now))) made.0 node.new) }
+    ensures taken { Takes ticket node.old from (OfStream (SaysSnapshot snapshot.now)) result node.new }
     ensures recorded { IfOk result (λ made. K.recorded made.1 ≡ made.0) }
     ensures err { OnErr result (node.new ≡ node.old) }
     ensures exhausted { result ≢ Err Exhausted }

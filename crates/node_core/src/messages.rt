@@ -1,11 +1,9 @@
 //! Messages of other nodes, by what they speak of.
-ghost use Rattle.std.specs.Prelude.{◌≡◌, Err, IfOk, OnErr, OnOk, false};
+ghost use Rattle.std.specs.Prelude.{◌≡◌, Err, IfOk, OnErr, OnOk};
 ghost use Rattle.bus.specs.declared.message.Body.TheVariants.{Slots};
-ghost use Rattle.node_core.specs.Comes.{MayBeTaken};
-ghost use Rattle.node_parts.specs.Drafts.{Comes, HasNothing, IsDraftOf};
+ghost use Rattle.node_core.specs.Comes.{DraftsTaking, LacksOffset, LacksOffsetForSlots, Takes};
+ghost use Rattle.node_parts.specs.Drafts.{HasNothing};
 ghost use Rattle.node_parts.specs.Electing.{KeepsRest};
-ghost use Rattle.node_step.specs.Messages.{written_by_message, written_by_slots};
-ghost use Rattle.node_step.specs.Numbers.{has_offset};
 ghost use Rattle.step_fault.specs.declared.fault.StepFault.TheVariants.{Exhausted};
 
 use crate::following::take_of_stream;
@@ -26,13 +24,10 @@ pub(crate) fn take<S: SlotParts + Replaces, T: Stream, K: Recorder>(
     ticket: u64,
     message: &Message,
 ) -> Result<(Outputs, K::Record), StepFault>
-    ensures taken { IfOk result (λ made.
-        Comes ticket (MayBeTaken node.old message.now.from message.now.body) made.0 node.new) }
+    ensures taken { Takes ticket node.old message.now.from message.now.body result node.new }
     ensures recorded { IfOk result (λ made. K.recorded made.1 ≡ made.0) }
     ensures err { OnErr result (KeepsRest node.old node.new) }
-    ensures exhausted { result ≡ Err Exhausted
-        → has_offset node.old (written_by_message node.old message.now.from message.now.body)
-        ≡ false }
+    ensures exhausted { result ≡ Err Exhausted → LacksOffset node.old message.now }
 {
     let from = message.from;
     match &message.body {
@@ -52,12 +47,11 @@ fn take_slots<S: SlotParts, T: Stream, K: Recorder>(
     from: NodeNo,
     body: &SlotsBody,
 ) -> Result<(Outputs, K::Record), StepFault>
-    ensures taken { IfOk result
-        (λ made. Comes ticket (MayBeTaken node.old from (Slots body.now)) made.0 node.new) }
+    ensures taken { Takes ticket node.old from (Slots body.now) result node.new }
     ensures recorded { IfOk result (λ made. K.recorded made.1 ≡ made.0) }
     ensures err { OnErr result (node.new ≡ node.old) }
     ensures exhausted { result ≡ Err Exhausted
-        → has_offset node.old (written_by_slots node.old from body.now) ≡ false }
+        → LacksOffsetForSlots node.old from body.now }
 {
     let mut draft = node.blank();
     draft_slots(node, from, body, &mut draft)?;
@@ -72,10 +66,9 @@ fn draft_slots<S: SlotParts, T: Stream>(
     draft: &mut Draft,
 ) -> Result<(), StepFault>
     requires { HasNothing node.now draft.old }
-    ensures draft { OnOk result
-        (IsDraftOf node.now (MayBeTaken node.now from (Slots body.now)) draft.new) }
+    ensures draft { OnOk result (DraftsTaking node.now from (Slots body.now) draft.new) }
     ensures exhausted { result ≡ Err Exhausted
-        → has_offset node.now (written_by_slots node.now from body.now) ≡ false }
+        → LacksOffsetForSlots node.now from body.now }
 {
     let bytes = take_of_slots(node, from, body, draft)?;
     add_written(node, bytes, draft)?;

@@ -12,6 +12,7 @@ ghost use Rattle.node_step.specs.Step.{NodeStep};
 ghost use Rattle.slot_store.specs.InSlot.{in_slot};
 ghost use Rattle.step_fault.specs.declared.fault.StepFault.TheVariants.{Exhausted};
 ghost use Rattle.stream_values.specs.Stream.{received};
+ghost use Rattle.node_core.specs.Comes.{Steps};
 
 use crate::messages::take;
 use crate::requests::request;
@@ -152,7 +153,7 @@ impl<S: SlotParts + Replaces, T: Stream> NodeCore<S, T> {
         ticket: u64,
         event: &Event,
     ) -> Result<(Outputs, K::Record), StepFault>
-        ensures step { IfOk result (λ made. NodeStep ticket self.old event.now made.0 self.new) }
+        ensures step { Steps ticket self.old event.now result self.new }
         ensures recorded { IfOk result (λ made. K.recorded made.1 ≡ made.0) }
         ensures err { OnErr result (self.new ≡ self.old) }
         ensures exhausted { result ≡ Err Exhausted → NoNumberLeft self.old event.now }
@@ -174,8 +175,7 @@ impl<S: SlotParts + Replaces, T: Stream> NodeCore<S, T> {
         conn: Conn,
         words: &Words,
     ) -> Result<(Outputs, K::Record), StepFault>
-        ensures step { IfOk result
-            (λ made. NodeStep ticket self.old (Event.Request conn words.now) made.0 self.new) }
+        ensures step { Steps ticket self.old (Event.Request conn words.now) result self.new }
         ensures recorded { IfOk result (λ made. K.recorded made.1 ≡ made.0) }
         ensures err { OnErr result (self.new ≡ self.old) }
         ensures exhausted { result ≡ Err Exhausted
@@ -197,8 +197,7 @@ impl<S: SlotParts + Replaces, T: Stream> NodeCore<S, T> {
     ) -> Result<(Outputs, K::Record), StepFault>
         requires nothing { HasNothing self.old draft.old }
         requires plan { (keyspace : Keyspace) → committed keyspace draft.old.plan ≡ keyspace }
-        ensures step { IfOk result
-            (λ made. NodeStep ticket self.old (Event.Request conn words.now) made.0 self.new) }
+        ensures step { Steps ticket self.old (Event.Request conn words.now) result self.new }
         ensures recorded { IfOk result (λ made. K.recorded made.1 ≡ made.0) }
         ensures err { OnErr result (self.new ≡ self.old) }
         ensures exhausted { result ≡ Err Exhausted
@@ -215,8 +214,7 @@ impl<S: SlotParts + Replaces, T: Stream> NodeCore<S, T> {
         ticket: u64,
         message: &Message,
     ) -> Result<(Outputs, K::Record), StepFault>
-        ensures step { IfOk result
-            (λ made. NodeStep ticket self.old (Event.Deliver message.now) made.0 self.new) }
+        ensures step { Steps ticket self.old (Event.Deliver message.now) result self.new }
         ensures recorded { IfOk result (λ made. K.recorded made.1 ≡ made.0) }
         ensures err { OnErr result (self.new ≡ self.old) }
         ensures exhausted { result ≡ Err Exhausted
@@ -239,7 +237,7 @@ impl<S: SlotParts + Replaces, T: Stream> NodeCore<S, T> {
     // Lets a tick pass. What it counts is put back where it is refused.
     #[inline(never)]
     fn tick<K: Recorder>(&mut self, ticket: u64) -> Result<(Outputs, K::Record), StepFault>
-        ensures step { IfOk result (λ made. NodeStep ticket self.old Event.Tick made.0 self.new) }
+        ensures step { Steps ticket self.old Event.Tick result self.new }
         ensures recorded { IfOk result (λ made. K.recorded made.1 ≡ made.0) }
         ensures err { OnErr result (self.new ≡ self.old) }
         ensures exhausted { result ≡ Err Exhausted → NoNumberLeft self.old Event.Tick }
@@ -254,7 +252,7 @@ impl<S: SlotParts + Replaces, T: Stream> NodeCore<S, T> {
 
     #[inline(never)]
     fn open<K: Recorder>(&mut self, ticket: u64) -> Result<(Outputs, K::Record), StepFault>
-        ensures step { IfOk result (λ made. NodeStep ticket self.old Event.Open made.0 self.new) }
+        ensures step { Steps ticket self.old Event.Open result self.new }
         ensures recorded { IfOk result (λ made. K.recorded made.1 ≡ made.0) }
         ensures err { OnErr result (self.new ≡ self.old) }
         ensures exhausted { result ≡ Err Exhausted → IsUsedUp self.old.connections }

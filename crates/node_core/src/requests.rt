@@ -1,15 +1,13 @@
 //! Requests: what they ask for.
-ghost use Rattle.std.specs.Prelude.{◌≡◌, IfOk, OnOk, Err, Ok, false, Some};
+ghost use Rattle.std.specs.Prelude.{◌≡◌, IfOk, OnOk, Err, Some};
 ghost use Rattle.command_table.specs.Table.{command_of};
 ghost use Rattle.connections.specs.Connections.{connection_at};
 ghost use Rattle.keyspace.specs.Keyspace.{Keyspace};
 ghost use Rattle.keyspace.specs.Plan.{committed};
-ghost use Rattle.node_core.specs.Comes.{AnswersAndWrites, AnswersSo};
-ghost use Rattle.node_parts.specs.Drafts.{HasNothing, IsDraftOf};
+ghost use Rattle.node_core.specs.Comes.{AnswersAndWrites, AnswersSo, DraftsStep, LacksNumber};
+ghost use Rattle.node_parts.specs.Drafts.{HasNothing};
 ghost use Rattle.step_fault.specs.declared.fault.StepFault.TheVariants.{Exhausted};
 ghost use Rattle.node_step.specs.Numbers.{NoNumberLeft};
-ghost use Rattle.node_step.specs.Requests.{has_number, using_up};
-ghost use Rattle.node_step.specs.Step.{MayCome};
 ghost use Rattle.node_step.specs.Streams.{is_written};
 
 use crate::cluster_commands::answer_about_cluster;
@@ -36,7 +34,7 @@ pub(crate) fn request<S: SlotParts, T: Stream>(
     requires nothing { HasNothing node.now draft.old }
     requires plan { (keyspace : Keyspace) → committed keyspace draft.old.plan ≡ keyspace }
     ensures draft { OnOk result
-        (IsDraftOf node.now (MayCome node.now (Event.Request conn words.now)) draft.new) }
+        (DraftsStep node.now (Event.Request conn words.now) draft.new) }
     ensures exhausted { result ≡ Err Exhausted
         → NoNumberLeft node.now (Event.Request conn words.now) }
 {
@@ -86,7 +84,7 @@ fn answer_words<S: SlotParts, T: Stream>(
     ensures write { IfOk result (λ is_write. is_write ≡ is_written (command_of words.now)) }
     ensures answer { OnOk result (AnswersSo node.now conn (command_of words.now) draft.new) }
     ensures exhausted { result ≡ Err Exhausted
-        → has_number (using_up node.now conn) (command_of words.now) ≡ false }
+        → LacksNumber node.now conn (command_of words.now) }
 {
     let command = match parse(words) {
         Ok(Command::Data(command)) => command,

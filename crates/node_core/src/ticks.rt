@@ -1,10 +1,10 @@
 //! Ticks of a node's time.
 ghost use Rattle.std.specs.Prelude.{◌≡◌, ◌++◌, Err, IfOk, OnErr, OnOk};
 ghost use Rattle.node_core.specs.Ticking.{ticked_in, told_in};
+ghost use Rattle.node_core.specs.Comes.{Steps};
 ghost use Rattle.node_parts.specs.Drafts.{Drafts, HasNothing};
 ghost use Rattle.node_parts.specs.Electing.{KeepsRest};
 ghost use Rattle.node_step.specs.Numbers.{NoNumberLeft};
-ghost use Rattle.node_step.specs.Step.{NodeStep};
 ghost use Rattle.node_step.specs.Ticks.{slots_tick};
 ghost use Rattle.node_step.specs.declared.event.Event.TheVariants.{Tick};
 ghost use Rattle.step_fault.specs.declared.fault.StepFault.TheVariants.{Exhausted};
@@ -30,7 +30,7 @@ pub(crate) fn pass_tick<S: SlotParts, T: Stream, K: Recorder>(
     node: &mut NodeParts<S, T>,
     ticket: u64,
 ) -> Result<(Outputs, K::Record), StepFault>
-    ensures step { IfOk result (λ made. NodeStep ticket node.old Tick made.0 node.new) }
+    ensures step { Steps ticket node.old Tick result node.new }
     ensures recorded { IfOk result (λ made. K.recorded made.1 ≡ made.0) }
     ensures err { OnErr result (KeepsRest node.old node.new) }
     ensures exhausted { result ≡ Err Exhausted → NoNumberLeft node.old Tick }

@@ -2,11 +2,9 @@
 ghost use Rattle.std.specs.Prelude.{◌≡◌, ◌≢◌, Err, IfOk, OnErr, Some};
 ghost use Rattle.bus.specs.declared.bodies.ElectionBody.TheVariants.{Candidacy as Asks, Grant, Pause, Paused};
 ghost use Rattle.bus.specs.declared.message.Body.TheVariants.{Election};
-ghost use Rattle.node_core.specs.Comes.{MayBeTaken, IsJust};
-ghost use Rattle.node_parts.specs.Drafts.{Comes};
+ghost use Rattle.node_core.specs.Comes.{ComesTo, Takes, promotion_elected, promotion_planned};
 ghost use Rattle.node_parts.specs.Electing.{KeepsRest};
-ghost use Rattle.node_step.specs.Promotion.{handed_promotion, promotion};
-ghost use Rattle.node_step.specs.Voting.{if_elected};
+ghost use Rattle.node_step.specs.Promotion.{promotion};
 ghost use Rattle.step_fault.specs.declared.fault.StepFault.TheVariants.{Exhausted};
 
 use bus::{Candidacy, ElectionBody, Handing};
@@ -28,8 +26,7 @@ pub(crate) fn take_of_election<S: SlotParts, T: Stream, K: Recorder>(
     from: NodeNo,
     body: &ElectionBody,
 ) -> Result<(Outputs, K::Record), StepFault>
-    ensures taken { IfOk result
-        (λ made. Comes ticket (MayBeTaken node.old from (Election body.now)) made.0 node.new) }
+    ensures taken { Takes ticket node.old from (Election body.now) result node.new }
     ensures recorded { IfOk result (λ made. K.recorded made.1 ≡ made.0) }
     ensures err { OnErr result (KeepsRest node.old node.new) }
     ensures exhausted { result ≢ Err Exhausted }
@@ -50,8 +47,7 @@ fn pause<S: SlotParts, T: Stream, K: Recorder>(
     from: NodeNo,
     stream: StreamId,
 ) -> Result<(Outputs, K::Record), StepFault>
-    ensures taken { IfOk result
-        (λ made. Comes ticket (MayBeTaken node.old from (Election (Pause stream))) made.0 node.new) }
+    ensures taken { Takes ticket node.old from (Election (Pause stream)) result node.new }
     ensures recorded { IfOk result (λ made. K.recorded made.1 ≡ made.0) }
     ensures err { OnErr result (node.new ≡ node.old) }
     ensures exhausted { result ≢ Err Exhausted }
@@ -69,8 +65,7 @@ fn note<S: SlotParts, T: Stream, K: Recorder>(
     from: NodeNo,
     handing: &Handing,
 ) -> Result<(Outputs, K::Record), StepFault>
-    ensures taken { IfOk result (λ made.
-        Comes ticket (MayBeTaken node.old from (Election (Paused handing.now))) made.0 node.new) }
+    ensures taken { Takes ticket node.old from (Election (Paused handing.now)) result node.new }
     ensures recorded { IfOk result (λ made. K.recorded made.1 ≡ made.0) }
     ensures err { OnErr result (node.new ≡ node.old) }
     ensures exhausted { result ≢ Err Exhausted }
@@ -88,8 +83,7 @@ fn ask_for_vote<S: SlotParts, T: Stream, K: Recorder>(
     from: NodeNo,
     request: &Candidacy,
 ) -> Result<(Outputs, K::Record), StepFault>
-    ensures taken { IfOk result
-        (λ made. Comes ticket (MayBeTaken node.old from (Election (Asks request.now))) made.0 node.new) }
+    ensures taken { Takes ticket node.old from (Election (Asks request.now)) result node.new }
     ensures recorded { IfOk result (λ made. K.recorded made.1 ≡ made.0) }
     ensures err { OnErr result (KeepsRest node.old node.new) }
     ensures exhausted { result ≢ Err Exhausted }
@@ -113,8 +107,7 @@ fn count_vote<S: SlotParts, T: Stream, K: Recorder>(
     from: NodeNo,
     epoch: Epoch,
 ) -> Result<(Outputs, K::Record), StepFault>
-    ensures taken { IfOk result
-        (λ made. Comes ticket (MayBeTaken node.old from (Election (Grant epoch))) made.0 node.new) }
+    ensures taken { Takes ticket node.old from (Election (Grant epoch)) result node.new }
     ensures recorded { IfOk result (λ made. K.recorded made.1 ≡ made.0) }
     ensures err { OnErr result (KeepsRest node.old node.new) }
     ensures exhausted { result ≢ Err Exhausted }
@@ -131,8 +124,7 @@ fn promoted<S: SlotParts, T: Stream, K: Recorder>(
     ticket: u64,
     epoch: Epoch,
 ) -> Result<(Outputs, K::Record), StepFault>
-    ensures promoted { IfOk result (λ made. Comes ticket
-        (IsJust (if_elected node.old (Some (record { epoch = epoch })))) made.0 node.new) }
+    ensures promoted { ComesTo ticket (promotion_elected node.old epoch) result node.new }
     ensures recorded { IfOk result (λ made. K.recorded made.1 ≡ made.0) }
     ensures err { OnErr result (node.new ≡ node.old) }
     ensures exhausted { result ≢ Err Exhausted }
@@ -155,8 +147,7 @@ fn promoted_in_place<S: SlotParts, T: Stream, K: Recorder>(
     master: NodeNo,
     epoch: Epoch,
 ) -> Result<(Outputs, K::Record), StepFault>
-    ensures promoted { IfOk result
-        (λ made. Comes ticket (IsJust (promotion node.old epoch (Some master))) made.0 node.new) }
+    ensures promoted { ComesTo ticket (promotion node.old epoch (Some master)) result node.new }
     ensures recorded { IfOk result (λ made. K.recorded made.1 ≡ made.0) }
     ensures err { OnErr result (node.new ≡ node.old) }
     ensures exhausted { result ≢ Err Exhausted }
@@ -174,8 +165,7 @@ fn promoted_by_plan<S: SlotParts, T: Stream, K: Recorder>(
     master: NodeNo,
     epoch: Epoch,
 ) -> Result<(Outputs, K::Record), StepFault>
-    ensures promoted { IfOk result (λ made. Comes ticket (IsJust
-        (handed_promotion node.old epoch (Some master) node.old.handover.note)) made.0 node.new) }
+    ensures promoted { ComesTo ticket (promotion_planned node.old epoch master) result node.new }
     ensures recorded { IfOk result (λ made. K.recorded made.1 ≡ made.0) }
     ensures err { OnErr result (node.new ≡ node.old) }
     ensures exhausted { result ≢ Err Exhausted }

@@ -10,6 +10,7 @@ use Rattle.connections.specs.declared.conn.Wait.{Wait}
 use Rattle.key_slot.specs.Slot.{hash_slot}
 use Rattle.keyspace.specs.Plan.{committed}
 use Rattle.keyspace.specs.declared.plans.Plan.{Plan}
+use Rattle.keyspace.specs.Keyspace.{Keyspace}
 use Rattle.migrate.specs.Acknowledging.{after_ack, frozen_keys}
 use Rattle.migrate.specs.Arriving.{counted}
 use Rattle.migrate.specs.Losing.{after_loss}
@@ -30,17 +31,22 @@ use Rattle.slot_state.specs.declared.copy_id.CopyId.{CopyId}
 use Rattle.slot_store.specs.InSlot.{IsCommittedInSlot}
 use Rattle.slot_table.specs.Claims.{merged}
 use Rattle.slot_table.specs.declared.runs.Run.{Run}
+use Rattle.redirect.specs.declared.asked.Asking.{Asking}
 
 -- the keys of a slot changed by a plan
 pub record Commits (old : NodeState) (conn : Conn) (slot : ℕ) (plan : Plan) (new : NodeState) : Type 0 where
   pub keys : IsCommittedInSlot slot plan old.keyspace new.keyspace
   pub state : new ≡ record (using_up old conn) { keyspace = new.keyspace }
 
+-- the keys that are in none of these slots
+abbrev pub without_slots : Keyspace → List ℕ → Keyspace
+without_slots keyspace slots = fin_map.retain_keys keyspace (λ key. not (list_any (λ slot. slot == hash_slot key) slots))
+
 -- the node after another one took the slots of a claim, of which these were its own
 abbrev pub losing : NodeState → List (Run ℕ) → ℕ → List ℕ → NodeState
 losing node claim from lost = record node {
   table = merged node.table claim from;
-  keyspace = fin_map.retain_keys node.keyspace (λ key. not (list_any (λ slot. slot == hash_slot key) lost));
+  keyspace = without_slots node.keyspace lost;
   moves = after_loss node.moves (λ slot. list_any (λ other. other == slot) lost);
   connections = all_freed node.connections (λ wait. list_any (λ other. other == wait.id.slot) lost);
 }
@@ -59,6 +65,14 @@ pub record Starts (old : NodeState) (conn : Conn) (slot number : ℕ) (move : Mo
 abbrev pub waiting_so : NodeState → Conn → Wait → NodeState
 waiting_so node conn wait = parked node conn wait.id wait.ticks
 
+-- the node once the next request of the connection has this asking
+abbrev pub allowing : NodeState → Conn → Asking → NodeState
+allowing node conn asking = at_connection (using_up node conn) conn (λ (connection : Connection). record connection { asking = asking })
+
+-- the node once the keys of a copy are frozen, for whose acknowledgement the connection is to wait
+abbrev pub freezing : NodeState → Conn → Wait → List (List ℕ) → NodeState
+freezing node conn wait keys = with_moves (using_up node conn) (frozen node.moves wait.id.slot wait.id.copy keys)
+
 -- the node once no copy of the slot is outstanding: without the frozen keys, if there were some
 abbrev pub freed : NodeState → CopyId → Option (List (List ℕ)) → NodeState
 freed node id None = with_moves node (after_ack node.moves id.slot)
@@ -73,14 +87,14 @@ learning node (Some handing) = record node { handover = noting node.handover han
 abbrev pub Finishes : NodeState → Change → NodeState → Type 0
 Finishes old Nothing new = new ≡ old
 Finishes old (Asks conn) new = new ≡ using_up old conn
-Finishes old (Allows conn asking) new = new ≡ at_connection (using_up old conn) conn (λ (connection : Connection). record connection { asking = asking })
+Finishes old (Allows conn asking) new = new ≡ allowing old conn asking
 Finishes old (Numbers conn) new = new ≡ with_numbers (using_up old conn) conn
 Finishes old (Keys conn slot) new = new ≡ using_up old conn
 Finishes old (Imports conn slot from number) new = new ≡ using_up old conn
 Finishes old (Migrates conn slot to number) new = new ≡ using_up old conn
 Finishes old (Ends conn slot epoch) new = new ≡ ending old conn slot epoch
 Finishes old (Parks conn wait) new = new ≡ waiting_so (using_up old conn) conn wait
-Finishes old (Freezes conn keys wait) new = new ≡ waiting_so (with_moves (using_up old conn) (frozen old.moves wait.id.slot wait.id.copy keys)) conn wait
+Finishes old (Freezes conn keys wait) new = new ≡ waiting_so (freezing old conn wait keys) conn wait
 Finishes old (Installs slot copy) new = new ≡ with_moves old (counted old.moves slot copy)
 Finishes old (Frees id) new = new ≡ freed old id (frozen_keys (move_of old.moves id.slot))
 Finishes old (Notes from slot number epoch) new = new ≡ (noted old from slot number epoch).state

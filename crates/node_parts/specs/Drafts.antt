@@ -8,14 +8,19 @@ use Rattle.node_parts.specs.declared.change.Change.{Change}
 use Rattle.node_parts.specs.declared.change.Change.TheVariants.{Nothing as Unchanged}
 use Rattle.node_parts.specs.declared.draft.Draft.{Draft}
 use Rattle.node_parts.specs.Succession.{promoted_by, succeeded_by}
-use Rattle.node_step.specs.Outcome.{Outcome, no_outputs, outputs_of, silent, stamped}
+use Rattle.node_step.specs.Outcome.{Outcome, no_outputs, outputs_of, silent, stamped, release, replied_sending}
 use Rattle.node_step.specs.State.{NodeState, kept_in}
 use Rattle.node_step.specs.Streams.{MayGiveUp, Requests, with_written}
 use Rattle.node_step.specs.declared.outputs.Outputs.{Outputs}
 use Rattle.node_step.specs.declared.promotion.Promotion.{Promotion}
 use Rattle.node_step.specs.declared.outputs.Release.{Release}
 use Rattle.node_step.specs.declared.response.Response.{Response}
-use Rattle.node_step.specs.declared.response.Response.TheVariants.{Nothing, Parked}
+use Rattle.node_step.specs.declared.response.Response.TheVariants.{Nothing, Parked, Replied}
+use Rattle.node_step.specs.declared.response.Why.{Why}
+use Rattle.resp_values.specs.declared.reply.Reply.{Reply}
+use Rattle.connections.specs.Connections.{waiting}
+use Rattle.connections.specs.Waiting.{test_of}
+use Rattle.connections.specs.declared.waiting.Waiting.{Waiting}
 
 -- what is written is only counted where the node keeps no byte of its stream
 abbrev pub MayCount : NodeState → WrittenView → Type 0
@@ -38,6 +43,31 @@ pub record Drafts (old : NodeState) (outcome : Outcome) (draft : Draft) : Type 0
 -- whatever state the change may lead to, the draft is one of the outcome that goes with it
 abbrev pub DraftsBy : NodeState → Draft → Change → (NodeState → Outcome) → Draft → Type 0
 DraftsBy node old change outcome new = (after : NodeState) → Becomes node old.plan change after → Drafts node (outcome after) new
+
+-- the same, in a new epoch
+abbrev pub DraftsIn : NodeState → ℕ → Draft → Change → (NodeState → Outcome) → Draft → Type 0
+DraftsIn node epoch old change outcome new =
+    (after : NodeState) → Becomes (at_epoch node epoch) old.plan change after → Drafts node (outcome after) new
+
+-- whatever the next state is, a reply comes out, with these messages
+abbrev pub replying : Why → Reply → List (ℕ × Body) → NodeState → Outcome
+replying why reply bodies after = replied_sending after why reply bodies
+
+-- or connections that waited get these replies, with these messages
+abbrev pub releasing : List Release → List (ℕ × Body) → NodeState → Outcome
+releasing released bodies after = record (silent after) { released = released; sent = bodies }
+
+-- the draft with this reply
+abbrev pub with_reply : Draft → Why → Reply → Draft
+with_reply draft why reply = record draft { response = Replied (record { why = why; reply = reply }) }
+
+-- this reply, for each connection that waits so
+abbrev pub releases_of : NodeState → Waiting → Reply → List Release
+releases_of node which reply = map (release reply) (waiting node.connections (test_of which))
+
+-- this response comes out of a step under the ticket, and nothing else
+abbrev pub only_response : ℕ → Response → Outputs
+only_response ticket response = record { ticket = ticket; response = response; released = []; sent = []; promoted = None }
 
 -- nothing comes out of the draft yet, in the node's epoch
 pub record HasNothing (old : NodeState) (draft : Draft) : Type 0 where

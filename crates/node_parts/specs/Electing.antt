@@ -1,9 +1,13 @@
 -- What elections are about in a node, apart from the rest.
-use Rattle.std.specs.Prelude.{◌≡◌, ℕ, List, Option, None, length, take}
+use Rattle.std.specs.Prelude.{◌≡◌, ℕ, List, Option, None, length, take, ◌<◌, Bool, slice_index_or}
 use Rattle.bus.specs.declared.bodies.Replaced.{Replaced}
 use Rattle.election.specs.Health.{Candidate, Health, Voter, first_health, first_voter, no_candidate}
+use Rattle.election.specs.Electing.{counted}
+use Rattle.election.specs.Voting.{may_grant}
+use Rattle.election.specs.declared.voter.VoteRequest.{VoteRequest}
 use Rattle.node_parts.specs.declared.electing.ElectionState.{ElectionState}
 use Rattle.node_step.specs.State.{NodeState}
+use Rattle.node_step.specs.Failing.{members_of}
 
 pub record ElectionView : Type 0 where
   pub current_epoch : ℕ
@@ -65,3 +69,15 @@ first_election masters = record {
   begun = None;
   replaced = None;
 }
+
+-- the node may give that vote
+abbrev pub may_vote_for : NodeState → VoteRequest → Bool
+may_vote_for node request = may_grant node.voter (members_of node) node.health node.current_epoch request
+
+-- the node with a vote counted for it
+abbrev pub with_vote : NodeState → ℕ → ℕ → NodeState
+with_vote node from epoch = record node { candidate = counted node.candidate (members_of node) from epoch }
+
+-- two rows have the same at each place below that one
+abbrev pub AgreeBelow : ℕ → List (Option ℕ) → List (Option ℕ) → Type 0
+AgreeBelow bound xs ys = (place : ℕ) → place < bound → slice_index_or xs place None ≡ slice_index_or ys place None

@@ -5,3 +5,4 @@ pub mod Noting
 pub mod Succession
 pub mod Drafts
 pub mod Making
+pub mod Telling

@@ -5,6 +5,7 @@ use Rattle.bus.specs.declared.bodies.Replaced.{Replaced}
 use Rattle.election.specs.Health.{no_candidate}
 use Rattle.node_step.specs.Roles.{is_just, without_note}
 use Rattle.node_step.specs.State.{NodeState, own_master}
+use Rattle.node_step.specs.Handovers.{is_at_end}
 
 -- where the own master has a successor
 abbrev pub note_of_former : NodeState → ℕ → Option Handing
@@ -26,3 +27,7 @@ without_master node former = record node {
   candidate = if is_just (own_master node) former then no_candidate else node.candidate;
   handover = if is_just (own_master node) former then without_note node.handover else node.handover;
 }
+
+-- what the master hands over, if the node has all of its stream
+abbrev pub handing_at_end : NodeState → Option Handing
+handing_at_end node = if is_at_end node.stream node.handover.note then node.handover.note else None

@@ -1,12 +1,13 @@
 -- A replica takes the place of its master, as it is drafted.
-use Rattle.std.specs.Prelude.{ℕ, Bool, List, Option, Some, None}
+use Rattle.std.specs.Prelude.{ℕ, Bool, List, Option, Some, None, true}
 use Rattle.bus.specs.declared.message.Body.{Body}
 use Rattle.bus.specs.declared.bodies.Replaced.{Replaced}
 use Rattle.node_parts.specs.declared.succession.Succession.{Succession}
 use Rattle.node_step.specs.Outcome.{Outcome, silent}
-use Rattle.node_step.specs.Promotion.{in_place_of, own_stream}
+use Rattle.node_step.specs.Promotion.{in_place_of, own_stream, promotion_to, table_handed}
 use Rattle.node_step.specs.State.{NodeState}
 use Rattle.node_step.specs.declared.promotion.Promotion.{Promotion}
+use Rattle.slot_table.specs.declared.runs.Run.{Run}
 
 -- the node in the place of its master, with the table that was made for that
 abbrev pub succeeding : NodeState → Succession → NodeState
@@ -32,3 +33,11 @@ promoted_by node (Some succession) = Some (promotion_in node succession.epoch su
 abbrev pub promoting : NodeState → List (ℕ × Body) → Succession → Outcome
 promoting node bodies succession =
     record (silent (succeeding node succession)) { sent = bodies; promoted = Some (promotion_in node succession.epoch succession.planned) }
+
+-- the outcome, with its claim for all others
+abbrev pub promotion_of : NodeState → Succession → Outcome
+promotion_of node succession = promotion_to node succession.master succession.epoch succession.planned succession.table
+
+-- that of a handover, in which the master named these slots
+abbrev pub planned_promotion : NodeState → ℕ → ℕ → List (Run ℕ) → Outcome
+planned_promotion node master epoch slots = promotion_to node master epoch true (table_handed node slots epoch)

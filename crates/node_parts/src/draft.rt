@@ -1,15 +1,11 @@
 //! What a step gives, before its state changes.
-ghost use Rattle.std.specs.Prelude.{◌≡◌, IfOk, map};
-ghost use Rattle.connections.specs.Connections.{waiting};
-ghost use Rattle.connections.specs.Waiting.{test_of};
-ghost use Rattle.node_parts.specs.Becomes.{Becomes};
+ghost use Rattle.std.specs.Prelude.{◌≡◌, IfOk};
 ghost use Rattle.keyspace.specs.Keyspace.{Keyspace};
 ghost use Rattle.keyspace.specs.Plan.{committed};
-ghost use Rattle.node_parts.specs.Drafts.{Drafts, DraftsBy, HasNothing, Promotes, at_epoch, bodies_of, parking};
+ghost use Rattle.node_parts.specs.Drafts.{Drafts, DraftsBy, HasNothing, Promotes, bodies_of, parking, DraftsIn, releases_of, releasing, replying, with_reply};
 ghost use Rattle.node_parts.specs.Succession.{promoting};
-ghost use Rattle.node_step.specs.Outcome.{release, replied, replied_sending, silent};
+ghost use Rattle.node_step.specs.Outcome.{replied, silent};
 ghost use Rattle.node_step.specs.Requests.{using_up};
-ghost use Rattle.node_step.specs.State.{NodeState};
 
 use crate::change::Change;
 use crate::parts::NodeParts;
@@ -65,10 +61,7 @@ impl Drop for Draft {
 impl Draft {
     #[inline(always)]
     fn put_reply(&mut self, why: Why, reply: Reply)
-        ensures { self.new ≡ record self.old {
-          response = Response.Replied
-              (record { why = why; reply = reply });
-        } }
+        ensures { self.new ≡ with_reply self.old why reply }
     {
         self.response = Response::Replied(Answer { why, reply });
     }
@@ -152,8 +145,7 @@ impl<S: SlotParts, T: Stream> NodeParts<S, T> {
         change: Change,
     )
         requires { HasNothing self.now draft.old }
-        ensures { DraftsBy self.now draft.old change
-            (λ after. replied_sending after why reply bodies.items) draft.new }
+        ensures { DraftsBy self.now draft.old change (replying why reply bodies.items) draft.new }
     {
         draft.put_reply(why, reply);
         draft.put_bodies(bodies);
@@ -171,9 +163,8 @@ impl<S: SlotParts, T: Stream> NodeParts<S, T> {
         change: Change,
     )
         requires { HasNothing self.now draft.old }
-        ensures { (after : NodeState)
-            → Becomes (at_epoch self.now epoch) draft.old.plan change after
-            → Drafts self.now (replied_sending after why reply bodies.items) draft.new }
+        ensures { DraftsIn self.now epoch draft.old change
+            (replying why reply bodies.items) draft.new }
     {
         draft.put_reply(why, reply);
         draft.put_bodies(bodies);
@@ -190,8 +181,7 @@ impl<S: SlotParts, T: Stream> NodeParts<S, T> {
         change: Change,
     )
         requires { HasNothing self.now draft.old }
-        ensures { DraftsBy self.now draft.old change (λ after.
-            record (silent after) { released = released; sent = bodies.items }) draft.new }
+        ensures { DraftsBy self.now draft.old change (releasing released bodies.items) draft.new }
     {
         draft.released = released;
         draft.put_bodies(bodies);
@@ -214,8 +204,7 @@ impl<S: SlotParts, T: Stream> NodeParts<S, T> {
 
     /// The reply to each connection that waits so.
     pub fn releases(&self, which: &Waiting, reply: &Reply) -> Result<Releases, AllocError>
-        ensures { IfOk result (λ released.
-            released ≡ map (release reply.now) (waiting self.now.connections (test_of which.now))) }
+        ensures { IfOk result (λ released. released ≡ releases_of self.now which.now reply.now) }
     {
         let waiting = self.connections.waiting(self.alloc, which)?;
         Releases::to_all(self.alloc, waiting.as_slice(), reply)

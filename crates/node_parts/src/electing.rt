@@ -1,8 +1,8 @@
 //! What a node knows of epochs, of who copies whom, and of who lives, and its part in elections.
 ghost use Rattle.std.specs.Prelude.{◌≡◌, false, true, IfErr, IfOk, OnErr, OnOk};
-ghost use Rattle.election.specs.Electing.{counted, elected, judged, next_epoch};
-ghost use Rattle.election.specs.Voting.{after_request, may_grant};
-ghost use Rattle.node_parts.specs.Electing.{election_of, first_election, seen_by, with_election};
+ghost use Rattle.election.specs.Electing.{elected, judged, next_epoch};
+ghost use Rattle.election.specs.Voting.{after_request};
+ghost use Rattle.node_parts.specs.Electing.{election_of, first_election, seen_by, with_election, may_vote_for, with_vote};
 ghost use Rattle.node_parts.specs.Noting.{note_dropped, note_of_former, with_note, without_master};
 ghost use Rattle.node_step.specs.Failing.{a_tick_older, hearing, judging, members_of};
 ghost use Rattle.node_step.specs.Messages.{knowing, ready};
@@ -241,8 +241,7 @@ impl<S: SlotParts, T: Stream> NodeParts<S, T> {
 
     /// Whether the node votes for the candidate, and then that is remembered.
     pub fn vote(&mut self, request: VoteRequest) -> bool
-        ensures granted { result ≡ may_grant self.old.voter
-            (members_of self.old) self.old.health self.old.current_epoch request }
+        ensures granted { result ≡ may_vote_for self.old request }
         ensures state { self.new
             ≡ record self.old { voter = after_request self.old.voter request result } }
     {
@@ -268,10 +267,7 @@ impl<S: SlotParts, T: Stream> NodeParts<S, T> {
     /// Counts the vote of a node for this one, and tells whether that elects it.
     pub fn count_vote(&mut self, from: NodeNo, epoch: Epoch) -> Option<Elected>
         ensures elected { result ≡ elected self.old.candidate (members_of self.old) from epoch }
-        ensures state { self.new ≡ record self.old {
-          candidate = counted self.old.candidate
-              (members_of self.old) from epoch;
-        } }
+        ensures state { self.new ≡ with_vote self.old from epoch }
     {
         let members = self.members();
         let mut candidate = self.election.candidate;

@@ -1,7 +1,8 @@
 //! Who copies whom.
-ghost use Rattle.std.specs.Prelude.{◌≡◌, ◌<◌, ◌≤◌, ℕ, length, map, slice_index_or, take, None};
+ghost use Rattle.std.specs.Prelude.{◌≡◌, ◌≤◌, length, map, slice_index_or, take, None};
 ghost use Rattle.node_step.specs.Roles.{instead, succeeded};
 ghost use Rattle.node_step.specs.State.{first_masters};
+ghost use Rattle.node_parts.specs.Electing.{AgreeBelow};
 
 use crate::parts::NodeParts;
 use cluster_config::{Config, NodeConfig, Role};
@@ -21,8 +22,7 @@ pub(crate) fn first_masters(config: &Config) -> [Option<NodeNo>; 16]
 // The same, place by place.
 fn first_row(nodes: &[NodeConfig]) -> [Option<NodeNo>; 16]
     ensures whole { length result ≡ 16 }
-    ensures each { (place : ℕ) → place < 16
-        → slice_index_or result place None ≡ slice_index_or (first_masters nodes.now) place None }
+    ensures each { AgreeBelow 16 result (first_masters nodes.now) }
 {
     let mut row = [None; 16];
     for place in 0..16 {

@@ -1,9 +1,10 @@
 //! What a node knows of itself, of a slot, and of who copies whom.
 ghost use Rattle.std.specs.Option.{option_copied};
-ghost use Rattle.std.specs.Prelude.{◌≡◌, None, if◌then◌else◌, is_some, slice_index_or};
-ghost use Rattle.node_step.specs.Handovers.{is_at_end, may_take_over};
+ghost use Rattle.std.specs.Prelude.{◌≡◌, None, is_some, slice_index_or};
+ghost use Rattle.node_step.specs.Handovers.{may_take_over};
 ghost use Rattle.node_step.specs.Roles.{is_just};
 ghost use Rattle.node_step.specs.State.{own_master, standing};
+ghost use Rattle.node_parts.specs.Noting.{handing_at_end};
 
 use crate::parts::NodeParts;
 use bus::Handing;
@@ -57,8 +58,7 @@ impl<S: SlotParts, T: Stream> NodeParts<S, T> {
 
     /// What the master hands over, if the node has all of its stream, and no begun write.
     pub fn handed_over(&self) -> Option<&Handing>
-        ensures { option_copied result
-            ≡ if is_at_end self.now.stream self.now.handover.note then self.now.handover.note else None }
+        ensures { option_copied result ≡ handing_at_end self.now }
     {
         let handing = self.note.as_ref()?;
         let is_at_end = handing.stream == self.stream.id()

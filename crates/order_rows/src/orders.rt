@@ -1,17 +1,9 @@
 //! CLUSTER SETSLOT: moves of slots that begin and end.
-ghost use Rattle.std.specs.Prelude.{◌≡◌, ◌<◌, ◌^◌, ◌∷◌, [], false, IfOk, OnOk, Some, SomeIff, Err, if◌then◌else◌, slice_set};
+ghost use Rattle.std.specs.Prelude.{◌≡◌, ◌<◌, ◌^◌, IfOk, OnOk, SomeIff, Err};
 ghost use Rattle.node_parts.specs.Drafts.{Drafts, HasNothing, bodies_of};
-ghost use Rattle.order_rows.specs.Orders.{Gives, Obeys, import_change, migrate_change};
+ghost use Rattle.order_rows.specs.Orders.{Gives, Obeys, import_change, migrate_change, GivesBy, IsNewEpoch, NoEpoch, NoOrderNumber, claim_with, drained_by_order, drained_to, import_on, import_verdict_on, migrate_verdict_on, migration_on};
 ghost use Rattle.step_fault.specs.declared.fault.StepFault.TheVariants.{Exhausted};
-ghost use Rattle.node_step.specs.Orders.{done, drained_at_start, ending_reply, ending_verdict, import_reply, importing, migrate_reply, migrating, new_epoch, with_moves};
-ghost use Rattle.node_step.specs.Requests.{has_epoch, has_order_number, using_up};
-ghost use Rattle.node_step.specs.Slots.{has_keys, slot_epoch};
-ghost use Rattle.node_step.specs.State.{standing};
-ghost use Rattle.slot_state.specs.Importing.{import_verdict};
-ghost use Rattle.slot_state.specs.Migrating.{after_migrate, migrate_verdict};
-ghost use Rattle.slot_state.specs.Moves.{last_move_of, move_of};
-ghost use Rattle.slot_table.specs.Runs.{runs_of};
-ghost use Rattle.slot_table.specs.Table.{claim_at};
+ghost use Rattle.node_step.specs.Orders.{ending_reply, ending_verdict, import_reply, migrate_reply, new_epoch};
 
 use bus::{Body, SlotsBody};
 use command_table::{ErrorLine, SlotOrder};
@@ -38,8 +30,7 @@ pub fn obey<S: SlotParts, T: Stream>(
     requires { HasNothing node.now draft.old }
     ensures obeys { OnOk result
         (Obeys node.now conn named.slot order named.node named.number draft.new) }
-    ensures exhausted { result ≡ Err Exhausted
-        → has_order_number node.now named.slot order named.node named.number ≡ false }
+    ensures exhausted { result ≡ Err Exhausted → NoOrderNumber node.now order named }
 {
     match order {
         SlotOrder::Importing => {
@@ -59,8 +50,7 @@ fn import<S: SlotParts, T: Stream>(
     draft: &mut Draft,
 )
     requires { HasNothing node.now draft.old }
-    ensures { Drafts node.now
-        (importing (using_up node.now conn) order.slot order.node order.number) draft.new }
+    ensures { Drafts node.now (import_on node.now conn order) draft.new }
 {
     let verdict = import_verdict(node, &order);
     let reply = import_reply(&verdict);
@@ -70,9 +60,7 @@ fn import<S: SlotParts, T: Stream>(
 
 // The verdict on an order to import a slot.
 fn import_verdict<S: SlotParts, T: Stream>(node: &NodeParts<S, T>, order: &Order) -> ImportVerdict
-    ensures { result
-        ≡ import_verdict (standing node.now order.now.slot) (move_of node.now.moves order.now.slot)
-        (last_move_of node.now.moves order.now.slot) order.now.node order.now.number }
+    ensures { result ≡ import_verdict_on node.now order.now }
 {
     let at = node.standing(order.slot);
     node.moves.import_verdict(at, *order)
@@ -86,8 +74,7 @@ fn migrate_slot<S: SlotParts, T: Stream>(
     draft: &mut Draft,
 ) -> Result<(), AllocError>
     requires { HasNothing node.now draft.old }
-    ensures { OnOk result (Drafts node.now
-        (migrating (using_up node.now conn) order.slot order.node order.number) draft.new) }
+    ensures { OnOk result (Drafts node.now (migration_on node.now conn order) draft.new) }
 {
     let verdict = migrate_verdict(node, &order);
     let reply = migrate_reply(&verdict);
@@ -101,9 +88,7 @@ fn migrate_slot<S: SlotParts, T: Stream>(
 
 // The verdict on an order to migrate a slot.
 fn migrate_verdict<S: SlotParts, T: Stream>(node: &NodeParts<S, T>, order: &Order) -> MigrateVerdict
-    ensures { result
-        ≡ migrate_verdict (standing node.now order.now.slot) (move_of node.now.moves order.now.slot)
-        (last_move_of node.now.moves order.now.slot) order.now.node order.now.number }
+    ensures { result ≡ migrate_verdict_on node.now order.now }
 {
     let at = node.standing(order.slot);
     node.moves.migrate_verdict(at, *order)
@@ -115,8 +100,7 @@ fn drained_at_start<S: SlotParts, T: Stream>(
     slot: Slot,
     verdict: &MigrateVerdict,
 ) -> Option<(NodeNo, Body)>
-    ensures { bodies_of result ≡ drained_at_start
-        (with_moves node.now (after_migrate node.now.moves slot verdict.now)) slot verdict.now }
+    ensures { bodies_of result ≡ drained_by_order node.now slot verdict.now }
 {
     match *verdict {
         MigrateVerdict::Begins { to, number } => drained_for(node, slot, to, number),
@@ -136,8 +120,7 @@ fn drained_for<S: SlotParts, T: Stream>(
     to: NodeNo,
     number: MoveNo,
 ) -> Option<(NodeNo, Body)>
-    ensures { bodies_of result ≡ if has_keys node.now.keyspace slot then [] else
-        (to, Body.Slots (SlotsBody.Drained slot number (slot_epoch node.now slot))) ∷ [] }
+    ensures { bodies_of result ≡ drained_to node.now slot to number }
 {
     if node.store.count_in_slot(slot) > 0 {
         return None;
@@ -161,10 +144,8 @@ fn give_slot<S: SlotParts, T: Stream>(
     draft: &mut Draft,
 ) -> Result<(), StepFault>
     requires { HasNothing node.now draft.old }
-    ensures gives { OnOk result (Gives node.now conn order.slot
-        (ending_verdict node.now order.slot order.node order.number) draft.new) }
-    ensures exhausted { result ≡ Err Exhausted → has_epoch node.now order.slot
-        (ending_verdict node.now order.slot order.node order.number) ≡ false }
+    ensures gives { OnOk result (GivesBy node.now conn order draft.new) }
+    ensures exhausted { result ≡ Err Exhausted → NoEpoch node.now order }
 {
     let slot = order.slot;
     let verdict = node_verdict(node, order);
@@ -216,8 +197,7 @@ fn end_of_import<S: SlotParts, T: Stream>(
     epoch: Epoch,
     draft: &mut Draft,
 ) -> Result<(), AllocError>
-    requires epoch { (epoch ≡ new_epoch node.now slot drained)
-        × (new_epoch node.now slot drained < 2 ^ 64) }
+    requires epoch { IsNewEpoch node.now slot drained epoch }
     requires nothing { HasNothing node.now draft.old }
     ensures { OnOk result (Gives node.now conn slot (NodeVerdict.Ends drained) draft.new) }
 {
@@ -237,8 +217,7 @@ fn claim_with<S: SlotParts, T: Stream>(
     slot: Slot,
     epoch: Epoch,
 ) -> Result<Claim, AllocError>
-    ensures { IfOk result (λ claim. claim ≡ runs_of (claim_at (slice_set node.now.table slot
-        (Some (record { epoch = epoch; owner = node.now.number }))) node.now.number)) }
+    ensures { IfOk result (λ claim. claim ≡ claim_with node.now slot epoch) }
 {
     let owner = node.number;
     node.table

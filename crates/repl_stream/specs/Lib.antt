@@ -4,3 +4,5 @@ pub mod Pages
 pub mod Reading
 pub mod NodeStream
 pub mod Written
+pub mod Kept
+pub mod Replica

@@ -1,9 +1,9 @@
 //! What a replica takes of its master's stream.
 ghost use Rattle.std.specs.Prelude.{◌≡◌, ◌+◌, ◌<◌, ◌≤◌, ◌^◌, length, IfOk, IfErr, IfSome, OnOk, OnErr};
-ghost use Rattle.stream_values.specs.Piece.{TakesBehind, TakesPiece, common_end, end_by_base, news_in, verdict_on};
+ghost use Rattle.stream_values.specs.Piece.{common_end, end_by_base, news_in, verdict_on};
 ghost use Rattle.stream_values.specs.Piece.PieceVerdict.{Takes};
-ghost use Rattle.stream_values.specs.Stream.{received};
 ghost use Rattle.repl_stream.specs.Faults.{IsRefusedFor};
+ghost use Rattle.repl_stream.specs.Replica.{IsWithin, IsWithinBoth, StaysIn, TakesFrom, TakesIn};
 
 use crate::fault::OfferFault;
 use crate::node_stream::NodeStream;
@@ -22,13 +22,12 @@ impl<T: Stream> NodeStream<T> {
         store: &mut S,
         piece: &Piece,
     ) -> Result<(), OfferFault>
-        ensures taken { OnOk result (TakesPiece
-            (record { stream = self.old.stream; keyspace = S.contents store.old }) piece.now
-            (record { stream = self.new.stream; keyspace = S.contents store.new })) }
+        ensures taken { OnOk result
+            (TakesIn S.contents self.old store.old piece.now self.new store.new) }
         ensures refused { IfErr result
             (λ fault. IsRefusedFor fault (verdict_on self.old.stream piece.now)) }
         ensures unchanged { OnErr result
-            ((self.new.stream ≡ self.old.stream) × (S.contents store.new ≡ S.contents store.old)) }
+            (StaysIn S.contents self.old store.old self.new store.new) }
         ensures keeps { self.new.keeps ≡ self.old.keeps }
     {
         let place = self.judge(piece)?;
@@ -39,8 +38,7 @@ impl<T: Stream> NodeStream<T> {
     // Up to where what was received is of the piece's stream, if that isn't before the piece.
     fn judge(&self, piece: &Piece) -> Result<u64, OfferFault>
         ensures takes { IfOk result (λ place. verdict_on self.now.stream piece.now ≡ Takes place) }
-        ensures within { IfOk result (λ place. (piece.now.from ≤ place)
-            × (self.now.stream.offset ≤ place) × (place ≤ received self.now.stream)) }
+        ensures within { IfOk result (λ place. IsWithinBoth self.now.stream piece.now place) }
         ensures refused { IfErr result
             (λ fault. IsRefusedFor fault (verdict_on self.now.stream piece.now)) }
     {
@@ -55,8 +53,7 @@ impl<T: Stream> NodeStream<T> {
 
     fn common_end(&self, piece: &Piece) -> Option<u64>
         ensures end { result ≡ common_end self.now.stream piece.now }
-        ensures within { IfSome result
-            (λ place. (self.now.stream.offset ≤ place) × (place ≤ received self.now.stream)) }
+        ensures within { IfSome result (λ place. IsWithin self.now.stream place) }
     {
         if piece.stream() == self.id() {
             return Some(self.received());
@@ -66,8 +63,7 @@ impl<T: Stream> NodeStream<T> {
 
     fn end_by_base(&self, base: Option<Base>) -> Option<u64>
         ensures end { result ≡ end_by_base self.now.stream base }
-        ensures within { IfSome result
-            (λ place. (self.now.stream.offset ≤ place) × (place ≤ received self.now.stream)) }
+        ensures within { IfSome result (λ place. IsWithin self.now.stream place) }
     {
         let base = base?;
         if base.stream != self.id() || base.end < self.offset {
@@ -85,12 +81,10 @@ impl<T: Stream> NodeStream<T> {
         place: u64,
     ) -> Result<(), AllocError>
         requires behind { piece.now.from ≤ place }
-        requires within { (self.old.stream.offset ≤ place) × (place ≤ received self.old.stream) }
-        ensures taken { OnOk result (TakesBehind place
-            (record { stream = self.old.stream; keyspace = S.contents store.old }) piece.now
-            (record { stream = self.new.stream; keyspace = S.contents store.new })) }
-        ensures err { OnErr result
-            ((self.new.stream ≡ self.old.stream) × (S.contents store.new ≡ S.contents store.old)) }
+        requires within { IsWithin self.old.stream place }
+        ensures taken { OnOk result
+            (TakesFrom S.contents place self.old store.old piece.now self.new store.new) }
+        ensures err { OnErr result (StaysIn S.contents self.old store.old self.new store.new) }
         ensures keeps { self.new.keeps ≡ self.old.keeps }
     {
         let stayed = front(self.partial.as_slice(), place - self.offset);

@@ -1,6 +1,7 @@
 //! The last bytes that came, in pages.
-ghost use Rattle.std.specs.Prelude.{◌≡◌, ◌+◌, ◌-◌, ◌<◌, ◌≤◌, [], ◌++◌, length, take, drop, IfOk};
+ghost use Rattle.std.specs.Prelude.{◌≡◌, ◌+◌, ◌<◌, ◌≤◌, [], length, take, drop, IfOk};
 ghost use Rattle.circular_buffer.specs.Buffer.{buffer, keep_last};
+ghost use Rattle.repl_stream.specs.Kept.{extended};
 
 use crate::pages::{PAGES, Pages};
 use byte_string::ByteString;
@@ -64,8 +65,7 @@ impl PageRing {
 
     /// Puts the bytes behind its own, of which those in front go that find no room.
     pub fn extend_from_slice(&mut self, bytes: &[u8])
-        ensures { self.new
-            ≡ buffer (keep_last self.old.capacity (self.old.items ++ bytes.now)) self.old.capacity }
+        ensures { self.new ≡ extended self.old bytes.now }
     {
         let mut rest = &bytes[bytes.len().saturating_sub(self.capacity)..];
         while !rest.is_empty() {
@@ -78,8 +78,7 @@ impl PageRing {
     fn fill(&mut self, bytes: &[u8]) -> usize
         requires { 0 < length bytes.now }
         ensures count { (0 < result) × (result ≤ length bytes.now) }
-        ensures filled { self.new ≡ buffer (keep_last self.old.capacity
-            (self.old.items ++ take result bytes.now)) self.old.capacity }
+        ensures filled { self.new ≡ extended self.old (take result bytes.now) }
         ensures within { length self.new.items ≤ self.new.capacity }
     {
         self.pages.make_room();

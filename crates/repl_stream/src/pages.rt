@@ -1,8 +1,8 @@
 //! Bytes in pages.
-ghost use Rattle.std.specs.Prelude.{◌≡◌, ℕ, ◌-◌, ◌*◌, ◌<◌, ◌≤◌, [], ◌∷◌, ◌++◌, min, length, take, drop, vec_capacity, slice_get, IfSome, IfOk, OnOk};
+ghost use Rattle.std.specs.Prelude.{◌≡◌, ℕ, ◌-◌, ◌<◌, ◌≤◌, [], ◌++◌, min, length, take, drop, vec_capacity, IfOk, OnOk};
 ghost use Rattle.std.specs.List.{All};
-ghost use Rattle.circular_buffer.specs.Buffer.{buffer, keep_last, last_item};
-ghost use Rattle.repl_stream.specs.Pages.{bytes_in, bytes_of, IsPage, Keeps};
+ghost use Rattle.circular_buffer.specs.Buffer.{keep_last, last_item};
+ghost use Rattle.repl_stream.specs.Pages.{bytes_in, bytes_of, IsPage, Keeps, KeepsOn, KeepsSame, PutsEmpty, TakesBlock, TurnsFull};
 
 use byte_string::ByteString;
 use circular_buffer::HeapCircularBuffer;
@@ -40,10 +40,8 @@ impl Pages {
         requires some { 0 < self.old.len }
         requires count { (length self.old.full.items ≡ PAGES) × (self.old.full.capacity ≡ PAGES) }
         requires last { length self.old.last.items ≤ self.old.len }
-        ensures keeps { (kept : ℕ) → kept ≤ PAGES * self.old.len → Keeps self.old kept
-            → Keeps self.new kept }
-        ensures bytes { (kept : ℕ) → kept ≤ PAGES * self.old.len → Keeps self.old kept
-            → keep_last kept (bytes_of self.new) ≡ keep_last kept (bytes_of self.old) }
+        ensures keeps { KeepsOn self.old self.new }
+        ensures bytes { KeepsSame self.old self.new }
         ensures room { length self.new.last.items < self.new.len }
         ensures len { self.new.len ≡ self.old.len }
     {
@@ -102,11 +100,9 @@ impl Pages {
     fn turn(&mut self)
         requires some { 0 < length self.old.full.items }
         requires all { length self.old.full.items ≡ self.old.full.capacity }
-        ensures full { self.new.full
-            ≡ buffer (drop 1 self.old.full.items ++ self.old.last ∷ []) self.old.full.capacity }
+        ensures full { TurnsFull self.old self.new }
         ensures empty { self.new.last.items ≡ [] }
-        ensures block { IfSome (slice_get self.old.full.items 0)
-            (λ page. vec_capacity self.new.last ≡ vec_capacity page) }
+        ensures block { TakesBlock self.old self.new }
         ensures len { self.new.len ≡ self.old.len }
     {
         let Some(mut page) = self.full.pop_front() else {
@@ -122,8 +118,7 @@ impl Pages {
         requires some { 0 < length self.old.full.items }
         requires all { length self.old.full.items ≡ self.old.full.capacity }
         ensures last { last_item self.old.full.items ≡ Some self.new.last }
-        ensures empty { IfSome (slice_get self.new.full.items 0)
-            (λ page. (page.items ≡ []) × (vec_capacity page ≡ vec_capacity self.old.last)) }
+        ensures empty { PutsEmpty self.old self.new }
         ensures rest { drop 1 self.new.full.items
             ≡ take (length self.old.full.items - 1) self.old.full.items }
         ensures count { length self.new.full.items ≡ length self.old.full.items }
@@ -182,12 +177,7 @@ fn append_last_pages(
 }
 
 /// Puts the last `last` bytes of a page behind the others, of which there are at most `most` then.
-fn append_last(
-    bytes: &mut Vec<u8>,
-    page: &[u8],
-    last: usize,
-    most: usize,
-) -> Result<(), AllocError>
+fn append_last(bytes: &mut Vec<u8>, page: &[u8], last: usize, most: usize) -> Result<(), AllocError>
     requires { length bytes.old.items ≤ most }
     ensures { OnOk result
         (bytes.new.items ≡ take most (bytes.old.items ++ keep_last last page.now)) }

@@ -1,7 +1,6 @@
 //! What was received of a stream, read.
 ghost use Rattle.std.specs.Prelude.{◌++◌, IfOk};
-ghost use Rattle.keyspace.specs.Plan.{committed};
-ghost use Rattle.repl_stream.specs.Reading.{IsPlanned};
+ghost use Rattle.repl_stream.specs.Reading.{Reads};
 
 use crate::requests::plan_requests;
 use keyspace::{Plan, Store};
@@ -23,8 +22,8 @@ pub fn read<S: Store>(
     stayed: &[u8],
     news: &[u8],
 ) -> Result<Received, AllocError>
-    ensures { IfOk result (λ received. IsPlanned (S.contents store.now) (stayed.now ++ news.now)
-        (committed (S.contents store.now) received.plan) received.rest.items) }
+    ensures { IfOk result (λ received.
+        Reads (S.contents store.now) (stayed.now ++ news.now) received) }
 {
     if stayed.is_empty() {
         return read_bytes(alloc, store, news);
@@ -36,8 +35,7 @@ pub fn read<S: Store>(
 }
 
 fn read_bytes<S: Store>(alloc: Global, store: &S, bytes: &[u8]) -> Result<Received, AllocError>
-    ensures { IfOk result (λ received. IsPlanned (S.contents store.now) bytes.now
-        (committed (S.contents store.now) received.plan) received.rest.items) }
+    ensures { IfOk result (λ received. Reads (S.contents store.now) bytes.now received) }
 {
     let mut plan = Plan::new(alloc);
     let rest = plan_requests(alloc, store, &mut plan, bytes)?;

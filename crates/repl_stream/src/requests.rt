@@ -1,8 +1,6 @@
 //! The whole requests in bytes, one after another, and what they change.
 ghost use Rattle.std.specs.Prelude.{◌≡◌, ◌≢◌, ◌≤◌, None, length, drop, IfOk, IfSome, IfNone, OnOk};
-ghost use Rattle.keyspace.specs.Commands.{exec_words};
-ghost use Rattle.keyspace.specs.Plan.{committed};
-ghost use Rattle.repl_stream.specs.Reading.{HandsOut, IsPlanned};
+ghost use Rattle.repl_stream.specs.Reading.{HandsOut, Plans, PlansWords};
 ghost use Rattle.resp_header.specs.declared.fault.Fault.TheVariants.{Memory};
 ghost use Rattle.resp_values.specs.Request.{request_spelling};
 ghost use Rattle.stream_values.specs.Reading.{BeginsWithRequest};
@@ -21,8 +19,8 @@ pub fn plan_requests<'b, S: Store>(
     plan: &mut Plan,
     bytes: &'b [u8],
 ) -> Result<&'b [u8], AllocError>
-    ensures { IfOk result (λ rest. IsPlanned (committed (S.contents store.now) plan.old) bytes.now
-        (committed (S.contents store.now) plan.new) rest.now) }
+    ensures { IfOk result
+        (λ rest. Plans (S.contents store.now) plan.old bytes.now plan.new rest.now) }
 {
     let mut reader = Reader::fed(alloc, bytes)?;
     let mut rest = bytes;
@@ -88,8 +86,7 @@ fn plan_words<S: Store>(
     plan: &mut Plan,
     words: &Words,
 ) -> Result<(), AllocError>
-    ensures { OnOk result (committed (S.contents store.now) plan.new
-        ≡ (exec_words (committed (S.contents store.now) plan.old) words.now).after) }
+    ensures { OnOk result (PlansWords (S.contents store.now) plan.old words.now plan.new) }
 {
     if let Ok(Command::Data(command)) = parse(words) {
         let _reply = plan_command(alloc, store, plan, &command)?;

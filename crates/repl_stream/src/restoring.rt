@@ -1,8 +1,8 @@
 //! A whole keyspace, taken from a snapshot.
-ghost use Rattle.std.specs.Prelude.{◌≡◌, [], IfOk, OnOk, OnErr};
+ghost use Rattle.std.specs.Prelude.{◌≡◌, IfOk, OnOk, OnErr};
 ghost use Rattle.keyspace.specs.Keyspace.{keyspace_of};
-ghost use Rattle.stream_values.specs.Snapshot.{is_known, restored};
-ghost use Rattle.stream_values.specs.Stream.{begun};
+ghost use Rattle.stream_values.specs.Snapshot.{is_known};
+ghost use Rattle.repl_stream.specs.Replica.{Restores, StaysIn, begun_again};
 
 use crate::node_stream::NodeStream;
 use crate::replaces::Replaces;
@@ -22,11 +22,8 @@ impl<T: Stream> NodeStream<T> {
         snapshot: &Snapshot,
     ) -> Result<(), AllocError>
         ensures ok { OnOk result
-            (record { stream = self.new.stream; keyspace = S.contents store.new }
-            ≡ restored snapshot.now
-            (record { stream = self.old.stream; keyspace = S.contents store.old })) }
-        ensures err { OnErr result
-            ((self.new.stream ≡ self.old.stream) × (S.contents store.new ≡ S.contents store.old)) }
+            (Restores S.contents self.old store.old snapshot.now self.new store.new) }
+        ensures err { OnErr result (StaysIn S.contents self.old store.old self.new store.new) }
         ensures keeps { self.new.keeps ≡ self.old.keeps }
     {
         if self.knows(snapshot) {
@@ -45,8 +42,7 @@ impl<T: Stream> NodeStream<T> {
 
     // The stream goes on from there, and nothing of it is kept.
     fn begin_again(&mut self, id: StreamId, offset: u64)
-        ensures stream { self.new.stream
-            ≡ record self.old.stream { held = begun id offset; offset = offset; partial = [] } }
+        ensures stream { self.new.stream ≡ begun_again id offset self.old.stream }
         ensures keeps { self.new.keeps ≡ self.old.keeps }
     {
         self.stream.begin_at(id, offset);

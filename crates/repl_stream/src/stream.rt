@@ -1,7 +1,8 @@
 //! Where the bytes of a stream stand: the trait of all streams.
-ghost use Rattle.std.specs.Prelude.{◌≡◌, ◌+◌, ◌-◌, ◌<◌, ◌≤◌, ◌^◌, length, take, drop, IfOk, IfErr, OnOk};
+ghost use Rattle.std.specs.Prelude.{◌≡◌, ◌+◌, ◌-◌, ◌<◌, ◌≤◌, ◌^◌, length, IfOk, IfErr, OnOk};
 ghost use Rattle.stream_values.specs.Stream.{begun, cut, end_of, with_appended};
 ghost use Rattle.repl_stream.specs.Faults.{MayRefuse};
+ghost use Rattle.repl_stream.specs.Kept.{part_from};
 
 use crate::fault::StreamFault;
 use byte_string::ByteString;
@@ -67,8 +68,7 @@ pub trait Stream {
 
     /// At most so many bytes, from that offset on. From the end on there are none.
     fn piece(&self, alloc: Global, from: u64, most: usize) -> Result<ByteString, StreamFault>
-        ensures bytes { IfOk result (λ bytes.
-            bytes ≡ take most (drop (from - (held self.now).first) (held self.now).bytes)) }
+        ensures bytes { IfOk result (λ bytes. bytes ≡ part_from (held self.now) from most) }
         ensures kept { OnOk result ((held self.now).first ≤ from) }
         ensures err { IfErr result (λ fault. MayRefuse fault (from < (held self.now).first)) };
 

@@ -1,7 +1,8 @@
 //! What a master puts behind its stream.
-ghost use Rattle.std.specs.Prelude.{◌≡◌, ◌+◌, ◌<◌, ◌≤◌, ◌^◌, List, ℕ, true, length, IfErr, OnOk};
+ghost use Rattle.std.specs.Prelude.{◌≡◌, ◌+◌, ◌<◌, ◌≤◌, ◌^◌, true, length, IfErr, OnOk};
 ghost use Rattle.stream_values.specs.Stream.{Writes, received};
 ghost use Rattle.repl_stream.specs.Faults.{IsRefusedAt};
+ghost use Rattle.repl_stream.specs.Replica.{WritesAny};
 
 use crate::fault::AppendFault;
 use crate::node_stream::NodeStream;
@@ -55,8 +56,7 @@ impl<T: Stream> NodeStream<T> {
     fn pass(&mut self, count: usize)
         requires fits { received self.old.stream + count < 2 ^ 64 }
         requires none { self.old.keeps ≡ 0 }
-        ensures passed { (bytes : List ℕ) → length bytes ≡ count
-            → Writes self.old.keeps bytes self.old.stream self.new.stream }
+        ensures passed { WritesAny self.old.keeps count self.old.stream self.new.stream }
         ensures keeps { self.new.keeps ≡ self.old.keeps }
     {
         let (id, end) = (self.stream.id(), self.stream.end());

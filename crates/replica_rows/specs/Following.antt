@@ -1,10 +1,16 @@
 -- What becomes of a node that follows its master.
-use Rattle.std.specs.Prelude.{◌≡◌, ℕ, true}
-use Rattle.node_step.specs.Replicas.{MayFollow, pieced, with_piece}
+use Rattle.std.specs.Prelude.{◌≡◌, ℕ, true, List}
+use Rattle.std.specs.FinMap as fin_map
+use Rattle.node_step.specs.Replicas.{MayFollow, pieced, with_piece, follower_of, sync_answer, with_follower}
 use Rattle.node_step.specs.Roles.{is_just}
 use Rattle.node_step.specs.State.{NodeState, own_master}
 use Rattle.stream_values.specs.Follower.{Follower}
 use Rattle.stream_values.specs.Piece.{PieceView, verdict_on}
+use Rattle.stream_values.specs.Snapshot.{restored}
+use Rattle.stream_values.specs.Syncing.{answer_to}
+use Rattle.stream_values.specs.declared.snapshot.Snapshot.{Snapshot}
+use Rattle.stream_values.specs.declared.sync.Sync.{Sync}
+use Rattle.bus.specs.declared.message.Body.{Body}
 
 -- a piece was taken, or is none to be taken
 pub record TakesOrNot (old : NodeState) (piece : PieceView) (new : NodeState) : Type 0 where
@@ -17,3 +23,17 @@ pub record Follows (old : NodeState) (from : ℕ) (piece : PieceView) (new : Nod
   pub follower : Follower
   pub may_follow : is_just (own_master old) from ≡ true → MayFollow old piece follower
   pub state : new ≡ (pieced old from piece follower).state
+
+-- the node once it took a snapshot
+abbrev pub with_snapshot : NodeState → Snapshot → NodeState
+with_snapshot node snapshot = with_follower node (restored snapshot (follower_of node))
+
+-- ---- what a replica is told
+
+-- what it misses, by how much it has
+abbrev pub answer_on : NodeState → ℕ → Sync → List (ℕ × Body)
+answer_on node from sync = sync_answer node from (answer_to node.stream sync)
+
+-- all that the node has
+abbrev pub snapshot_of : NodeState → Snapshot
+snapshot_of node = record { stream = node.stream.held.id; offset = node.stream.offset; pairs = fin_map.entries node.keyspace }

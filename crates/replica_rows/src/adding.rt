@@ -1,18 +1,10 @@
 //! What a step writes, in its draft.
-ghost use Rattle.std.specs.Prelude.{◌≡◌, ◌+◌, ◌^◌, nat_lt, length, [], false, true, Err, OnOk, Result};
-ghost use Rattle.command_table.specs.declared.command.Command.{Command};
-ghost use Rattle.command_table.specs.declared.fault.CommandFault.{CommandFault};
-ghost use Rattle.node_parts.specs.Drafts.{Drafts, Records};
-ghost use Rattle.node_step.specs.Numbers.{has_offset};
-ghost use Rattle.node_step.specs.Outcome.{Outcome};
+ghost use Rattle.std.specs.Prelude.{◌≡◌, [], true, Err, OnOk};
 ghost use Rattle.node_step.specs.Roles.{replicas_of};
 ghost use Rattle.node_step.specs.State.{kept_in};
-ghost use Rattle.node_step.specs.Streams.{Requests, is_written, written_by_request};
-ghost use Rattle.resp2.specs.Stream.{stream_spelling};
 ghost use Rattle.resp_values.specs.Request.{request_spelling};
 ghost use Rattle.step_fault.specs.declared.fault.StepFault.TheVariants.{Exhausted};
-ghost use Rattle.replica_rows.specs.Adding.{Adds};
-ghost use Rattle.stream_values.specs.Stream.{end_of};
+ghost use Rattle.replica_rows.specs.Adding.{Adds, NoOffsetBehind, NoOffsetForBytes, NoOffsetToWrite, RecordsBytes, RecordsWords};
 
 use crate::pieces::{append_pieces, last_replica};
 use crate::writes::is_recorded;
@@ -31,11 +23,8 @@ pub fn add_written<S: SlotParts, T: Stream>(
     bytes: Vec<u8>,
     draft: &mut Draft,
 ) -> Result<(), StepFault>
-    ensures records { OnOk result ((outcome : Outcome) (requests : Requests)
-        → bytes.items ≡ stream_spelling requests → Drafts node.now outcome draft.old
-        → Records node.now outcome requests draft.new) }
-    ensures exhausted { result ≡ Err Exhausted → (requests : Requests)
-        → bytes.items ≡ stream_spelling requests → has_offset node.now requests ≡ false }
+    ensures records { OnOk result (RecordsBytes node.now bytes.items draft.old draft.new) }
+    ensures exhausted { result ≡ Err Exhausted → NoOffsetForBytes node.now bytes.items }
 {
     if bytes.is_empty() {
         return Ok(());
@@ -51,13 +40,10 @@ pub fn add_request<S: SlotParts, T: Stream>(
     is_write: bool,
     draft: &mut Draft,
 ) -> Result<(), StepFault>
-    ensures records { OnOk result ((outcome : Outcome) (command : Result Command CommandFault)
-        → is_write ≡ is_written command
-        → Drafts node.now outcome draft.old → Records node.now outcome
-        (written_by_request words.now command draft.old.response) draft.new) }
+    ensures records { OnOk result
+        (RecordsWords node.now words.now is_write draft.old draft.new) }
     ensures exhausted { result ≡ Err Exhausted
-        → (command : Result Command CommandFault) → is_write ≡ is_written command
-        → has_offset node.now (written_by_request words.now command draft.old.response) ≡ false }
+        → NoOffsetToWrite node.now words.now is_write draft.old }
 {
     if !is_recorded(is_write, &draft.response) {
         return Ok(());
@@ -89,7 +75,7 @@ fn count<S: SlotParts, T: Stream>(
     requires none { replicas_of node.now.masters node.now.number ≡ [] }
     ensures ok { OnOk result (Adds node.now (request_spelling words.now) draft.old draft.new) }
     ensures exhausted { result ≡ Err Exhausted
-        → nat_lt (end_of node.now.stream.held + length (request_spelling words.now)) (2 ^ 64) ≡ false }
+        → NoOffsetBehind node.now (request_spelling words.now) }
 {
     let counted = Written::counted(words);
     if counted.len() as u64 > u64::MAX - node.stream.received() {
@@ -106,8 +92,7 @@ fn add<S: SlotParts, T: Stream>(
     draft: &mut Draft,
 ) -> Result<(), StepFault>
     ensures ok { OnOk result (Adds node.now bytes.items draft.old draft.new) }
-    ensures exhausted { result ≡ Err Exhausted
-        → nat_lt (end_of node.now.stream.held + length bytes.items) (2 ^ 64) ≡ false }
+    ensures exhausted { result ≡ Err Exhausted → NoOffsetBehind node.now bytes.items }
 {
     if bytes.len() as u64 > u64::MAX - node.stream.received() {
         return Err(StepFault::Exhausted);

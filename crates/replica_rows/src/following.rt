@@ -1,10 +1,9 @@
 //! A replica follows its master's stream.
 ghost use Rattle.std.specs.Prelude.{◌≡◌, OnOk, OnErr};
-ghost use Rattle.node_step.specs.Replicas.{follower_of, restored_by, with_follower};
+ghost use Rattle.node_step.specs.Replicas.{restored_by};
 ghost use Rattle.node_step.specs.Roles.{is_just};
 ghost use Rattle.node_step.specs.State.{own_master};
-ghost use Rattle.replica_rows.specs.Following.{Follows, TakesOrNot};
-ghost use Rattle.stream_values.specs.Snapshot.{restored};
+ghost use Rattle.replica_rows.specs.Following.{Follows, TakesOrNot, with_snapshot};
 
 use node_parts::NodeParts;
 use repl_stream::{OfferFault, Replaces, Stream};
@@ -76,8 +75,7 @@ fn restore<S: SlotParts + Replaces, T: Stream>(
     node: &mut NodeParts<S, T>,
     snapshot: &Snapshot,
 ) -> Result<(), AllocError>
-    ensures ok { OnOk result
-        (node.new ≡ with_follower node.old (restored snapshot.now (follower_of node.old))) }
+    ensures ok { OnOk result (node.new ≡ with_snapshot node.old snapshot.now) }
     ensures err { OnErr result (node.new ≡ node.old) }
 {
     node.stream.snapshot(node.alloc, &mut node.store, snapshot)

@@ -1,10 +1,9 @@
 //! What a step writes, as messages to the node's replicas.
-ghost use Rattle.std.specs.Prelude.{◌≡◌, ◌++◌, ◌∷◌, ◌+◌, ◌<◌, ◌^◌, [], false, length, IfNone, IfOk, IfSome, OnOk};
+ghost use Rattle.std.specs.Prelude.{◌≡◌, ◌++◌, ◌+◌, ◌<◌, ◌^◌, [], false, length, IfNone, IfOk, IfSome, OnOk};
 ghost use Rattle.bus.specs.declared.bodies.StreamBody.TheVariants.{Piece as SaysPiece};
 ghost use Rattle.bus.specs.declared.message.Body.TheVariants.{Stream as OfStream};
-ghost use Rattle.node_step.specs.Orders.{to_all};
 ghost use Rattle.node_step.specs.Roles.{replicas_of};
-ghost use Rattle.replica_rows.specs.Adding.{piece_of, pieces_of, replicas_below};
+ghost use Rattle.replica_rows.specs.Adding.{piece_of, pieces_of, IsLastReplica, piece_below};
 ghost use Rattle.stream_values.specs.Stream.{end_of};
 
 use bus::{Body, StreamBody};
@@ -38,8 +37,7 @@ pub(crate) fn append_pieces<S: SlotParts, T: Stream>(
 // The last node that copies this one.
 pub(crate) fn last_replica<S: SlotParts, T: Stream>(node: &NodeParts<S, T>) -> Option<NodeNo>
     ensures none { IfNone result (replicas_of node.now.masters node.now.number ≡ []) }
-    ensures last { IfSome result (λ last.
-        replicas_of node.now.masters node.now.number ≡ replicas_below node.now last ++ last ∷ []) }
+    ensures last { IfSome result (λ last. IsLastReplica node.now last) }
 {
     let mut last = None;
     for place in 0..node.masters().len() {
@@ -58,8 +56,8 @@ fn append_below<S: SlotParts, T: Stream>(
     piece: &Piece,
     bodies: &mut Vec<(NodeNo, Body)>,
 ) -> Result<(), AllocError>
-    ensures { OnOk result (bodies.new.items
-        ≡ bodies.old.items ++ to_all (replicas_below node.now last) (OfStream (SaysPiece piece.now))) }
+    ensures { OnOk result
+        (bodies.new.items ≡ bodies.old.items ++ piece_below node.now last piece.now) }
 {
     for place in 0..last.index() {
         let to = NodeNo::new(place as u8).unwrap();

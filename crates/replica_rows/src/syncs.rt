@@ -1,10 +1,9 @@
 //! A replica tells its master how far it is, and what a master answers.
 ghost use Rattle.std.specs.Prelude.{◌≡◌, ◌++◌, IfOk, OnOk};
-ghost use Rattle.std.specs.FinMap as fin_map;
 ghost use Rattle.node_parts.specs.Drafts.{Drafts, HasNothing, bodies_of};
-ghost use Rattle.node_step.specs.Replicas.{sync_answer, sync_to, synced};
-ghost use Rattle.node_step.specs.State.{own_master};
-ghost use Rattle.stream_values.specs.Syncing.{answer_to};
+ghost use Rattle.node_parts.specs.Telling.{own_sync};
+ghost use Rattle.node_step.specs.Replicas.{synced};
+ghost use Rattle.replica_rows.specs.Following.{answer_on, snapshot_of};
 
 use bus::{Body, StreamBody};
 use keyspace::Pairs;
@@ -22,8 +21,7 @@ pub fn append_sync<S: SlotParts, T: Stream>(
     node: &NodeParts<S, T>,
     bodies: &mut Vec<(NodeNo, Body)>,
 ) -> Result<(), AllocError>
-    ensures { OnOk result
-        (bodies.new.items ≡ bodies.old.items ++ sync_to node.now.stream (own_master node.now)) }
+    ensures { OnOk result (bodies.new.items ≡ bodies.old.items ++ own_sync node.now) }
 {
     if let Some(master) = node.own_master() {
         let sync = Sync {
@@ -59,8 +57,7 @@ fn sync_answer<S: SlotParts, T: Stream>(
     from: NodeNo,
     sync: &Sync,
 ) -> Result<Option<(NodeNo, Body)>, AllocError>
-    ensures { IfOk result
-        (λ body. bodies_of body ≡ sync_answer node.now from (answer_to node.now.stream sync.now)) }
+    ensures { IfOk result (λ body. bodies_of body ≡ answer_on node.now from sync.now) }
 {
     match node.stream.answer(node.alloc, sync)? {
         SyncAnswer::UpToDate => Ok(None),
@@ -74,8 +71,7 @@ fn sync_answer<S: SlotParts, T: Stream>(
 
 // All that the node has at the end of its last whole write.
 fn snapshot<S: SlotParts, T: Stream>(node: &NodeParts<S, T>) -> Result<Snapshot, AllocError>
-    ensures { IfOk result (λ snapshot.
-        snapshot ≡ record { stream = node.now.stream.held.id; offset = node.now.stream.offset; pairs = fin_map.entries node.now.keyspace }) }
+    ensures { IfOk result (λ snapshot. snapshot ≡ snapshot_of node.now) }
 {
     let pairs = pairs(node.alloc, &node.store)?;
     Ok(Snapshot {

@@ -1,14 +1,11 @@
 //! What of a change takes no memory, which is done behind the rest.
 ghost use Rattle.std.specs.Prelude.{◌≡◌, Some};
-ghost use Rattle.connections.specs.declared.conn.Connection.{Connection};
 ghost use Rattle.migrate.specs.Acknowledging.{frozen_keys};
-ghost use Rattle.node_parts.specs.Becomes.{Finishes, ending, freed, learning, losing, waiting_so};
+ghost use Rattle.node_parts.specs.Becomes.{Finishes, ending, freed, learning, losing, waiting_so, allowing, freezing};
 ghost use Rattle.node_step.specs.Copies.{without};
 ghost use Rattle.node_step.specs.Handovers.{begun_for, wishing};
-ghost use Rattle.node_step.specs.Orders.{with_moves};
-ghost use Rattle.node_step.specs.Requests.{at_connection, using_up, with_numbers};
+ghost use Rattle.node_step.specs.Requests.{using_up, with_numbers};
 ghost use Rattle.node_step.specs.Ticks.{older};
-ghost use Rattle.migrate.specs.Sending.{frozen};
 ghost use Rattle.slot_state.specs.Moves.{move_of};
 
 use crate::clearing::clear_slots;
@@ -66,8 +63,7 @@ fn use_up<S: SlotParts, T: Stream>(node: &mut NodeParts<S, T>, conn: Conn)
 
 // The next request of the connection has this asking.
 fn allow<S: SlotParts, T: Stream>(node: &mut NodeParts<S, T>, conn: Conn, asking: Asking)
-    ensures { node.new ≡ at_connection (using_up node.old conn) conn
-        (λ (connection : Connection). record connection { asking = asking }) }
+    ensures { node.new ≡ allowing node.old conn asking }
 {
     node.connections.use_up(conn);
     node.connections.allow(conn, asking);
@@ -111,8 +107,7 @@ fn freeze_keys<S: SlotParts, T: Stream>(
     keys: &mut Keys,
     wait: Wait,
 )
-    ensures { node.new ≡ waiting_so (with_moves (using_up node.old conn)
-        (frozen node.old.moves wait.id.slot wait.id.copy keys.old)) conn wait }
+    ensures { node.new ≡ waiting_so (freezing node.old conn wait keys.old) conn wait }
 {
     let keys = mem::replace(keys, Keys::new(Vec::new(node.alloc)));
     let id = wait.id;

@@ -1,6 +1,6 @@
 //! A step that is made: its outputs and what is recorded of them first, then the change of the node.
-ghost use Rattle.std.specs.Prelude.{◌≡◌, [], None, IfOk, OnOk, OnErr};
-ghost use Rattle.node_parts.specs.Drafts.{stamped_draft};
+ghost use Rattle.std.specs.Prelude.{◌≡◌, IfOk, OnOk, OnErr};
+ghost use Rattle.node_parts.specs.Drafts.{stamped_draft, only_response};
 ghost use Rattle.node_parts.specs.Making.{CanMake, IsApplied};
 ghost use Rattle.node_step.specs.Plain.{HasNoReply};
 
@@ -68,8 +68,7 @@ fn recorded<K: Recorder>(outputs: Outputs) -> Result<(Outputs, K::Record), Alloc
 /// The outputs of a step that gives this response and nothing else, which take no memory.
 pub fn plain<K: Recorder>(ticket: u64, response: Response) -> (Outputs, K::Record)
     requires { HasNoReply response }
-    ensures outputs { result.0
-        ≡ record { ticket = ticket; response = response; released = []; sent = []; promoted = None } }
+    ensures outputs { result.0 ≡ only_response ticket response }
     ensures recorded { K.recorded result.1 ≡ result.0 }
 {
     let outputs = responded(ticket, response);
@@ -81,8 +80,7 @@ pub fn plain<K: Recorder>(ticket: u64, response: Response) -> (Outputs, K::Recor
 
 // The outputs of a step that gives this response and nothing else.
 fn responded(ticket: u64, response: Response) -> Outputs
-    ensures { result
-        ≡ record { ticket = ticket; response = response; released = []; sent = []; promoted = None } }
+    ensures { result ≡ only_response ticket response }
 {
     Outputs {
         ticket,

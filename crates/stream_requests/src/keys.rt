@@ -1,11 +1,9 @@
 //! What is written for keys that come with a copy, and for those that leave with their slots.
-ghost use Rattle.std.specs.Prelude.{◌≡◌, ◌||◌, IfOk, filter, is_some, map, nat_eq};
+ghost use Rattle.std.specs.Prelude.{◌≡◌, nat_eq};
 ghost use Rattle.std.specs.Cmp.Lexicographic.{pointwise};
 ghost use Rattle.std.specs.List.{list_any};
-ghost use Rattle.std.specs.FinMap as fin_map;
-ghost use Rattle.node_step.specs.Streams.{deletion, written_by_pairs};
-ghost use Rattle.resp2.specs.Stream.{stream_spelling};
-ghost use Rattle.slot_pairs.specs.Several.{is_in_one};
+ghost use Rattle.node_step.specs.Streams.{written_by_pairs};
+ghost use Rattle.stream_requests.specs.Spelling.{Spells, clearing, is_there_behind};
 
 use crate::spelling::{append_rebuilding, deletions_bytes};
 use byte_string::ByteString;
@@ -21,7 +19,7 @@ pub fn installed_bytes<S: Store>(
     store: &S,
     pairs: &[Pair],
 ) -> Result<Vec<u8>, AllocError>
-    ensures { IfOk result (λ bytes. bytes.items ≡ stream_spelling (written_by_pairs (S.contents store.now) pairs.now)) }
+    ensures { Spells result (written_by_pairs (S.contents store.now) pairs.now) }
 {
     let mut bytes = Vec::new(alloc);
     for place in 0..pairs.len() {
@@ -34,7 +32,7 @@ pub fn installed_bytes<S: Store>(
 
 // Whether the key is there once these pairs are.
 fn is_there_behind<S: Store>(store: &S, pairs: &[Pair], key: &ByteString) -> bool
-    ensures { result ≡ (is_some (fin_map.get (S.contents store.now) key.now) || list_any (λ pair. pointwise nat_eq pair.0 key.now) pairs.now) }
+    ensures { result ≡ is_there_behind (S.contents store.now) pairs.now key.now }
 {
     store.get(key).is_some() || has_key(pairs, key)
 }
@@ -52,7 +50,7 @@ pub fn cleared_bytes<S: SlotParts>(
     store: &S,
     slots: &[Slot],
 ) -> Result<Vec<u8>, AllocError>
-    ensures { IfOk result (λ bytes. bytes.items ≡ stream_spelling (map deletion (filter (is_in_one slots.now) (fin_map.keys (S.contents store.now))))) }
+    ensures { Spells result (clearing (S.contents store.now) slots.now) }
 {
     let keys = keys_in_slots(alloc, store, slots)?;
     deletions_bytes(alloc, keys.as_slice())

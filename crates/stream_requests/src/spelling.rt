@@ -1,11 +1,10 @@
 //! Requests as the bytes that stand behind a stream.
-ghost use Rattle.std.specs.Prelude.{◌≡◌, ◌++◌, ◌∷◌, [], IfOk, OnOk, codes, map};
+ghost use Rattle.std.specs.Prelude.{◌≡◌, ◌++◌, IfOk, OnOk, map};
 ghost use Rattle.std.specs.List.{flat_map};
 ghost use Rattle.hash.specs.Size.{words_of};
-ghost use Rattle.keyspace.specs.Rebuilding.{rebuilding};
 ghost use Rattle.node_step.specs.Streams.{deletion};
 ghost use Rattle.resp2.specs.Stream.{stream_spelling};
-ghost use Rattle.stream_requests.specs.Spelling.{deletion_bytes, deletion_if, rebuilt};
+ghost use Rattle.stream_requests.specs.Spelling.{deletion_bytes, deletion_if, hset_bytes, making_bytes, rebuilt_bytes, set_bytes};
 ghost use Rattle.resp_values.specs.Request.{bulks_spelling, request_spelling};
 
 use byte_string::ByteString;
@@ -32,7 +31,7 @@ pub(crate) fn append_rebuilding(
     is_there: bool,
     out: &mut Vec<u8>,
 ) -> Result<(), AllocError>
-    ensures { OnOk result (out.new.items ≡ out.old.items ++ stream_spelling (rebuilt is_there key.now value.now)) }
+    ensures { OnOk result (out.new.items ≡ out.old.items ++ rebuilt_bytes is_there key.now value.now) }
 {
     append_deletion_if(is_there, key, out)?;
     append_making(key, value, out)
@@ -40,7 +39,7 @@ pub(crate) fn append_rebuilding(
 
 // The request that makes the key.
 fn append_making(key: &ByteString, value: &Value, out: &mut Vec<u8>) -> Result<(), AllocError>
-    ensures { OnOk result (out.new.items ≡ out.old.items ++ request_spelling (rebuilding key.now value.now)) }
+    ensures { OnOk result (out.new.items ≡ out.old.items ++ making_bytes key.now value.now) }
 {
     match value {
         Value::Str(string) => append_setting(key, string, out),
@@ -55,7 +54,7 @@ fn append_setting(
     string: &ByteString,
     out: &mut Vec<u8>,
 ) -> Result<(), AllocError>
-    ensures { OnOk result (out.new.items ≡ out.old.items ++ request_spelling (codes "SET" ∷ key.now ∷ string.now ∷ [])) }
+    ensures { OnOk result (out.new.items ≡ out.old.items ++ set_bytes key.now string.now) }
 {
     append_count(3, out)?;
     append_word(b"SET", out)?;
@@ -66,7 +65,7 @@ fn append_setting(
 // HSET, the key, and each field with its value.
 #[tactic(auto, using(crate::proofs::SpellingLemmas::hash_spelled))]
 fn append_setting_fields(key: &ByteString, hash: &Hash, out: &mut Vec<u8>) -> Result<(), AllocError>
-    ensures { OnOk result (out.new.items ≡ out.old.items ++ request_spelling (codes "HSET" ∷ key.now ∷ words_of hash.now)) }
+    ensures { OnOk result (out.new.items ≡ out.old.items ++ hset_bytes key.now hash.now) }
 {
     let words = (2 * hash.len()).checked_add(2).ok_or(AllocError)?;
     append_count(words, out)?;
