@@ -1,4 +1,5 @@
 pub mod Block
+pub mod Bytes
 pub mod Entries
 pub mod Foreseen
 pub mod Form

@@ -1,12 +1,16 @@
 -- The pairs of a small hash in one block of bytes. No public clause needs it: clauses see the pairs.
 use Rattle.std.specs.Prelude.{◌≡◌, ◌≤◌, ℕ, zero, suc, List, [], ◌∷◌, ◌++◌, length, take, drop, Option, None, Some}
 use Rattle.std.specs.List.{AllByRecursion}
-use Rattle.hash.specs.Pairs.{Pairs, Changes, HasDistinctFields}
+use Rattle.hash.specs.Pairs.{Pairs, Changes, field_changed, HasDistinctFields}
 use Rattle.hash.specs.declared.packing.TheConstants.{MOST_IN_WORD}
 
 -- a word: its length, then its bytes
 abbrev pub word_packed : List ℕ → List ℕ
 word_packed word = length word ∷ word
+
+-- a field, then its value
+abbrev pub pair_packed : List ℕ → List ℕ → List ℕ
+pair_packed field value = word_packed field ++ word_packed value
 
 -- the pairs, one behind another: each field, then its value
 abbrev pub packed : Pairs → List ℕ
@@ -33,6 +37,10 @@ first_pairs (suc most) (len ∷ bytes) =
 -- the pairs that lie packed in the bytes. No pair takes less than two bytes
 unfoldable pub pairs_in : List ℕ → Pairs
 pairs_in bytes = first_pairs (length bytes) bytes
+
+-- the packed pairs with one field changed
+abbrev pub repacked : List ℕ → List ℕ → Option (List ℕ) → List ℕ
+repacked bytes field value = packed (field_changed (pairs_in bytes) field value)
 
 -- the bytes are pairs, whole and with nothing behind them
 pub record IsPacking (bytes : List ℕ) : Type 0 where

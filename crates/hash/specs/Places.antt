@@ -1,8 +1,9 @@
 -- Where pairs lie in the bytes that they are packed in. No public clause needs it.
 use Rattle.std.specs.Prelude.{◌≡◌, ◌≤◌, ◌+◌, ◌-◌, ℕ, List, [], ◌∷◌, ◌++◌, length, take, drop, Option, None, Some}
 use Rattle.std.specs.List.{slice_range}
-use Rattle.hash.specs.Packed.{word_packed, packed, pairs_in, IsPacking}
-use Rattle.hash.specs.Pairs.{Pairs, value_of, field_changed}
+use Rattle.hash.specs.Bytes.{spliced}
+use Rattle.hash.specs.Packed.{word_packed, pair_packed, packed, pairs_in, repacked, IsPacking}
+use Rattle.hash.specs.Pairs.{Pairs, value_of}
 use Rattle.hash.specs.declared.packing.Place.{Place}
 
 -- the bytes begin with a pair whose value begins at the one place, and that ends before the other
@@ -19,8 +20,7 @@ pub record IsBehind (bytes field : List ℕ) (at : ℕ) : Type 0 where
   pub within : at ≤ length bytes
   pub packing : IsPacking (drop at bytes)
   pub value : value_of (pairs_in bytes) field ≡ value_of (pairs_in (drop at bytes)) field
-  pub changed : (value : Option (List ℕ)) →
-      packed (field_changed (pairs_in bytes) field value) ≡ take at bytes ++ packed (field_changed (pairs_in (drop at bytes)) field value)
+  pub changed : (value : Option (List ℕ)) → repacked bytes field value ≡ take at bytes ++ repacked (drop at bytes) field value
 
 -- the pair of the field lies there
 pub record LiesAt (bytes field : List ℕ) (place : Place) : Type 0 where
@@ -29,11 +29,11 @@ pub record LiesAt (bytes field : List ℕ) (place : Place) : Type 0 where
   pub within : place.end ≤ length bytes
   pub len : take (place.value + 1) bytes ≡ take place.value bytes ++ (place.end - (place.value + 1)) ∷ []
   pub value : value_of (pairs_in bytes) field ≡ Some (slice_range bytes (place.value + 1) place.end)
-  pub set : (value : List ℕ) → packed (field_changed (pairs_in bytes) field (Some value)) ≡ take place.value bytes ++ (word_packed value ++ drop place.end bytes)
-  pub removed : packed (field_changed (pairs_in bytes) field None) ≡ take place.at bytes ++ drop place.end bytes
+  pub set : (value : List ℕ) → repacked bytes field (Some value) ≡ spliced bytes place.value place.end (word_packed value)
+  pub removed : repacked bytes field None ≡ take place.at bytes ++ drop place.end bytes
 
 -- no pair is that of the field
 pub record IsNowhere (bytes field : List ℕ) : Type 0 where
   pub value : value_of (pairs_in bytes) field ≡ None
-  pub set : (value : List ℕ) → packed (field_changed (pairs_in bytes) field (Some value)) ≡ bytes ++ (word_packed field ++ word_packed value)
-  pub removed : packed (field_changed (pairs_in bytes) field None) ≡ bytes
+  pub set : (value : List ℕ) → repacked bytes field (Some value) ≡ bytes ++ pair_packed field value
+  pub removed : repacked bytes field None ≡ bytes

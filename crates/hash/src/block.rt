@@ -1,6 +1,7 @@
 //! Bytes in one block of memory.
 ghost use Rattle.std.specs.Prelude.{◌≡◌, ◌≤◌, ◌+◌, ◌++◌, [], length, take, drop, IfOk, OnOk, OnErr};
 ghost use Rattle.hash.specs.Block.{kept_in};
+ghost use Rattle.hash.specs.Bytes.{spliced};
 ghost use Rattle.hash.specs.declared.sized_block.TheConstants.{MOST_IN_BLOCK};
 
 use crate::count::Count;
@@ -148,8 +149,7 @@ impl Block {
     /// Writes these bytes over those from the place on.
     pub fn write(&mut self, at: usize, bytes: &[u8])
         requires { at + length bytes.now ≤ length self.old.bytes }
-        ensures bytes { self.new.bytes ≡
-            take at self.old.bytes ++ (bytes.now ++ drop (at + length bytes.now) self.old.bytes) }
+        ensures bytes { self.new.bytes ≡ spliced self.old.bytes at (at + length bytes.now) bytes.now }
         ensures count { self.new.count ≡ self.old.count }
     {
         match &mut self.form {
@@ -248,7 +248,7 @@ fn sized_over_87(alloc: Global, bytes: &[u8], count: Count) -> Result<Form, Allo
 /// Writes these bytes over those from the place on.
 pub fn write_over(buffer: &mut Vec<u8>, at: usize, bytes: &[u8])
     requires { at + length bytes.now ≤ length buffer.old.items }
-    ensures { buffer.new.items ≡ take at buffer.old.items ++ (bytes.now ++ drop (at + length bytes.now) buffer.old.items) }
+    ensures { buffer.new.items ≡ spliced buffer.old.items at (at + length bytes.now) bytes.now }
 {
     buffer[at..at + bytes.len()].copy_from_slice(bytes);
 }

@@ -1,7 +1,7 @@
 //! Fields that are set and removed in place.
 ghost use Rattle.std.specs.Prelude.{◌≡◌, ◌∷◌, [], Some, None, OnOk, OnErr};
-ghost use Rattle.hash.specs.Entries.{pairs_of, IsReadyFor};
-ghost use Rattle.hash.specs.Pairs.{Changes, field_changed, fields_changed};
+ghost use Rattle.hash.specs.Entries.{pairs_of, IsReadyFor, StaysReady};
+ghost use Rattle.hash.specs.Pairs.{field_changed, field_set, fields_changed};
 ghost use Rattle.hash.specs.Sized.{IsSized};
 
 use crate::entries::Entries;
@@ -53,7 +53,7 @@ fn put_field(
     value: ByteString,
 ) -> Result<(), AllocError>
     requires { IsSized (pairs_of entries.old) size.old }
-    ensures pairs { OnOk result (pairs_of entries.new ≡ field_changed (pairs_of entries.old) field (Some value)) }
+    ensures pairs { OnOk result (pairs_of entries.new ≡ field_set (pairs_of entries.old) field value) }
     ensures err { OnErr result (pairs_of entries.new ≡ pairs_of entries.old) }
     ensures sized { IsSized (pairs_of entries.new) size.new }
 {
@@ -78,8 +78,7 @@ fn change_field(
     requires ready { IsReadyFor entries.old ((field, value) ∷ []) }
     requires sized { IsSized (pairs_of entries.old) size.old }
     ensures pairs { pairs_of entries.new ≡ field_changed (pairs_of entries.old) field value }
-    ensures ready { (changes : Changes) → IsReadyFor entries.old ((field, value) ∷ changes) →
-        IsReadyFor entries.new changes }
+    ensures ready { StaysReady entries.old entries.new (field, value) }
     ensures sized { IsSized (pairs_of entries.new) size.new }
 {
     match value {
@@ -91,9 +90,8 @@ fn change_field(
 fn set_field(entries: &mut Entries, size: &mut u128, field: ByteString, value: ByteString)
     requires ready { IsReadyFor entries.old ((field, Some value) ∷ []) }
     requires sized { IsSized (pairs_of entries.old) size.old }
-    ensures pairs { pairs_of entries.new ≡ field_changed (pairs_of entries.old) field (Some value) }
-    ensures ready { (changes : Changes) → IsReadyFor entries.old ((field, Some value) ∷ changes) →
-        IsReadyFor entries.new changes }
+    ensures pairs { pairs_of entries.new ≡ field_set (pairs_of entries.old) field value }
+    ensures ready { StaysReady entries.old entries.new (field, Some value) }
     ensures sized { IsSized (pairs_of entries.new) size.new }
 {
     // So few fields have a size of 128 bits, however long they are.
@@ -109,8 +107,7 @@ fn set_field(entries: &mut Entries, size: &mut u128, field: ByteString, value: B
 fn remove_field(entries: &mut Entries, size: &mut u128, field: &ByteString)
     requires { IsSized (pairs_of entries.old) size.old }
     ensures pairs { pairs_of entries.new ≡ field_changed (pairs_of entries.old) field.now None }
-    ensures ready { (changes : Changes) → IsReadyFor entries.old ((field.now, None) ∷ changes) →
-        IsReadyFor entries.new changes }
+    ensures ready { StaysReady entries.old entries.new (field.now, None) }
     ensures sized { IsSized (pairs_of entries.new) size.new }
 {
     if let Some(old) = entries.remove(field) {

@@ -1,6 +1,7 @@
 //! Packed bytes that are copied with a change.
-ghost use Rattle.std.specs.Prelude.{◌≡◌, ◌≤◌, ◌++◌, length, take, drop, IfOk, OnOk};
-ghost use Rattle.hash.specs.Packed.{word_packed, IsShortWord};
+ghost use Rattle.std.specs.Prelude.{◌≡◌, ◌≤◌, ◌++◌, length, IfOk, OnOk};
+ghost use Rattle.hash.specs.Bytes.{spliced};
+ghost use Rattle.hash.specs.Packed.{word_packed, pair_packed, IsShortWord};
 
 use std::alloc::{AllocError, Global};
 
@@ -13,8 +14,7 @@ pub fn with_pair(
 ) -> Result<Vec<u8>, AllocError>
     requires field { IsShortWord field.now }
     requires value { IsShortWord value.now }
-    ensures { IfOk result (λ after. after.items ≡
-        bytes.now ++ (word_packed field.now ++ word_packed value.now)) }
+    ensures { IfOk result (λ after. after.items ≡ bytes.now ++ pair_packed field.now value.now) }
 {
     let room = bytes.len().saturating_add(2 + field.len() + value.len());
     let mut after = Vec::with_capacity(alloc, room)?;
@@ -35,8 +35,7 @@ pub fn with_word(
     requires from { from ≤ to }
     requires to { to ≤ length bytes.now }
     requires short { IsShortWord word.now }
-    ensures { IfOk result (λ after. after.items ≡
-        take from bytes.now ++ (word_packed word.now ++ drop to bytes.now)) }
+    ensures { IfOk result (λ after. after.items ≡ spliced bytes.now from to (word_packed word.now)) }
 {
     let room = (bytes.len() - (to - from)).saturating_add(1 + word.len());
     let mut after = Vec::with_capacity(alloc, room)?;

@@ -2,8 +2,8 @@
 ghost use Rattle.std.specs.Prelude.{◌≡◌, ◌∷◌, [], ◌<◌, ◌≤◌, ◌^◌, length, Some, None, IfOk, OnOk, OnErr};
 ghost use Rattle.std.specs.Option.{option_copied};
 ghost use Rattle.indexmap.specs.IndexMap.{spare};
-ghost use Rattle.hash.specs.Pairs.{Changes, value_of, field_changed, HasDistinctFields};
-ghost use Rattle.hash.specs.Entries.{pairs_of, IsReadyFor};
+ghost use Rattle.hash.specs.Pairs.{Changes, value_of, field_changed, field_set, HasDistinctFields};
+ghost use Rattle.hash.specs.Entries.{pairs_of, IsReadyFor, StaysReady};
 
 use crate::holed::Holed;
 use crate::iter::Iter;
@@ -108,7 +108,7 @@ impl Entries {
     ) -> Result<Option<ByteString>, AllocError>
         requires { HasDistinctFields (pairs_of self.old) }
         ensures old { IfOk result (λ old. old ≡ value_of (pairs_of self.old) field) }
-        ensures pairs { OnOk result (pairs_of self.new ≡ field_changed (pairs_of self.old) field (Some value)) }
+        ensures pairs { OnOk result (pairs_of self.new ≡ field_set (pairs_of self.old) field value) }
         ensures err { OnErr result (pairs_of self.new ≡ pairs_of self.old) }
     {
         let pairs = match self {
@@ -133,9 +133,8 @@ impl Entries {
     pub fn set(&mut self, field: ByteString, value: ByteString) -> Option<ByteString>
         requires { IsReadyFor self.old ((field, Some value) ∷ []) }
         ensures old { result ≡ value_of (pairs_of self.old) field }
-        ensures pairs { pairs_of self.new ≡ field_changed (pairs_of self.old) field (Some value) }
-        ensures ready { (changes : Changes) → IsReadyFor self.old ((field, Some value) ∷ changes) →
-            IsReadyFor self.new changes }
+        ensures pairs { pairs_of self.new ≡ field_set (pairs_of self.old) field value }
+        ensures ready { StaysReady self.old self.new (field, Some value) }
     {
         match self {
             Entries::Few(pairs) => few::set(pairs, field, value),
@@ -148,8 +147,7 @@ impl Entries {
     pub fn remove(&mut self, field: &ByteString) -> Option<ByteString>
         ensures old { result ≡ value_of (pairs_of self.old) field.now }
         ensures pairs { pairs_of self.new ≡ field_changed (pairs_of self.old) field.now None }
-        ensures ready { (changes : Changes) → IsReadyFor self.old ((field.now, None) ∷ changes) →
-            IsReadyFor self.new changes }
+        ensures ready { StaysReady self.old self.new (field.now, None) }
     {
         self.open_before(field);
         match self {
@@ -206,7 +204,7 @@ fn map_with(
     value: ByteString,
 ) -> Result<Box<IndexMap<ByteString, ByteString>>, AllocError>
     requires { HasDistinctFields pairs.old.items }
-    ensures pairs { IfOk result (λ map. map.value.entries ≡ field_changed pairs.old.items field (Some value)) }
+    ensures pairs { IfOk result (λ map. map.value.entries ≡ field_set pairs.old.items field value) }
     ensures err { OnErr result (pairs.new.items ≡ pairs.old.items) }
 {
     let mut map = map_of(pairs, 1)?;

@@ -1,10 +1,8 @@
 //! What a hash takes, and what it would take after changes.
-ghost use Rattle.std.specs.Prelude.{◌≡◌, [], ◌+◌, ◌-◌, ◌<◌, ◌≤◌, ◌^◌, length, nat_eq, IsOk, IfOk};
-ghost use Rattle.std.specs.Cmp.Lexicographic.{pointwise};
-ghost use Rattle.std.specs.Option.{option_copied, unwrap_or};
-ghost use Rattle.indexmap.specs.IndexMap.{get};
-ghost use Rattle.hash.specs.Foreseen.{Foresees};
-ghost use Rattle.hash.specs.Pairs.{value_of, fields_changed};
+ghost use Rattle.std.specs.Prelude.{◌≡◌, [], ◌+◌, ◌-◌, ◌<◌, ◌≤◌, ◌^◌, length, IsOk, IfOk};
+ghost use Rattle.std.specs.Option.{option_copied};
+ghost use Rattle.hash.specs.Foreseen.{value_left, IsForeseen};
+ghost use Rattle.hash.specs.Pairs.{fields_changed};
 ghost use Rattle.hash.specs.Size.{size_of};
 ghost use Rattle.hash.specs.Sized.{pair_size, count_of};
 
@@ -59,11 +57,10 @@ fn extent_before_last(
     left: &mut IndexMap<ByteString, Option<ByteString>>,
     changes: &[(ByteString, Option<ByteString>)],
 ) -> Result<Extent, AllocError>
-    requires start { Foresees hash.now left.old.entries [] extent.len extent.size }
+    requires start { IsForeseen hash.now left.old.entries [] extent }
     requires few { length hash.now < 2 ^ 63 }
     requires short { length changes.now < 2 ^ 60 }
-    ensures foreseen { IfOk result (λ extent.
-        Foresees hash.now left.new.entries changes.now extent.len extent.size) }
+    ensures foreseen { IfOk result (IsForeseen hash.now left.new.entries changes.now) }
     ensures none { length changes.now ≡ 0 → IsOk result }
 {
     let mut extent = extent;
@@ -80,8 +77,7 @@ fn value_now<'a>(
     left: &'a IndexMap<ByteString, Option<ByteString>>,
     field: &ByteString,
 ) -> Option<Word<'a>>
-    ensures { result ≡ unwrap_or (get (pointwise nat_eq) left.now field.now)
-        (value_of hash.now field.now) }
+    ensures { result ≡ value_left hash.now left.now.entries field.now }
 {
     match left.get(field) {
         Some(Some(value)) => Some(Word::string(value)),

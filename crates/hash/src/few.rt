@@ -1,9 +1,9 @@
 //! Few pairs in a list, which a walk over all of them finds.
-ghost use Rattle.std.specs.Prelude.{◌≡◌, ◌<◌, ◌≤◌, ◌++◌, ◌∷◌, [], length, nat_eq, position, count_by, slice_set, slice_index_or, vec_len, vec_capacity, Some, None, IfSome, OnOk, OnErr};
+ghost use Rattle.std.specs.Prelude.{◌≡◌, ◌<◌, ◌≤◌, ◌++◌, ◌∷◌, [], length, nat_eq, position, count_by, slice_index_or, vec_len, vec_capacity, Some, None, IfSome, OnOk, OnErr};
 ghost use Rattle.std.specs.Cmp.Lexicographic.{pointwise};
 ghost use Rattle.std.specs.Option.{option_copied};
-ghost use Rattle.hash.specs.Pairs.{value_of, field_changed};
-ghost use Rattle.hash.specs.Entries.{is_of, is_new};
+ghost use Rattle.hash.specs.Pairs.{value_of, field_changed, field_set};
+ghost use Rattle.hash.specs.Entries.{value_replaced, is_of, is_new};
 
 use byte_string::ByteString;
 use std::alloc::AllocError;
@@ -49,9 +49,9 @@ pub fn set(
     field: ByteString,
     value: ByteString,
 ) -> Option<ByteString>
-    requires { length (field_changed pairs.old.items field (Some value)) ≤ vec_capacity pairs.old }
+    requires { length (field_set pairs.old.items field value) ≤ vec_capacity pairs.old }
     ensures old { result ≡ value_of pairs.old.items field }
-    ensures pairs { pairs.new.items ≡ field_changed pairs.old.items field (Some value) }
+    ensures pairs { pairs.new.items ≡ field_set pairs.old.items field value }
     ensures capacity { vec_capacity pairs.old ≤ vec_capacity pairs.new }
 {
     match place_of(pairs.as_slice(), &field) {
@@ -89,8 +89,7 @@ pub fn replace_at(
 ) -> ByteString
     requires { place < length pairs.old.items }
     ensures old { result ≡ (slice_index_or pairs.old.items place ([], result)).1 }
-    ensures pairs { pairs.new.items ≡ slice_set pairs.old.items place
-        ((slice_index_or pairs.old.items place ([], value)).0, value) }
+    ensures pairs { pairs.new.items ≡ value_replaced pairs.old.items place value }
     ensures capacity { vec_capacity pairs.new ≡ vec_capacity pairs.old }
 {
     mem::replace(&mut pairs[place].1, value)

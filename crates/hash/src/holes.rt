@@ -1,11 +1,11 @@
 //! Removed fields that still stand in a map, as holes between the pairs that are left.
-ghost use Rattle.std.specs.Prelude.{◌≡◌, ◌+◌, ◌≤◌, ◌^◌, ◌<◌, ℕ, List, [], true, false, not, nat_eq, Some, None, IsSome, IfOk, OnOk, OnErr};
+ghost use Rattle.std.specs.Prelude.{◌≡◌, ◌+◌, ◌≤◌, ◌^◌, ◌<◌, [], true, false, not, nat_eq, Some, None, IsSome, IfOk, OnOk, OnErr};
 ghost use Rattle.std.specs.Cmp.Lexicographic.{pointwise};
 ghost use Rattle.std.specs.Map.{set_value};
 ghost use Rattle.std.specs.Option.{option_copied};
 ghost use Rattle.indexmap.specs.IndexMap.{spare};
-ghost use Rattle.hash.specs.Holed.{is_in, left_of};
-ghost use Rattle.hash.specs.Pairs.{value_of, field_changed, HasDistinctFields};
+ghost use Rattle.hash.specs.Holed.{is_in, left_in, ChangesOne, SameBeside};
+ghost use Rattle.hash.specs.Pairs.{value_of, HasDistinctFields};
 
 use crate::many;
 use byte_string::ByteString;
@@ -26,7 +26,7 @@ pub fn value_in<'a>(
     removed: &IndexSet<ByteString>,
     field: &ByteString,
 ) -> Option<&'a ByteString>
-    ensures { option_copied result ≡ value_of (left_of map.now.entries removed.now.keys) field.now }
+    ensures { option_copied result ≡ value_of (left_in map.now removed.now) field.now }
 {
     if is_removed(removed, field) {
         return None;
@@ -42,11 +42,9 @@ pub fn put(
     field: ByteString,
     value: ByteString,
 ) -> Result<Option<ByteString>, AllocError>
-    ensures old { IfOk result (λ old. old ≡ value_of (left_of map.old.entries removed.old.keys) field) }
-    ensures pairs { OnOk result (left_of map.new.entries removed.new.keys ≡
-        field_changed (left_of map.old.entries removed.old.keys) field (Some value)) }
-    ensures err { OnErr result (left_of map.new.entries removed.new.keys ≡
-        left_of map.old.entries removed.old.keys) }
+    ensures old { IfOk result (λ old. old ≡ value_of (left_in map.old removed.old) field) }
+    ensures pairs { OnOk result (ChangesOne map.old removed.old map.new removed.new field (Some value)) }
+    ensures err { OnErr result (left_in map.new removed.new ≡ left_in map.old removed.old) }
 {
     close(map, removed, &field);
     match many::put(map, field, value) {
@@ -63,9 +61,8 @@ pub fn set(
     value: ByteString,
 ) -> Option<ByteString>
     requires { 1 ≤ spare map.old }
-    ensures old { result ≡ value_of (left_of map.old.entries removed.old.keys) field }
-    ensures pairs { left_of map.new.entries removed.new.keys ≡
-        field_changed (left_of map.old.entries removed.old.keys) field (Some value) }
+    ensures old { result ≡ value_of (left_in map.old removed.old) field }
+    ensures pairs { ChangesOne map.old removed.old map.new removed.new field (Some value) }
     ensures room { spare map.old ≤ spare map.new + 1 }
 {
     close(map, removed, &field);
@@ -79,7 +76,7 @@ fn close(
     field: &ByteString,
 )
     ensures left { is_in removed.new.keys field.now ≡ false }
-    ensures pairs { left_of map.new.entries removed.new.keys ≡ left_of map.old.entries removed.old.keys }
+    ensures pairs { left_in map.new removed.new ≡ left_in map.old removed.old }
     ensures room { spare map.old ≤ spare map.new }
 {
     // No field stands twice in a map.
@@ -95,9 +92,8 @@ pub fn remove(
     removed: &mut IndexSet<ByteString>,
     field: &ByteString,
 ) -> Option<ByteString>
-    ensures old { result ≡ value_of (left_of map.old.entries removed.old.keys) field.now }
-    ensures pairs { left_of map.new.entries removed.new.keys ≡
-        field_changed (left_of map.old.entries removed.old.keys) field.now None }
+    ensures old { result ≡ value_of (left_in map.old removed.old) field.now }
+    ensures pairs { ChangesOne map.old removed.old map.new removed.new field.now None }
     ensures room { spare map.old ≤ spare map.new }
 {
     value_in(map, removed, field)?;
@@ -110,8 +106,7 @@ pub fn remove(
 // Notes the field as removed, which then stays in the map as a hole.
 fn note(removed: &mut IndexSet<ByteString>, field: &ByteString) -> Result<(), AllocError>
     ensures ok { OnOk result (is_in removed.new.keys field.now ≡ true) }
-    ensures others { (other : List ℕ) → pointwise nat_eq field.now other ≡ false →
-        is_in removed.new.keys other ≡ is_in removed.old.keys other }
+    ensures others { SameBeside field.now removed.old.keys removed.new.keys }
     ensures err { OnErr result (removed.new.keys ≡ removed.old.keys) }
 {
     removed.insert(field.clone()?)?;
@@ -133,7 +128,7 @@ fn take_value(map: &mut IndexMap<ByteString, ByteString>, field: &ByteString) ->
 
 /// Closes all holes.
 pub fn close_all(map: &mut IndexMap<ByteString, ByteString>, removed: &IndexSet<ByteString>)
-    ensures pairs { map.new.entries ≡ left_of map.old.entries removed.now.keys }
+    ensures pairs { map.new.entries ≡ left_in map.old removed.now }
     ensures room { spare map.old ≤ spare map.new }
 {
     map.retain(

@@ -1,7 +1,7 @@
 //! The pairs of a small hash, packed in one block of memory.
-ghost use Rattle.std.specs.Prelude.{◌≡◌, ◌<◌, ◌^◌, [], None, Some, true, length, if◌then◌else◌, IfOk, OnOk, OnErr};
+ghost use Rattle.std.specs.Prelude.{◌≡◌, ◌<◌, ◌^◌, [], None, true, length, IfOk, OnOk, OnErr};
 ghost use Rattle.hash.specs.Packed.{RemoveOnly};
-ghost use Rattle.hash.specs.Pairs.{value_of, field_changed, fields_changed, HasDistinctFields};
+ghost use Rattle.hash.specs.Pairs.{value_of, field_changed, fields_changed, set_if, changed_if, HasDistinctFields};
 ghost use Rattle.hash.specs.Sized.{IsSized};
 
 use crate::block::Block;
@@ -95,8 +95,7 @@ impl Packed {
         &mut self,
         changes: &[(ByteString, Option<ByteString>)],
     ) -> Result<bool, AllocError>
-        ensures ok { IfOk result (λ is_made.
-            self.new ≡ (if is_made then fields_changed self.old changes.now else self.old)) }
+        ensures ok { IfOk result (λ is_made. self.new ≡ changed_if is_made self.old changes.now) }
         ensures err { OnErr result (self.new ≡ self.old) }
     {
         match changes {
@@ -111,8 +110,7 @@ impl Packed {
 
     // Sets one field. A value that keeps its length is written over the old one, and takes no memory.
     fn set(&mut self, field: &ByteString, value: &ByteString) -> Result<bool, AllocError>
-        ensures ok { IfOk result (λ is_made.
-            self.new ≡ (if is_made then field_changed self.old field.now (Some value.now) else self.old)) }
+        ensures ok { IfOk result (λ is_made. self.new ≡ set_if is_made self.old field.now value.now) }
         ensures err { OnErr result (self.new ≡ self.old) }
     {
         let (field, value) = (field.as_slice(), value.as_slice());

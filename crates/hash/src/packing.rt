@@ -1,8 +1,7 @@
 //! Pairs in bytes: each word behind its length, which takes one byte, and each field before its value.
 ghost use Rattle.std.specs.Prelude.{◌≡◌, ◌<◌, length, Some, None, IfSome, IfNone, OnOk};
 ghost use Rattle.std.specs.Option.{option_copied};
-ghost use Rattle.hash.specs.Packed.{packed, pairs_in, IsPacking, IsShortWord, IsShortValue};
-ghost use Rattle.hash.specs.Pairs.{field_changed};
+ghost use Rattle.hash.specs.Packed.{repacked, IsPacking, IsShortWord, IsShortValue};
 ghost use Rattle.hash.specs.Places.{BeginsWithPair, LiesAt, IsNowhere};
 
 use crate::alike::alike;
@@ -68,8 +67,7 @@ pub fn change_field(
     requires packing { IsPacking bytes.old.items }
     requires field { IsShortWord field.now }
     requires value { IsShortValue (option_copied value) }
-    ensures { OnOk result (bytes.new.items ≡
-        packed (field_changed (pairs_in bytes.old.items) field.now (option_copied value.entry))) }
+    ensures { OnOk result (bytes.new.items ≡ repacked bytes.old.items field.now (option_copied value.entry)) }
 {
     match value {
         Some(value) => set_field(bytes, field.as_slice(), value.as_slice()),
@@ -85,8 +83,7 @@ fn set_field(bytes: &mut Vec<u8>, field: &[u8], value: &[u8]) -> Result<(), Allo
     requires packing { IsPacking bytes.old.items }
     requires field { IsShortWord field.now }
     requires value { IsShortWord value.now }
-    ensures { OnOk result (bytes.new.items ≡
-        packed (field_changed (pairs_in bytes.old.items) field.now (Some value.now))) }
+    ensures { OnOk result (bytes.new.items ≡ repacked bytes.old.items field.now (Some value.now)) }
 {
     match place_of(bytes.as_slice(), field) {
         Some(place) if place.end - (place.value + 1) == value.len() => {
@@ -107,7 +104,7 @@ fn set_field(bytes: &mut Vec<u8>, field: &[u8], value: &[u8]) -> Result<(), Allo
 
 fn remove_field(bytes: &mut Vec<u8>, field: &[u8])
     requires { IsPacking bytes.old.items }
-    ensures { bytes.new.items ≡ packed (field_changed (pairs_in bytes.old.items) field.now None) }
+    ensures { bytes.new.items ≡ repacked bytes.old.items field.now None }
 {
     if let Some(place) = place_of(bytes.as_slice(), field) {
         cut_from(bytes, place.at, place.end);

@@ -1,6 +1,6 @@
 //! Packed pairs that are packed anew, with changes.
-ghost use Rattle.std.specs.Prelude.{◌≡◌, ◌≤◌, Some, None, length, if◌then◌else◌, IfOk, IfSome, OnOk, OnErr};
-ghost use Rattle.hash.specs.Kept.{IsKept, Keeps};
+ghost use Rattle.std.specs.Prelude.{◌≡◌, ◌≤◌, Some, None, length, IfOk, IfSome, OnOk, OnErr};
+ghost use Rattle.hash.specs.Kept.{IsKept, Keeps, KeepsSet, KeepsChanged};
 ghost use Rattle.hash.specs.Packed.{pairs_in, IsPacked, IsShortWord, SetShortWords};
 ghost use Rattle.hash.specs.Pairs.{field_changed, fields_changed};
 ghost use Rattle.hash.specs.Places.{LiesAt, IsNowhere};
@@ -27,8 +27,7 @@ pub fn extend(
 ) -> Result<bool, AllocError>
     requires kept { IsKept block.old }
     requires nowhere { IsNowhere block.old.bytes field.now }
-    ensures ok { IfOk result (λ is_made. Keeps block.new (if is_made then
-        field_changed (pairs_in block.old.bytes) field.now (Some value.now) else pairs_in block.old.bytes)) }
+    ensures ok { IfOk result (KeepsSet block.old block.new field.now value.now) }
     ensures err { OnErr result (block.new ≡ block.old) }
 {
     if field.len() > MOST_IN_WORD || value.len() > MOST_IN_WORD {
@@ -57,8 +56,7 @@ pub fn replace(
 ) -> Result<bool, AllocError>
     requires kept { IsKept block.old }
     requires lies { LiesAt block.old.bytes field.now place }
-    ensures ok { IfOk result (λ is_made. Keeps block.new (if is_made then
-        field_changed (pairs_in block.old.bytes) field.now (Some value.now) else pairs_in block.old.bytes)) }
+    ensures ok { IfOk result (KeepsSet block.old block.new field.now value.now) }
     ensures err { OnErr result (block.new ≡ block.old) }
 {
     if value.len() > MOST_IN_WORD {
@@ -103,8 +101,7 @@ pub fn change_all(
     changes: &[(ByteString, Option<ByteString>)],
 ) -> Result<bool, AllocError>
     requires kept { IsKept block.old }
-    ensures ok { IfOk result (λ is_made. Keeps block.new (if is_made then
-        fields_changed (pairs_in block.old.bytes) changes.now else pairs_in block.old.bytes)) }
+    ensures ok { IfOk result (KeepsChanged block.old block.new changes.now) }
     ensures err { OnErr result (block.new ≡ block.old) }
 {
     let Some(room) = room_for(changes) else {

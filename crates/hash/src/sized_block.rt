@@ -1,5 +1,6 @@
 //! Some bytes in a block of a fixed size.
 ghost use Rattle.std.specs.Prelude.{◌≡◌, ◌≤◌, ◌+◌, ◌++◌, length, take, drop, IfOk};
+ghost use Rattle.hash.specs.Bytes.{spliced};
 
 use std::alloc::{AllocError, Global};
 use std::marker::Model;
@@ -57,7 +58,7 @@ impl<const N: usize> SizedBlock<N> {
     /// Writes these bytes over those from the place on.
     pub fn write(&mut self, at: usize, source: &[u8])
         requires { at + length source.now ≤ length self.old }
-        ensures { self.new ≡ take at self.old ++ (source.now ++ drop (at + length source.now) self.old) }
+        ensures { self.new ≡ spliced self.old at (at + length source.now) source.now }
     {
         let bytes = &mut self.bytes[..self.len as usize];
         bytes[at..at + source.len()].copy_from_slice(source);
