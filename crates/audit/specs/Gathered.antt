@@ -1,5 +1,5 @@
 -- What gathered journals are, and why others aren't gathered.
-use Rattle.std.specs.Prelude.{◌≡◌, ◌⊎◌, ℕ, List, [], length, map, Contains}
+use Rattle.std.specs.Prelude.{◌≡◌, ◌⊎◌, ◌<◌, ℕ, List, [], length, map, Contains, IfErr, Result}
 use Rattle.atomic_table.specs.Seated.{TableId}
 use Rattle.cluster_config.specs.Config.{ClusterConfig}
 use Rattle.merged_run.specs.Merged.{entries_of}
@@ -9,6 +9,8 @@ use Rattle.std.specs.List.{range_with_len}
 use Rattle.world_run.specs.Run.{Entry, IsRun}
 use Rattle.audit.specs.Law.{RunView}
 use Rattle.audit.specs.Merge.{AllAreSound, AreEachOnce, AreTaken, PartView, journal_of, nodes_of, placed}
+use Rattle.audit.specs.declared.gathering.AuditFault.{AuditFault}
+use Rattle.audit.specs.declared.gathering.AuditFault.TheVariants.{Stranger}
 use Rattle.audit.specs.declared.order.Taken.{Taken}
 
 abbrev pub part_of : CellView → PartView
@@ -40,3 +42,19 @@ HasStranger config parts = (parts ≡ []) ⊎ (AreEachOnce (length config.nodes)
 -- all these parts are taken apart
 abbrev pub IsAllOf : ClusterConfig → TableId → ℕ → Taken → List PartView → Type 0
 IsAllOf config table seats taken parts = AreTaken config table seats parts (length config.nodes) taken.journals.items taken.seats.items []
+
+-- the run is what is gathered from the parts that were taken apart, whichever these are
+abbrev pub IsGatheredFrom : ClusterConfig → TableId → ℕ → Taken → RunView → Type 0
+IsGatheredFrom config table seats taken run = (parts : List PartView) → IsAllOf config table seats taken parts → IsGathered config parts run
+
+-- there is a stranger among the parts that were taken apart, whichever these are
+abbrev pub HasStrangerIn : ClusterConfig → TableId → ℕ → Taken → Type 0
+HasStrangerIn config table seats taken = (parts : List PartView) → IsAllOf config table seats taken parts → HasStranger config parts
+
+-- the parts aren't those of each node of a cluster once, if it has a node
+abbrev pub AreNotOfEach : ClusterConfig → List PartView → Type 0
+AreNotOfEach config parts = 0 < length config.nodes → AreEachOnce (length config.nodes) (nodes_of parts) → ⊥
+
+-- P, where a stranger is told
+abbrev pub IfStranger : {T : Type 0} → Result T AuditFault → Type 0 → Type 0
+IfStranger result P = IfErr result (λ fault. fault ≡ Stranger → P)

@@ -1,9 +1,11 @@
 -- What merged journals are.
-use Rattle.std.specs.Prelude.{◌≡◌, ◌<◌, ℕ, List, length, map}
+use Rattle.std.specs.Prelude.{◌≡◌, ◌<◌, ℕ, List, [], length, map}
 use Rattle.std.specs.List.{range_with_len}
 use Rattle.cluster_config.specs.Config.{ClusterConfig}
 use Rattle.merged_run.specs.Merged.{entries_of}
 use Rattle.cell_parts.specs.declared.entry.Entry.{Entry as JournalEntry}
+use Rattle.world_run.specs.Executed.{AreOfOneKeyspace, KeepsAsking, executed}
+use Rattle.world_run.specs.Promotions.{until_promotion}
 use Rattle.world_run.specs.Run.{Entry, IsRun}
 use Rattle.audit.specs.Merge.{AreJournals, journal_of, merged, placed}
 
@@ -27,3 +29,11 @@ pub record IsMerge (config : ClusterConfig) (tickets : ℕ) (journals : List (Li
 
 abbrev pub JournalsAreARun : Type 0
 JournalsAreARun = (config : ClusterConfig) (tickets : ℕ) (journals : List (List JournalEntry)) → AreJournals config tickets journals → IsMerge config tickets journals (merged tickets journals)
+
+-- up to the first unplanned promotion clients keep to the asking rule
+abbrev pub KeepsAskingRule : List Entry → Type 0
+KeepsAskingRule entries = KeepsAsking [] (until_promotion entries)
+
+-- the replies up to there are those of one keyspace
+abbrev pub HasOneKeyspace : List Entry → Type 0
+HasOneKeyspace entries = AreOfOneKeyspace (executed (until_promotion entries))

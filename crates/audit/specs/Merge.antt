@@ -1,5 +1,5 @@
 -- The journals of all nodes of a cluster, merged by their tickets (ours).
-use Rattle.std.specs.Prelude.{◌≡◌, ◌<◌, ◌⊎◌, ◌+◌, ◌==◌, ℕ, Bool, List, [], ◌∷◌, length, map, All, Contains, Option, Some, None, option_map, slice_index_or, ⊤}
+use Rattle.std.specs.Prelude.{◌≡◌, ◌<◌, ◌⊎◌, ◌+◌, ◌==◌, ℕ, Bool, List, [], ◌∷◌, length, map, All, Contains, Option, Some, None, Result, IfOk, IfSome, option_map, slice_index_or, ⊤}
 use Rattle.std.specs.List.{filter_map, find, range_with_len, remove}
 use Rattle.bus.specs.declared.message.Message.{Message}
 use Rattle.cluster_config.specs.Config.{ClusterConfig}
@@ -98,6 +98,10 @@ nodes_of parts = map (λ (part : PartView). part.node) parts
 -- each node once
 abbrev pub AreEachOnce : ℕ → List ℕ → Type 0
 AreEachOnce count nodes = (n : ℕ) → times n nodes ≡ once_below n count
+
+-- P of what was found, if something was
+abbrev pub IfFound : {T E : Type 0} → Result (Option T) E → (T → Type 0) → Type 0
+IfFound result P = IfOk result (λ found. IfSome found P)
 
 -- what stands at the place is of the node
 abbrev pub IsAt : {A : Type 0} → (A → ℕ) → List A → ℕ → ℕ → Type 0

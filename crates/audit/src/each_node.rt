@@ -2,7 +2,7 @@
 ghost use Rattle.std.specs.Prelude.{◌≡◌, IfNone, IfOk, IfSome, map};
 ghost use Rattle.std.specs.List.{range_with_len};
 ghost use Rattle.std.specs.List.Sorted.{IsPermutation};
-ghost use Rattle.audit.specs.Merge.{AreEachOnce, IsAt, IsWithout};
+ghost use Rattle.audit.specs.Merge.{AreEachOnce, IfFound, IsAt, IsWithout};
 ghost use Rattle.tickets.specs.Tickets.{times};
 
 use std::alloc::{AllocError, Global};
@@ -24,10 +24,8 @@ pub(crate) fn put_in_order<T: OfNode + Drop>(
     count: usize,
     mut all: Vec<T>,
 ) -> Result<Option<Vec<T>>, AllocError>
-    ensures order { IfOk result
-        (λ found. IfSome found (λ ordered. map T.node ordered.items ≡ range_with_len 0 count)) }
-    ensures same { IfOk result
-        (λ found. IfSome found (λ ordered. IsPermutation all.items ordered.items)) }
+    ensures order { IfFound result (λ ordered. map T.node ordered.items ≡ range_with_len 0 count) }
+    ensures same { IfFound result (λ ordered. IsPermutation all.items ordered.items) }
     ensures none { IfOk result
         (λ found. IfNone found (AreEachOnce count (map T.node all.items) → ⊥)) }
 {

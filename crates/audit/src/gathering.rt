@@ -1,8 +1,7 @@
 //! The journals of all nodes, gathered.
-ghost use Rattle.std.specs.Prelude.{◌≡◌, List, length, IfErr, IfOk};
-ghost use Rattle.audit.specs.Gathered.{HasStranger, IsAllOf, IsGathered, parts_of};
+ghost use Rattle.std.specs.Prelude.{◌≡◌, List, length, IfOk};
+ghost use Rattle.audit.specs.Gathered.{HasStranger, HasStrangerIn, IfStranger, IsAllOf, IsGathered, IsGatheredFrom, parts_of};
 ghost use Rattle.audit.specs.Merge.{PartView};
-ghost use Rattle.audit.specs.declared.gathering.AuditFault.TheVariants.{Stranger};
 ghost use Rattle.tickets.specs.Tickets.{id_of};
 
 use crate::order::{Taken, take_apart};
@@ -46,8 +45,7 @@ pub fn gather<K: Deployment>(
     requires table { id_of table.now ≡ K.table }
     requires seats { K.seats ≡ length K.config.nodes }
     ensures run { IfOk result (λ run. IsGathered K.config (parts_of cells.items) run) }
-    ensures stranger { IfErr result
-        (λ fault. fault ≡ Stranger → HasStranger K.config (parts_of cells.items)) }
+    ensures stranger { IfStranger result (HasStranger K.config (parts_of cells.items)) }
 {
     if cells.is_empty() {
         return Err(AuditFault::Stranger);
@@ -67,10 +65,8 @@ fn merge<K: Deployment>(table: &Table, config: Config, taken: Taken) -> Result<W
     requires seats { K.seats ≡ length K.config.nodes }
     requires config { config ≡ K.config }
     requires taken { (parts : List PartView) × IsAllOf K.config K.table K.seats taken parts }
-    ensures run { IfOk result (λ run. (parts : List PartView)
-        → IsAllOf K.config K.table K.seats taken parts → IsGathered K.config parts run) }
-    ensures stranger { IfErr result (λ fault. fault ≡ Stranger → (parts : List PartView)
-        → IsAllOf K.config K.table K.seats taken parts → HasStranger K.config parts) }
+    ensures run { IfOk result (IsGatheredFrom K.config K.table K.seats taken) }
+    ensures stranger { IfStranger result (HasStrangerIn K.config K.table K.seats taken) }
 {
     let _at_least_one = config.nodes();
     let Taken { journals, seats } = taken;

@@ -2,7 +2,7 @@
 ghost use Rattle.std.specs.Prelude.{◌≡◌};
 ghost use Rattle.audit.specs.Merge.{IsOfNode};
 ghost use Rattle.cell_parts.specs.Journal.{tickets_of};
-ghost use Rattle.tickets.specs.Tickets.{drawn, seats_of, table_of};
+ghost use Rattle.tickets.specs.Tickets.{IsSeatOf};
 
 use crate::each_node::OfNode;
 use node_cell::{Deployment, Entry, Journal, NodeCell};
@@ -51,8 +51,7 @@ impl<K: Deployment> Part<K> {
     pub(crate) fn into_parts(self) -> (Vec<Entry>, Seat)
         ensures entries { result.0.items ≡ self.entries }
         ensures node { IsOfNode K.config self.node self.entries }
-        ensures seat { (drawn result.1 ≡ tickets_of self.entries) × (table_of result.1 ≡ K.table)
-            × (seats_of result.1 ≡ K.seats) }
+        ensures seat { IsSeatOf K.table K.seats (tickets_of self.entries) result.1 }
     {
         let Part {
             node: _,

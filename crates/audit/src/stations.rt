@@ -1,9 +1,9 @@
 //! The journals of all stations, gathered.
-ghost use Rattle.std.specs.Prelude.{◌≡◌, ◌<◌, [], All, IfErr, IfOk, OnOk, List, length, map};
-ghost use Rattle.audit.specs.Gathered.{IsAllOf, IsGathered, parts_of};
-ghost use Rattle.audit.specs.Merge.{AllAreSound, AreEachOnce, PartView, nodes_of};
+ghost use Rattle.std.specs.Prelude.{◌≡◌, [], All, IfErr, IfOk, OnOk, List, length, map};
+ghost use Rattle.audit.specs.Gathered.{AreNotOfEach, IfStranger, IsAllOf, IsGathered, IsGatheredFrom, parts_of};
+ghost use Rattle.audit.specs.Merge.{AllAreSound, PartView};
 ghost use Rattle.audit.specs.Stations.{AreInOrder, cells_of, ends_of};
-ghost use Rattle.audit.specs.declared.gathering.AuditFault.TheVariants.{Memory, Stranger};
+ghost use Rattle.audit.specs.declared.gathering.AuditFault.TheVariants.{Memory};
 ghost use Rattle.links.specs.Stations.{IsStation};
 ghost use Rattle.tickets.specs.Tickets.{id_of};
 
@@ -41,8 +41,8 @@ pub fn gather_stations<K: Deployment, W: Web, E: PortEnd<Carried = Posted<K>>>(
     requires seats { K.seats ≡ length K.config.nodes }
     ensures run { IfOk result
         (λ run. IsGathered K.config (parts_of (cells_of stations.items)) run) }
-    ensures stranger { IfErr result (λ fault. fault ≡ Stranger → 0 < length K.config.nodes
-        → AreEachOnce (length K.config.nodes) (nodes_of (parts_of (cells_of stations.items))) → ⊥) }
+    ensures stranger { IfStranger result
+        (AreNotOfEach K.config (parts_of (cells_of stations.items))) }
 {
     if stations.is_empty() {
         return Err(AuditFault::Stranger);
@@ -127,8 +127,7 @@ fn merge<K: Deployment>(table: &Table, config: Config, taken: Taken) -> WorldRun
     requires config { config ≡ K.config }
     requires taken { (parts : List PartView) × IsAllOf K.config K.table K.seats taken parts }
     requires sound { AllAreSound taken.journals.items }
-    ensures { (parts : List PartView) → IsAllOf K.config K.table K.seats taken parts
-        → IsGathered K.config parts result }
+    ensures { IsGatheredFrom K.config K.table K.seats taken result }
 {
     let _at_least_one = config.nodes();
     let Taken { journals, seats } = taken;

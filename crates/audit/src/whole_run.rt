@@ -1,10 +1,10 @@
 //! What the nodes of a cluster did, as one run.
-ghost use Rattle.std.specs.Prelude.{◌≡◌, ◌≤◌, [], IfNone, IfSome, length, map};
+ghost use Rattle.std.specs.Prelude.{◌≡◌, ◌≤◌, IfNone, IfSome, length, map};
+ghost use Rattle.audit.specs.Law.{HasOneKeyspace, KeepsAskingRule};
 ghost use Rattle.audit.specs.Merge.{AreJournals, merged, placed};
 ghost use Rattle.merged_run.specs.Merged.{entries_of};
 ghost use Rattle.merged_run.specs.Settled.{AreSettled};
 ghost use Rattle.promoted_prefix.specs.Law.{PromotionsGoOn};
-ghost use Rattle.world_run.specs.Executed.{AreOfOneKeyspace, KeepsAsking, executed};
 ghost use Rattle.world_run.specs.Law.{HasOneMasterAnEpoch};
 ghost use Rattle.world_run.specs.Promotions.{until_promotion};
 ghost use Rattle.world_run.specs.Run.{IsRun};
@@ -58,7 +58,7 @@ impl WorldRun {
     /// What the node with that number did, by rising ticket: its part of the run.
     pub fn journal(&self, node: NodeNo) -> Option<&[Entry]>
         ensures some { IfSome result
-            (λ entries. entries_of node self.now.entries ≡ map (placed node) entries.now) }
+            (λ own. entries_of node self.now.entries ≡ map (placed node) own.now) }
         ensures none { IfNone result (length self.now.config.nodes ≤ node) }
     {
         Some(self.journals.get(node.index())?.entries())
@@ -72,10 +72,8 @@ impl WorldRun {
     pub fn steps(&self) -> u64
         ensures count { result ≡ length self.now.entries }
         ensures run { IsRun self.now.config self.now.entries }
-        ensures one_keyspace { KeepsAsking [] (until_promotion self.now.entries)
-            → AreOfOneKeyspace (executed (until_promotion self.now.entries)) }
-        ensures settled { AreSettled (until_promotion self.now.entries)
-            → AreOfOneKeyspace (executed (until_promotion self.now.entries)) }
+        ensures one_keyspace { KeepsAskingRule self.now.entries → HasOneKeyspace self.now.entries }
+        ensures settled { AreSettled (until_promotion self.now.entries) → HasOneKeyspace self.now.entries }
         ensures one_master { HasOneMasterAnEpoch self.now.config.voters self.now.entries }
         ensures promoted_prefix { PromotionsGoOn self.now.config self.now.entries }
     {

@@ -1,8 +1,7 @@
 //! A reply as redis-cli prints it on a terminal.
 ghost use Rattle.std.specs.Prelude.{◌≡◌, ◌++◌, codes, OnOk, IfSome};
-ghost use Rattle.std.specs.Fmt.{signed_decimal};
 ghost use Rattle.cli_text.specs.Quoting.{quoted};
-ghost use Rattle.cli_text.specs.ReplyText.{text_of};
+ghost use Rattle.cli_text.specs.ReplyText.{error_line, integer_line, text_of};
 
 use crate::quoting::print_quoted;
 use itoa::Buffer;
@@ -34,14 +33,14 @@ fn print_simple(text: &[u8], out: &mut Vec<u8>) -> Result<(), AllocError>
 }
 
 fn print_error(text: &[u8], out: &mut Vec<u8>) -> Result<(), AllocError>
-    ensures { OnOk result (out.new.items ≡ out.old.items ++ (codes "(error) " ++ text.now ++ codes "\n")) }
+    ensures { OnOk result (out.new.items ≡ out.old.items ++ error_line text.now) }
 {
     out.extend_from_slice(b"(error) ")?;
     print_simple(text, out)
 }
 
 fn print_integer(number: i64, out: &mut Vec<u8>) -> Result<(), AllocError>
-    ensures { OnOk result (out.new.items ≡ out.old.items ++ (codes "(integer) " ++ signed_decimal number ++ codes "\n")) }
+    ensures { OnOk result (out.new.items ≡ out.old.items ++ integer_line number) }
 {
     out.extend_from_slice(b"(integer) ")?;
     print_simple(Buffer::new().format(number).as_bytes(), out)

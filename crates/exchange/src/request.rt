@@ -1,10 +1,8 @@
 //! A request and its reply, as bytes.
 ghost use Rattle.std.specs.Prelude.{◌≡◌, ◌<◌, length, OnOk, IfErr};
-ghost use Rattle.std.specs.Io.KnownBytes.{Appends};
 ghost use Rattle.resp2.specs.Counting.{inner_of};
-ghost use Rattle.resp2.specs.Writing.{AppendsBeginning};
 ghost use Rattle.resp_values.specs.Request.{request_spelling};
-ghost use Rattle.exchange.specs.Sender.{writer_of};
+ghost use Rattle.exchange.specs.Sender.{HasBegun, HasTaken};
 ghost use Rattle.exchange.specs.Wire.{inlet_of, outlet_of, wire_of};
 ghost use Rattle.exchange.specs.Exchange.{Exchanges, Receives, StopsSending, outcome_of};
 
@@ -29,7 +27,7 @@ pub fn exchange<R: Read, W: Write>(
     buffers: &mut Buffers,
 ) -> Outcome
     // None of its bytes is written twice.
-    ensures begun { AppendsBeginning (W.contents (writer_of sender.old)) (W.contents (writer_of sender.new)) (request_spelling words.now) }
+    ensures begun { HasBegun W.contents sender.old sender.new (request_spelling words.now) }
     ensures exchanges { Exchanges words.now (wire_of R.remaining W.contents reader.old sender.old replies.old) result
         (wire_of R.remaining W.contents reader.new sender.new replies.new) }
 {
@@ -85,7 +83,7 @@ fn outcome_of(fault: Fault) -> Outcome
 // Hands all bytes to the writer.
 fn hand_over<W: Write>(bytes: &[u8], sender: &mut Sender<W>) -> Result<(), Unsent>
     requires { 0 < length bytes.now }
-    ensures ok { OnOk result (Appends (W.contents (writer_of sender.old)) (W.contents (writer_of sender.new)) bytes.now) }
+    ensures ok { OnOk result (HasTaken W.contents sender.old sender.new bytes.now) }
     ensures err { IfErr result (λ unsent. StopsSending unsent.handed bytes.now (outlet_of W.contents sender.old) (outlet_of W.contents sender.new)) }
 {
     let mut rest = bytes;

@@ -1,8 +1,8 @@
 //! A writer of requests, whose failures are counted.
 ghost use Rattle.std.specs.Prelude.{◌≡◌, ◌<◌, ◌≤◌, length, IfOk, OnOk, OnErr};
-ghost use Rattle.std.specs.Io.KnownBytes.{Keeps, WriteAppends};
+ghost use Rattle.std.specs.Io.KnownBytes.{Keeps};
 ghost use Rattle.resp2.specs.Counting.{HasRisen};
-ghost use Rattle.exchange.specs.Sender.{failures_of, writer_of};
+ghost use Rattle.exchange.specs.Sender.{HasTakenSome, failures_of, writer_of};
 
 use std::io;
 use std::io::{ErrorKind, Write};
@@ -32,7 +32,7 @@ impl<W: Write> Sender<W> {
     pub(crate) fn send(&mut self, bytes: &[u8]) -> io::Result<usize>
         requires { 0 < length bytes.now }
         ensures some { IfOk result (λ count. (0 < count) × (count ≤ length bytes.now)) }
-        ensures bytes { WriteAppends (W.contents (writer_of self.old)) (W.contents (writer_of self.new)) result bytes.now }
+        ensures bytes { HasTakenSome W.contents self.old self.new result bytes.now }
         ensures ok { OnOk result (failures_of self.new ≡ failures_of self.old) }
         ensures err { OnErr result (HasRisen (failures_of self.old) (failures_of self.new)) }
     {

@@ -1,6 +1,7 @@
 -- A node's ends of its links with all nodes (ours).
 use Rattle.std.specs.Prelude.{◌≡◌, ◌<◌, ◌+◌, ◌++◌, ℕ, List, [], ◌∷◌, ⊤, length, slice_index_or}
 use Rattle.atomic_table.specs.Seated.{TableId}
+use Rattle.link_ends.specs.Halves.{ReceiverView, SenderView}
 use Rattle.tickets.specs.Tickets.{no_table}
 
 -- an end: the link to the other node and the one from it, what was sent there, and what was received from there
@@ -9,6 +10,14 @@ pub record EndView (T : Type 0) : Type 0 where
   pub from : TableId
   pub sent : List T
   pub received : List T
+
+-- the end that sends by the one and receives by the other
+abbrev pub end_by : {T : Type 0} → SenderView T → ReceiverView T → EndView T
+end_by sender receiver = record { to = sender.link; from = receiver.link; sent = sender.sent; received = receiver.received }
+
+-- one more message was received at the end
+abbrev pub with_received : {T : Type 0} → EndView T → T → EndView T
+with_received end message = record end { received = end.received ++ message ∷ [] }
 
 -- a node's end of its link with another, among the ends of all nodes
 abbrev pub end_at : {T : Type 0} → List (List (EndView T)) → ℕ → ℕ → EndView T → EndView T

@@ -91,6 +91,14 @@ given_of acts received coming = take (length (all_given acts received) - length 
 abbrev pub given_by : {L T : Type 0} → (L → List T) → ShimView L T → List T
 given_by received shim = given_of shim.acts (received shim.inner) shim.coming
 
+-- one more message was given
+abbrev pub GivesOne : {L T : Type 0} → (L → List T) → ShimView L T → ShimView L T → T → Type 0
+GivesOne received old new message = given_by received new ≡ given_by received old ++ message ∷ []
+
+-- none was given, and none is coming
+abbrev pub GivesNothing : {L T : Type 0} → (L → List T) → ShimView L T → ShimView L T → Type 0
+GivesNothing received old new = (given_by received new ≡ given_by received old) × (new.coming ≡ [])
+
 pub record IsShim {T : Type 0} (acts : ActsView) (received coming : List T) (waiting : List (Held T)) : Type 0 where
   pub within : acts.done ≤ length received
   pub done : acts.done < length acts.all → acts.done ≡ length received

@@ -1,5 +1,6 @@
 //! A node's end of its link with another node, or with itself.
 ghost use Rattle.std.specs.Prelude.{◌≡◌, ◌++◌, ◌∷◌, [], IfErr, IfNone, IfSome, OnErr, OnOk};
+ghost use Rattle.link_ends.specs.Ends.{end_by, with_received};
 ghost use Rattle.link_ends.specs.Halves.{WasFull};
 
 use crate::halves::{Receiver, Sender};
@@ -36,8 +37,7 @@ impl<T: Drop, R: Wait + Drop> Drop for LinkEnd<T, R> {
 impl<T: Drop, R: Wait + Drop> LinkEnd<T, R> {
     /// The end that sends by the one and receives by the other.
     pub fn new(rt: R, sender: Sender<T>, receiver: Receiver<T>) -> LinkEnd<T, R>
-        ensures { result
-            ≡ record { to = sender.link; from = receiver.link; sent = sender.sent; received = receiver.received } }
+        ensures { result ≡ end_by sender receiver }
     {
         LinkEnd {
             rt,
@@ -66,8 +66,7 @@ impl<T: Drop, R: Wait + Drop> LinkEnd<T, R> {
 
     /// The first message that waits, if one does.
     pub fn try_receive(&mut self) -> Option<T>
-        ensures received { IfSome result (λ message.
-            self.new ≡ record self.old { received = self.old.received ++ message ∷ [] }) }
+        ensures received { IfSome result (λ message. self.new ≡ with_received self.old message) }
         ensures none { IfNone result (self.new ≡ self.old) }
     {
         self.receiver.try_receive(&self.rt)
@@ -83,7 +82,7 @@ impl<T: Drop, R: Wait + Drop> LinkEnd<T, R> {
 
     /// The halves of the end.
     pub fn into_halves(self) -> (Sender<T>, Receiver<T>)
-        ensures { self ≡ record { to = result.0.link; from = result.1.link; sent = result.0.sent; received = result.1.received } }
+        ensures { self ≡ end_by result.0 result.1 }
     {
         let LinkEnd {
             rt: _,

@@ -80,8 +80,7 @@ where
     // What is coming, if something is.
     fn next_coming(&mut self) -> Option<L::Carried>
         ensures rest { self.new ≡ record self.old { coming = self.new.coming } }
-        ensures given { IfSome result (λ message.
-            given_by L.received self.new ≡ given_by L.received self.old ++ message ∷ []) }
+        ensures given { IfSome result (GivesOne L.received self.old self.new) }
         ensures none { IfNone result ((self.new ≡ self.old) × (self.old.coming ≡ [])) }
     {
         let message = self.coming.pop_front()?;
@@ -96,10 +95,8 @@ where
     // The same, where all acts are done: then a message that is received is given.
     fn last_try(&mut self) -> Option<E::Carried>
         ensures received { HasReceived (E.giving self.old.inner).end (E.giving self.new.inner).end }
-        ensures given { IfSome result (λ message.
-            given_by E.received self.new ≡ given_by E.received self.old ++ message ∷ []) }
-        ensures none { IfNone result ((given_by E.received self.new ≡ given_by E.received self.old)
-            × (self.new.coming ≡ [])) }
+        ensures given { IfSome result (GivesOne E.received self.old self.new) }
+        ensures none { IfNone result (GivesNothing E.received self.old self.new) }
     {
         if let Some(message) = self.next_coming() {
             return Some(message);

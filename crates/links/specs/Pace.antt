@@ -1,5 +1,5 @@
 -- Messages that wait for a link in greater numbers than they should (ours).
-use Rattle.std.specs.Prelude.{◌+◌, ◌||◌, ℕ, Bool, List, length, nat_lt, sum_by}
+use Rattle.std.specs.Prelude.{◌+◌, ◌-◌, ◌≤◌, ◌||◌, ℕ, Bool, List, Option, SomeIff, length, nat_lt, sum_by}
 use Rattle.bus.specs.declared.message.Body.{Body}
 use Rattle.bus.specs.declared.bodies.SlotsBody.TheVariants.{Copy}
 use Rattle.bus.specs.declared.bodies.StreamBody.TheVariants.{Piece}
@@ -31,3 +31,7 @@ waiting_bytes waiting = sum_by (λ message. brought_bytes message.body) waiting
 -- they are many, or bring many bytes
 abbrev pub are_many : List Message → Bool
 are_many waiting = nat_lt MOST_WAITING (length waiting) || nat_lt MOST_WAITING_BYTES (waiting_bytes waiting)
+
+-- what is left of the room behind so many bytes, or None where they are more
+abbrev pub IsRoomBehind : ℕ → ℕ → Option ℕ → Type 0
+IsRoomBehind bytes room left = SomeIff left (bytes ≤ room) (room - bytes)

@@ -35,6 +35,10 @@ pub record HasSentOne (old new : PortView) : Type 0 where
   pub first : old.waiting ≡ message ∷ rest
   pub sent : new ≡ record old { sent = old.sent ++ message ∷ []; waiting = rest }
 
+-- none was: none waited, or the link was full
+abbrev pub HasSentNone : PortView → PortView → Type 0
+HasSentNone old new = (new ≡ old) × ((old.waiting ≡ []) ⊎ WasFull old.sent)
+
 -- messages that waited were sent, in order, and others wait only where the link was full
 pub record HasSent (old new : PortView) : Type 0 where
   pub in_order : new.sent ++ new.waiting ≡ old.sent ++ old.waiting

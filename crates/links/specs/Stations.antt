@@ -1,10 +1,11 @@
 -- A node with its ends of the links to all nodes (ours).
-use Rattle.std.specs.Prelude.{◌≡◌, ◌==◌, ◌++◌, ◌∷◌, ◌<◌, ℕ, List, [], Contains, IfErr, IfOk, IsTrue, Result, Ok, Err, length, map, slice_index_or, slice_set}
+use Rattle.std.specs.Prelude.{◌≡◌, ◌==◌, ◌++◌, ◌∷◌, ◌<◌, ◌⊎◌, ℕ, List, [], Contains, IfErr, IfOk, IsTrue, Result, Ok, Err, length, map, slice_index_or, slice_set}
 use Rattle.std.specs.List.{filter, flat_map}
 use Rattle.atomic_table.specs.Seated.{TableId}
 use Rattle.bus.specs.declared.message.Message.{Message}
 use Rattle.link_ends.specs.Ends.{EndView}
 use Rattle.link_ends.specs.Giving.{GivingView}
+use Rattle.link_ends.specs.Halves.{WasFull}
 use Rattle.links.specs.Ports.{HasGiven, HasGivenNone, PortView}
 use Rattle.links.specs.Syncs.{is_sync}
 use Rattle.links.specs.declared.not_taken.NotTaken.{NotTaken}
@@ -53,6 +54,10 @@ pub record StationView : Type 0 where
 
 abbrev pub port_at : List PortView → ℕ → PortView → PortView
 port_at ports other none = slice_index_or ports other none
+
+-- no message waits at the port for the node, or its link was full
+abbrev pub IsSentOut : List PortView → ℕ → Type 0
+IsSentOut ports to = (none : PortView) → to < length ports → ((port_at ports to none).waiting ≡ []) ⊎ WasFull (port_at ports to none).sent
 
 -- a port is at the links of its two nodes, and what was sent there, what waits and what is still to come there are the messages of the
 -- journal for that node, in order
@@ -121,3 +126,7 @@ abbrev pub Arrives : StationView → ℕ → Message → Result EnteredView NotT
 Arrives old from message (Ok entered) new = Receives old from message (Ok entered) new
 Arrives old from message (Err (Refused fault)) new = Receives old from message (Err fault) new
 Arrives old from message (Err Needless) new = Loses old from message new × IsTrue (is_sync message.body)
+
+-- some message came from the node
+abbrev pub ArrivesSome : StationView → ℕ → StationView → Result EnteredView NotTaken → Type 0
+ArrivesSome old from new received = (message : Message) × Arrives old from message received new

@@ -1,7 +1,7 @@
 //! Messages that wait in greater numbers than they should.
-ghost use Rattle.std.specs.Prelude.{◌≡◌, ◌≤◌, ◌-◌, ◌||◌, nat_lt, sum_by, SomeIff};
+ghost use Rattle.std.specs.Prelude.{◌≡◌, ◌||◌, nat_lt, sum_by};
 ghost use Rattle.bus.specs.declared.message.Body.TheVariants.{Slots, Stream as OfStream};
-ghost use Rattle.links.specs.Pace.{are_many, brought_bytes, pair_bytes, value_bytes, waiting_bytes};
+ghost use Rattle.links.specs.Pace.{IsRoomBehind, are_many, brought_bytes, pair_bytes, value_bytes, waiting_bytes};
 
 use bus::{Body, SlotsBody, StreamBody};
 use keyspace::{Pair, Value};
@@ -37,7 +37,7 @@ fn are_long<K: Deployment>(waiting: &VecDeque<Posted<K>>) -> bool
 
 // What is left of the room once a message has brought its bytes, or None where they are more.
 fn room_after(room: u128, body: &Body) -> Option<u128>
-    ensures { SomeIff result (brought_bytes body.now ≤ room) (room - brought_bytes body.now) }
+    ensures { IsRoomBehind (brought_bytes body.now) room result }
 {
     match body {
         Body::Slots(body) => room_after_slots(room, body),
@@ -47,8 +47,7 @@ fn room_after(room: u128, body: &Body) -> Option<u128>
 }
 
 fn room_after_slots(room: u128, body: &SlotsBody) -> Option<u128>
-    ensures { SomeIff result (brought_bytes (Slots body.now) ≤ room)
-        (room - brought_bytes (Slots body.now)) }
+    ensures { IsRoomBehind (brought_bytes (Slots body.now)) room result }
 {
     match body {
         SlotsBody::Copy { pairs, .. } => room_after_pairs(room, pairs.as_slice()),
@@ -58,8 +57,7 @@ fn room_after_slots(room: u128, body: &SlotsBody) -> Option<u128>
 
 // A snapshot has all keys of a node. They aren't counted, since they would be walked under the node's lock.
 fn room_after_stream(room: u128, body: &StreamBody) -> Option<u128>
-    ensures { SomeIff result (brought_bytes (OfStream body.now) ≤ room)
-        (room - brought_bytes (OfStream body.now)) }
+    ensures { IsRoomBehind (brought_bytes (OfStream body.now)) room result }
 {
     match body {
         StreamBody::Piece(piece) => room.checked_sub(piece.bytes().len() as u128),
@@ -69,8 +67,7 @@ fn room_after_stream(room: u128, body: &StreamBody) -> Option<u128>
 
 // The same for keys with their values. They share long strings, so their sum may pass what 128 bits hold: it isn't made.
 fn room_after_pairs(room: u128, pairs: &[Pair]) -> Option<u128>
-    ensures { SomeIff result (sum_by pair_bytes pairs.now ≤ room)
-        (room - sum_by pair_bytes pairs.now) }
+    ensures { IsRoomBehind (sum_by pair_bytes pairs.now) room result }
 {
     let mut left = room;
     for pair in pairs {

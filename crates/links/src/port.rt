@@ -1,9 +1,8 @@
 //! A node's end of its link with another node, with the messages that found no room there yet.
-ghost use Rattle.std.specs.Prelude.{◌≡◌, ◌⊎◌, [], true, false, IfNone, IfSome, IsTrue, OnErr, OnOk};
-ghost use Rattle.link_ends.specs.Halves.{WasFull};
+ghost use Rattle.std.specs.Prelude.{◌≡◌, true, false, IfNone, IfSome, IsTrue, OnErr, OnOk};
 ghost use Rattle.links.specs.Pace.{are_many};
 ghost use Rattle.links.specs.Syncs.{is_sync};
-ghost use Rattle.links.specs.Ports.{HasGiven, HasGivenNone, HasMore, HasSent, HasSentOne};
+ghost use Rattle.links.specs.Ports.{HasGiven, HasGivenNone, HasMore, HasSent, HasSentNone, HasSentOne};
 ghost use Rattle.links.specs.Stations.{end_of, port_of};
 
 use crate::pace::are_many;
@@ -92,8 +91,7 @@ impl<K: Deployment, E: PortEnd<Carried = Posted<K>>> Port<K, E> {
     // Sends the first message that waits, if there is one and the link has room.
     fn send_first(&mut self) -> bool
         ensures sent { result ≡ true → HasSentOne self.old self.new }
-        ensures unsent { result ≡ false
-            → (self.new ≡ self.old) × ((self.old.waiting ≡ []) ⊎ WasFull self.old.sent) }
+        ensures unsent { result ≡ false → HasSentNone self.old self.new }
     {
         let Some(posted) = self.waiting.pop_front() else {
             return false;

@@ -1,12 +1,10 @@
 //! A node with its ends of the links to all nodes.
-ghost use Rattle.std.specs.Prelude.{◌≡◌, ◌<◌, ◌⊎◌, [], drop, false, length, map, IfNone, IfOk, IfSome, OnOk};
+ghost use Rattle.std.specs.Prelude.{◌≡◌, ◌⊎◌, [], drop, false, length, map, IfNone, IfOk, IfSome, OnOk};
 ghost use Rattle.std.specs.List.{list_any};
-ghost use Rattle.bus.specs.declared.message.Message.{Message};
 ghost use Rattle.link_ends.specs.Ends.{AreEndsOf};
-ghost use Rattle.link_ends.specs.Halves.{WasFull};
 ghost use Rattle.links.specs.Pace.{are_many};
 ghost use Rattle.links.specs.Ports.{PortView};
-ghost use Rattle.links.specs.Stations.{Arrives, GivesNone, IsStation, Loses, OnlySends, SendsNothing, end_of, port_at, port_of, said_of};
+ghost use Rattle.links.specs.Stations.{ArrivesSome, GivesNone, IsSentOut, IsStation, Loses, OnlySends, SendsNothing, end_of, port_of, said_of};
 
 use crate::not_taken::NotTaken;
 use crate::port::Port;
@@ -103,8 +101,7 @@ impl<K: Deployment, W: Web, L: Log + Drop, E: PortEnd<Carried = Posted<K>>> Stat
     /// Receives the next message from the node with that number, if one has come, and delivers it to the cell. A sync of a replica that needs
     /// no answer is lost instead, as any message may be.
     pub fn receive(&mut self, from: usize) -> Option<Result<Entered<K>, NotTaken>>
-        ensures some { IfSome result
-            (λ received. (message : Message) × Arrives self.old from message received self.new) }
+        ensures some { IfSome result (ArrivesSome self.old from self.new) }
         ensures none { IfNone result ((self.new ≡ self.old) ⊎ GivesNone self.old from self.new) }
     {
         let port = self.ports.get_mut(from)?;
@@ -159,9 +156,7 @@ impl<K: Deployment, W: Web, L: Log + Drop, E: PortEnd<Carried = Posted<K>>> Stat
         ensures sends { OnlySends self.old self.new }
         ensures none { IfOk result (λ has_sent. has_sent ≡ false → SendsNothing self.old self.new) }
         ensures sorted { IfOk result (λ _. (self.new.unsorted ≡ []) × (self.new.cell.outbox ≡ [])) }
-        ensures left { IfOk result (λ _. (none : PortView)
-            → to < length self.new.ports → ((port_at self.new.ports to none).waiting ≡ [])
-            ⊎ WasFull (port_at self.new.ports to none).sent) }
+        ensures left { OnOk result (IsSentOut self.new.ports to) }
     {
         let sorted = self.sort(rt);
         let has_sent = self.send_to(to);
@@ -174,9 +169,7 @@ impl<K: Deployment, W: Web, L: Log + Drop, E: PortEnd<Carried = Posted<K>>> Stat
         ensures sends { OnlySends self.old self.new }
         ensures none { result ≡ false → SendsNothing self.old self.new }
         ensures cell { (self.new.cell ≡ self.old.cell) × (self.new.unsorted ≡ self.old.unsorted) }
-        ensures left { (none : PortView)
-            → to < length self.new.ports → ((port_at self.new.ports to none).waiting ≡ [])
-            ⊎ WasFull (port_at self.new.ports to none).sent }
+        ensures left { IsSentOut self.new.ports to }
     {
         to < self.ports.len() && self.ports[to].send_all()
     }

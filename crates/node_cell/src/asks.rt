@@ -1,10 +1,11 @@
 //! What was asked of a node through one gate.
 ghost use Rattle.std.specs.Prelude.{◌≡◌, ◌<◌, ◌++◌, ◌∷◌, [], length, None, Some, IfOk, IfErr, IfNone, IfSome};
 ghost use Rattle.node_cell.specs.Asks.{noted};
+ghost use Rattle.node_cell.specs.Cells.{IsReplyGiven, without_reply};
 ghost use Rattle.node_gate.specs.Asks.{IsOwn};
 ghost use Rattle.node_gate.specs.Asks.Asked.{asking, waiting};
-ghost use Rattle.node_step.specs.Released.{reply_to, without_reply_to};
-ghost use Rattle.cell_parts.specs.Journal.{Enters, HasHistory, IsGiven, IsRefused, outcome_entered};
+ghost use Rattle.node_step.specs.Released.{reply_to};
+ghost use Rattle.cell_parts.specs.Journal.{Enters, HasHistory, IsRefused, outcome_entered};
 
 use crate::cell::NodeCell;
 use crate::entered::Entered;
@@ -110,11 +111,9 @@ impl<K: Deployment> Asks<K> {
         ensures cluster { cell.old.config ≡ K.config }
         ensures number { cell.old.node < length cell.old.config.nodes }
         ensures history { HasHistory cell.old }
-        ensures given { IfSome result
-            (λ reply. IsGiven cell.old.journal (record { conn = conn; reply = reply })) }
+        ensures given { IfSome result (IsReplyGiven cell.old.journal conn) }
         ensures reply { result ≡ reply_to conn cell.old.undelivered }
-        ensures left { cell.new
-            ≡ record cell.old { undelivered = without_reply_to conn cell.old.undelivered } }
+        ensures left { cell.new ≡ without_reply conn cell.old }
     {
         let found = cell.take_reply(conn);
         if found.is_some() {

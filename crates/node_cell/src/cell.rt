@@ -2,13 +2,13 @@
 ghost use Rattle.std.specs.Prelude.{◌≡◌, ◌<◌, ◌==◌, ◌++◌, [], All, length, not, true, Err, IfOk, IfErr, IfNone, IfSome, OnErr, OnOk, vec_len, vec_capacity};
 ghost use Rattle.std.specs.VecDeque.{deque_len, deque_capacity};
 ghost use Rattle.std.specs.List.{list_any};
-ghost use Rattle.tickets.specs.Tickets.{drawn, table_of, seats_of, IsFresh};
-ghost use Rattle.node_step.specs.State.{first_state};
+ghost use Rattle.tickets.specs.Tickets.{IsFresh, IsSeatOf};
 ghost use Rattle.step_fault.specs.declared.fault.StepFault.TheVariants.{Exhausted};
-ghost use Rattle.node_step.specs.Released.{reply_to, without_reply_to};
+ghost use Rattle.node_step.specs.Released.{reply_to};
 ghost use Rattle.cell_parts.specs.Undelivered.{joined, undelivered_after};
 ghost use Rattle.node_step.specs.declared.event.Event.TheVariants.{Deliver};
 ghost use Rattle.cell_parts.specs.Journal.{Advances, Enters, HasHistory, IsGiven, IsNotTaken, IsReachable, IsRefused, IsSent, Makes, Rises, Skips, comes_in_time, tickets_of};
+ghost use Rattle.node_cell.specs.Cells.{IsReplyGiven, first_cell, without_reply};
 ghost use Rattle.node_gate.specs.Asks.{IsOwn};
 
 use crate::entered::Entered;
@@ -84,8 +84,7 @@ impl<K: Deployment, L: Log> NodeCell<K, L> {
         requires cluster { config.now ≡ K.config }
         requires number { node < length config.now.nodes }
         requires seat { IsFresh K.table K.seats seat }
-        ensures { IfOk result
-            (λ cell. cell ≡ record { config = config.now; node = node; state = first_state config.now node; journal = []; undelivered = []; outbox = [] }) }
+        ensures { IfOk result (λ cell. cell ≡ first_cell config.now node) }
     {
         let core = Core::begin(alloc, config.clone()?, node)?;
         Ok(NodeCell {
@@ -186,11 +185,9 @@ impl<K: Deployment, L: Log> NodeCell<K, L> {
         ensures cluster { self.old.config ≡ K.config }
         ensures number { self.old.node < length self.old.config.nodes }
         ensures history { HasHistory self.old }
-        ensures given { IfSome result
-            (λ reply. IsGiven self.old.journal (record { conn = conn; reply = reply })) }
+        ensures given { IfSome result (IsReplyGiven self.old.journal conn) }
         ensures reply { result ≡ reply_to conn self.old.undelivered }
-        ensures left { self.new
-            ≡ record self.old { undelivered = without_reply_to conn self.old.undelivered } }
+        ensures left { self.new ≡ without_reply conn self.old }
     {
         take_reply_to(&mut self.undelivered, conn)
     }
@@ -226,8 +223,7 @@ impl<K: Deployment, L: Log> NodeCell<K, L> {
         ensures number { self.node < length self.config.nodes }
         ensures history { HasHistory self }
         ensures rises { Rises (tickets_of self.journal) }
-        ensures seat { (drawn result.3 ≡ tickets_of self.journal) × (table_of result.3 ≡ K.table)
-            × (seats_of result.3 ≡ K.seats) }
+        ensures seat { IsSeatOf K.table K.seats (tickets_of self.journal) result.3 }
     {
         let NodeCell {
             config,

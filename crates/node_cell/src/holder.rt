@@ -1,9 +1,10 @@
 //! What conversations ask, behind the lock of their node.
 ghost use Rattle.std.specs.Prelude.{◌≡◌, ◌<◌, ◌==◌, ◌++◌, ◌∷◌, [], length, not, Some, IfOk, IfErr, IfNone, IfSome};
-ghost use Rattle.cell_parts.specs.Journal.{Enters, HasHistory, IsGiven, IsRefused, outcome_entered};
+ghost use Rattle.cell_parts.specs.Journal.{Enters, HasHistory, IsRefused, outcome_entered};
+ghost use Rattle.node_cell.specs.Cells.{IsReplyGiven, without_reply};
 ghost use Rattle.node_gate.specs.Asks.{IsOwn};
 ghost use Rattle.node_gate.specs.Asks.Asked.{asking, waiting};
-ghost use Rattle.node_step.specs.Released.{reply_to, without_reply_to};
+ghost use Rattle.node_step.specs.Released.{reply_to};
 
 use crate::asks::Asks;
 use crate::cell::NodeCell;
@@ -44,13 +45,9 @@ pub trait HoldsCell {
         ensures cluster { (cell self.old).config ≡ Self.Cluster.config }
         ensures number { (cell self.old).node < length (cell self.old).config.nodes }
         ensures history { HasHistory (cell self.old) }
-        ensures given { IfSome result
-            (λ reply. IsGiven (cell self.old).journal (record { conn = conn; reply = reply })) }
+        ensures given { IfSome result (IsReplyGiven (cell self.old).journal conn) }
         ensures reply { result ≡ reply_to conn (cell self.old).undelivered }
-        ensures left { cell self.new ≡ record (cell self.old) {
-          undelivered = without_reply_to conn
-              (cell self.old).undelivered;
-        } };
+        ensures left { cell self.new ≡ without_reply conn (cell self.old) };
 
     /// The node as its last step left it.
     fn core(&self) -> &Core

@@ -1,8 +1,8 @@
 //! Messages that a step sent, until they are delivered.
-ghost use Rattle.std.specs.Prelude.{◌≡◌, ◌==◌, ◌∷◌, [], All, IfNone, IfSome, List, drop, length};
-ghost use Rattle.bus.specs.declared.message.Message.{Message as Sent};
+ghost use Rattle.std.specs.Prelude.{◌≡◌, ◌==◌, [], All, IfNone, IfSome, drop, length};
 ghost use Rattle.std.specs.Iterator.{YieldsFirst, item_count};
 ghost use Rattle.cell_parts.specs.Journal.{IsSent};
+ghost use Rattle.node_cell.specs.Cells.{IsFirstTo};
 
 use bus::Message;
 use cell_parts::Deployment;
@@ -128,8 +128,7 @@ impl<K: Deployment> Sending<K> {
 
     /// The node that the first message that is left is for.
     pub fn first_to(&self) -> Option<NodeNo>
-        ensures some { IfSome result (λ to.
-            (first : Sent) × (rest : List Sent) × (self.now ≡ first ∷ rest) × (first.to ≡ to)) }
+        ensures some { IfSome result (IsFirstTo self.now) }
         ensures none { IfNone result (self.now ≡ []) }
     {
         Some(self.messages.front()?.to)

@@ -1,12 +1,15 @@
 -- What a node does with a command (Redis Cluster specification, "MOVED Redirection", "ASK redirection",
 -- "Multiple keys operations"; the order of the rows is ours).
 use Rattle.std.specs.Prelude.{ℕ, ◌==◌, ◌&&◌, not, Bool, true, false, if◌then◌else◌, List, [], ◌∷◌, Option, Some, None}
+use Rattle.std.specs.Borrow.{Bor}
 use Rattle.std.specs.List.{list_any}
+use Rattle.std.specs.Option.{option_copied}
 use Rattle.key_slot.specs.Slot.{hash_slot}
 use Rattle.slot_table.specs.declared.entry.SlotEntry.{SlotEntry}
 use Rattle.slot_table.specs.Table.{owner_at}
 use Rattle.slot_state.specs.Moves.{Moves, move_of}
 use Rattle.slot_state.specs.State.{state_of}
+use Rattle.slot_state.specs.declared.order.Standing.{Standing}
 use Rattle.slot_state.specs.declared.running.Move.{Move}
 use Rattle.slot_state.specs.declared.running.Move.TheVariants.{Leaves, Comes}
 use Rattle.slot_state.specs.declared.state.SlotState.{SlotState}
@@ -51,6 +54,14 @@ in_slot slot owner (Moving (Comes from number last drained)) asked = if is_right
 in_slot slot owner (Moving (Leaves to number copies frozen)) asked = if_owned owner (leaving (Ask slot to number) frozen asked)
 in_slot slot owner Owned asked = if_owned owner (owned asked)
 in_slot slot owner Foreign asked = at_owner slot owner
+
+-- in a slot with a move
+abbrev pub in_moving_slot : ℕ → Option ℕ → Move → Asked → Decision
+in_moving_slot slot owner move asked = in_slot slot owner (Moving move) asked
+
+-- in one slot, by what the node knows of itself and of the slot, and by the move of the slot
+abbrev pub by_state : Standing → Option (Bor Move) → ℕ → Asked → Decision
+by_state at running slot asked = in_slot slot at.owner (state_of at.owner (option_copied running) at.node) asked
 
 -- what this node does with a slot
 abbrev pub state_at : List (Option SlotEntry) → Moves → ℕ → ℕ → SlotState Move

@@ -1,15 +1,11 @@
 //! The decision on a command, by its keys.
-ghost use Rattle.std.specs.Prelude.{◌≡◌, ◌≢◌, ◌↔◌, ◌==◌, ℕ, List, ◌∷◌, Bool, All, Option, Some, None, not};
+ghost use Rattle.std.specs.Prelude.{◌≡◌, ◌↔◌, ◌==◌, not};
 ghost use Rattle.std.specs.List.{list_any};
 ghost use Rattle.std.specs.Option.{option_copied};
 ghost use Rattle.key_slot.specs.Slot.{hash_slot};
-ghost use Rattle.slot_state.specs.Moves.{Moves, move_of};
-ghost use Rattle.slot_state.specs.State.{state_of};
-ghost use Rattle.slot_table.specs.Table.{owner_at};
-ghost use Rattle.slot_table.specs.declared.entry.SlotEntry.{SlotEntry};
 ghost use Rattle.redirect.specs.Asked.{Asked, asked, bytes_of};
-ghost use Rattle.redirect.specs.Decision.{decision, in_slot, is_served, at_owner, coming, leaving, owned};
-ghost use Rattle.redirect.specs.Meaning.{AreInTwoSlots, IsOwned, IsSlotOf};
+ghost use Rattle.redirect.specs.Decision.{decision, in_moving_slot, is_served, at_owner, by_state, coming, leaving, owned};
+ghost use Rattle.redirect.specs.Meaning.{AreInSlotUnlessCrossed, AreInTwoSlots, AreOwned, IsByAsking, IsByKeys, IsDecision, IsDecisionAtRest, IsSlotOf, NamesOwner};
 
 use crate::asked::{Asking, are_all, are_several, is_any, is_frozen, is_right};
 use key_slot::{Slot, slot};
@@ -89,8 +85,8 @@ pub fn decide(
 ) -> Decision
     ensures value { result ≡ decision table.now moves.now node (asked keys.now there.now asking is_paused) }
     ensures crossed { result ≡ Decision.CrossSlot ↔ AreInTwoSlots (bytes_of keys.now) }
-    ensures served { result ≡ Decision.Serve → All (IsOwned table.now moves.now node) (bytes_of keys.now) }
-    ensures moved { (slot to : ℕ) → result ≡ Decision.Moved slot to → (owner_at table.now slot ≡ Some to) × All (λ key. hash_slot key ≡ slot) (bytes_of keys.now) }
+    ensures served { result ≡ Decision.Serve → AreOwned table.now moves.now node (bytes_of keys.now) }
+    ensures moved { NamesOwner table.now (bytes_of keys.now) result }
 {
     let Some((first, _)) = keys.split_first() else {
         return Decision::Serve;
@@ -116,9 +112,8 @@ pub fn decide_in_slot(
     there: &[bool],
     asking: Asking,
 ) -> Decision
-    ensures value { (table : List (Option SlotEntry)) (moves : Moves) → at.owner ≡ owner_at table slot → option_copied running.entry ≡ move_of moves slot
-        → IsSlotOf slot (bytes_of keys.now) → result ≡ decision table moves at.node (asked keys.now there.now asking at.is_paused) }
-    ensures one_slot { IsSlotOf slot (bytes_of keys.now) → result ≢ Decision.CrossSlot → All (λ key. hash_slot key ≡ slot) (bytes_of keys.now) }
+    ensures value { IsDecision at running.entry slot keys.now there.now asking result }
+    ensures one_slot { IsSlotOf slot (bytes_of keys.now) → AreInSlotUnlessCrossed slot (bytes_of keys.now) result }
 {
     let Some((_, others)) = keys.split_first() else {
         return Decision::Serve;
@@ -133,9 +128,8 @@ pub fn decide_in_slot(
 ///
 /// Neither which keys are there nor the asking matters then. It does not hash the first key.
 pub fn decide_at_rest(at: Standing, slot: Slot, others: &[&[u8]]) -> Decision
-    ensures value { (table : List (Option SlotEntry)) (moves : Moves) (first : List ℕ) (there : List Bool) (asking : Asking) → at.owner ≡ owner_at table slot → None ≡ move_of moves slot
-        → hash_slot first ≡ slot → result ≡ decision table moves at.node (record { keys = first ∷ bytes_of others.now; there = there; asking = asking; paused = at.is_paused }) }
-    ensures one_slot { result ≢ Decision.CrossSlot → All (λ key. hash_slot key ≡ slot) (bytes_of others.now) }
+    ensures value { IsDecisionAtRest at slot (bytes_of others.now) result }
+    ensures one_slot { AreInSlotUnlessCrossed slot (bytes_of others.now) result }
 {
     if has_other_slot(slot, others) {
         return Decision::CrossSlot;
@@ -159,7 +153,7 @@ fn in_one_slot(
     there: &[bool],
     asking: Asking,
 ) -> Decision
-    ensures { result ≡ in_slot slot at.owner (state_of at.owner (option_copied running.entry) at.node) (asked keys.now there.now asking at.is_paused) }
+    ensures { result ≡ by_state at running.entry slot (asked keys.now there.now asking at.is_paused) }
 {
     match running {
         Some(running) => in_moving_slot(slot, at.owner, running, keys, there, asking),
@@ -169,7 +163,7 @@ fn in_one_slot(
 
 // The decision in a slot without a move.
 fn in_resting_slot(at: Standing, slot: Slot) -> Decision
-    ensures { (asked : Asked) → asked.paused ≡ at.is_paused → result ≡ in_slot slot at.owner (state_of at.owner None at.node) asked }
+    ensures { (asked : Asked) → asked.paused ≡ at.is_paused → result ≡ by_state at None slot asked }
 {
     match at.owner {
         Some(owner) if owner == at.node => own(at.is_paused),
@@ -197,7 +191,7 @@ fn in_moving_slot(
     there: &[bool],
     asking: Asking,
 ) -> Decision
-    ensures { (paused : Bool) → result ≡ in_slot slot owner (SlotState.Moving running.now) (asked keys.now there.now asking paused) }
+    ensures { IsByAsking (in_moving_slot slot owner running.now) keys.now there.now asking result }
 {
     match running {
         Move::Comes { number, .. } if is_right(asking, *number) => coming(*number, keys, there),
@@ -233,7 +227,7 @@ fn at_owner(slot: Slot, owner: Option<NodeNo>) -> Decision
 
 // The decision in a slot that comes to the node, after the right ASKING.
 fn coming(number: MoveNo, keys: &[&[u8]], there: &[bool]) -> Decision
-    ensures { (asking : Asking) (paused : Bool) → result ≡ coming number (asked keys.now there.now asking paused) }
+    ensures { IsByKeys (coming number) keys.now there.now result }
 {
     if are_several(keys) && !are_all(there) {
         return Decision::TryAgain(Reason::SomeAreMissing);
@@ -243,7 +237,7 @@ fn coming(number: MoveNo, keys: &[&[u8]], there: &[bool]) -> Decision
 
 // The decision in a slot that leaves the node; `elsewhere` is the one where no key is there.
 fn leaving(elsewhere: Decision, frozen: Option<&Keys>, keys: &[&[u8]], there: &[bool]) -> Decision
-    ensures { (asking : Asking) (paused : Bool) → result ≡ leaving elsewhere (option_copied frozen.entry) (asked keys.now there.now asking paused) }
+    ensures { IsByKeys (leaving elsewhere (option_copied frozen.entry)) keys.now there.now result }
 {
     if is_frozen(frozen, keys) {
         return Decision::TryAgain(Reason::Frozen);

@@ -3,7 +3,7 @@ ghost use Rattle.std.specs.Prelude.{◌≡◌, IfOk, slice_get, Some};
 ghost use Rattle.resharder.specs.Replies.{answer_of, keys_in, nodes_in, report_in};
 ghost use Rattle.resharder.specs.Step.{again, answered, asks, begins_at, counted, destination_read, ended_at, ended_at_destination, found, keys_listed, keys_moved, next_other, number_of, numbered, place_at, replied, source_read, started, takes, then_takes, turn, words_at};
 ghost use Rattle.resharder.specs.Step.Turn.{Reads};
-ghost use Rattle.resharder.specs.Turns.{Makes};
+ghost use Rattle.resharder.specs.Turns.{Makes, prints_line};
 
 use crate::action::{Action, Event};
 use crate::answer::Answer;
@@ -384,7 +384,7 @@ fn counted(work: Work, moved: usize) -> Work
 
 // The slot is done.
 fn line(work: Work) -> Made
-    ensures { result ≡ record { stage = Stage.Prints work.nodes work.slot; action = Action.Line work.slot work.number work.keys } }
+    ensures { result ≡ prints_line work }
 {
     let Work {
         nodes,

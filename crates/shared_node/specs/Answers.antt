@@ -47,3 +47,7 @@ MayCome config (asking event (Ok outputs)) = MayAnswer config event outputs
 MayCome config (asking event (Err fault)) = MayRefuse config event fault
 MayCome config (waiting conn (Some reply)) = MayGive config conn reply
 MayCome config (waiting conn None) = ⊤
+
+-- what is seen so of a value stays as it was
+abbrev pub Keeps : {A B : Type 0} → (A → B) → A → A → Type 0
+Keeps seen old new = seen new ≡ seen old

@@ -1,7 +1,7 @@
 //! A conversation's way to a node: a cell behind a lock.
 ghost use Rattle.std.specs.Prelude.{◌≡◌, ◌++◌, ◌∷◌, [], None, Some, IfSome};
 ghost use Rattle.node_gate.specs.Asks.Asked.{waiting};
-ghost use Rattle.shared_node.specs.Answers.{MayCome, MayGive};
+ghost use Rattle.shared_node.specs.Answers.{Keeps, MayCome, MayGive};
 
 use crate::shared::SharedNode;
 use connections::Conn;
@@ -41,8 +41,7 @@ impl<'n, C: HoldsCell + Drop, R: Wait> Gate<'n, C, R> {
 
     /// Locks the node, where this conversation doesn't hold it yet. It is held until others are let in.
     pub fn hold(&mut self)
-        ensures { ⟦<Gate<'n, C, R> as NodeGate>⟧.asked self.new
-            ≡ ⟦<Gate<'n, C, R> as NodeGate>⟧.asked self.old }
+        ensures { Keeps ⟦<Gate<'n, C, R> as NodeGate>⟧.asked self.old self.new }
     {
         self.held = Some(self.take_or_lock());
     }
@@ -64,24 +63,21 @@ impl<'n, C: HoldsCell + Drop, R: Wait> Gate<'n, C, R> {
 
     /// Lets others in, as [`release`](NodeGate::release) does, and tells nobody yet of the messages that steps left.
     pub fn unlock(&mut self)
-        ensures { ⟦<Gate<'n, C, R> as NodeGate>⟧.asked self.new
-            ≡ ⟦<Gate<'n, C, R> as NodeGate>⟧.asked self.old }
+        ensures { Keeps ⟦<Gate<'n, C, R> as NodeGate>⟧.asked self.old self.new }
     {
         self.held = None;
     }
 
     /// Whether steps left messages of which nobody was told. Whoever calls this sees to them from now on.
     pub fn take_left(&mut self) -> bool
-        ensures { ⟦<Gate<'n, C, R> as NodeGate>⟧.asked self.new
-            ≡ ⟦<Gate<'n, C, R> as NodeGate>⟧.asked self.old }
+        ensures { Keeps ⟦<Gate<'n, C, R> as NodeGate>⟧.asked self.old self.new }
     {
         mem::replace(&mut self.has_left, false)
     }
 
     /// Tells the thread that takes the node's messages, if steps left some of which it wasn't told.
     pub fn tell(&mut self)
-        ensures { ⟦<Gate<'n, C, R> as NodeGate>⟧.asked self.new
-            ≡ ⟦<Gate<'n, C, R> as NodeGate>⟧.asked self.old }
+        ensures { Keeps ⟦<Gate<'n, C, R> as NodeGate>⟧.asked self.old self.new }
     {
         if self.take_left() {
             self.node.ring_for_mail();
@@ -103,8 +99,7 @@ impl<'n, C: HoldsCell + Drop, R: Wait> Gate<'n, C, R> {
         ensures heard { IfSome result (λ reply. ⟦<Gate<'n, C, R> as NodeGate>⟧.asked self.new
             ≡ ⟦<Gate<'n, C, R> as NodeGate>⟧.asked self.old ++ waiting conn (Some reply) ∷ []) }
         ensures given { IfSome result (λ reply. MayGive C.Cluster.config conn reply) }
-        ensures none { result ≡ None → ⟦<Gate<'n, C, R> as NodeGate>⟧.asked self.new
-            ≡ ⟦<Gate<'n, C, R> as NodeGate>⟧.asked self.old }
+        ensures none { result ≡ None → Keeps ⟦<Gate<'n, C, R> as NodeGate>⟧.asked self.old self.new }
     {
         // No step is made, so there is no pace to keep.
         let mut locked = match self.held.take() {

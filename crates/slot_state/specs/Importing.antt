@@ -1,9 +1,10 @@
 -- CLUSTER SETSLOT slot IMPORTING node (Redis Cluster specification, "Cluster live reconfiguration"; refusals and their order are ours).
 use Rattle.std.specs.Prelude.{ℕ, ◌==◌, ◌&&◌, if◌then◌else◌, Option, Some, None}
-use Rattle.slot_state.specs.Moves.{Moves, begun}
+use Rattle.slot_state.specs.Moves.{Moves, begun, last_move_of, move_of}
 use Rattle.slot_state.specs.Numbers.{new_number, is_named}
 use Rattle.slot_state.specs.declared.importing.ImportVerdict.{ImportVerdict}
 use Rattle.slot_state.specs.declared.importing.ImportVerdict.TheVariants.{UnknownNode, HandingOver, Already, Busy, AlreadyOwner, NotOwner, OldMove, Begins}
+use Rattle.slot_state.specs.declared.order.Order.{Order}
 use Rattle.slot_state.specs.declared.order.Standing.{Standing}
 use Rattle.slot_state.specs.declared.running.Move.{Move}
 use Rattle.slot_state.specs.declared.running.Move.TheVariants.{Leaves, Comes}
@@ -32,6 +33,10 @@ import_verdict at move last None asked = UnknownNode
 import_verdict at move last (Some from) asked =
     if from == at.node then UnknownNode
     else (if at.is_replica then NotOwner else (if at.is_paused then HandingOver else import_beside at move last from asked))
+
+-- the verdict on an order of an import, with these moves at the node
+abbrev pub import_in : Standing → Moves → Order → ImportVerdict
+import_in at moves order = import_verdict at (move_of moves order.slot) (last_move_of moves order.slot) order.node order.number
 
 -- an import begins with no copy, and not drained
 abbrev pub after_import : Moves → ℕ → ImportVerdict → Moves

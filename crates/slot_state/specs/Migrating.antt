@@ -1,9 +1,10 @@
 -- CLUSTER SETSLOT slot MIGRATING node (Redis Cluster specification, "Cluster live reconfiguration"; refusals and their order are ours).
 use Rattle.std.specs.Prelude.{ℕ, ◌==◌, ◌&&◌, if◌then◌else◌, Option, Some, None}
-use Rattle.slot_state.specs.Moves.{Moves, begun}
+use Rattle.slot_state.specs.Moves.{Moves, begun, last_move_of, move_of}
 use Rattle.slot_state.specs.Numbers.{new_number, is_named}
 use Rattle.slot_state.specs.declared.migrating.MigrateVerdict.{MigrateVerdict}
 use Rattle.slot_state.specs.declared.migrating.MigrateVerdict.TheVariants.{UnknownNode, HandingOver, Already, Busy, NotOwner, OldMove, Begins}
+use Rattle.slot_state.specs.declared.order.Order.{Order}
 use Rattle.slot_state.specs.declared.order.Standing.{Standing}
 use Rattle.slot_state.specs.declared.running.Move.{Move}
 use Rattle.slot_state.specs.declared.running.Move.TheVariants.{Leaves, Comes}
@@ -30,6 +31,10 @@ migrate_verdict at move last None asked = UnknownNode
 migrate_verdict at move last (Some to) asked =
     if to == at.node then UnknownNode
     else (if at.is_replica then NotOwner else (if at.is_paused then HandingOver else migrate_beside at move last to asked))
+
+-- the verdict on an order of a migration, with these moves at the node
+abbrev pub migration_in : Standing → Moves → Order → MigrateVerdict
+migration_in at moves order = migrate_verdict at (move_of moves order.slot) (last_move_of moves order.slot) order.node order.number
 
 -- a migration begins with no copy and no frozen key
 abbrev pub after_migrate : Moves → ℕ → MigrateVerdict → Moves

@@ -71,7 +71,7 @@ fn by_owner(owner: Option<NodeNo>, node: NodeNo) -> NodeVerdict
 /// It is above the node's own epoch, above the one that the former owner said with its last word, and above the one in which
 /// the node knows the slot: so the new owner's claim counts above each that was made before.
 pub fn epoch_after_import(current: Epoch, drained: Epoch, known: Epoch) -> Option<Epoch>
-    ensures { SomeIff result (1 + max (max current drained) known < 2 ^ 64) (1 + max (max current drained) known) }
+    ensures { let next = 1 + max (max current drained) known in SomeIff result (next < 2 ^ 64) next }
 {
     let greatest = current.max(drained).max(known);
     Some(Epoch::new(greatest.get().checked_add(1)?))

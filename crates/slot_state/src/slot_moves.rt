@@ -7,8 +7,8 @@ ghost use Rattle.std.specs.Option.{option_copied, option_copied_mut};
 ghost use Rattle.slot_state.specs.Lending.{LendsMove};
 ghost use Rattle.slot_state.specs.Moves.{no_moves, move_of, last_move_of, running_moves, by_slot, begun, ended};
 ghost use Rattle.slot_state.specs.State.{state_of, seen};
-ghost use Rattle.slot_state.specs.Importing.{import_verdict, after_import};
-ghost use Rattle.slot_state.specs.Migrating.{migrate_verdict, after_migrate};
+ghost use Rattle.slot_state.specs.Importing.{import_in, after_import};
+ghost use Rattle.slot_state.specs.Migrating.{migration_in, after_migrate};
 ghost use Rattle.slot_state.specs.Ending.{node_verdict, after_node};
 
 use crate::ending::{NodeVerdict, node_verdict};
@@ -109,8 +109,7 @@ impl SlotMoves {
 
     /// What becomes of CLUSTER SETSLOT slot IMPORTING node. It changes nothing and takes no memory.
     pub fn import_verdict(&self, at: Standing, order: Order) -> ImportVerdict
-        ensures { result ≡ import_verdict at (move_of self.now order.slot)
-            (last_move_of self.now order.slot) order.node order.number }
+        ensures { result ≡ import_in at self.now order }
     {
         let slot = order.slot;
         import_verdict(at, self.get(slot), self.last_move(slot), order)
@@ -118,8 +117,7 @@ impl SlotMoves {
 
     /// What becomes of CLUSTER SETSLOT slot MIGRATING node. It changes nothing and takes no memory.
     pub fn migrate_verdict(&self, at: Standing, order: Order) -> MigrateVerdict
-        ensures { result ≡ migrate_verdict at (move_of self.now order.slot)
-            (last_move_of self.now order.slot) order.node order.number }
+        ensures { result ≡ migration_in at self.now order }
     {
         let slot = order.slot;
         migrate_verdict(at, self.get(slot), self.last_move(slot), order)
@@ -134,7 +132,7 @@ impl SlotMoves {
 
     /// Obeys CLUSTER SETSLOT slot IMPORTING node, if nothing stands against it.
     pub fn set_importing(&mut self, at: Standing, order: Order) -> Result<ImportVerdict, AllocError>
-        ensures verdict { IfOk result (λ verdict. verdict ≡ import_verdict at (move_of self.old order.slot) (last_move_of self.old order.slot) order.node order.number) }
+        ensures verdict { IfOk result (λ verdict. verdict ≡ import_in at self.old order) }
         ensures ok { IfOk result (λ verdict. self.new ≡ after_import self.old order.slot verdict) }
         ensures err { OnErr result (self.new ≡ self.old) }
     {
@@ -172,7 +170,7 @@ impl SlotMoves {
         at: Standing,
         order: Order,
     ) -> Result<MigrateVerdict, AllocError>
-        ensures verdict { IfOk result (λ verdict. verdict ≡ migrate_verdict at (move_of self.old order.slot) (last_move_of self.old order.slot) order.node order.number) }
+        ensures verdict { IfOk result (λ verdict. verdict ≡ migration_in at self.old order) }
         ensures ok { IfOk result (λ verdict. self.new ≡ after_migrate self.old order.slot verdict) }
         ensures err { OnErr result (self.new ≡ self.old) }
     {

@@ -1,8 +1,9 @@
 -- Claims to slots (Redis Cluster specification, "Hash slots configuration propagation": the greater epoch counts. That of
 -- two claims with one epoch the greater owner counts is this project's own rule).
-use Rattle.std.specs.Prelude.{◌≡◌, ◌<◌, ◌==◌, ◌&&◌, ◌||◌, not, nat_lt, ℕ, Bool, true, false, if◌then◌else◌, List, [], ◌∷◌, map, filter, Option, Some, None}
+use Rattle.std.specs.Prelude.{◌≡◌, ◌<◌, ◌+◌, ◌-◌, ◌==◌, ◌&&◌, ◌||◌, not, nat_lt, ℕ, Bool, true, false, if◌then◌else◌, List, [], ◌∷◌, map, filter, Option, Some, None}
 use Rattle.std.specs.List.{range_with_len, AllPairs}
 use Rattle.key_slot.specs.SlotRange.{is_in}
+use Rattle.key_slot.specs.declared.slots.SlotRange.{SlotRange}
 use Rattle.slot_table.specs.declared.entry.SlotEntry.{SlotEntry}
 use Rattle.slot_table.specs.declared.runs.Run.{Run}
 use Rattle.slot_table.specs.Table.{entry_at}
@@ -34,6 +35,16 @@ claimed (run ∷ runs) owner slot = if is_in run.slots slot then Some (record { 
 -- the claim to the same slots, each of them in that epoch
 abbrev pub in_epoch : ℕ → List (Run ℕ) → List (Run ℕ)
 in_epoch epoch claim = map (λ (run : Run ℕ). record { slots = run.slots; value = epoch }) claim
+
+-- the slots of the range whose entry the claim is above, in rising order
+abbrev pub slots_below : List (Option SlotEntry) → SlotEntry → SlotRange → List ℕ
+slots_below table claim range =
+    filter (λ slot. is_above claim (entry_at table slot)) (range_with_len range.first (range.last + 1 - range.first))
+
+-- each slot has the greater of what the old table has and what is claimed
+abbrev pub HasGreater : List (Option SlotEntry) → List (Run ℕ) → ℕ → List (Option SlotEntry) → Type 0
+HasGreater old claim owner new =
+    (slot : ℕ) → slot < 16384 → entry_at new slot ≡ greater (entry_at old slot) (claimed claim owner slot)
 
 -- the slots that the claim takes, in rising order
 unfoldable pub taken : List (Option SlotEntry) → List (Run ℕ) → ℕ → List ℕ

@@ -1,5 +1,5 @@
 -- The longest runs of slots with one value, cut off at a bound (Redis command reference, "CLUSTER SLOTS").
-use Rattle.std.specs.Prelude.{◌≡◌, ◌≢◌, ◌+◌, ◌<◌, ◌≤◌, ◌==◌, ℕ, List, Option, Some, None, All, IsTrue, if◌then◌else◌}
+use Rattle.std.specs.Prelude.{◌≡◌, ◌≢◌, ◌+◌, ◌<◌, ◌≤◌, ◌==◌, ◌&&◌, ℕ, Bool, List, Option, Some, None, All, IsTrue, if◌then◌else◌}
 use Rattle.std.specs.List.{Any, AllPairs}
 use Rattle.key_slot.specs.SlotRange.{is_in}
 use Rattle.slot_table.specs.declared.runs.Run.{Run}
@@ -34,3 +34,23 @@ abbrev pub TakesOver : List (Run ℕ) → ℕ → ℕ → List (Run ℕ) → Lis
 TakesOver runs start end old new =
     (value_at wanted : ℕ → Option ℕ) → AreRunsCutAt 16384 value_at runs → ((slot : ℕ) → start ≤ slot → slot < end → wanted slot ≡ value_at slot)
     → AreRunsCutAt start wanted old → AreRunsCutAt end wanted new
+
+-- where the old runs are those of some values, the new ones are those of the same values but for the slot
+abbrev pub ChangesValue : ℕ → Option ℕ → List (Run ℕ) → List (Run ℕ) → Type 0
+ChangesValue slot own old new =
+    (value_at : ℕ → Option ℕ) → AreRunsCutAt 16384 value_at old → AreRunsCutAt 16384 (with_value value_at slot own) new
+
+-- runs that are cut off at the slot take it in, where it has that value, or none
+abbrev pub AddsSlot : ℕ → Option ℕ → List (Run ℕ) → List (Run ℕ) → Type 0
+AddsSlot slot own old new =
+    (value_at : ℕ → Option ℕ) → AreRunsCutAt slot value_at old → value_at slot ≡ own → AreRunsCutAt (slot + 1) value_at new
+
+-- runs that are cut off at a bound go on to the end of the next run
+abbrev pub AddsRun : Run ℕ → List (Run ℕ) → List (Run ℕ) → Type 0
+AddsRun next old new =
+    (bound : ℕ) (value_at : ℕ → Option ℕ) → AreRunsCutAt bound value_at old → AreNext bound value_at next
+    → AreRunsCutAt (next.slots.last + 1) value_at new
+
+-- a run begins right behind another one, and has the same value
+abbrev pub continues : Run ℕ → Run ℕ → Bool
+continues next run = run.slots.last + 1 == next.slots.first && run.value == next.value

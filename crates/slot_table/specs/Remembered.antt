@@ -1,10 +1,14 @@
 -- What a table remembers beside its entries (ours). Nobody sees it: it spares a look at each slot where nothing has changed.
-use Rattle.std.specs.Prelude.{◌≡◌, ◌≤◌, ℕ, ⊤, List, [], Option, Some, None, length, get_or}
+use Rattle.std.specs.Prelude.{◌≡◌, ◌≤◌, ℕ, ⊤, List, [], Option, Some, None, length, get_or, slice_set}
 use Rattle.slot_table.specs.declared.entry.SlotEntry.{SlotEntry}
 use Rattle.slot_table.specs.declared.runs.Run.{Run}
 use Rattle.slot_table.specs.Claims.{IsRising, merged}
 use Rattle.slot_table.specs.Runs.{runs_of}
 use Rattle.slot_table.specs.Table.{claim_at}
+
+-- the claim of a node once the slot has that entry, or none
+abbrev pub claim_with : List (Option SlotEntry) → ℕ → Option SlotEntry → ℕ → List (Run ℕ)
+claim_with table slot entry node = runs_of (claim_at (slice_set table slot entry) node)
 
 -- the claim of a node, as the table has it
 abbrev pub IsKept : List (Option SlotEntry) → Option (ℕ × List (Run ℕ)) → Type 0

@@ -47,3 +47,7 @@ pub record AreRunsBelow {T : Type 0} (bound : ℕ) (value_at : ℕ → Option T)
 -- all runs of the slots with these values, in rising order
 abbrev pub AreRunsOf : {T : Type 0} → (ℕ → Option T) → List (Run T) → Type 0
 AreRunsOf value_at runs = AreRunsBelow 16384 value_at runs
+
+-- each slot from the first one to before the end has the value
+abbrev pub HaveValue : {T : Type 0} → (ℕ → Option T) → T → ℕ → ℕ → Type 0
+HaveValue value_at value first end = (slot : ℕ) → first ≤ slot → slot < end → value_at slot ≡ Some value

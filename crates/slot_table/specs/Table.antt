@@ -3,12 +3,17 @@
 use Rattle.std.specs.Prelude.{◌≡◌, ℕ, ◌<◌, ◌==◌, if◌then◌else◌, List, [], ◌∷◌, map, Option, Some, None, slice_index_or}
 use Rattle.std.specs.List.{range_with_len}
 use Rattle.key_slot.specs.SlotRange.{is_in}
+use Rattle.key_slot.specs.declared.slots.SlotRange.{SlotRange}
 use Rattle.slot_table.specs.declared.entry.SlotEntry.{SlotEntry}
 use Rattle.slot_table.specs.declared.runs.Run.{Run}
 
 -- what a table has of a slot
 abbrev pub entry_at : List (Option SlotEntry) → ℕ → Option SlotEntry
 entry_at table slot = slice_index_or table slot None
+
+-- what each slot has, where that is how an entry is read
+abbrev pub values_in : {T : Type 0} → (Option SlotEntry → Option T) → List (Option SlotEntry) → ℕ → Option T
+values_in value_in table slot = value_in (entry_at table slot)
 
 -- the owner of an entry
 abbrev pub owner_in : Option SlotEntry → Option ℕ
@@ -28,10 +33,19 @@ epoch_in node (Some entry) = if entry.owner == node then Some entry.epoch else N
 abbrev pub claim_at : List (Option SlotEntry) → ℕ → ℕ → Option ℕ
 claim_at table node slot = epoch_in node (entry_at table slot)
 
--- what a slot has at the start: the owner of the first run that has it, in epoch 1
+-- each slot of the range has what becomes of its entry, and all others have the entry that they had
+abbrev pub ChangesIn : SlotRange → (Option SlotEntry → Option SlotEntry) → List (Option SlotEntry) → List (Option SlotEntry) → Type 0
+ChangesIn slots becomes old new =
+    (slot : ℕ) → slot < 16384 → entry_at new slot ≡ (if is_in slots slot then becomes (entry_at old slot) else entry_at old slot)
+
+-- what a slot of that owner has at the start: epoch 1
+abbrev pub entry_at_start : ℕ → SlotEntry
+entry_at_start owner = record { epoch = 1; owner = owner }
+
+-- what a slot has at the start, by the first run that has it
 abbrev pub first_entry : List (Run ℕ) → ℕ → Option SlotEntry
 first_entry [] slot = None
-first_entry (run ∷ runs) slot = if is_in run.slots slot then Some (record { epoch = 1; owner = run.value }) else first_entry runs slot
+first_entry (run ∷ runs) slot = if is_in run.slots slot then Some (entry_at_start run.value) else first_entry runs slot
 
 -- each slot has what it has at the start
 abbrev pub HasFirstEntries : List (Run ℕ) → List (Option SlotEntry) → Type 0

@@ -1,6 +1,6 @@
 //! The runs of a claim once one slot has another epoch.
-ghost use Rattle.std.specs.Prelude.{◌≡◌, ◌≢◌, ◌<◌, ◌≤◌, ◌+◌, ◌==◌, ◌&&◌, ℕ, Option, IfOk, OnOk};
-ghost use Rattle.slot_table.specs.CutRuns.{AreRunsCutAt, AreNext, TakesOver, with_value};
+ghost use Rattle.std.specs.Prelude.{◌≡◌, ◌≤◌, IfOk, OnOk};
+ghost use Rattle.slot_table.specs.CutRuns.{AddsRun, AddsSlot, ChangesValue, TakesOver, continues};
 
 use crate::entry::Epoch;
 use crate::runs::{Run, slots_between};
@@ -14,7 +14,7 @@ pub(crate) fn runs_with(
     slot: Slot,
     epoch: Option<Epoch>,
 ) -> Result<Vec<Run<Epoch>>, AllocError>
-    ensures { IfOk result (λ changed. (value_at : ℕ → Option ℕ) → AreRunsCutAt 16384 value_at runs.now → AreRunsCutAt 16384 (with_value value_at slot epoch) changed.items) }
+    ensures { IfOk result (λ changed. ChangesValue slot epoch runs.now changed.items) }
 {
     let mut changed = Vec::with_capacity(alloc, runs.len() + 2)?;
     push_parts(&mut changed, runs, 0, slot.index())?;
@@ -52,7 +52,7 @@ fn push_slot(
     slot: Slot,
     epoch: Option<Epoch>,
 ) -> Result<(), AllocError>
-    ensures { OnOk result ((value_at : ℕ → Option ℕ) → AreRunsCutAt slot value_at changed.old.items → value_at slot ≡ epoch → AreRunsCutAt (slot + 1) value_at changed.new.items) }
+    ensures { OnOk result (AddsSlot slot epoch changed.old.items changed.new.items) }
 {
     match epoch {
         None => Ok(()),
@@ -68,7 +68,7 @@ fn push_slot(
 
 // Adds the next slots with one epoch: to the last run, if they continue that, or as a run of their own.
 fn push_run(runs: &mut Vec<Run<Epoch>>, next: Run<Epoch>) -> Result<(), AllocError>
-    ensures { OnOk result ((bound : ℕ) (value_at : ℕ → Option ℕ) → AreRunsCutAt bound value_at runs.old.items → AreNext bound value_at next → AreRunsCutAt (next.slots.last + 1) value_at runs.new.items) }
+    ensures { OnOk result (AddsRun next runs.old.items runs.new.items) }
 {
     let many = runs.len();
     if many > 0 {
@@ -91,7 +91,7 @@ fn push_run(runs: &mut Vec<Run<Epoch>>, next: Run<Epoch>) -> Result<(), AllocErr
 
 // Whether a run begins right behind another one, and in the same epoch.
 fn continues(next: &Run<Epoch>, run: &Run<Epoch>) -> bool
-    ensures { result ≡ (run.now.slots.last + 1 == next.now.slots.first && run.now.value == next.now.value) }
+    ensures { result ≡ continues next.now run.now }
 {
     run.slots.last.index() + 1 == next.slots.first.index() && run.value == next.value
 }

@@ -1,9 +1,8 @@
 //! What a node's claim makes of the entries of the slots.
-ghost use Rattle.std.specs.Prelude.{◌≡◌, true, false, ◌<◌, ◌+◌, ◌-◌, ◌++◌, ℕ, filter, length, IfOk, OnOk, Some, if◌then◌else◌};
-ghost use Rattle.std.specs.List.{range_with_len, Any};
-ghost use Rattle.key_slot.specs.SlotRange.{is_in};
-ghost use Rattle.slot_table.specs.Table.{entry_at};
-ghost use Rattle.slot_table.specs.Claims.{is_above, greater, taken, merged, claimed, IsRising};
+ghost use Rattle.std.specs.Prelude.{◌≡◌, true, false, ◌<◌, ◌++◌, length, IfOk, OnOk, Some};
+ghost use Rattle.std.specs.List.{Any};
+ghost use Rattle.slot_table.specs.Table.{ChangesIn};
+ghost use Rattle.slot_table.specs.Claims.{greater, slots_below, taken, merged, HasGreater, IsRising};
 ghost use Rattle.slot_table.specs.Remembered.{LiesIn};
 
 use crate::entry::{Epoch, SlotEntry};
@@ -50,7 +49,7 @@ fn list_taken(
     requires { length entries.now ≡ 16384 }
     ensures first { range.first < 16384 }
     ensures last { range.last < 16384 }
-    ensures listed { OnOk result (slots.new.items ≡ slots.old.items ++ filter (λ slot. is_above entry.now (entry_at entries.now slot)) (range_with_len range.first (range.last + 1 - range.first))) }
+    ensures listed { OnOk result (slots.new.items ≡ slots.old.items ++ slots_below entries.now entry.now range) }
 {
     for at in range.first.index()..range.last.index() + 1 {
         if entry.is_above(entries[at]) {
@@ -73,7 +72,7 @@ pub(crate) fn take_all(
     requires in_order { IsRising known.now }
     requires known { merged entries.old known.now owner ≡ entries.old }
     ensures whole { length entries.new ≡ 16384 }
-    ensures each { (slot : ℕ) → slot < 16384 → entry_at entries.new slot ≡ greater (entry_at entries.old slot) (claimed claim.now owner slot) }
+    ensures each { HasGreater entries.old claim.now owner entries.new }
     ensures stays { result ≡ false → entries.new ≡ entries.old }
 {
     let mut changed = false;
@@ -94,7 +93,7 @@ pub(crate) fn take_all(
 fn take(entries: &mut [Option<SlotEntry>], slots: SlotRange, claim: &SlotEntry) -> bool
     requires { length entries.old ≡ 16384 }
     ensures whole { length entries.new ≡ 16384 }
-    ensures each { (slot : ℕ) → slot < 16384 → entry_at entries.new slot ≡ (if is_in slots slot then greater (entry_at entries.old slot) (Some claim.now) else entry_at entries.old slot) }
+    ensures each { ChangesIn slots (λ known. greater known (Some claim.now)) entries.old entries.new }
     ensures stays { result ≡ false → entries.new ≡ entries.old }
 {
     let mut changed = false;

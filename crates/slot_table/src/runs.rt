@@ -2,8 +2,8 @@
 ghost use Rattle.std.specs.Prelude.{◌≡◌, ◌≢◌, ◌<◌, ◌≤◌, ◌-◌, ℕ, length, IfOk, Some, None, Option, refl};
 ghost use Rattle.std.proofs.lemmas.Bool.Decides.{Decides-eqb};
 ghost use Rattle.std.specs.Bool.{Decides};
-ghost use Rattle.slot_table.specs.Table.{entry_at, owner_in, epoch_in};
-ghost use Rattle.slot_table.specs.Runs.{AreRunsOf};
+ghost use Rattle.slot_table.specs.Table.{entry_at, owner_in, epoch_in, values_in};
+ghost use Rattle.slot_table.specs.Runs.{AreRunsOf, HaveValue};
 
 use crate::entry::{Epoch, SlotEntry};
 use crate::node_no::NodeNo;
@@ -87,7 +87,7 @@ pub(crate) fn runs_of<V: EntryValue>(
     wanted: V,
 ) -> Result<Vec<Run<V::Value>>, AllocError>
     requires { length entries.now ≡ 16384 }
-    ensures { IfOk result (λ runs. AreRunsOf (λ slot. V.value_in wanted (entry_at entries.now slot)) runs.items) }
+    ensures { IfOk result (λ runs. AreRunsOf (values_in (V.value_in wanted) entries.now) runs.items) }
 {
     let mut runs = Vec::new(alloc);
     let mut at = 0;
@@ -116,7 +116,7 @@ fn end_of<V: EntryValue>(
     requires has { V.value_in wanted (entry_at entries.now from) ≡ Some value }
     ensures behind { from < result }
     ensures within { result ≤ length entries.now }
-    ensures has { (slot : ℕ) → from ≤ slot → slot < result → V.value_in wanted (entry_at entries.now slot) ≡ Some value }
+    ensures has { HaveValue (values_in (V.value_in wanted) entries.now) value from result }
     ensures stops { V.value_in wanted (entry_at entries.now result) ≢ Some value }
 {
     let mut end = from + 1;

@@ -1,10 +1,9 @@
 //! The table of all slots with their owners.
 ghost use Rattle.std.specs.Prelude.{◌≡◌, ◌<◌, ℕ, true, replicate, length, IfOk, IfSome, OnOk, OnErr, Some, None, slice_set, if◌then◌else◌};
-ghost use Rattle.slot_table.specs.Table.{entry_at, owner_at, claim_at, first_table, HasFirstEntries};
-ghost use Rattle.key_slot.specs.SlotRange.{is_in};
+ghost use Rattle.slot_table.specs.Table.{entry_at, owner_at, claim_at, entry_at_start, first_table, ChangesIn, HasFirstEntries};
 ghost use Rattle.slot_table.specs.Runs.{runs_of};
 ghost use Rattle.slot_table.specs.Claims.{is_taken, merged, changed};
-ghost use Rattle.slot_table.specs.Remembered.{IsKept, KnownRuns};
+ghost use Rattle.slot_table.specs.Remembered.{claim_with, IsKept, KnownRuns};
 
 use crate::changing::runs_with;
 use crate::claim::Claim;
@@ -120,7 +119,7 @@ impl SlotTable {
         slot: Slot,
         entry: SlotEntry,
     ) -> Result<Claim, AllocError>
-        ensures { IfOk result (λ claim. claim ≡ runs_of (claim_at (slice_set self.now slot (Some entry)) entry.owner)) }
+        ensures { IfOk result (λ claim. claim ≡ claim_with self.now slot (Some entry) entry.owner) }
     {
         let claim = self.claim_of(alloc, entry.owner)?;
         self.changed_claim(alloc, entry.owner, &claim, slot, Some(entry))
@@ -136,7 +135,7 @@ impl SlotTable {
         entry: Option<SlotEntry>,
     ) -> Result<Claim, AllocError>
         requires { claim.now ≡ runs_of (claim_at self.now node) }
-        ensures { IfOk result (λ changed. changed ≡ runs_of (claim_at (slice_set self.now slot entry) node)) }
+        ensures { IfOk result (λ changed. changed ≡ claim_with self.now slot entry node) }
     {
         let before = ClaimOf(node).value_in(self.entries[slot.index()]);
         let epoch = ClaimOf(node).value_in(entry);
@@ -349,7 +348,7 @@ fn give_all(entries: &mut [Option<SlotEntry>], owners: &[Run<NodeNo>])
 // These slots have that owner, in the first epoch.
 fn give(entries: &mut [Option<SlotEntry>], slots: SlotRange, owner: NodeNo)
     requires { length entries.old ≡ 16384 }
-    ensures { (slot : ℕ) → slot < 16384 → entry_at entries.new slot ≡ (if is_in slots slot then Some (record { epoch = 1; owner = owner }) else entry_at entries.old slot) }
+    ensures { ChangesIn slots (λ _. Some (entry_at_start owner)) entries.old entries.new }
 {
     for at in slots.first.index()..slots.last.index() + 1 {
         entries[at] = Some(SlotEntry::at_start(owner));

@@ -1,5 +1,5 @@
 -- Tickets: what a seat drew, of which table it is, and what all seats together drew.
-use Rattle.std.specs.Prelude.{◌≡◌, ℕ, ◌+◌, List, [], ◌∷◌, ◌==◌, nat_lt, cond}
+use Rattle.std.specs.Prelude.{◌≡◌, ℕ, ◌+◌, ◌<◌, ◌++◌, List, [], ◌∷◌, ◌==◌, nat_lt, cond, All}
 use Rattle.std.specs.Arc.{arc_value}
 use Rattle.atomic_table.specs.Seated.{TableId}
 use Rattle.tickets.specs.declared.seat.Seat.{Seat}
@@ -33,6 +33,18 @@ no_table = record { words = 0; slots = 0; views_name = 0; atom = 0; block = 0; o
 abbrev pub IsFresh : TableId → ℕ → Seat → Type 0
 IsFresh id n s = (table_of s ≡ id) × (seats_of s ≡ n) × (drawn s ≡ [])
 
+-- a seat of the table `id`, of n in all, that has drawn these tickets
+abbrev pub IsSeatOf : TableId → ℕ → List ℕ → Seat → Type 0
+IsSeatOf id n tickets s = (drawn s ≡ tickets) × (table_of s ≡ id) × (seats_of s ≡ n)
+
+-- the seat has drawn no more, and is of the same table
+abbrev pub IsSameSeat : Seat → Seat → Type 0
+IsSameSeat old new = (drawn new ≡ drawn old) × (table_of new ≡ table_of old) × (seats_of new ≡ seats_of old)
+
+-- the seat has drawn n, which is greater than all that it had
+abbrev pub HasDrawnNext : Seat → Seat → ℕ → Type 0
+HasDrawnNext old new n = (drawn new ≡ drawn old ++ n ∷ []) × All (λ x. x < n) (drawn old)
+
 -- the sum of f over a list
 abbrev pub total : {A : Type 0} → (A → ℕ) → List A → ℕ
 total f [] = 0
@@ -46,3 +58,7 @@ times x (y ∷ ys) = cond (x == y) 1 0 + times x ys
 -- 1 for a number below n, else 0
 abbrev pub once_below : ℕ → ℕ → ℕ
 once_below x n = cond (nat_lt x n) 1 0
+
+-- together the seats drew each number below n once, and no other
+abbrev pub DrewEachOnce : List Seat → ℕ → Type 0
+DrewEachOnce seats n = (x : ℕ) → total (λ s. times x (drawn s)) seats ≡ once_below x n

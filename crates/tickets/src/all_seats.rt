@@ -1,8 +1,8 @@
 //! All seats of a table: they are dealt as it is opened, and taken back as it is closed.
-ghost use Rattle.std.specs.Prelude.{◌≡◌, ℕ, ◌+◌, ◌<◌, ◌≤◌, [], length, IfOk, IfSome, IsSome, IsNone, All, vec_len};
+ghost use Rattle.std.specs.Prelude.{◌≡◌, ◌<◌, ◌≤◌, [], length, IfOk, IfSome, IsSome, IsNone, All, vec_len};
 ghost use Rattle.std.specs.Arc.{arc_value};
 ghost use Rattle.tickets.specs.Rule.{seat_view};
-ghost use Rattle.tickets.specs.Tickets.{drawn, table_of, seats_of, id_of, seat_count, total, times, once_below, IsFresh};
+ghost use Rattle.tickets.specs.Tickets.{drawn, table_of, seats_of, id_of, seat_count, total, DrewEachOnce, IsFresh};
 
 use crate::rule::{Loads, OnePart, Raw, Together, Token};
 use crate::seat::{Seat, Table};
@@ -51,7 +51,7 @@ fn deal(
 pub fn close(table: &Table, mut seats: Vec<Seat>) -> Option<u64>
     requires seated { All (λ s. table_of s ≡ id_of table.now) seats.items }
     requires whole { All (λ s. seats_of s ≡ vec_len seats) seats.items }
-    ensures each_once { IfSome result (λ n. (x : ℕ) → total (λ s. times x (drawn s)) seats.items ≡ once_below x n) }
+    ensures each_once { IfSome result (DrewEachOnce seats.items) }
     ensures count { IfSome result (λ n. total (λ s. length (drawn s)) seats.items ≡ n) }
     ensures some { 0 < vec_len seats → IsSome result }
     ensures none { vec_len seats ≡ 0 → IsNone result }

@@ -1,5 +1,5 @@
 //! A table with a word, and its seats, which draw tickets from the word and read it.
-ghost use Rattle.std.specs.Prelude.{◌≡◌, ℕ, ◌++◌, ◌∷◌, [], ◌*◌, ◌^◌, ◌<◌, ◌≤◌, length, IfSome, IfNone, All};
+ghost use Rattle.std.specs.Prelude.{◌≡◌, [], ◌*◌, ◌^◌, ◌<◌, ◌≤◌, length, IfSome, IfNone, All};
 ghost use Rattle.std.specs.Arc.{arc_value};
 
 use crate::rule::{Draws, Loads, Raw, Token};
@@ -45,7 +45,7 @@ pub struct Seat {
 }
 
 impl Seat {
-    ghost use Rattle.tickets.specs.Tickets.{drawn, table_of, seats_of};
+    ghost use Rattle.tickets.specs.Tickets.{drawn, table_of, seats_of, HasDrawnNext, IsSameSeat};
 
     // A seat that has drawn nothing.
     pub(crate) fn over(raw: Arc<Raw, Global>, token: Token) -> Seat
@@ -76,7 +76,7 @@ impl Seat {
     /// It returns `None` only after 2^48 tickets, and leaves the word as it was.
     pub fn draw(&mut self) -> Option<u64>
         ensures table { (table_of self.new ≡ table_of self.old) × (seats_of self.new ≡ seats_of self.old) }
-        ensures some { IfSome result (λ n. (drawn self.new ≡ drawn self.old ++ n ∷ []) × All (λ x. x < n) (drawn self.old)) }
+        ensures some { IfSome result (HasDrawnNext self.old self.new) }
         ensures none { IfNone result ((drawn self.new ≡ drawn self.old) × (2 ^ 48 ≤ length (drawn self.old))) }
     {
         if self.count >= MOST {
@@ -89,7 +89,7 @@ impl Seat {
 
     /// The word: how many tickets were drawn so far, by all seats. One atomic load.
     pub fn word(&mut self) -> u64
-        ensures same { (drawn self.new ≡ drawn self.old) × (table_of self.new ≡ table_of self.old) × (seats_of self.new ≡ seats_of self.old) }
+        ensures same { IsSameSeat self.old self.new }
         ensures above { All (λ x. x < result) (drawn self.old) }
 
         // Each seat draws at most 2^48 tickets, and an only seat drew all of them.

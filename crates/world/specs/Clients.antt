@@ -1,5 +1,5 @@
 -- Clients of a world (Redis Cluster specification, "Clients first connection and handling of redirections").
-use Rattle.std.specs.Prelude.{◌≡◌, ◌≢◌, ◌==◌, ◌&&◌, ◌∷◌, not, ℕ, nat_le, Bool, true, false, List, [], length, replicate, filter, insert, Option, Some, None, Err, slice_get, slice_index_or, slice_set, if◌then◌else◌}
+use Rattle.std.specs.Prelude.{◌<◌, ◌++◌, ◌≡◌, ◌≢◌, ◌==◌, ◌&&◌, ◌∷◌, not, ℕ, nat_le, Bool, true, false, List, [], length, replicate, filter, insert, Option, Some, None, Err, slice_get, slice_index_or, slice_set, if◌then◌else◌}
 use Rattle.std.specs.List.{position_or_len}
 use Rattle.std.specs.Str.{bytes_eq}
 use Rattle.cluster_config.specs.Config.{ClusterConfig}
@@ -61,6 +61,14 @@ if_numbered number (Some client) = if client.number == number then Some client e
 abbrev pub client_at : ℕ → List ClientView → Option ClientView
 client_at number clients = if_numbered number (slice_get clients (place_of number clients))
 
+-- the place of the client of that number, which is among the first so many
+abbrev pub IsPlaceFor : ℕ → List ClientView → ℕ → ℕ → Type 0
+IsPlaceFor number clients count place = (place ≡ place_of number clients) × (place < count)
+
+-- the client of that number is at the place
+abbrev pub StandsAt : ℕ → List ClientView → ℕ → Type 0
+StandsAt number clients place = client_at number clients ≡ slice_get clients place
+
 -- a client that didn't begin yet begins
 abbrev pub begun_at : ClusterConfig → ℕ → List ClientView → Option ClientView → List ClientView
 begun_at config number clients (Some client) = clients
@@ -109,6 +117,10 @@ broken_off node client = record client {
   pool = slice_set client.pool node None;
   traffic = Quiet;
 }
+
+-- the same while a request is under way on the connection, which may still come late
+abbrev pub left_late : Link → List (List ℕ) → ClientView → ClientView
+left_late link words client = record (broken_off link.node client) { late = client.late ++ (record { link = link; words = words }) ∷ [] }
 
 -- what the client says of it
 abbrev pub lost_by : ClientView → List Output

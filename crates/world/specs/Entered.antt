@@ -1,5 +1,5 @@
 -- A step of a node, and its entry (ours).
-use Rattle.std.specs.Prelude.{◌≡◌, ◌++◌, ◌∷◌, ◌-◌, ◌^◌, ℕ, min, List, [], length, reverse}
+use Rattle.std.specs.Prelude.{◌≡◌, ◌++◌, ◌∷◌, ◌-◌, ◌^◌, ℕ, min, List, [], length, reverse, Option, Result, IfSome, IfNone, IfOk}
 use Rattle.node_step.specs.Numbers.{NoNumberLeft}
 use Rattle.node_step.specs.State.{NodeState}
 use Rattle.node_step.specs.Step.{NodeStep}
@@ -34,3 +34,11 @@ pub record EntersAt (past : List Entry) (old : List NodeState) (node : ℕ) (dee
 pub record SkipsAt (past : List Entry) (old : List NodeState) (node : ℕ) (event : Event) (entries : List Entry) (new : List NodeState) : Type 0 where
   pub enters : EntersAt past old node Skipped entries new
   pub why : NoNumberLeft enters.step.before event
+
+-- P of what came out of the step, where the node made one
+abbrev pub IfMade : {T E : Type 0} → Result (Option T) E → (T → Type 0) → Type 0
+IfMade result P = IfOk result (λ made. IfSome made P)
+
+-- P, where the node skipped the event
+abbrev pub IfSkipped : {T E : Type 0} → Result (Option T) E → Type 0 → Type 0
+IfSkipped result P = IfOk result (λ made. IfNone made P)

@@ -1,5 +1,5 @@
 -- What comes of the steps of nodes (ours).
-use Rattle.std.specs.Prelude.{◌≡◌, ◌⊎◌, ◌++◌, ◌&&◌, ◌||◌, ◌∷◌, ℕ, zero, suc, Bool, false, List, [], map, Option, Some, None, MatchBool, slice_get, codes, ⊤}
+use Rattle.std.specs.Prelude.{◌≡◌, ◌⊎◌, ◌++◌, ◌&&◌, ◌||◌, ◌∷◌, ℕ, zero, suc, Bool, false, List, [], map, Option, Some, None, MatchBool, slice_get, drop, codes, ⊤}
 use Rattle.std.specs.Str.{str_eq_ignore_ascii_case}
 use Rattle.bus.specs.declared.message.Message.{Message}
 use Rattle.command_table.specs.declared.error_line.ErrorLine.TheVariants.{Exhausted}
@@ -15,7 +15,7 @@ use Rattle.node_step.specs.declared.response.Response.TheVariants.{Nothing, Open
 use Rattle.world_run.specs.Run.{Deed, sent_in}
 use Rattle.world_run.specs.Run.Deed.{Made, Skipped}
 use Rattle.world.specs.Entered.{EntersAt}
-use Rattle.world.specs.Outputs.{shown}
+use Rattle.world.specs.Outputs.{beside_from, shown, shown_from}
 use Rattle.world.specs.View.{RunView, is_up}
 use Rattle.world.specs.declared.output.Output.{Output}
 use Rattle.world.specs.declared.output.Output.TheVariants as output
@@ -41,6 +41,15 @@ abbrev pub Closes : RunView → ℕ → List Conn → RunView → Type 0
 Closes old node [] new = new ≡ old
 Closes old node (conn ∷ conns) new = (next : RunView) × (outputs : Outputs) × Makes old node (Close conn) outputs next × Closes next node conns new
 
+-- ---- what comes out of a step, where the messages of the run from that place on are those of the step
+
+abbrev pub shown_of_step : ℕ → ℕ → RunView → Outputs → List Output
+shown_of_step node first run outputs = shown_from node first (drop first run.sent) outputs
+
+-- without the reply to the request that it was made for
+abbrev pub beside_of_step : ℕ → ℕ → RunView → Outputs → List Output
+beside_of_step node first run outputs = beside_from node first (drop first run.sent) outputs
+
 -- ---- connections that got their replies
 
 -- the connection of the request that the step was made for, if its reply came
@@ -52,6 +61,10 @@ answered_conn conn Parked = []
 
 abbrev pub released_conns : List Release → List Conn
 released_conns releases = map (λ (release : Release). release.conn) releases
+
+-- the connections that got their replies by a step for a request on that one
+abbrev pub replied_conns : Conn → Outputs → List Conn
+replied_conns conn outputs = answered_conn conn outputs.response ++ released_conns outputs.released
 
 -- all those that got their replies by a step
 abbrev pub served_conns : Event → Outputs → List Conn

@@ -3,7 +3,7 @@ ghost use Rattle.std.specs.Prelude.{◌≡◌, ◌∷◌, ◌++◌, [], true, sl
 ghost use Rattle.smart_client.specs.Calls.{IsWaiting};
 ghost use Rattle.world.specs.Asking.{MayArrive, MayBeCarried, MayLinger};
 ghost use Rattle.world.specs.Calls.{Acts, Arrives, Begins, CanDo, Carries, Connects, Cuts, GivesUp, IsConnected, IsShut, Lingers, MayUse, Returns, Tells, Uses, told_of};
-ghost use Rattle.world.specs.Clients.{AwaitsConnection, AwaitsReply, IsSettled, broken_off, connection_to, is_at, leads_to, lost_at, lost_by, new_client, node_at, place_at, stopped_at, used_by, with_connection, without_late};
+ghost use Rattle.world.specs.Clients.{AwaitsConnection, AwaitsReply, IsSettled, broken_off, connection_to, is_at, leads_to, left_late, lost_at, lost_by, new_client, node_at, place_at, stopped_at, used_by, with_connection, without_late};
 ghost use Rattle.world.specs.View.{GoesOn, RemembersSent, is_up};
 ghost use Rattle.world.specs.declared.client.Traffic.TheVariants.{Quiet};
 ghost use Rattle.world.specs.declared.output.Output.TheVariants.{Answer};
@@ -111,8 +111,8 @@ impl Client {
         ensures goes_on { GoesOn run.old run.new }
         ensures remembers { OnOk result (RemembersSent run.new) }
         ensures settled { OnOk result (IsSettled self.new) }
-        ensures begins { IfOk result (λ outputs.
-            Begins config.now.nodes words.now run.old self.old outputs.items run.new self.new) }
+        ensures begins { IfOk result
+            (λ out. Begins config.now.nodes words.now run.old self.old out.items run.new self.new) }
     {
         if !matches!(self.traffic, Traffic::Quiet) {
             return nothing(run.allocator());
@@ -130,8 +130,7 @@ impl Client {
         ensures goes_on { GoesOn run.old run.new }
         ensures remembers { OnOk result (RemembersSent run.new) }
         ensures settled { OnOk result (IsSettled self.new) }
-        ensures carries { IfOk result
-            (λ outputs. Carries run.old self.old outputs.items run.new self.new) }
+        ensures carries { IfOk result (λ out. Carries run.old self.old out.items run.new self.new) }
     {
         match mem::replace(&mut self.traffic, Traffic::Quiet) {
             Traffic::Asked(link, words) => {
@@ -161,7 +160,7 @@ impl Client {
         ensures remembers { OnOk result (RemembersSent run.new) }
         ensures settled { OnOk result (IsSettled self.new) }
         ensures returns { IfOk result
-            (λ outputs. Returns config.now.nodes run.old self.old outputs.items run.new self.new) }
+            (λ out. Returns config.now.nodes run.old self.old out.items run.new self.new) }
     {
         match mem::replace(&mut self.traffic, Traffic::Quiet) {
             Traffic::Answered(link, reply) => {
@@ -182,8 +181,7 @@ impl Client {
         ensures goes_on { GoesOn run.old run.new }
         ensures remembers { OnOk result (RemembersSent run.new) }
         ensures settled { OnOk result (IsSettled self.new) }
-        ensures cuts { IfOk result
-            (λ outputs. Cuts run.old self.old outputs.items run.new self.new) }
+        ensures cuts { IfOk result (λ out. Cuts run.old self.old out.items run.new self.new) }
     {
         match mem::replace(&mut self.traffic, Traffic::Quiet) {
             Traffic::Quiet => nothing(run.allocator()),
@@ -202,12 +200,8 @@ impl Client {
         requires awaits { AwaitsReply self.old.core.call }
         ensures run { run.new ≡ run.old }
         ensures settled { OnOk result (IsSettled self.new) }
-        ensures broken { OnOk result (self.new
-            ≡ record (broken_off link.node self.old) {
-              late = self.old.late
-                  ++ (record { link = link; words = words }) ∷ [];
-            }) }
-        ensures lost { IfOk result (λ outputs. outputs.items ≡ lost_by self.old) }
+        ensures broken { OnOk result (self.new ≡ left_late link words self.old) }
+        ensures lost { IfOk result (λ out. out.items ≡ lost_by self.old) }
     {
         self.late.push(Late { link, words })?;
         one(run.allocator(), self.break_off(link.node))
@@ -222,7 +216,7 @@ impl Client {
         ensures settled { OnOk result (IsSettled self.new) }
         ensures shut { OnOk result (IsShut run.old link run.new) }
         ensures broken { OnOk result (self.new ≡ broken_off link.node self.old) }
-        ensures lost { IfOk result (λ outputs. outputs.items ≡ lost_by self.old) }
+        ensures lost { IfOk result (λ out. out.items ≡ lost_by self.old) }
     {
         shut(run, link)?;
         one(run.allocator(), self.break_off(link.node))
@@ -236,8 +230,7 @@ impl Client {
         ensures goes_on { GoesOn run.old run.new }
         ensures remembers { OnOk result (RemembersSent run.new) }
         ensures settled { OnOk result (IsSettled self.new) }
-        ensures lingers { IfOk result
-            (λ outputs. Lingers run.old self.old outputs.items run.new self.new) }
+        ensures lingers { IfOk result (λ out. Lingers run.old self.old out.items run.new self.new) }
     {
         if self.late.is_empty() || !run.is_up(self.late[0].link.node) {
             return nothing(run.allocator());
@@ -298,7 +291,7 @@ impl Client {
         ensures remembers { OnOk result (RemembersSent run.new) }
         ensures settled { OnOk result (IsSettled self.new) }
         ensures arrives { IfOk result
-            (λ outputs. Arrives run.old self.old link words outputs.items run.new self.new) }
+            (λ out. Arrives run.old self.old link words out.items run.new self.new) }
     {
         let Served { reply, outputs } = run.serve(link.node, link.conn, words)?;
         let Some(reply) = reply else {
@@ -342,8 +335,8 @@ impl Client {
         ensures goes_on { GoesOn run.old run.new }
         ensures remembers { OnOk result (RemembersSent run.new) }
         ensures settled { OnOk result (IsSettled self.new) }
-        ensures acts { IfOk result (λ outputs.
-            Acts config.now.nodes run.old self.old link action outputs.items run.new self.new) }
+        ensures acts { IfOk result
+            (λ out. Acts config.now.nodes run.old self.old link action out.items run.new self.new) }
     {
         match action {
             Action::Connect(address) => self.connect(run, config, &address),
@@ -364,8 +357,8 @@ impl Client {
         ensures goes_on { GoesOn run.old run.new }
         ensures remembers { OnOk result (RemembersSent run.new) }
         ensures settled { OnOk result (IsSettled self.new) }
-        ensures connects { IfOk result (λ outputs.
-            Connects config.now.nodes run.old self.old address.now outputs.items run.new self.new) }
+        ensures connects { IfOk result
+            (λ out. Connects config.now.nodes run.old self.old address.now out.items run.new self.new) }
     {
         let node = node_at(config, address);
         let conn = self.reach_node(run, node)?;
@@ -425,7 +418,7 @@ impl Client {
         ensures remembers { OnOk result (RemembersSent run.new) }
         ensures settled { OnOk result (IsSettled self.new) }
         ensures tells { IfOk result
-            (λ outputs. Tells run.old self.old link event outputs.items run.new self.new) }
+            (λ out. Tells run.old self.old link event out.items run.new self.new) }
     {
         let action = self.core.on(event);
         self.use_connection(run, link, action)
@@ -446,7 +439,7 @@ impl Client {
         ensures remembers { OnOk result (RemembersSent run.new) }
         ensures settled { OnOk result (IsSettled self.new) }
         ensures uses { IfOk result
-            (λ outputs. Uses run.old self.old link action outputs.items run.new self.new) }
+            (λ out. Uses run.old self.old link action out.items run.new self.new) }
     {
         match action {
             Action::Connect(_) => unreachable!(),
@@ -473,8 +466,7 @@ impl Client {
         ensures goes_on { GoesOn run.old run.new }
         ensures remembers { OnOk result (RemembersSent run.new) }
         ensures gives_up { OnOk result (GivesUp run.old self.old link close run.new self.new) }
-        ensures answer { IfOk result
-            (λ outputs. outputs.items ≡ Answer self.old.number answer ∷ []) }
+        ensures answer { IfOk result (λ out. out.items ≡ Answer self.old.number answer ∷ []) }
     {
         self.end(run, link, close)?;
         let client = self.number;

@@ -1,8 +1,8 @@
 //! What the nodes of a world did, as proofs see it.
-ghost use Rattle.std.specs.Prelude.{◌≡◌, ◌++◌, ◌∷◌, [], IfOk, IfSome, IfNone, OnErr};
+ghost use Rattle.std.specs.Prelude.{◌≡◌, ◌++◌, ◌∷◌, [], OnErr};
 ghost use Rattle.node_step.specs.Numbers.{NoNumberLeft};
 ghost use Rattle.world_run.specs.Run.Deed.{Made, Skipped};
-ghost use Rattle.world.specs.Entered.{Steps};
+ghost use Rattle.world.specs.Entered.{IfMade, IfSkipped, Steps};
 ghost use Rattle.world.specs.Lines.{deed_of};
 
 use history::History;
@@ -89,11 +89,11 @@ impl Entries {
         node: u64,
         event: &Event,
     ) -> Result<Option<Outputs>, AllocError>
-        ensures made { IfOk result (λ made. IfSome made
-            (λ outputs. Steps self.old core.old node (Made event.now outputs) self.new core.new)) }
-        ensures skipped { IfOk result
-            (λ made. IfNone made (Steps self.old core.old node Skipped self.new core.new)) }
-        ensures number { IfOk result (λ made. IfNone made (NoNumberLeft core.old event.now)) }
+        ensures made { IfMade result
+            (λ outputs. Steps self.old core.old node (Made event.now outputs) self.new core.new) }
+        ensures skipped { IfSkipped result
+            (Steps self.old core.old node Skipped self.new core.new) }
+        ensures number { IfSkipped result (NoNumberLeft core.old event.now) }
         ensures err { OnErr result ((self.new ≡ self.old) × (core.new ≡ core.old)) }
     {
         let ticket = self.count;

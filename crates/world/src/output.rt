@@ -50,7 +50,7 @@ pub enum Output {
 
 /// That output alone.
 pub(crate) fn one(alloc: Global, output: Output) -> Result<Vec<Output>, AllocError>
-    ensures { IfOk result (λ outputs. outputs.items ≡ output ∷ []) }
+    ensures { IfOk result (λ out. out.items ≡ output ∷ []) }
 {
     let mut outputs = Vec::new(alloc);
     outputs.push(output)?;
@@ -59,14 +59,14 @@ pub(crate) fn one(alloc: Global, output: Output) -> Result<Vec<Output>, AllocErr
 
 /// There was nothing to do.
 pub(crate) fn nothing(alloc: Global) -> Result<Vec<Output>, AllocError>
-    ensures { IfOk result (λ outputs. outputs.items ≡ Nothing ∷ []) }
+    ensures { IfOk result (λ out. out.items ≡ Nothing ∷ []) }
 {
     one(alloc, Output::Nothing)
 }
 
 /// The node needs a number that has no next one.
 pub(crate) fn exhausted(alloc: Global, node: u64) -> Result<Vec<Output>, AllocError>
-    ensures { IfOk result (λ outputs. outputs.items ≡ Admin node (error Exhausted) ∷ []) }
+    ensures { IfOk result (λ out. out.items ≡ Admin node (error Exhausted) ∷ []) }
 {
     let reply = ErrorLine::Exhausted.reply();
     one(alloc, Output::Admin { node, reply })

@@ -1,13 +1,12 @@
 //! The nodes of a world, and what they do.
-ghost use Rattle.std.specs.Prelude.{◌≡◌, ◌+◌, ◌<◌, ◌≤◌, ◌++◌, ◌∷◌, [], true, false, drop, length, replicate, reverse, slice_set, IfOk, IfSome, IfNone, OnOk, OnErr};
+ghost use Rattle.std.specs.Prelude.{◌≡◌, ◌+◌, ◌<◌, ◌≤◌, ◌++◌, ◌∷◌, [], true, false, length, replicate, reverse, slice_set, IfOk, OnOk, OnErr};
 ghost use Rattle.node_step.specs.declared.event.Event.TheVariants.{Open, Close, Request, Deliver, Tick};
 ghost use Rattle.node_step.specs.State.{first_state};
 ghost use Rattle.world_run.specs.Run.{MayHappen, first_nodes};
 ghost use Rattle.world_run.specs.Run.Deed.{Made};
 ghost use Rattle.world.specs.Asking.{MayTake};
-ghost use Rattle.world.specs.Entered.{EntersAt, SkipsAt};
-ghost use Rattle.world.specs.NodeSteps.{Administers, Closes, Delivers, IsAdministered, IsHeard, IsUnasked, Makes, Reaches, Skips, Ticks, answered_conn, is_admin, is_admin_name, message_at, released_conns};
-ghost use Rattle.world.specs.Outputs.{beside_from, shown_from};
+ghost use Rattle.world.specs.Entered.{EntersAt, IfMade, IfSkipped, SkipsAt};
+ghost use Rattle.world.specs.NodeSteps.{Administers, Closes, Delivers, IsAdministered, IsHeard, IsUnasked, Makes, Reaches, Skips, Ticks, beside_of_step, is_admin, is_admin_name, message_at, released_conns, replied_conns, shown_of_step};
 ghost use Rattle.world.specs.View.{GoesOn, RemembersSent, first_run, is_up};
 
 use crate::entries::Entries;
@@ -63,7 +62,7 @@ impl Run {
         ensures goes_on { GoesOn self.old self.new }
         ensures remembers { OnOk result (RemembersSent self.new) }
         ensures administers { IfOk result
-            (λ outputs. Administers self.old node words.now outputs.items self.new) }
+            (λ out. Administers self.old node words.now out.items self.new) }
     {
         if self.is_up(node) && is_admin(words) {
             self.ask_node(node, words)
@@ -77,7 +76,7 @@ impl Run {
         requires { RemembersSent self.old }
         ensures goes_on { GoesOn self.old self.new }
         ensures remembers { OnOk result (RemembersSent self.new) }
-        ensures ticks { IfOk result (λ outputs. Ticks self.old node outputs.items self.new) }
+        ensures ticks { IfOk result (λ out. Ticks self.old node out.items self.new) }
     {
         if self.is_up(node) {
             self.step_node(node, Event::Tick)
@@ -101,8 +100,7 @@ impl Run {
         requires { RemembersSent self.old }
         ensures goes_on { GoesOn self.old self.new }
         ensures remembers { OnOk result (RemembersSent self.new) }
-        ensures delivers { IfOk result
-            (λ outputs. Delivers self.old number outputs.items self.new) }
+        ensures delivers { IfOk result (λ out. Delivers self.old number out.items self.new) }
     {
         let Some(message) = self.message(number)? else {
             return nothing(self.alloc);
@@ -144,8 +142,7 @@ impl Run {
         requires unasked { IsUnasked event }
         ensures goes_on { GoesOn self.old self.new }
         ensures remembers { OnOk result (RemembersSent self.new) }
-        ensures reaches { IfOk result
-            (λ outputs. Reaches self.old node event outputs.items self.new) }
+        ensures reaches { IfOk result (λ out. Reaches self.old node event out.items self.new) }
     {
         let first = self.sent.len();
         let Some(made) = self.make(node, event)? else {
@@ -163,8 +160,7 @@ impl Run {
         ensures remembers { OnOk result (RemembersSent self.old → RemembersSent self.new) }
         ensures closes { OnOk result
             (Closes self.old node (released_conns made.now.released) self.new) }
-        ensures shows { IfOk result
-            (λ outputs. outputs.items ≡ shown_from node first (drop first self.old.sent) made.now) }
+        ensures shows { IfOk result (λ out. out.items ≡ shown_of_step node first self.old made.now) }
     {
         let outputs = self.outputs(node, first, made)?;
         self.close_all(node, made.released.as_slice())?;
@@ -179,7 +175,7 @@ impl Run {
         ensures goes_on { GoesOn self.old self.new }
         ensures remembers { OnOk result (RemembersSent self.new) }
         ensures asks { IfOk result
-            (λ outputs. IsAdministered self.old node words.now outputs.items self.new) }
+            (λ out. IsAdministered self.old node words.now out.items self.new) }
     {
         let Some(opening) = self.make(node, Event::Open)? else {
             return exhausted(self.alloc, node);
@@ -198,7 +194,7 @@ impl Run {
         ensures goes_on { GoesOn self.old self.new }
         ensures remembers { OnOk result (RemembersSent self.new) }
         ensures asks { IfOk result
-            (λ outputs. IsHeard self.old node conn words.now outputs.items self.new) }
+            (λ out. IsHeard self.old node conn words.now out.items self.new) }
     {
         let first = self.sent.len();
         let event = Event::Request(conn, words.clone()?);
@@ -221,10 +217,8 @@ impl Run {
         requires first { first ≤ length self.old.sent }
         ensures goes_on { GoesOn self.old self.new }
         ensures remembers { OnOk result (RemembersSent self.old → RemembersSent self.new) }
-        ensures closes { OnOk result (Closes self.old node
-            (answered_conn conn made.now.response ++ released_conns made.now.released) self.new) }
-        ensures shows { IfOk result
-            (λ outputs. outputs.items ≡ shown_from node first (drop first self.old.sent) made.now) }
+        ensures closes { OnOk result (Closes self.old node (replied_conns conn made.now) self.new) }
+        ensures shows { IfOk result (λ out. out.items ≡ shown_of_step node first self.old made.now) }
     {
         let outputs = self.outputs(node, first, made)?;
         self.close_served(node, conn, made)?;
@@ -236,8 +230,7 @@ impl Run {
         requires there { node < length self.old.nodes }
         ensures goes_on { GoesOn self.old self.new }
         ensures remembers { OnOk result (RemembersSent self.old → RemembersSent self.new) }
-        ensures closes { OnOk result (Closes self.old node
-            (answered_conn conn made.now.response ++ released_conns made.now.released) self.new) }
+        ensures closes { OnOk result (Closes self.old node (replied_conns conn made.now) self.new) }
     {
         if let Response::Replied(_) = made.response {
             self.close(node, conn)?;
@@ -280,9 +273,8 @@ impl Run {
         ensures goes_on { GoesOn self.old self.new }
         ensures there { length self.new.nodes ≡ length self.old.nodes }
         ensures remembers { OnOk result (RemembersSent self.old → RemembersSent self.new) }
-        ensures made { IfOk result
-            (λ made. IfSome made (λ outputs. Makes self.old node event outputs self.new)) }
-        ensures skipped { IfOk result (λ made. IfNone made (Skips self.old node event self.new)) }
+        ensures made { IfMade result (λ outputs. Makes self.old node event outputs self.new) }
+        ensures skipped { IfSkipped result (Skips self.old node event self.new) }
     {
         self.make_for(node, &event)
     }
@@ -294,10 +286,8 @@ impl Run {
         ensures goes_on { GoesOn self.old self.new }
         ensures there { length self.new.nodes ≡ length self.old.nodes }
         ensures remembers { OnOk result (RemembersSent self.old → RemembersSent self.new) }
-        ensures made { IfOk result
-            (λ made. IfSome made (λ outputs. Makes self.old node event.now outputs self.new)) }
-        ensures skipped { IfOk result
-            (λ made. IfNone made (Skips self.old node event.now self.new)) }
+        ensures made { IfMade result (λ outputs. Makes self.old node event.now outputs self.new) }
+        ensures skipped { IfSkipped result (Skips self.old node event.now self.new) }
     {
         let Some(outputs) = step_at(&mut self.nodes, &mut self.entries, node, event)? else {
             return Ok(None);
@@ -309,8 +299,7 @@ impl Run {
     // What comes out of a step of the node, where the messages from that place on are those of the step.
     fn outputs(&self, node: u64, first: usize, made: &Outputs) -> Result<Vec<Output>, AllocError>
         requires { first ≤ length self.now.sent }
-        ensures { IfOk result
-            (λ outputs. outputs.items ≡ shown_from node first (drop first self.now.sent) made.now) }
+        ensures { IfOk result (λ out. out.items ≡ shown_of_step node first self.now made.now) }
     {
         let mut outputs = Vec::new(self.alloc);
         add_own(&mut outputs, node, &made.response)?;
@@ -324,8 +313,7 @@ impl Run {
     /// of the step.
     pub fn beside(&self, node: u64, first: usize, made: &Outputs) -> Result<Vec<Output>, AllocError>
         requires { first ≤ length self.now.sent }
-        ensures { IfOk result (λ outputs.
-            outputs.items ≡ beside_from node first (drop first self.now.sent) made.now) }
+        ensures { IfOk result (λ out. out.items ≡ beside_of_step node first self.now made.now) }
     {
         let mut outputs = Vec::new(self.alloc);
         add_released(&mut outputs, node, made.released.as_slice())?;
@@ -356,11 +344,11 @@ fn step_at(
 ) -> Result<Option<Outputs>, AllocError>
     requires there { node < length nodes.old.items }
     requires may { MayHappen (reverse entries.old) event.now }
-    ensures made { IfOk result (λ made.
-        IfSome made (λ outputs. EntersAt entries.old nodes.old.items node
-        (Made event.now outputs) entries.new nodes.new.items)) }
-    ensures skipped { IfOk result (λ made. IfNone made
-        (SkipsAt entries.old nodes.old.items node event.now entries.new nodes.new.items)) }
+    ensures made { IfMade result
+        (λ outputs. EntersAt entries.old nodes.old.items node
+        (Made event.now outputs) entries.new nodes.new.items) }
+    ensures skipped { IfSkipped result
+        (SkipsAt entries.old nodes.old.items node event.now entries.new nodes.new.items) }
     ensures err { OnErr result ((nodes.new.items ≡ nodes.old.items) × (entries.new ≡ entries.old)) }
 {
     match entries.step(&mut nodes[node as usize], node, event) {

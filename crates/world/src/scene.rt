@@ -1,8 +1,8 @@
 //! The nodes of a world and its clients, and what is done to them.
-ghost use Rattle.std.specs.Prelude.{◌≡◌, ◌<◌, ◌≤◌, ◌++◌, map, length, slice_get, insert, IfOk, IfSome, IfNone, OnOk, None, Some, All};
+ghost use Rattle.std.specs.Prelude.{◌≡◌, ◌≤◌, ◌++◌, map, length, insert, IfOk, IfSome, IfNone, OnOk, None, Some, All};
 ghost use Rattle.std.specs.List.{flat_map};
 ghost use Rattle.world.specs.Asking.{KeepsRule};
-ghost use Rattle.world.specs.Clients.{IsSettled, client_at, lost_at, place_of, stopped_at, with_client};
+ghost use Rattle.world.specs.Clients.{IsPlaceFor, IsSettled, StandsAt, client_at, lost_at, place_of, stopped_at, with_client};
 ghost use Rattle.world.specs.Plays.{Plays};
 ghost use Rattle.world.specs.View.{GoesOn, IsWhole, first_scene, is_up};
 ghost use Rattle.world.specs.declared.step.Step.TheVariants as step;
@@ -65,7 +65,7 @@ impl Scene {
         ensures config { self.new.config ≡ self.old.config }
         ensures goes_on { GoesOn self.old.run self.new.run }
         ensures whole { OnOk result (IsWhole self.new) }
-        ensures plays { IfOk result (λ outputs. Plays self.old step.now outputs.items self.new) }
+        ensures plays { IfOk result (λ out. Plays self.old step.now out.items self.new) }
     {
         match step {
             Step::Call { client, words } => self.call(*client, words),
@@ -86,7 +86,7 @@ impl Scene {
         ensures goes_on { GoesOn self.old.run self.new.run }
         ensures whole { OnOk result (IsWhole self.new) }
         ensures plays { IfOk result
-            (λ outputs. Plays self.old (step.Call number words.now) outputs.items self.new) }
+            (λ out. Plays self.old (step.Call number words.now) out.items self.new) }
     {
         let place = self.begin(number)?;
         self.clients[place].call(&mut self.run, &self.config, words)
@@ -98,8 +98,7 @@ impl Scene {
         ensures config { self.new.config ≡ self.old.config }
         ensures goes_on { GoesOn self.old.run self.new.run }
         ensures whole { OnOk result (IsWhole self.new) }
-        ensures plays { IfOk result
-            (λ outputs. Plays self.old (step.Carry number) outputs.items self.new) }
+        ensures plays { IfOk result (λ out. Plays self.old (step.Carry number) out.items self.new) }
     {
         let Some(place) = self.place_of(number) else {
             return nothing(self.alloc);
@@ -113,7 +112,7 @@ impl Scene {
         ensures goes_on { GoesOn self.old.run self.new.run }
         ensures whole { OnOk result (IsWhole self.new) }
         ensures plays { IfOk result
-            (λ outputs. Plays self.old (step.Return number) outputs.items self.new) }
+            (λ out. Plays self.old (step.Return number) out.items self.new) }
     {
         let Some(place) = self.place_of(number) else {
             return nothing(self.alloc);
@@ -126,8 +125,7 @@ impl Scene {
         ensures config { self.new.config ≡ self.old.config }
         ensures goes_on { GoesOn self.old.run self.new.run }
         ensures whole { OnOk result (IsWhole self.new) }
-        ensures plays { IfOk result
-            (λ outputs. Plays self.old (step.Cut number) outputs.items self.new) }
+        ensures plays { IfOk result (λ out. Plays self.old (step.Cut number) out.items self.new) }
     {
         let Some(place) = self.place_of(number) else {
             return nothing(self.alloc);
@@ -141,8 +139,7 @@ impl Scene {
         ensures config { self.new.config ≡ self.old.config }
         ensures goes_on { GoesOn self.old.run self.new.run }
         ensures whole { OnOk result (IsWhole self.new) }
-        ensures plays { IfOk result
-            (λ outputs. Plays self.old (step.Late number) outputs.items self.new) }
+        ensures plays { IfOk result (λ out. Plays self.old (step.Late number) out.items self.new) }
     {
         let Some(place) = self.place_of(number) else {
             return nothing(self.alloc);
@@ -155,8 +152,7 @@ impl Scene {
         ensures config { self.new.config ≡ self.old.config }
         ensures goes_on { GoesOn self.old.run self.new.run }
         ensures whole { OnOk result (IsWhole self.new) }
-        ensures plays { IfOk result
-            (λ outputs. Plays self.old (step.Stop node) outputs.items self.new) }
+        ensures plays { IfOk result (λ out. Plays self.old (step.Stop node) out.items self.new) }
     {
         if !self.run.is_up(node) {
             return nothing(self.alloc);
@@ -169,10 +165,9 @@ impl Scene {
 
     // The place of the client with that number, if it began.
     fn place_of(&self, number: u64) -> Option<usize>
-        ensures place { IfSome result (λ place.
-            (place ≡ place_of number self.now.clients) × (place < length self.now.clients)) }
-        ensures found { IfSome result
-            (λ place. client_at number self.now.clients ≡ slice_get self.now.clients place) }
+        ensures place { IfSome result
+            (IsPlaceFor number self.now.clients (length self.now.clients)) }
+        ensures found { IfSome result (StandsAt number self.now.clients) }
         ensures none { IfNone result (client_at number self.now.clients ≡ None) }
     {
         let place = place_for(self.clients.as_slice(), number);
@@ -191,8 +186,7 @@ impl Scene {
         ensures clients { OnOk result
             (self.new.clients ≡ with_client self.old.config number self.old.clients) }
         ensures settled { OnOk result (All IsSettled self.new.clients) }
-        ensures place { IfOk result (λ place.
-            (place ≡ place_of number self.old.clients) × (place < length self.new.clients)) }
+        ensures place { IfOk result (IsPlaceFor number self.old.clients (length self.new.clients)) }
     {
         if let Some(place) = self.place_of(number) {
             return Ok(place);

@@ -1,12 +1,11 @@
 //! Requests of clients, on connections that stay open.
-ghost use Rattle.std.specs.Prelude.{◌≡◌, ◌<◌, ◌≤◌, [], Some, drop, length, IfOk, OnOk};
+ghost use Rattle.std.specs.Prelude.{◌≡◌, ◌<◌, ◌≤◌, [], Some, length, IfOk, OnOk};
 ghost use Rattle.command_table.specs.declared.error_line.ErrorLine.TheVariants.{Exhausted};
 ghost use Rattle.node_step.specs.Outcome.{error};
 ghost use Rattle.node_step.specs.declared.event.Event.TheVariants.{Request};
 ghost use Rattle.world.specs.Asking.{MayTake};
 ghost use Rattle.world.specs.Calls.{IsOpened, Serves, ServesLast, reply_in};
-ghost use Rattle.world.specs.NodeSteps.{Closes, released_conns};
-ghost use Rattle.world.specs.Outputs.{beside_from};
+ghost use Rattle.world.specs.NodeSteps.{Closes, beside_of_step, released_conns};
 ghost use Rattle.world.specs.View.{GoesOn, RemembersSent};
 
 use crate::output::Output;
@@ -84,8 +83,7 @@ impl Run {
         ensures remembers { OnOk result (RemembersSent self.old → RemembersSent self.new) }
         ensures closes { OnOk result
             (Closes self.old node (released_conns made.now.released) self.new) }
-        ensures shows { IfOk result (λ outputs.
-            outputs.items ≡ beside_from node first (drop first self.old.sent) made.now) }
+        ensures shows { IfOk result (λ out. out.items ≡ beside_of_step node first self.old made.now) }
     {
         let outputs = self.beside(node, first, made)?;
         self.close_all(node, made.released.as_slice())?;
@@ -105,7 +103,7 @@ impl Run {
         ensures goes_on { GoesOn self.old self.new }
         ensures remembers { OnOk result (RemembersSent self.new) }
         ensures serves { IfOk result
-            (λ outputs. ServesLast self.old node conn words outputs.items self.new) }
+            (λ out. ServesLast self.old node conn words out.items self.new) }
     {
         let served = self.serve(node, conn, words)?;
         self.close(node, conn)?;

@@ -75,8 +75,7 @@ impl World {
             (executed (until_promotion self.new.scene.run.entries)) }
         ensures one_master { HasOneMasterAnEpoch self.new.scene.config.voters self.new.scene.run.entries }
         ensures promoted_prefix { PromotionsGoOn self.new.scene.config self.new.scene.run.entries }
-        ensures plays { IfOk result
-            (λ outputs. Plays self.old.scene step outputs.items self.new.scene) }
+        ensures plays { IfOk result (λ out. Plays self.old.scene step out.items self.new.scene) }
         ensures ok { OnOk result ((self.old.refused ≡ false) × (self.new.refused ≡ false)) }
         ensures err { OnErr result (self.new.refused ≡ true) }
         ensures refused { self.old.refused ≡ true → self.new ≡ self.old }
@@ -95,7 +94,7 @@ impl World {
         ensures one_master { HasOneMasterAnEpoch self.new.scene.config.voters self.new.scene.run.entries }
         ensures promoted_prefix { PromotionsGoOn self.new.scene.config self.new.scene.run.entries }
         ensures plays { IfOk result
-            (λ outputs. PlaysAll self.old.scene steps.now outputs.items self.new.scene) }
+            (λ out. PlaysAll self.old.scene steps.now out.items self.new.scene) }
         ensures ok { OnOk result ((self.old.refused ≡ false) × (self.new.refused ≡ false)) }
         ensures err { OnErr result (self.new.refused ≡ true) }
         ensures refused { self.old.refused ≡ true → self.new ≡ self.old }
@@ -109,7 +108,7 @@ impl World {
         ensures config { self.new.scene.config ≡ self.old.scene.config }
         ensures goes_on { GoesOn self.old.scene.run self.new.scene.run }
         ensures plays { IfOk result
-            (λ outputs. PlaysAll self.old.scene steps.now outputs.items self.new.scene) }
+            (λ out. PlaysAll self.old.scene steps.now out.items self.new.scene) }
         ensures ok { OnOk result ((self.old.refused ≡ false) × (self.new.refused ≡ false)) }
         ensures err { OnErr result (self.new.refused ≡ true) }
         ensures refused { self.old.refused ≡ true → self.new ≡ self.old }
@@ -131,7 +130,7 @@ impl World {
         ensures config { self.new.scene.config ≡ self.old.scene.config }
         ensures goes_on { GoesOn self.old.scene.run self.new.scene.run }
         ensures plays { IfOk result
-            (λ outputs. Plays self.old.scene step.now outputs.items self.new.scene) }
+            (λ out. Plays self.old.scene step.now out.items self.new.scene) }
         ensures ok { OnOk result ((self.old.refused ≡ false) × (self.new.refused ≡ false)) }
         ensures err { OnErr result (self.new.refused ≡ true) }
         ensures refused { self.old.refused ≡ true → self.new ≡ self.old }
