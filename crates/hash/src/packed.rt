@@ -1,5 +1,5 @@
 //! The pairs of a small hash, packed in one block of memory.
-ghost use Rattle.std.specs.Prelude.{◌≡◌, ◌<◌, ◌^◌, [], None, true, length, IfOk, OnOk, OnErr};
+ghost use Rattle.std.specs.Prelude.{◌≡◌, ◌<◌, ◌^◌, ◌∷◌, [], None, true, length, IfOk, OnOk, OnErr};
 ghost use Rattle.hash.specs.Packed.{RemoveOnly};
 ghost use Rattle.hash.specs.Pairs.{value_of, field_changed, fields_changed, set_if, changed_if, HasDistinctFields};
 ghost use Rattle.hash.specs.Sized.{IsSized};
@@ -99,12 +99,28 @@ impl Packed {
         ensures err { OnErr result (self.new ≡ self.old) }
     {
         match changes {
-            [(field, Some(value))] => self.set(field, value),
+            [change] => self.change_one(change),
             _ if remove_only(changes) => {
                 self.remove_each(changes);
                 Ok(true)
             }
             _ => change_all(self.alloc, &mut self.block, changes),
+        }
+    }
+
+    // Sets or removes one field. A removal takes no memory that it needs.
+    fn change_one(&mut self, change: &(ByteString, Option<ByteString>)) -> Result<bool, AllocError>
+        ensures ok { IfOk result (λ is_made. self.new ≡ changed_if is_made self.old (change.now ∷ [])) }
+        ensures err { OnErr result (self.new ≡ self.old) }
+    {
+        let (field, value) = change;
+        match value {
+            Some(value) => self.set(field, value),
+            None => {
+                self.remove(field);
+                self.shrink();
+                Ok(true)
+            }
         }
     }
 
