@@ -108,7 +108,7 @@ impl Packed {
         }
     }
 
-    // Sets or removes one field. A removal takes no memory that it needs.
+    // Sets or removes one field. A removal never fails.
     fn change_one(&mut self, change: &(ByteString, Option<ByteString>)) -> Result<bool, AllocError>
         ensures ok { IfOk result (λ is_made. self.new ≡ changed_if is_made self.old (change.now ∷ [])) }
         ensures err { OnErr result (self.new ≡ self.old) }
