@@ -4,8 +4,9 @@
 -- which adds no key. Else it then removes the keys that get no value.
 use Rattle.std.specs.Prelude.{◌≡◌, ℕ, List, [], ◌∷◌, true, Option, is_some}
 use Rattle.std.specs.FinMap as map
-use Rattle.keyspace.specs.Changes.{change_each}
+use Rattle.keyspace.specs.Changes.{change_each, with_all}
 use Rattle.keyspace.specs.Keyspace.{Keyspace}
+use Rattle.keyspace.specs.Putting.{with_pairs}
 use Rattle.keyspace.specs.declared.value.Value.{Value}
 
 -- the change removes its key, or the key is there
@@ -21,3 +22,7 @@ AddNoKeys keyspace (change ∷ changes) = AddNoKeys keyspace changes × AddsNoKe
 abbrev pub without : Keyspace → List (List ℕ) → Keyspace
 without keyspace [] = keyspace
 without keyspace (key ∷ keys) = without (map.remove keyspace key) keys
+
+-- to put the pairs and then to remove the keys is to make the changes
+abbrev pub ArePartsOf : List (List ℕ × Option Value) → List (List ℕ × Value) → List (List ℕ) → Type 0
+ArePartsOf changes pairs removed = (keyspace : Keyspace) → without (with_pairs keyspace pairs) removed ≡ with_all keyspace changes

@@ -1,6 +1,8 @@
 -- What the commands on hashes reply, and what they leave (Redis command reference, group "hash").
 use Rattle.std.specs.Prelude.{ℕ, ◌-◌, ℤ, pos, if◌then◌else◌, List, [], map, length, Option, Some, None, is_some, Result, Ok, Err}
+use Rattle.std.specs.Borrow.{Bor}
 use Rattle.std.specs.Fmt.{signed_decimal}
+use Rattle.std.specs.Option.{option_copied}
 use Rattle.resp_values.specs.declared.reply.Reply.{Reply}
 use Rattle.resp_values.specs.declared.reply.Reply.TheVariants.{Integer, Bulk, Null, Array}
 use Rattle.resp_values.specs.Reply.{array_of}
@@ -97,6 +99,14 @@ field_left key field old (Ok n) = hash_left (Integer n) key (field_changed old f
 abbrev pub known : Option Pairs → Pairs
 known None = []
 known (Some pairs) = pairs
+
+-- the fields of a hash that may be missing
+abbrev pub fields_in : Option (Bor Pairs) → Pairs
+fields_in hash = known (option_copied hash)
+
+-- the same after changes
+abbrev pub fields_after : Option (Bor Pairs) → Changes → Pairs
+fields_after hash changes = fields_changed (fields_in hash) changes
 
 -- HINCRBY adds the increment to the number of the field
 abbrev pub increased : List ℕ → List ℕ → Option ℤ → Option Pairs → Effect

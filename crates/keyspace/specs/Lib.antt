@@ -11,6 +11,7 @@ pub mod Locality
 pub mod Numbers
 pub mod Parts
 pub mod Plan
+pub mod Planning
 pub mod PlannedFields
 pub mod Rebuild
 pub mod Rebuilding

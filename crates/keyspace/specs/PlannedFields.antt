@@ -3,7 +3,7 @@ use Rattle.std.specs.Prelude.{◌≡◌, ◌-◌, ℕ, nat_eq, Bool, false, List
 use Rattle.std.specs.Cmp.Lexicographic.{pointwise}
 use Rattle.std.specs.List.{IsDistinct}
 use Rattle.std.specs.Map.{keys_of}
-use Rattle.hash.specs.Pairs.{Changes}
+use Rattle.hash.specs.Pairs.{Pairs, Changes, HasDistinctFields, fields_changed}
 use Rattle.keyspace.specs.Hashes.{removals}
 
 -- a change sets a field
@@ -19,6 +19,10 @@ sets_last changes = is_set (slice_get changes (length changes - 1))
 pub record RemovesEach (changes : Changes) : Type 0 where
   pub removes : changes ≡ removals (keys_of changes)
   pub distinct : IsDistinct (pointwise nat_eq) (keys_of changes)
+
+-- to make the changes is to remove these fields
+abbrev pub RemoveFields : List (List ℕ) → Changes → Type 0
+RemoveFields fields changes = (pairs : Pairs) → HasDistinctFields pairs → fields_changed pairs changes ≡ fields_changed pairs (removals fields)
 
 -- the changes remove fields, each one once, or the last one sets a field
 abbrev pub IsPlanned : Changes → Type 0

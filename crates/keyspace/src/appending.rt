@@ -1,7 +1,7 @@
 //! Bytes that are put behind a string in place.
 ghost use Rattle.std.specs.Prelude.{◌≡◌, Some, IfOk, OnOk, OnErr};
 ghost use Rattle.std.specs.Option.{option_copied};
-ghost use Rattle.keyspace.specs.Keyspace.{appended, keyspace_of, with_appended};
+ghost use Rattle.keyspace.specs.Keyspace.{appended, keyspace_in, with_appended};
 
 use crate::value::Value;
 use byte_string::ByteString;
@@ -17,9 +17,8 @@ pub fn append_in(
     key: ByteString,
     bytes: ByteString,
 ) -> Result<(), AllocError>
-    ensures ok { OnOk result (
-        keyspace_of entries.new.entries ≡ with_appended (keyspace_of entries.old.entries) key bytes) }
-    ensures err { OnErr result (keyspace_of entries.new.entries ≡ keyspace_of entries.old.entries) }
+    ensures ok { OnOk result (keyspace_in entries.new ≡ with_appended (keyspace_in entries.old) key bytes) }
+    ensures err { OnErr result (keyspace_in entries.new ≡ keyspace_in entries.old) }
 {
     let Some(value) = entries.get_mut(&key) else {
         let _none = entries.insert(key, Value::Str(bytes))?;

@@ -1,14 +1,11 @@
 //! New values of any number of keys: decided first, and put later.
-ghost use Rattle.std.specs.Prelude.{◌≡◌, ℕ, List, [], false, OnOk, OnErr, IfOk, IsOk, IsTrue, IsFalse};
-ghost use Rattle.std.specs.List.{list_any};
-ghost use Rattle.std.specs.Map.{keys_of};
+ghost use Rattle.std.specs.Prelude.{◌≡◌, OnOk, OnErr, IfOk, IsOk, IsTrue, IsFalse};
 ghost use Rattle.std.specs.Option.{option_copied};
 ghost use Rattle.std.specs.FinMap as map;
-ghost use Rattle.keyspace.specs.Commit.{without};
-ghost use Rattle.keyspace.specs.Keyspace.{Keyspace};
-ghost use Rattle.keyspace.specs.Leaving.{beside, has_keys, is_gone, puts_beside};
-ghost use Rattle.keyspace.specs.Changes.{changes_of, applied};
-ghost use Rattle.keyspace.specs.Putting.{with_pairs};
+ghost use Rattle.keyspace.specs.Commit.{without, ArePartsOf};
+ghost use Rattle.keyspace.specs.Leaving.{any_put, is_gone, puts_beside, AlwaysLeave, PutNone};
+ghost use Rattle.keyspace.specs.Changes.{changes_in, applied, with_all};
+ghost use Rattle.keyspace.specs.Putting.{PutsPairs};
 
 use crate::putting::{ValuePairs, change_key, put_pairs};
 use crate::store::Store;
@@ -95,8 +92,7 @@ impl NewValues {
     // Puts values at their keys, from left to right.
     #[tactic(auto, using(crate::proofs::Restored::pair_planned))]
     pub(crate) fn insert_each(&mut self, pairs: ValuePairs) -> Result<(), AllocError>
-        ensures { OnOk result ((keyspace : Keyspace) →
-            applied keyspace self.new ≡ with_pairs (applied keyspace self.old) pairs.items) }
+        ensures { OnOk result (PutsPairs self.old self.new pairs.items) }
     {
         for (key, value) in pairs {
             self.insert(key, Some(value))?;
@@ -129,10 +125,8 @@ impl NewValues {
 
     // Whether a value is put at a key other than the one that is gone.
     pub(crate) fn put_beside(&self, gone: Option<&ByteString>) -> bool
-        ensures some { IsTrue result → (keyspace : Keyspace) →
-            IsTrue (has_keys (beside (option_copied gone.entry) (applied keyspace self.now))) }
-        ensures none { IsFalse result → (key : List ℕ) →
-            puts_beside self.now (option_copied gone.entry) key ≡ false }
+        ensures some { IsTrue result → AlwaysLeave self.now (option_copied gone.entry) }
+        ensures none { IsFalse result → PutNone self.now (option_copied gone.entry) }
     {
         match &self.first {
             Some((key, _)) if self.puts_beside(gone, key) => true,
@@ -153,7 +147,7 @@ fn any_put(
     changes: &BTreeMap<ByteString, Option<Value>>,
     gone: Option<&ByteString>,
 ) -> bool
-    ensures { result ≡ list_any (puts_beside values.now (option_copied gone.entry)) (keys_of changes.now.entries) }
+    ensures { result ≡ any_put values.now (option_copied gone.entry) changes.now.entries }
 {
     for key in changes.keys() {
         if values.puts_beside(gone, key) {
@@ -179,8 +173,7 @@ fn put_more<S: Store>(
     store: &mut S,
     changes: BTreeMap<ByteString, Option<Value>>,
 ) -> Result<(), AllocError>
-    ensures ok { OnOk result (
-        S.contents store.new ≡ applied (S.contents store.old) (changes_of changes.entries)) }
+    ensures ok { OnOk result (S.contents store.new ≡ with_all (S.contents store.old) changes.entries) }
     ensures err { OnErr result (S.contents store.new ≡ S.contents store.old) }
 {
     if changes.is_empty() {
@@ -199,7 +192,7 @@ fn put_with<S: Store>(
     value: Option<Value>,
 ) -> Result<(), AllocError>
     ensures ok { OnOk result (
-        S.contents store.new ≡ applied (S.contents store.old) (map.insert (changes_of changes.entries) key value)) }
+        S.contents store.new ≡ applied (S.contents store.old) (map.insert (changes_in changes) key value)) }
     ensures err { OnErr result (S.contents store.new ≡ S.contents store.old) }
 {
     if changes.is_empty() {
@@ -214,9 +207,8 @@ fn put(
     key: ByteString,
     change: Option<Value>,
 ) -> Result<(), AllocError>
-    ensures ok { OnOk result (
-        changes_of changes.new.entries ≡ map.insert (changes_of changes.old.entries) key change) }
-    ensures err { OnErr result (changes_of changes.new.entries ≡ changes_of changes.old.entries) }
+    ensures ok { OnOk result (changes_in changes.new ≡ map.insert (changes_in changes.old) key change) }
+    ensures err { OnErr result (changes_in changes.new ≡ changes_in changes.old) }
 {
     let _former = changes.insert(key, change)?;
     Ok(())
@@ -228,8 +220,7 @@ fn change_all<S: Store>(
     store: &mut S,
     changes: BTreeMap<ByteString, Option<Value>>,
 ) -> Result<(), AllocError>
-    ensures ok { OnOk result (
-        S.contents store.new ≡ applied (S.contents store.old) (changes_of changes.entries)) }
+    ensures ok { OnOk result (S.contents store.new ≡ with_all (S.contents store.old) changes.entries) }
     ensures err { OnErr result (S.contents store.new ≡ S.contents store.old) }
 {
     let (pairs, removed) = parted(alloc, changes)?;
@@ -243,8 +234,7 @@ fn parted(
     alloc: Global,
     mut changes: BTreeMap<ByteString, Option<Value>>,
 ) -> Result<(ValuePairs, Vec<ByteString>), AllocError>
-    ensures { IfOk result (λ parts. (keyspace : Keyspace) →
-        without (with_pairs keyspace parts.0.items) parts.1.items ≡ applied keyspace (changes_of changes.entries)) }
+    ensures { IfOk result (λ parts. ArePartsOf changes.entries parts.0.items parts.1.items) }
 {
     let mut pairs = Vec::with_capacity(alloc, changes.len())?;
     let mut removed = Vec::new(alloc);

@@ -1,10 +1,10 @@
 //! The command table in code: what each command replies and changes, over any store.
 ghost use Rattle.std.specs.Prelude.{◌≡◌, ◌∷◌, ◌++◌, [], None, OnOk, OnErr, IfOk, IsTrue};
-ghost use Rattle.keyspace.specs.Changes.{applied};
 ghost use Rattle.keyspace.specs.CommandGroups.{is_on_hash, is_on_string};
-ghost use Rattle.keyspace.specs.Commands.{exec, keyspace_after, replies_of};
+ghost use Rattle.keyspace.specs.Commands.{exec, replies_of};
 ghost use Rattle.keyspace.specs.Locality.{CommandsAreLocal};
 ghost use Rattle.keyspace.specs.Plan.{committed};
+ghost use Rattle.keyspace.specs.Planning.{Executes, Extends, IsPlanOf, PlansNext, PlansSettled, RepliesEach};
 
 use crate::plans::{Plan, commit};
 use crate::store::Store;
@@ -22,8 +22,7 @@ pub fn plan<S: Store>(
 ) -> Result<(Vec<Reply>, Plan), AllocError>
     ensures replies { IfOk result (λ planned.
         planned.0.items ≡ replies_of (S.contents store.now) commands.now) }
-    ensures after { IfOk result (λ planned.
-        committed (S.contents store.now) planned.1 ≡ keyspace_after (S.contents store.now) commands.now) }
+    ensures after { IfOk result (λ planned. IsPlanOf (S.contents store.now) commands.now planned.1) }
 {
     let mut plan = Plan::new(alloc);
     let replies = plan_each(alloc, store, &mut plan, commands)?;
@@ -37,10 +36,8 @@ fn plan_each<S: Store>(
     plan: &mut Plan,
     commands: &[DataCommand],
 ) -> Result<Vec<Reply>, AllocError>
-    ensures replies { IfOk result (λ replies.
-        replies.items ≡ replies_of (committed (S.contents store.now) plan.old) commands.now) }
-    ensures after { OnOk result (committed (S.contents store.now) plan.new
-        ≡ keyspace_after (committed (S.contents store.now) plan.old) commands.now) }
+    ensures replies { RepliesEach (S.contents store.now) plan.old commands.now result }
+    ensures after { OnOk result (Extends (S.contents store.now) plan.old plan.new commands.now) }
 {
     let mut replies = Vec::with_capacity(alloc, commands.len())?;
     for command in commands {
@@ -58,8 +55,7 @@ fn plan_next<S: Store>(
 ) -> Result<(), AllocError>
     ensures reply { OnOk result (replies.new.items
         ≡ replies.old.items ++ (exec (committed (S.contents store.now) plan.old) command.now).reply ∷ []) }
-    ensures after { OnOk result (committed (S.contents store.now) plan.new
-        ≡ (exec (committed (S.contents store.now) plan.old) command.now).after) }
+    ensures after { OnOk result (Extends (S.contents store.now) plan.old plan.new (command.now ∷ [])) }
 {
     let reply = plan_command(alloc, store, plan, command)?;
     replies.push(reply)?;
@@ -73,8 +69,7 @@ pub fn exec<S: Store>(
     store: &mut S,
     command: &DataCommand,
 ) -> Result<Reply, AllocError>
-    ensures reply { IfOk result (λ reply.
-        record { reply = reply; after = S.contents store.new } ≡ exec (S.contents store.old) command.now) }
+    ensures reply { Executes (S.contents store.old) (S.contents store.new) command.now result }
     ensures err { OnErr result (S.contents store.new ≡ S.contents store.old) }
 {
     let mut plan = Plan::new(alloc);
@@ -104,9 +99,7 @@ pub fn plan_command<S: Store>(
     plan: &mut Plan,
     command: &DataCommand,
 ) -> Result<Reply, AllocError>
-    ensures { IfOk result (λ reply.
-        record { reply = reply; after = committed (S.contents store.now) plan.new }
-        ≡ exec (committed (S.contents store.now) plan.old) command.now) }
+    ensures { PlansNext (S.contents store.now) plan.old plan.new command.now result }
 {
     plan.settle(alloc, store)?;
     plan_settled(alloc, store, plan, command)
@@ -121,9 +114,7 @@ fn plan_settled<S: Store>(
     command: &DataCommand,
 ) -> Result<Reply, AllocError>
     requires { plan.old.last ≡ None }
-    ensures { IfOk result (λ reply.
-        record { reply = reply; after = committed (S.contents store.now) plan.new }
-        ≡ exec (applied (S.contents store.now) plan.old.values) command.now) }
+    ensures { PlansSettled (S.contents store.now) plan.old plan.new command.now result }
 {
     use DataCommand::*;
     match command {
@@ -169,9 +160,7 @@ fn plan_on_string<S: Store>(
 ) -> Result<Reply, AllocError>
     requires last { plan.old.last ≡ None }
     requires on_string { IsTrue (is_on_string command.now) }
-    ensures { IfOk result (λ reply.
-        record { reply = reply; after = committed (S.contents store.now) plan.new }
-        ≡ exec (applied (S.contents store.now) plan.old.values) command.now) }
+    ensures { PlansSettled (S.contents store.now) plan.old plan.new command.now result }
 {
     use DataCommand::*;
     match command {
@@ -209,9 +198,7 @@ fn plan_on_hash<S: Store>(
 ) -> Result<Reply, AllocError>
     requires last { plan.old.last ≡ None }
     requires on_hash { IsTrue (is_on_hash command.now) }
-    ensures { IfOk result (λ reply.
-        record { reply = reply; after = committed (S.contents store.now) plan.new }
-        ≡ exec (applied (S.contents store.now) plan.old.values) command.now) }
+    ensures { PlansSettled (S.contents store.now) plan.old plan.new command.now result }
 {
     use DataCommand::*;
     match command {

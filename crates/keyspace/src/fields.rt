@@ -1,9 +1,9 @@
 //! Fields of hashes that are changed in place.
-ghost use Rattle.std.specs.Prelude.{◌≡◌, [], Some, None, if◌then◌else◌, IfOk, OnOk, OnErr};
+ghost use Rattle.std.specs.Prelude.{◌≡◌, [], None, IfOk, OnOk, OnErr};
 ghost use Rattle.std.specs.Option.{option_copied};
 ghost use Rattle.std.specs.FinMap as map;
 ghost use Rattle.hash.specs.Pairs.{fields_changed};
-ghost use Rattle.keyspace.specs.Keyspace.{fields_left, hash_of, keyspace_of, with_fields};
+ghost use Rattle.keyspace.specs.Keyspace.{fields_left, hash_of, keyspace_in, ChangesFields, LeavesValue};
 
 use crate::value::Value;
 use byte_string::ByteString;
@@ -22,9 +22,8 @@ pub fn change_fields_in(
     key: ByteString,
     changes: FieldChanges,
 ) -> Result<(), AllocError>
-    ensures ok { OnOk result (
-        keyspace_of entries.new.entries ≡ with_fields (keyspace_of entries.old.entries) key changes.items) }
-    ensures err { OnErr result (keyspace_of entries.new.entries ≡ keyspace_of entries.old.entries) }
+    ensures ok { OnOk result (ChangesFields entries.old entries.new key changes.items) }
+    ensures err { OnErr result (keyspace_in entries.new ≡ keyspace_in entries.old) }
 {
     let Some(value) = entries.get_mut(&key) else {
         return put_new_hash(entries, key, changes);
@@ -42,10 +41,9 @@ fn put_new_hash(
     key: ByteString,
     changes: FieldChanges,
 ) -> Result<(), AllocError>
-    requires { map.get (keyspace_of entries.old.entries) key ≡ None }
-    ensures ok { OnOk result (
-        keyspace_of entries.new.entries ≡ with_fields (keyspace_of entries.old.entries) key changes.items) }
-    ensures err { OnErr result (keyspace_of entries.new.entries ≡ keyspace_of entries.old.entries) }
+    requires { map.get (keyspace_in entries.old) key ≡ None }
+    ensures ok { OnOk result (ChangesFields entries.old entries.new key changes.items) }
+    ensures err { OnErr result (keyspace_in entries.new ≡ keyspace_in entries.old) }
 {
     if let Some(value) = new_hash(changes)? {
         let _none = entries.insert(key, value)?;
@@ -55,15 +53,14 @@ fn put_new_hash(
 
 /// Removes the key, if it is there.
 pub(crate) fn remove_from(entries: &mut KeyMap<Value>, key: &ByteString)
-    ensures { keyspace_of entries.new.entries ≡ map.remove (keyspace_of entries.old.entries) key.now }
+    ensures { keyspace_in entries.new ≡ map.remove (keyspace_in entries.old) key.now }
 {
     let _old = entries.remove(key);
 }
 
 // Changes the fields of a hash in place, and tells whether a value is left.
 fn change_value(value: &mut Value, changes: FieldChanges) -> Result<bool, AllocError>
-    ensures left { IfOk result (λ is_left.
-        fields_left (Some value.old) changes.items ≡ (if is_left then Some value.new else None)) }
+    ensures left { IfOk result (LeavesValue value.old value.new changes.items) }
     ensures err { OnErr result (value.new ≡ value.old) }
 {
     match value {

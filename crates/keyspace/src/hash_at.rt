@@ -1,9 +1,9 @@
 //! The hash at a key. A missing one has no fields.
 ghost use Rattle.std.specs.Prelude.{◌≡◌, ◌<◌, ◌^◌, Some, None, length, IfOk, IfErr};
 ghost use Rattle.std.specs.Option.{option_copied};
-ghost use Rattle.hash.specs.Pairs.{HasDistinctFields, fields_changed, value_of};
+ghost use Rattle.hash.specs.Pairs.{HasDistinctFields, value_of};
 ghost use Rattle.hash.specs.Size.{size_of};
-ghost use Rattle.keyspace.specs.Hashes.{fields_of, known};
+ghost use Rattle.keyspace.specs.Hashes.{fields_after, fields_in, fields_of};
 
 use crate::value::Value;
 use byte_string::ByteString;
@@ -13,7 +13,7 @@ use std::alloc::{AllocError, Global};
 
 /// The hash, or None where it is missing. A string is refused.
 pub(crate) fn hash_in(value: Option<&Value>) -> Result<Option<&Hash>, ErrorLine>
-    ensures ok { IfOk result (λ hash. fields_of (option_copied value.entry) ≡ Some (known (option_copied hash))) }
+    ensures ok { IfOk result (λ hash. fields_of (option_copied value.entry) ≡ Some (fields_in hash)) }
     ensures wrong { IfErr result (λ fault. fault ≡ ErrorLine.WrongType) }
     ensures err { IfErr result (λ fault. fields_of (option_copied value.entry) ≡ None) }
 {
@@ -26,7 +26,7 @@ pub(crate) fn hash_in(value: Option<&Value>) -> Result<Option<&Hash>, ErrorLine>
 
 /// The value of the field.
 pub(crate) fn value_in<'a>(hash: Option<&'a Hash>, field: &ByteString) -> Option<Word<'a>>
-    ensures { result ≡ value_of (known (option_copied hash.entry)) field.now }
+    ensures { result ≡ value_of (fields_in hash.entry) field.now }
 {
     match hash {
         Some(hash) => hash.get(field),
@@ -36,9 +36,9 @@ pub(crate) fn value_in<'a>(hash: Option<&'a Hash>, field: &ByteString) -> Option
 
 /// The number of fields.
 pub(crate) fn len_of(hash: Option<&Hash>) -> usize
-    ensures len { result ≡ length (known (option_copied hash.entry)) }
+    ensures len { result ≡ length (fields_in hash.entry) }
     ensures small { result < 2 ^ 63 }
-    ensures distinct { HasDistinctFields (known (option_copied hash.entry)) }
+    ensures distinct { HasDistinctFields (fields_in hash.entry) }
 {
     match hash {
         Some(hash) => hash.len(),
@@ -52,10 +52,8 @@ pub(crate) fn extent_after(
     hash: Option<&Hash>,
     changes: &[(ByteString, Option<ByteString>)],
 ) -> Result<Extent, AllocError>
-    ensures len { IfOk result (λ extent.
-        extent.len ≡ length (fields_changed (known (option_copied hash.entry)) changes.now)) }
-    ensures size { IfOk result (λ extent.
-        extent.size ≡ size_of (fields_changed (known (option_copied hash.entry)) changes.now)) }
+    ensures len { IfOk result (λ extent. extent.len ≡ length (fields_after hash.entry changes.now)) }
+    ensures size { IfOk result (λ extent. extent.size ≡ size_of (fields_after hash.entry changes.now)) }
 {
     match hash {
         Some(hash) => hash.extent_after(alloc, changes),

@@ -1,14 +1,7 @@
 //! Changes of a hash that a command works out before it plans them.
-ghost use Rattle.std.specs.Prelude.{◌≡◌, ◌∷◌, ◌-◌, ◌<◌, ◌^◌, [], ℤ, None, Some, length, pos, IfOk};
-ghost use Rattle.std.specs.FinMap as map;
-ghost use Rattle.std.specs.Option.{option_copied};
-ghost use Rattle.hash.specs.Pairs.{Changes, Pairs, fields_changed};
-ghost use Rattle.keyspace.specs.Changes.{applied};
-ghost use Rattle.keyspace.specs.Commands.{taken_at};
-ghost use Rattle.keyspace.specs.HashChanges.{IsChange};
-ghost use Rattle.keyspace.specs.Hashes.{fields_of, hash_left, known, sets};
-ghost use Rattle.keyspace.specs.Keyspace.{Keyspace};
-ghost use Rattle.keyspace.specs.Plan.{committed};
+ghost use Rattle.std.specs.Prelude.{◌≡◌, ◌∷◌, ◌-◌, ◌<◌, ◌^◌, [], None, Some, length, IfOk};
+ghost use Rattle.keyspace.specs.HashChanges.{IsChange, LeavesChange, SetsEach};
+ghost use Rattle.keyspace.specs.Hashes.{fields_after, fields_in, sets};
 
 use crate::fields::FieldChanges;
 use crate::hash_at::{extent_after, len_of};
@@ -36,10 +29,7 @@ impl HashChange {
         hash: Option<&Hash>,
         pairs: &PairList,
     ) -> Result<HashChange, AllocError>
-        ensures { IfOk result (λ change.
-            let old = known (option_copied hash.entry) in
-            let new = fields_changed old (sets pairs.now) in
-            IsChange old (sets pairs.now) (pos (length new - length old)) change) }
+        ensures { IfOk result (SetsEach (fields_in hash.entry) pairs.now) }
     {
         let changes = sets(alloc, pairs)?;
         let extent = extent_after(alloc, hash, changes.as_slice())?;
@@ -60,8 +50,7 @@ impl HashChange {
         value: ByteString,
         reply: i64,
     ) -> Result<HashChange, AllocError>
-        ensures { IfOk result (λ change.
-            IsChange (known (option_copied hash.entry)) ((field.now, Some value) ∷ []) reply change) }
+        ensures { IfOk result (IsChange (fields_in hash.entry) ((field.now, Some value) ∷ []) reply) }
     {
         let changes = one_set(alloc, field, value)?;
         let extent = extent_after(alloc, hash, changes.as_slice())?;
@@ -76,11 +65,7 @@ impl HashChange {
     #[tactic(auto, using(crate::proofs::Committed::committed_values, crate::proofs::Left::fields_left_of))]
     pub(crate) fn leave(self, plan: &mut Plan, key: &ByteString) -> Result<Reply, AllocError>
         requires { plan.old.last ≡ None }
-        ensures { (keyspace : Keyspace) (fields : Pairs) (changes : Changes) (reply : ℤ) →
-            let before = applied keyspace plan.old.values in
-            fields_of (map.get before key.now) ≡ Some fields → IsChange fields changes reply self →
-            IfOk result (λ given. record { reply = given; after = committed keyspace plan.new }
-            ≡ taken_at before (key.now ∷ []) (hash_left (Reply.Integer reply) key.now (fields_changed fields changes))) }
+        ensures { LeavesChange plan.old plan.new key.now self result }
     {
         let HashChange {
             changes,
@@ -102,8 +87,8 @@ fn fields_added(
     extent: Extent,
     changes: &[(ByteString, Option<ByteString>)],
 ) -> usize
-    requires { extent.len ≡ length (fields_changed (known (option_copied hash)) changes.now) }
-    ensures count { result ≡ length (fields_changed (known (option_copied hash.entry)) changes.now) - length (known (option_copied hash.entry)) }
+    requires { extent.len ≡ length (fields_after hash changes.now) }
+    ensures count { result ≡ length (fields_after hash.entry changes.now) - length (fields_in hash.entry) }
     ensures small { result < 2 ^ 63 }
 {
     prove!(changes.len() < 1 << 60);

@@ -1,15 +1,10 @@
 //! The commands on hashes. A missing key counts as a hash without fields.
-ghost use Rattle.std.specs.Prelude.{◌≡◌, ◌∷◌, ◌-◌, ◌<◌, ◌^◌, [], length, IfOk, None, Some, pos};
+ghost use Rattle.std.specs.Prelude.{◌≡◌, [], IfOk, None, Some, pos};
 ghost use Rattle.std.specs.Prelude.{map as each};
-ghost use Rattle.std.specs.Option.{option_copied};
-ghost use Rattle.std.specs.FinMap as map;
-ghost use Rattle.command_table.specs.declared.command.DataCommand.{DataCommand};
-ghost use Rattle.hash.specs.Pairs.{value_of};
+ghost use Rattle.command_table.specs.declared.command.DataCommand.TheVariants.{Hdel, Hexists, Hget, Hgetall, Hincrby, Hkeys, Hlen, Hmget, Hset, Hsetnx, Hstrlen, Hvals};
 ghost use Rattle.hash.specs.Size.{words_of};
-ghost use Rattle.keyspace.specs.Changes.{applied};
-ghost use Rattle.keyspace.specs.Commands.{exec, taken_at};
-ghost use Rattle.keyspace.specs.Hashes.{bulks_reply, exists_reply, fields_of, from_fields, increased, known, value_length, value_reply, values_reply};
-ghost use Rattle.keyspace.specs.Plan.{committed};
+ghost use Rattle.keyspace.specs.Hashes.{bulks_reply, exists_reply, fields_in, value_length, value_reply, values_reply};
+ghost use Rattle.keyspace.specs.Planning.{AddsToField, PlansSettled, Replies};
 ghost use Rattle.keyspace.specs.Strings.{stored_number, sum_of};
 
 use crate::changes::NewValues;
@@ -34,8 +29,7 @@ pub(crate) fn get<S: Store>(
     key: &ByteString,
     field: &ByteString,
 ) -> Result<Reply, AllocError>
-    ensures { IfOk result (λ reply.
-        reply ≡ from_fields (fields_of (map.get (applied (S.contents store.now) values.now) key.now)) (λ fields. value_reply (value_of fields field.now))) }
+    ensures { Replies (S.contents store.now) values.now (Hget key.now field.now) result }
 {
     match hash_in(values.look(store, key)) {
         Ok(hash) => value_reply(alloc, value_in(hash, field)),
@@ -51,8 +45,7 @@ pub(crate) fn get_each<S: Store>(
     key: &ByteString,
     fields: &[ByteString],
 ) -> Result<Reply, AllocError>
-    ensures { IfOk result (λ reply.
-        reply ≡ from_fields (fields_of (map.get (applied (S.contents store.now) values.now) key.now)) (values_reply fields.now)) }
+    ensures { Replies (S.contents store.now) values.now (Hmget key.now fields.now) result }
 {
     match hash_in(values.look(store, key)) {
         Ok(hash) => values_reply(alloc, hash, fields),
@@ -65,7 +58,7 @@ fn values_reply(
     hash: Option<&Hash>,
     fields: &[ByteString],
 ) -> Result<Reply, AllocError>
-    ensures { IfOk result (λ reply. reply ≡ values_reply fields.now (known (option_copied hash.entry))) }
+    ensures { IfOk result (λ reply. reply ≡ values_reply fields.now (fields_in hash.entry)) }
 {
     let mut replies = Vec::with_capacity(alloc, fields.len())?;
     for field in fields {
@@ -81,8 +74,7 @@ pub(crate) fn exists<S: Store>(
     key: &ByteString,
     field: &ByteString,
 ) -> Result<Reply, AllocError>
-    ensures { IfOk result (λ reply.
-        reply ≡ from_fields (fields_of (map.get (applied (S.contents store.now) values.now) key.now)) (λ fields. exists_reply (value_of fields field.now))) }
+    ensures { Replies (S.contents store.now) values.now (Hexists key.now field.now) result }
 {
     match hash_in(values.look(store, key)) {
         Ok(hash) => Ok(exists_reply(value_in(hash, field))),
@@ -105,8 +97,7 @@ pub(crate) fn len<S: Store>(
     values: &NewValues,
     key: &ByteString,
 ) -> Result<Reply, AllocError>
-    ensures { IfOk result (λ reply.
-        reply ≡ from_fields (fields_of (map.get (applied (S.contents store.now) values.now) key.now)) (λ fields. Reply.Integer (pos (length fields)))) }
+    ensures { Replies (S.contents store.now) values.now (Hlen key.now) result }
 {
     match hash_in(values.look(store, key)) {
         Ok(hash) => Ok(integer(len_of(hash))),
@@ -121,8 +112,7 @@ pub(crate) fn value_len<S: Store>(
     key: &ByteString,
     field: &ByteString,
 ) -> Result<Reply, AllocError>
-    ensures { IfOk result (λ reply.
-        reply ≡ from_fields (fields_of (map.get (applied (S.contents store.now) values.now) key.now)) (λ fields. Reply.Integer (pos (value_length (value_of fields field.now))))) }
+    ensures { Replies (S.contents store.now) values.now (Hstrlen key.now field.now) result }
 {
     match hash_in(values.look(store, key)) {
         Ok(hash) => Ok(length_reply(value_in(hash, field))),
@@ -146,8 +136,7 @@ pub(crate) fn fields<S: Store>(
     values: &NewValues,
     key: &ByteString,
 ) -> Result<Reply, AllocError>
-    ensures { IfOk result (λ reply.
-        reply ≡ from_fields (fields_of (map.get (applied (S.contents store.now) values.now) key.now)) (λ fields. bulks_reply (each (λ pair. pair.0) fields))) }
+    ensures { Replies (S.contents store.now) values.now (Hkeys key.now) result }
 {
     match hash_in(values.look(store, key)) {
         Ok(Some(hash)) => each_field(alloc, hash),
@@ -173,8 +162,7 @@ pub(crate) fn values<S: Store>(
     values: &NewValues,
     key: &ByteString,
 ) -> Result<Reply, AllocError>
-    ensures { IfOk result (λ reply.
-        reply ≡ from_fields (fields_of (map.get (applied (S.contents store.now) values.now) key.now)) (λ fields. bulks_reply (each (λ pair. pair.1) fields))) }
+    ensures { Replies (S.contents store.now) values.now (Hvals key.now) result }
 {
     match hash_in(values.look(store, key)) {
         Ok(Some(hash)) => each_value(alloc, hash),
@@ -200,8 +188,7 @@ pub(crate) fn pairs<S: Store>(
     values: &NewValues,
     key: &ByteString,
 ) -> Result<Reply, AllocError>
-    ensures { IfOk result (λ reply.
-        reply ≡ from_fields (fields_of (map.get (applied (S.contents store.now) values.now) key.now)) (λ fields. bulks_reply (words_of fields))) }
+    ensures { Replies (S.contents store.now) values.now (Hgetall key.now) result }
 {
     match hash_in(values.look(store, key)) {
         Ok(Some(hash)) => each_pair(alloc, hash),
@@ -238,9 +225,7 @@ pub(crate) fn set<S: Store>(
     pairs: &PairList,
 ) -> Result<Reply, AllocError>
     requires { plan.old.last ≡ None }
-    ensures { IfOk result (λ reply.
-        record { reply = reply; after = committed (S.contents store.now) plan.new }
-        ≡ exec (applied (S.contents store.now) plan.old.values) (DataCommand.Hset key.now pairs.now)) }
+    ensures { PlansSettled (S.contents store.now) plan.old plan.new (Hset key.now pairs.now) result }
 {
     let hash = match hash_in(plan.values.look(store, key)) {
         Ok(hash) => hash,
@@ -262,9 +247,7 @@ pub(crate) fn set_new<S: Store>(
     value: &ByteString,
 ) -> Result<Reply, AllocError>
     requires { plan.old.last ≡ None }
-    ensures { IfOk result (λ reply.
-        record { reply = reply; after = committed (S.contents store.now) plan.new }
-        ≡ exec (applied (S.contents store.now) plan.old.values) (DataCommand.Hsetnx key.now field.now value.now)) }
+    ensures { PlansSettled (S.contents store.now) plan.old plan.new (Hsetnx key.now field.now value.now) result }
 {
     let hash = match hash_in(plan.values.look(store, key)) {
         Ok(hash) => hash,
@@ -288,9 +271,7 @@ pub(crate) fn delete<S: Store>(
     fields: &[ByteString],
 ) -> Result<Reply, AllocError>
     requires { plan.old.last ≡ None }
-    ensures { IfOk result (λ reply.
-        record { reply = reply; after = committed (S.contents store.now) plan.new }
-        ≡ exec (applied (S.contents store.now) plan.old.values) (DataCommand.Hdel key.now fields.now)) }
+    ensures { PlansSettled (S.contents store.now) plan.old plan.new (Hdel key.now fields.now) result }
 {
     let hash = match hash_in(plan.values.look(store, key)) {
         Ok(hash) => hash,
@@ -314,9 +295,7 @@ pub(crate) fn add<S: Store>(
     increment: &ByteString,
 ) -> Result<Reply, AllocError>
     requires { plan.old.last ≡ None }
-    ensures { IfOk result (λ reply.
-        record { reply = reply; after = committed (S.contents store.now) plan.new }
-        ≡ exec (applied (S.contents store.now) plan.old.values) (DataCommand.Hincrby key.now field.now increment.now)) }
+    ensures { PlansSettled (S.contents store.now) plan.old plan.new (Hincrby key.now field.now increment.now) result }
 {
     let Some(increment) = number_in(increment.as_slice()) else {
         return Ok(ErrorLine::NotAnInteger.reply());
@@ -334,10 +313,7 @@ fn add_number<S: Store>(
     increment: i64,
 ) -> Result<Reply, AllocError>
     requires { plan.old.last ≡ None }
-    ensures { IfOk result (λ reply.
-        let before = applied (S.contents store.now) plan.old.values in
-        record { reply = reply; after = committed (S.contents store.now) plan.new }
-        ≡ taken_at before (key.now ∷ []) (increased key.now field.now (Some increment) (fields_of (map.get before key.now)))) }
+    ensures { AddsToField (S.contents store.now) plan.old plan.new key.now field.now increment result }
 {
     let hash = match hash_in(plan.values.look(store, key)) {
         Ok(hash) => hash,

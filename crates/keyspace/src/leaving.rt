@@ -1,11 +1,9 @@
 //! Whether a key is there once a plan is committed. It is told without making a change, and takes no memory.
 ghost use Rattle.std.specs.Prelude.{◌≡◌};
-ghost use Rattle.std.specs.List.{list_any};
-ghost use Rattle.std.specs.Map.{keys_of};
 ghost use Rattle.std.specs.Option.{option_copied};
 ghost use Rattle.keyspace.specs.Changes.{applied};
-ghost use Rattle.keyspace.specs.Keyspace.{keyspace_of};
-ghost use Rattle.keyspace.specs.Leaving.{beside, has_keys, stays_beside};
+ghost use Rattle.keyspace.specs.Keyspace.{keyspace_in};
+ghost use Rattle.keyspace.specs.Leaving.{any_stays, has_keys, leaves_beside};
 ghost use Rattle.keyspace.specs.Plan.{leaves_keys, with_step};
 
 use crate::changes::{NewValues, is_gone};
@@ -16,7 +14,7 @@ use byte_string::ByteString;
 /// Whether a key is there once the plan is committed. It takes no memory.
 #[tactic(auto, using(crate::proofs::Committed::committed_values, crate::proofs::Committed::committed_step))]
 pub fn leaves_keys(store: &TreeStore, plan: &Plan) -> bool
-    ensures { result ≡ leaves_keys (keyspace_of store.now.entries) plan.now }
+    ensures { result ≡ leaves_keys (keyspace_in store.now) plan.now }
 {
     match &plan.last {
         None => leaves_beside(store, &plan.values, None),
@@ -27,7 +25,7 @@ pub fn leaves_keys(store: &TreeStore, plan: &Plan) -> bool
 // Whether a key is there once all values are put and then the step is made.
 #[tactic(auto, using(crate::proofs::KeysLeft::fields_there, crate::proofs::KeysLeft::fields_gone, crate::proofs::KeysLeft::pairs_put, crate::proofs::KeysLeft::no_pairs))]
 fn step_leaves_keys(store: &TreeStore, values: &NewValues, step: &LastStep) -> bool
-    ensures { result ≡ has_keys (with_step (applied (keyspace_of store.now.entries) values.now) step.now) }
+    ensures { result ≡ has_keys (with_step (applied (keyspace_in store.now) values.now) step.now) }
 {
     match step {
         LastStep::Append(_, _) => true,
@@ -40,14 +38,14 @@ fn step_leaves_keys(store: &TreeStore, values: &NewValues, step: &LastStep) -> b
 
 // Whether a key other than the one that is gone is there once all values are put.
 fn leaves_beside(store: &TreeStore, values: &NewValues, gone: Option<&ByteString>) -> bool
-    ensures { result ≡ has_keys (beside (option_copied gone.entry) (applied (keyspace_of store.now.entries) values.now)) }
+    ensures { result ≡ leaves_beside (option_copied gone.entry) (keyspace_in store.now) values.now }
 {
     values.put_beside(gone) || any_stays(store, values, gone)
 }
 
 // Whether a key of the store stays as it is. The changes name each key before the first one that does.
 fn any_stays(store: &TreeStore, values: &NewValues, gone: Option<&ByteString>) -> bool
-    ensures { result ≡ list_any (stays_beside values.now (option_copied gone.entry)) (keys_of store.now.entries) }
+    ensures { result ≡ any_stays values.now (option_copied gone.entry) store.now.entries }
 {
     for key in store.keys() {
         if !is_gone(gone, key) && values.get(key).is_none() {

@@ -3,11 +3,11 @@ ghost use Rattle.std.specs.Prelude.{◌≡◌, ◌+◌, ◌<◌, ◌^◌, ◌∷
 ghost use Rattle.std.specs.Cmp.Lexicographic.{pointwise};
 ghost use Rattle.std.specs.List.{IsDistinct};
 ghost use Rattle.std.specs.Option.{option_copied};
-ghost use Rattle.hash.specs.Pairs.{Pairs, HasDistinctFields, fields_changed, value_of};
+ghost use Rattle.hash.specs.Pairs.{HasDistinctFields, value_of};
 ghost use Rattle.indexmap.specs.IndexSet.{insert_key};
-ghost use Rattle.keyspace.specs.Hashes.{known, removals};
+ghost use Rattle.keyspace.specs.Hashes.{fields_after, fields_in, removals};
 ghost use Rattle.keyspace.specs.Keyspace.{fields_left};
-ghost use Rattle.keyspace.specs.PlannedFields.{IsPlanned, RemovesEach, sets_last};
+ghost use Rattle.keyspace.specs.PlannedFields.{IsPlanned, RemoveFields, RemovesEach, sets_last};
 
 use crate::fields::FieldChanges;
 use crate::hash_at::{hash_in, len_of, value_in};
@@ -52,8 +52,7 @@ impl PlannedFields {
         fields: &[ByteString],
     ) -> Result<PlannedFields, AllocError>
         ensures each { IfOk result (λ planned. RemovesEach planned) }
-        ensures same { IfOk result (λ planned. (pairs : Pairs) → HasDistinctFields pairs →
-            fields_changed pairs planned ≡ fields_changed pairs (removals fields.now)) }
+        ensures same { IfOk result (RemoveFields fields.now) }
     {
         let changes = removals(alloc, fields)?;
         Ok(PlannedFields { changes })
@@ -70,10 +69,9 @@ impl PlannedFields {
     #[tactic(auto, using(crate::proofs::RemovedFields::each_removed))]
     pub(crate) fn count_removed(&self, hash: Option<&Hash>) -> usize
         requires { RemovesEach self.now }
-        ensures count { result + length (fields_changed (known (option_copied hash.entry)) self.now)
-            ≡ length (known (option_copied hash.entry)) }
+        ensures count { result + length (fields_after hash.entry self.now) ≡ length (fields_in hash.entry) }
         ensures small { result < 2 ^ 63 }
-        ensures distinct { HasDistinctFields (known (option_copied hash.entry)) }
+        ensures distinct { HasDistinctFields (fields_in hash.entry) }
     {
         prove!(len_of(hash) < 1 << 63);
         count_there(hash, &self.changes)
@@ -106,8 +104,7 @@ impl PlannedFields {
 #[tactic(auto, using(crate::proofs::RemovedFields::one_removed))]
 fn removals(alloc: Global, fields: &[ByteString]) -> Result<FieldChanges, AllocError>
     ensures each { IfOk result (λ changes. RemovesEach changes.items) }
-    ensures same { IfOk result (λ changes. (pairs : Pairs) → HasDistinctFields pairs →
-        fields_changed pairs changes.items ≡ fields_changed pairs (removals fields.now)) }
+    ensures same { IfOk result (λ changes. RemoveFields fields.now changes.items) }
 {
     match fields {
         [field] => one_removal(alloc, field),
@@ -127,8 +124,7 @@ fn one_removal(alloc: Global, field: &ByteString) -> Result<FieldChanges, AllocE
 // Each field without a value, where it is named first.
 fn removals_once(alloc: Global, fields: &[ByteString]) -> Result<FieldChanges, AllocError>
     ensures each { IfOk result (λ changes. RemovesEach changes.items) }
-    ensures same { IfOk result (λ changes. (pairs : Pairs) → HasDistinctFields pairs →
-        fields_changed pairs changes.items ≡ fields_changed pairs (removals fields.now)) }
+    ensures same { IfOk result (λ changes. RemoveFields fields.now changes.items) }
 {
     let mut named = IndexSet::new(alloc);
     let mut changes = Vec::with_capacity(alloc, fields.len())?;
@@ -157,7 +153,7 @@ fn name(
 
 // How many of the changes are of a field that the hash has.
 fn count_there(hash: Option<&Hash>, changes: &[(ByteString, Option<ByteString>)]) -> usize
-    ensures { result ≡ count_by (λ change. is_some (value_of (known (option_copied hash.entry)) change.0)) changes.now }
+    ensures { result ≡ count_by (λ change. is_some (value_of (fields_in hash.entry) change.0)) changes.now }
 {
     changes
         .iter()

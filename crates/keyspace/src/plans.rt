@@ -1,9 +1,9 @@
 //! A plan: what commands change, decided and not made yet, and its commit.
 ghost use Rattle.std.specs.Prelude.{◌≡◌, None, IfOk, OnOk, OnErr};
-ghost use Rattle.keyspace.specs.Changes.{applied};
-ghost use Rattle.keyspace.specs.Keyspace.{Keyspace, with_appended, with_fields};
-ghost use Rattle.keyspace.specs.Plan.{committed, with_step};
+ghost use Rattle.keyspace.specs.Keyspace.{Keyspace};
+ghost use Rattle.keyspace.specs.Plan.{committed, with_both, with_step, AddsStep, EndsWith, Settles};
 ghost use Rattle.keyspace.specs.Putting.{with_pairs};
+ghost use Rattle.keyspace.specs.declared.plans.LastStep.TheVariants.{Append, Fields, Pairs};
 
 use crate::appending::appended;
 use crate::changes::NewValues;
@@ -65,8 +65,7 @@ impl Plan {
     /// Puts bytes behind the string at the key. No other step is planned.
     pub(crate) fn append(&mut self, key: ByteString, bytes: ByteString)
         requires { self.old.last ≡ None }
-        ensures { (keyspace : Keyspace) →
-            committed keyspace self.new ≡ with_appended (applied keyspace self.old.values) key bytes }
+        ensures { EndsWith self.old self.new (Append key bytes) }
     {
         self.end_with(LastStep::Append(key, bytes));
     }
@@ -78,8 +77,7 @@ impl Plan {
         changes: PlannedFields,
     ) -> Result<(), AllocError>
         requires { self.old.last ≡ None }
-        ensures { OnOk result ((keyspace : Keyspace) →
-            committed keyspace self.new ≡ with_fields (applied keyspace self.old.values) key.now changes) }
+        ensures { OnOk result (EndsWith self.old self.new (Fields key.now changes)) }
     {
         self.end_with(LastStep::Fields(key.clone()?, changes));
         Ok(())
@@ -88,16 +86,14 @@ impl Plan {
     /// Puts values at keys, from left to right. No other step is planned.
     pub(crate) fn put_pairs(&mut self, pairs: ValuePairs)
         requires { self.old.last ≡ None }
-        ensures { (keyspace : Keyspace) →
-            committed keyspace self.new ≡ with_pairs (applied keyspace self.old.values) pairs.items }
+        ensures { EndsWith self.old self.new (Pairs pairs) }
     {
         self.end_with(LastStep::Pairs(pairs));
     }
 
     fn end_with(&mut self, step: LastStep)
         requires { self.old.last ≡ None }
-        ensures { (keyspace : Keyspace) →
-            committed keyspace self.new ≡ with_step (applied keyspace self.old.values) step }
+        ensures { EndsWith self.old self.new step }
     {
         self.last = Some(step);
     }
@@ -106,8 +102,7 @@ impl Plan {
     #[tactic(auto, using(crate::proofs::Committed::committed_values, crate::proofs::Committed::committed_step))]
     pub(crate) fn settle<S: Store>(&mut self, alloc: Global, store: &S) -> Result<(), AllocError>
         ensures last { OnOk result (self.new.last ≡ None) }
-        ensures values { OnOk result (
-            applied (S.contents store.now) self.new.values ≡ committed (S.contents store.now) self.old) }
+        ensures values { OnOk result (Settles (S.contents store.now) self.old self.new) }
     {
         match self.last.take() {
             None => Ok(()),
@@ -135,8 +130,7 @@ fn settle_step<S: Store>(
     values: &mut NewValues,
     step: LastStep,
 ) -> Result<(), AllocError>
-    ensures { OnOk result (
-        applied (S.contents store.now) values.new ≡ with_step (applied (S.contents store.now) values.old) step) }
+    ensures { OnOk result (AddsStep (S.contents store.now) values.old values.new step) }
 {
     match step {
         LastStep::Append(key, bytes) => put_appended(alloc, store, values, key, bytes),
@@ -154,8 +148,7 @@ fn put_appended<S: Store>(
     key: ByteString,
     bytes: ByteString,
 ) -> Result<(), AllocError>
-    ensures { OnOk result (applied (S.contents store.now) values.new
-        ≡ with_appended (applied (S.contents store.now) values.old) key bytes) }
+    ensures { OnOk result (AddsStep (S.contents store.now) values.old values.new (Append key bytes)) }
 {
     let value = appended(alloc, values.look(store, &key), bytes)?;
     values.insert(key, Some(value))
@@ -169,8 +162,7 @@ fn put_changed<S: Store>(
     key: ByteString,
     changes: FieldChanges,
 ) -> Result<(), AllocError>
-    ensures { OnOk result (applied (S.contents store.now) values.new
-        ≡ with_fields (applied (S.contents store.now) values.old) key changes.items) }
+    ensures { OnOk result (AddsStep (S.contents store.now) values.old values.new (Fields key changes.items)) }
 {
     let value = with_changed_fields(values.look(store, &key), changes)?;
     values.insert(key, value)
@@ -193,7 +185,7 @@ fn put_and_step<S: Store>(
     values: NewValues,
     step: LastStep,
 ) -> Result<(), AllocError>
-    ensures ok { OnOk result (S.contents store.new ≡ with_step (applied (S.contents store.old) values) step) }
+    ensures ok { OnOk result (S.contents store.new ≡ with_both (S.contents store.old) values step) }
     ensures err { OnErr result (S.contents store.new ≡ S.contents store.old) }
 {
     if values.is_empty() {
@@ -220,7 +212,7 @@ fn put_settled<S: Store>(
     mut values: NewValues,
     step: LastStep,
 ) -> Result<(), AllocError>
-    ensures ok { OnOk result (S.contents store.new ≡ with_step (applied (S.contents store.old) values) step) }
+    ensures ok { OnOk result (S.contents store.new ≡ with_both (S.contents store.old) values step) }
     ensures err { OnErr result (S.contents store.new ≡ S.contents store.old) }
 {
     settle_step(alloc, store, &mut values, step)?;

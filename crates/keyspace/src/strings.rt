@@ -1,17 +1,14 @@
 //! The commands on strings, and those on keys with values of any type.
-ghost use Rattle.std.specs.Prelude.{◌≡◌, ◌<◌, ◌∷◌, [], ◌^◌, OnOk, IfOk, IsTrue, Some, codes, count_by, is_some, pos, if◌then◌else◌};
-ghost use Rattle.std.specs.Prelude.{map as each};
+ghost use Rattle.std.specs.Prelude.{◌≡◌, ◌<◌, ◌∷◌, [], ◌^◌, OnOk, IfOk, IsTrue, Some, codes, count_by, is_some};
 ghost use Rattle.std.specs.Option.{option_copied};
 ghost use Rattle.std.specs.FinMap as map;
 ghost use Rattle.std.specs.Fmt.{signed_decimal};
-ghost use Rattle.command_table.specs.declared.command.DataCommand.{DataCommand};
-ghost use Rattle.keyspace.specs.Changes.{applied};
-ghost use Rattle.keyspace.specs.Commands.{exec, taken_at, values_at, with_values};
-ghost use Rattle.keyspace.specs.Keyspace.{Keyspace};
-ghost use Rattle.keyspace.specs.Plan.{committed};
-ghost use Rattle.keyspace.specs.Strings.{all_removed, bulk_or_null, deleted, holds, is_hash, is_string, length_reply, number_at, number_left, string_of, string_reply, sum_of, type_of};
+ghost use Rattle.command_table.specs.declared.command.DataCommand.TheVariants.{Append, Del, Exists, Get, Getdel, Getset, Incrby, Mget, Mset, Set, Setnx, Strlen, TypeOf};
+ghost use Rattle.keyspace.specs.Changes.{applied, with_string};
+ghost use Rattle.keyspace.specs.Commands.{values_at};
+ghost use Rattle.keyspace.specs.Planning.{count_at, AddsToNumber, Leaves, Plans, PlansAnywhere, PlansSettled, Replies};
+ghost use Rattle.keyspace.specs.Strings.{bulk_or_null, holds, is_hash, is_string, number_at, string_of, string_reply, sum_of, type_of};
 ghost use Rattle.resp_values.specs.Line.{is_one_line};
-ghost use Rattle.resp_values.specs.Reply.{array_of};
 
 use crate::changes::NewValues;
 use crate::limits::length_fits;
@@ -46,8 +43,7 @@ pub(crate) fn get<S: Store>(
     values: &NewValues,
     key: &ByteString,
 ) -> Result<Reply, AllocError>
-    ensures { IfOk result (λ reply.
-        reply ≡ string_reply (map.get (applied (S.contents store.now) values.now) key.now)) }
+    ensures { Replies (S.contents store.now) values.now (Get key.now) result }
 {
     string_reply(values.look(store, key))
 }
@@ -61,9 +57,7 @@ pub(crate) fn strings_at<S: Store>(
     values: &NewValues,
     keys: &[ByteString],
 ) -> Result<Reply, AllocError>
-    ensures { IfOk result (λ reply.
-        let found = values_at (applied (S.contents store.now) values.now) keys.now in
-        reply ≡ Reply.Array (array_of (each bulk_or_null found))) }
+    ensures { Replies (S.contents store.now) values.now (Mget keys.now) result }
 {
     let mut strings = Vec::with_capacity(alloc, keys.len())?;
     for key in keys {
@@ -82,9 +76,7 @@ pub(crate) fn set<S: Store>(
     value: &ByteString,
     condition: Condition,
 ) -> Result<Reply, AllocError>
-    ensures { IfOk result (λ reply.
-        record { reply = reply; after = applied (S.contents store.now) values.new }
-        ≡ exec (applied (S.contents store.now) values.old) (DataCommand.Set key.now value.now condition)) }
+    ensures { Plans (S.contents store.now) values.old values.new (Set key.now value.now condition) result }
 {
     if condition != Condition::Always && !holds(condition, values.look(store, key)) {
         return Ok(Reply::Null);
@@ -113,9 +105,7 @@ pub(crate) fn set_each(
     pairs: &PairList,
 ) -> Result<Reply, AllocError>
     requires { plan.old.last ≡ None }
-    ensures { IfOk result (λ reply. (keyspace : Keyspace) →
-        record { reply = reply; after = committed keyspace plan.new }
-        ≡ exec (applied keyspace plan.old.values) (DataCommand.Mset pairs.now)) }
+    ensures { PlansAnywhere plan.old plan.new (Mset pairs.now) result }
 {
     plan.put_pairs(copied_pairs(alloc, pairs)?);
     Ok(simple(b"OK"))
@@ -129,9 +119,7 @@ pub(crate) fn setnx<S: Store>(
     key: &ByteString,
     value: &ByteString,
 ) -> Result<Reply, AllocError>
-    ensures { IfOk result (λ reply.
-        record { reply = reply; after = applied (S.contents store.now) values.new }
-        ≡ exec (applied (S.contents store.now) values.old) (DataCommand.Setnx key.now value.now)) }
+    ensures { Plans (S.contents store.now) values.old values.new (Setnx key.now value.now) result }
 {
     if values.look(store, key).is_some() {
         return Ok(integer(0));
@@ -148,9 +136,7 @@ pub(crate) fn getset<S: Store>(
     key: &ByteString,
     value: &ByteString,
 ) -> Result<Reply, AllocError>
-    ensures { IfOk result (λ reply.
-        record { reply = reply; after = applied (S.contents store.now) values.new }
-        ≡ exec (applied (S.contents store.now) values.old) (DataCommand.Getset key.now value.now)) }
+    ensures { Plans (S.contents store.now) values.old values.new (Getset key.now value.now) result }
 {
     let old = values.look(store, key);
     let reply = string_reply(old)?;
@@ -167,9 +153,7 @@ pub(crate) fn getdel<S: Store>(
     values: &mut NewValues,
     key: &ByteString,
 ) -> Result<Reply, AllocError>
-    ensures { IfOk result (λ reply.
-        record { reply = reply; after = applied (S.contents store.now) values.new }
-        ≡ exec (applied (S.contents store.now) values.old) (DataCommand.Getdel key.now)) }
+    ensures { Plans (S.contents store.now) values.old values.new (Getdel key.now) result }
 {
     let old = values.look(store, key);
     let reply = string_reply(old)?;
@@ -189,9 +173,7 @@ pub(crate) fn append<S: Store>(
     value: &ByteString,
 ) -> Result<Reply, AllocError>
     requires { plan.old.last ≡ None }
-    ensures { IfOk result (λ reply.
-        record { reply = reply; after = committed (S.contents store.now) plan.new }
-        ≡ exec (applied (S.contents store.now) plan.old.values) (DataCommand.Append key.now value.now)) }
+    ensures { PlansSettled (S.contents store.now) plan.old plan.new (Append key.now value.now) result }
 {
     let Some(old) = string_of(plan.values.look(store, key)) else {
         return Ok(ErrorLine::WrongType.reply());
@@ -212,9 +194,7 @@ pub(crate) fn incrby<S: Store>(
     key: &ByteString,
     increment: &ByteString,
 ) -> Result<Reply, AllocError>
-    ensures { IfOk result (λ reply.
-        record { reply = reply; after = applied (S.contents store.now) values.new }
-        ≡ exec (applied (S.contents store.now) values.old) (DataCommand.Incrby key.now increment.now)) }
+    ensures { Plans (S.contents store.now) values.old values.new (Incrby key.now increment.now) result }
 {
     let Some(increment) = number_in(increment.as_slice()) else {
         return Ok(ErrorLine::NotAnInteger.reply());
@@ -231,10 +211,7 @@ pub(crate) fn add<S: Store>(
     key: &ByteString,
     increment: i64,
 ) -> Result<Reply, AllocError>
-    ensures { IfOk result (λ reply.
-        let before = applied (S.contents store.now) values.old in
-        record { reply = reply; after = applied (S.contents store.now) values.new }
-        ≡ taken_at before (key.now ∷ []) (number_left (sum_of (Some increment) (number_at (map.get before key.now))))) }
+    ensures { AddsToNumber (S.contents store.now) values.old values.new key.now increment result }
 {
     match sum_at(values.look(store, key), increment) {
         Ok(sum) => put_number(alloc, values, key, sum),
@@ -252,7 +229,7 @@ fn sum_at(value: Option<&Value>, increment: i64) -> Result<i64, ErrorLine>
 
 // Puts the string at the key.
 fn put(values: &mut NewValues, key: &ByteString, value: ByteString) -> Result<(), AllocError>
-    ensures { OnOk result (values.new ≡ map.insert values.old key.now (Some (Value.Str value))) }
+    ensures { OnOk result (values.new ≡ with_string values.old key.now value) }
 {
     values.insert(key.clone()?, Some(Value::Str(value)))
 }
@@ -265,14 +242,14 @@ fn set_replying(
     reply: Reply,
 ) -> Result<Reply, AllocError>
     ensures reply { IfOk result (λ told. told ≡ reply) }
-    ensures after { OnOk result (values.new ≡ map.insert values.old key.now (Some (Value.Str value.now))) }
+    ensures after { OnOk result (values.new ≡ with_string values.old key.now value.now) }
 {
     put_copy(values, key, value)?;
     Ok(reply)
 }
 
 fn put_copy(values: &mut NewValues, key: &ByteString, value: &ByteString) -> Result<(), AllocError>
-    ensures { OnOk result (values.new ≡ map.insert values.old key.now (Some (Value.Str value.now))) }
+    ensures { OnOk result (values.new ≡ with_string values.old key.now value.now) }
 {
     put(values, key, value.clone()?)
 }
@@ -304,8 +281,7 @@ fn put_number(
     number: i64,
 ) -> Result<Reply, AllocError>
     ensures reply { IfOk result (λ reply. reply ≡ Reply.Integer number) }
-    ensures after { OnOk result (
-        values.new ≡ map.insert values.old key.now (Some (Value.Str (signed_decimal number)))) }
+    ensures after { OnOk result (values.new ≡ with_string values.old key.now (signed_decimal number)) }
 {
     put(values, key, text_of(alloc, number)?)?;
     Ok(Reply::Integer(number))
@@ -318,10 +294,8 @@ pub(crate) fn delete<S: Store>(
     values: &mut NewValues,
     keys: &[ByteString],
 ) -> Result<Reply, AllocError>
-    ensures reply { IfOk result (λ reply.
-        reply ≡ Reply.Integer (pos (deleted keys.now (values_at (applied (S.contents store.now) values.old) keys.now)))) }
-    ensures after { OnOk result (applied (S.contents store.now) values.new
-        ≡ with_values (applied (S.contents store.now) values.old) keys.now (all_removed keys.now)) }
+    ensures reply { Replies (S.contents store.now) values.old (Del keys.now) result }
+    ensures after { OnOk result (Leaves (S.contents store.now) values.old values.new (Del keys.now)) }
 {
     let mut count = 0;
     for key in keys {
@@ -337,10 +311,8 @@ fn delete_key<S: Store>(
     values: &mut NewValues,
     key: &ByteString,
 ) -> Result<usize, AllocError>
-    ensures there { IfOk result (λ count.
-        count ≡ (if is_some (map.get (applied (S.contents store.now) values.old) key.now) then 1 else 0)) }
-    ensures after { OnOk result (applied (S.contents store.now) values.new
-        ≡ map.remove (applied (S.contents store.now) values.old) key.now) }
+    ensures there { IfOk result (λ count. count ≡ count_at (S.contents store.now) values.old key.now) }
+    ensures after { OnOk result (Leaves (S.contents store.now) values.old values.new (Del (key.now ∷ []))) }
 {
     if values.look(store, key).is_none() {
         return Ok(0);
@@ -356,9 +328,7 @@ pub(crate) fn exists<S: Store>(
     values: &NewValues,
     keys: &[ByteString],
 ) -> Result<Reply, AllocError>
-    ensures { IfOk result (λ reply.
-        let found = values_at (applied (S.contents store.now) values.now) keys.now in
-        reply ≡ Reply.Integer (pos (count_by is_some found))) }
+    ensures { Replies (S.contents store.now) values.now (Exists keys.now) result }
 {
     Ok(integer(count_there(store, values, keys)))
 }
@@ -383,8 +353,7 @@ pub(crate) fn len_at<S: Store>(
     values: &NewValues,
     key: &ByteString,
 ) -> Result<Reply, AllocError>
-    ensures { IfOk result (λ reply.
-        reply ≡ length_reply (string_of (map.get (applied (S.contents store.now) values.now) key.now))) }
+    ensures { Replies (S.contents store.now) values.now (Strlen key.now) result }
 {
     match string_of(values.look(store, key)) {
         Some(bytes) => Ok(integer(bytes.len())),
@@ -399,8 +368,7 @@ pub(crate) fn type_at<S: Store>(
     values: &NewValues,
     key: &ByteString,
 ) -> Result<Reply, AllocError>
-    ensures { IfOk result (λ reply.
-        reply ≡ Reply.Simple (type_of (map.get (applied (S.contents store.now) values.now) key.now))) }
+    ensures { Replies (S.contents store.now) values.now (TypeOf key.now) result }
 {
     Ok(simple(type_of(values.look(store, key))))
 }
