@@ -4,7 +4,7 @@ use Rattle.byte_string.specs.Block.{IsBlock}
 use Rattle.byte_string.specs.Short.{IsShort}
 use Rattle.byte_string.specs.declared.block.Block.{Block}
 use Rattle.byte_string.specs.declared.form.Form.{Form}
-use Rattle.byte_string.specs.declared.form.Form.TheVariants.{Short, In40, In56, In72, In104, In136, In184, In248, Static, Buffer}
+use Rattle.byte_string.specs.declared.form.Form.TheVariants.{Short, In40, In56, In72, In104, In136, In184, In248, Buffer}
 
 -- those of a block
 abbrev pub bytes_in : {size : ℕ} → Block size → List ℕ
@@ -19,7 +19,6 @@ bytes_of (In104 block) = bytes_in block
 bytes_of (In136 block) = bytes_in block
 bytes_of (In184 block) = bytes_in block
 bytes_of (In248 block) = bytes_in block
-bytes_of (Static bytes) = bytes.now
 bytes_of (Buffer buffer) = buffer.value.items
 
 abbrev pub IsForm : Form → Type 0
@@ -31,5 +30,4 @@ IsForm (In104 block) = IsBlock block
 IsForm (In136 block) = IsBlock block
 IsForm (In184 block) = IsBlock block
 IsForm (In248 block) = IsBlock block
-IsForm (Static _) = ⊤
 IsForm (Buffer _) = ⊤

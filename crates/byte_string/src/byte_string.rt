@@ -76,15 +76,6 @@ impl ByteString {
         }
     }
 
-    /// These bytes, which are there for as long as the program runs, and so are never copied.
-    pub fn from_static(bytes: &'static [u8]) -> ByteString
-        ensures { result ≡ bytes.now }
-    {
-        ByteString {
-            form: Form::Static(bytes),
-        }
-    }
-
     /// The bytes of a buffer, which the string shares from now on.
     pub fn from_shared(buffer: Arc<Vec<u8>>) -> ByteString
         ensures { result ≡ buffer.value.items }

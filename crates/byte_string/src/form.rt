@@ -24,8 +24,6 @@ pub(crate) enum Form {
     In136(Block<136>),
     In184(Block<184>),
     In248(Block<248>),
-    // Bytes that are there for as long as the program runs.
-    Static(&'static [u8]),
     // A buffer, which copies share, and which may have room behind the bytes.
     Buffer(Arc<Vec<u8>>),
 }
@@ -70,7 +68,6 @@ impl Form {
             Form::In136(block) => Form::In136(block.copy()?),
             Form::In184(block) => Form::In184(block.copy()?),
             Form::In248(block) => Form::In248(block.copy()?),
-            Form::Static(bytes) => Form::Static(*bytes),
             Form::Buffer(buffer) => Form::Buffer(buffer.clone()?),
         })
     }
@@ -89,7 +86,6 @@ impl Form {
             Form::In136(block) => block.as_slice(),
             Form::In184(block) => block.as_slice(),
             Form::In248(block) => block.as_slice(),
-            Form::Static(bytes) => *bytes,
             Form::Buffer(buffer) => buffer.as_slice(),
         }
     }

@@ -3,7 +3,7 @@ ghost use Rattle.std.specs.Prelude.{◌≡◌, ◌++◌, IfOk, IsTrue, OnOk};
 ghost use Rattle.redirection.specs.Texts.{ask_text, moved_text, place_text};
 ghost use Rattle.resp_values.specs.Line.{is_one_line};
 
-use byte_string::ByteString;
+use bytes::Bytes;
 use cluster_config::Host;
 use itoa::Buffer;
 use key_slot::{MoveNo, Slot};
@@ -19,7 +19,7 @@ pub fn moved_reply(alloc: Global, slot: Slot, host: &Host, port: u16) -> Result<
 }
 
 #[tactic(auto, using(crate::proofs::LineLemmas::moved_is_one_line))]
-fn moved_text(alloc: Global, slot: Slot, host: &Host, port: u16) -> Result<ByteString, AllocError>
+fn moved_text(alloc: Global, slot: Slot, host: &Host, port: u16) -> Result<Bytes, AllocError>
     ensures text { IfOk result (λ text. text ≡ moved_text slot host.now port) }
     ensures line { IfOk result (λ text. IsTrue (is_one_line text)) }
 {
@@ -28,7 +28,7 @@ fn moved_text(alloc: Global, slot: Slot, host: &Host, port: u16) -> Result<ByteS
     let mut text = Vec::with_capacity(alloc, room)?;
     text.extend_from_slice(b"MOVED ")?;
     append_place(&mut text, slot, host, port)?;
-    Ok(ByteString::from_vec(text)?)
+    Ok(Bytes::from_vec(text)?)
 }
 
 /// The error that sends a client to the node at the host and the port for this one command.
@@ -54,7 +54,7 @@ fn ask_text(
     host: &Host,
     port: u16,
     number: Option<MoveNo>,
-) -> Result<ByteString, AllocError>
+) -> Result<Bytes, AllocError>
     ensures text { IfOk result (λ text. text ≡ ask_text slot host.now port number) }
     ensures line { IfOk result (λ text. IsTrue (is_one_line text)) }
 {
@@ -69,7 +69,7 @@ fn ask_text(
         text.extend_from_slice(b" ")?;
         text.extend_from_slice(Buffer::new().format(number.get()).as_bytes())?;
     }
-    Ok(ByteString::from_vec(text)?)
+    Ok(Bytes::from_vec(text)?)
 }
 
 // Appends the slot, and the address of the node.

@@ -10,7 +10,7 @@ ghost use Rattle.resp2.specs.Answers.{IfOkSome, OnOkNone};
 use crate::bulk::{is_whole, make_room, take_front};
 use crate::reply_reader::MOST_COUNT;
 use byte_string::ByteString;
-use bytes::BytesMut;
+use bytes::{Bytes, BytesMut};
 use resp_header::{Bounds, Fault, read_header};
 use resp_values::{Element, Line, is_text_byte};
 
@@ -112,7 +112,7 @@ fn take_line(input: &mut BytesMut, begun: &mut Begun) -> Result<Option<Line>, Fa
     if !is_whole(input.as_slice(), end)? {
         return Ok(None);
     }
-    let text = ByteString::copy_from_slice(*input.allocator(), &input.as_slice()[1..end])?;
+    let text = Bytes::copy_from_slice(*input.allocator(), &input.as_slice()[1..end])?;
     input.advance(end + 2);
     *begun = Begun::nothing();
     Ok(Some(Line::of(text)))

@@ -4,14 +4,14 @@ ghost use Rattle.std.specs.Cmp.{partial_equiv_from_equiv};
 ghost use Rattle.std.specs.Cmp.Lexicographic.{pointwise, nat_list_eq_equiv};
 ghost use Rattle.resp_values.specs.Line.{is_one_line, is_text_byte};
 
-use byte_string::ByteString;
+use bytes::Bytes;
 use std::alloc::AllocError;
 use std::marker::Model;
 
 /// A text on one line, as simple strings and errors carry it.
 #[derive(Debug)]
 pub struct Line {
-    text: ByteString,
+    text: Bytes,
 }
 
 impl Model for Line {
@@ -38,12 +38,12 @@ impl Line {
         ensures { result ≡ text.now }
     {
         Line {
-            text: ByteString::from_static(text),
+            text: Bytes::from_static(text),
         }
     }
 
     /// The line with this text, or None where a CR or an LF is in it.
-    pub fn new(text: ByteString) -> Option<Line>
+    pub fn new(text: Bytes) -> Option<Line>
         ensures line { IfSome result (λ line. line ≡ text) }
         ensures whole { IsSome result ↔ IsTrue (is_one_line text) }
     {
@@ -55,7 +55,7 @@ impl Line {
     }
 
     /// The line with this text, in which no line ends.
-    pub fn of(text: ByteString) -> Line
+    pub fn of(text: Bytes) -> Line
         requires { IsTrue (is_one_line text) }
         ensures { result ≡ text }
     {
