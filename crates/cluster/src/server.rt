@@ -179,7 +179,7 @@ where
     let cluster = share(alloc, nodes, overseer)?;
     run(rt, alloc, &cluster, &overseer.orders, admission, times)?;
     match Arc::into_inner(cluster) {
-        Some(cluster) if cluster.nodes.len() == count => Ok(cluster.nodes),
+        Some(cluster) if cluster.nodes.len() == count => Ok(cluster.into_nodes()),
         _ => Err(ServeFault::Thread),
     }
 }

@@ -57,7 +57,8 @@ impl<T, R: Wait> NodeEnds<T, R> {
     pub fn into_vec(self) -> Vec<LinkEnd<T, R>>
         ensures { result.items ≡ self }
     {
-        self.ends
+        let NodeEnds { ends } = self;
+        ends
     }
 }
 

@@ -45,7 +45,8 @@ impl<E: PortEnd> PortEnds<E> {
     pub fn into_vec(self) -> Vec<E>
         ensures { map (λ end. (E.giving end).end) result.items ≡ self }
     {
-        self.ends
+        let PortEnds { ends } = self;
+        ends
     }
 }
 

@@ -1,5 +1,7 @@
 //! A cluster that is served.
 
+ghost use Rattle.std.specs.Prelude.{◌≡◌};
+
 use cluster_controls::{Clients, Stop, Witness};
 use node_cell::HoldsCell;
 use shared_node::Node;
@@ -23,6 +25,20 @@ impl<C: HoldsCell + Drop> Drop for SharedCluster<C> {
             clients: _,
             stop: _,
         } = self;
+    }
+}
+
+impl<C: HoldsCell + Drop> SharedCluster<C> {
+    /// The nodes, once the cluster isn't served.
+    pub fn into_nodes(self) -> Vec<Node<C>>
+        ensures { result ≡ self.nodes }
+    {
+        let SharedCluster {
+            nodes,
+            clients: _,
+            stop: _,
+        } = self;
+        nodes
     }
 }
 

@@ -50,7 +50,13 @@ impl<C: HoldsCell + Drop> Node<C> {
 
     /// The cell, once nobody serves the node.
     pub fn into_cell(self) -> C {
-        self.shared.into_cell()
+        let Node {
+            shared,
+            listener: _,
+            address: _,
+            first_sender: _,
+        } = self;
+        shared.into_cell()
     }
 
     /// The number of the node whose messages are taken first. It may be greater than that of the last node.
