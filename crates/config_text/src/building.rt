@@ -73,7 +73,11 @@ fn ranges_of(alloc: Global, pairs: &[(i128, i128)]) -> Result<Vec<SlotRange>, Al
     pairs.iter().filter_map(range_from).collect(alloc)
 }
 
-fn voters_of(alloc: Global, nodes: &[NodeDraft], ids: &[ByteString]) -> Result<Vec<NodeNo>, AllocError>
+fn voters_of(
+    alloc: Global,
+    nodes: &[NodeDraft],
+    ids: &[ByteString],
+) -> Result<Vec<NodeNo>, AllocError>
     requires few { length nodes.now ≤ 16 }
     requires known { All (λ id. number_of nodes.now id < length nodes.now) ids.now }
     ensures { IfOk result (λ voters. voters.items ≡ map (number_of nodes.now) ids.now) }

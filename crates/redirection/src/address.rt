@@ -33,10 +33,7 @@ impl Model for Address {
 
 impl Drop for Address {
     fn drop(self) {
-        let Address {
-            host: _,
-            port: _,
-        } = self;
+        let Address { host: _, port: _ } = self;
     }
 }
 
