@@ -2,16 +2,12 @@ pub mod Applied
 pub mod Locality
 pub mod Parts
 pub mod Maps
-pub mod Sums
 pub mod FirstChange
 pub mod Parted
 pub mod Removed
 pub mod Restored
-pub mod Deleting
-pub mod Counting
 mod WorkedValues
 pub mod Committed
-pub mod Left
 pub mod Rebuilt
 pub mod InPlace
 pub mod Fitting

@@ -1,9 +1,7 @@
 pub mod Changes
-pub mod CommandGroups
 pub mod Commands
 pub mod Commit
 pub mod Effect
-pub mod HashChanges
 pub mod Hashes
 pub mod Keyspace
 pub mod Leaving
@@ -11,7 +9,6 @@ pub mod Locality
 pub mod Numbers
 pub mod Parts
 pub mod Plan
-pub mod Planning
 pub mod PlannedFields
 pub mod Rebuild
 pub mod Rebuilding

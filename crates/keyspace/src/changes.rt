@@ -16,7 +16,7 @@ use std::collections::BTreeMap;
 use std::marker::Model;
 
 /// New values of keys that are decided and not put yet: at most one for each key. A single one allocates nothing.
-pub(crate) struct NewValues {
+pub struct NewValues {
     // The key that was changed first, with its latest change. It stands apart so that a single change needs no tree.
     first: Option<(ByteString, Option<Value>)>,
     // The changes of all other keys.
@@ -72,12 +72,8 @@ impl NewValues {
         }
     }
 
-    // A later change of a key replaces the earlier one.
-    pub(crate) fn insert(
-        &mut self,
-        key: ByteString,
-        change: Option<Value>,
-    ) -> Result<(), AllocError>
+    /// Changes the value at the key: a later change replaces the earlier one.
+    pub fn insert(&mut self, key: ByteString, change: Option<Value>) -> Result<(), AllocError>
         ensures ok { OnOk result (self.new ≡ map.insert self.old key change) }
         ensures err { OnErr result (self.new ≡ self.old) }
     {
@@ -100,9 +96,9 @@ impl NewValues {
         Ok(())
     }
 
-    // The value at the key once all changes are made.
+    /// The value at the key once all changes are made.
     #[tactic(auto, using(crate::proofs::Applied::get_applied))]
-    pub(crate) fn look<'a, S: Store>(&'a self, store: &'a S, key: &ByteString) -> Option<&'a Value>
+    pub fn look<'a, S: Store>(&'a self, store: &'a S, key: &ByteString) -> Option<&'a Value>
         ensures { option_copied result ≡ map.get (applied (S.contents store.now) self.now) key.now }
     {
         match self.get(key) {

@@ -12,7 +12,7 @@ use hash::{Extent, Hash, Word};
 use std::alloc::{AllocError, Global};
 
 /// The hash, or None where it is missing. A string is refused.
-pub(crate) fn hash_in(value: Option<&Value>) -> Result<Option<&Hash>, ErrorLine>
+pub fn hash_in(value: Option<&Value>) -> Result<Option<&Hash>, ErrorLine>
     ensures ok { IfOk result (λ hash. fields_of (option_copied value.entry) ≡ Some (fields_in hash)) }
     ensures wrong { IfErr result (λ fault. fault ≡ ErrorLine.WrongType) }
     ensures err { IfErr result (λ fault. fields_of (option_copied value.entry) ≡ None) }
@@ -25,7 +25,7 @@ pub(crate) fn hash_in(value: Option<&Value>) -> Result<Option<&Hash>, ErrorLine>
 }
 
 /// The value of the field.
-pub(crate) fn value_in<'a>(hash: Option<&'a Hash>, field: &ByteString) -> Option<Word<'a>>
+pub fn value_in<'a>(hash: Option<&'a Hash>, field: &ByteString) -> Option<Word<'a>>
     ensures { result ≡ value_of (fields_in hash.entry) field.now }
 {
     match hash {
@@ -35,7 +35,7 @@ pub(crate) fn value_in<'a>(hash: Option<&'a Hash>, field: &ByteString) -> Option
 }
 
 /// The number of fields.
-pub(crate) fn len_of(hash: Option<&Hash>) -> usize
+pub fn len_of(hash: Option<&Hash>) -> usize
     ensures len { result ≡ length (fields_in hash.entry) }
     ensures small { result < 2 ^ 63 }
     ensures distinct { HasDistinctFields (fields_in hash.entry) }
@@ -47,7 +47,7 @@ pub(crate) fn len_of(hash: Option<&Hash>) -> usize
 }
 
 /// What the hash takes after the changes, which aren't made.
-pub(crate) fn extent_after(
+pub fn extent_after(
     alloc: Global,
     hash: Option<&Hash>,
     changes: &[(ByteString, Option<ByteString>)],

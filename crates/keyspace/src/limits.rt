@@ -25,7 +25,7 @@ pub fn value_fits(key: &ByteString, value: &Value) -> bool
 {
     match value {
         Value::Str(bytes) => string_fits(key, bytes),
-        Value::Hash(hash) => fits(key, extent_of(hash)),
+        Value::Hash(hash) => hash_fits(key, extent_of(hash)),
     }
 }
 
@@ -48,7 +48,7 @@ fn string_fits(key: &ByteString, bytes: &ByteString) -> bool
 }
 
 /// Whether a string of that length may be left at the key.
-pub(crate) fn length_fits(key: &ByteString, len: usize) -> bool
+pub fn length_fits(key: &ByteString, len: usize) -> bool
     ensures { (bytes : List ℕ) → len ≡ min (length bytes) (2 ^ 64 - 1) → result ≡ fits_string key.now bytes }
 {
     if len > MOST_WORD_BYTES {
@@ -72,7 +72,7 @@ fn extent_of(hash: &Hash) -> Extent
 }
 
 /// Whether a hash of this extent may be left at the key.
-pub(crate) fn fits(key: &ByteString, extent: Extent) -> bool
+pub fn hash_fits(key: &ByteString, extent: Extent) -> bool
     ensures { (pairs : Pairs) → extent.len ≡ length pairs → extent.size ≡ size_of pairs → result ≡ fits_hash key.now pairs }
 {
     if extent.len > MOST_FIELDS {

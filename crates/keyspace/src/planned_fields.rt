@@ -22,7 +22,7 @@ use std::marker::Model;
 ///
 /// So one pass and no memory tell whether they leave a field.
 #[derive(Drop)]
-pub(crate) struct PlannedFields {
+pub struct PlannedFields {
     changes: FieldChanges,
 }
 
@@ -38,7 +38,8 @@ impl Model for PlannedFields {
 }
 
 impl PlannedFields {
-    pub(crate) fn new(changes: FieldChanges) -> PlannedFields
+    /// These changes.
+    pub fn new(changes: FieldChanges) -> PlannedFields
         requires { IsPlanned changes.items }
         ensures { result ≡ changes.items }
     {
@@ -47,10 +48,7 @@ impl PlannedFields {
 
     /// Each of the fields removed, once.
     #[tactic(auto, using(crate::proofs::RemovedFields::each_sets_none))]
-    pub(crate) fn removing(
-        alloc: Global,
-        fields: &[ByteString],
-    ) -> Result<PlannedFields, AllocError>
+    pub fn removing(alloc: Global, fields: &[ByteString]) -> Result<PlannedFields, AllocError>
         ensures each { IfOk result (λ planned. RemovesEach planned) }
         ensures same { IfOk result (RemoveFields fields.now) }
     {
@@ -67,7 +65,7 @@ impl PlannedFields {
 
     /// How many fields of the hash are removed, where none is set.
     #[tactic(auto, using(crate::proofs::RemovedFields::each_removed))]
-    pub(crate) fn count_removed(&self, hash: Option<&Hash>) -> usize
+    pub fn count_removed(&self, hash: Option<&Hash>) -> usize
         requires { RemovesEach self.now }
         ensures count { result + length (fields_after hash.entry self.now) ≡ length (fields_in hash.entry) }
         ensures small { result < 2 ^ 63 }

@@ -15,23 +15,23 @@ use crate::value::Value;
 use byte_string::ByteString;
 use std::alloc::{AllocError, Global};
 
-// What is made after the new values are put.
+/// What is made after the new values are put.
 #[derive(Drop)]
-pub(crate) enum LastStep {
-    // Bytes are put behind the string at a key.
+pub enum LastStep {
+    /// Bytes are put behind the string at a key.
     Append(ByteString, ByteString),
-    // Fields of the hash at a key are changed.
+    /// Fields of the hash at a key are changed.
     Fields(ByteString, PlannedFields),
-    // Values are put at keys, from left to right.
+    /// Values are put at keys, from left to right.
     Pairs(ValuePairs),
 }
 
 /// Changes that are decided and not made yet. A plan with one change allocates nothing for itself.
 pub struct Plan {
-    // New values, which are put first.
-    pub(crate) values: NewValues,
-    // What the latest command changes in a way of its own.
-    pub(crate) last: Option<LastStep>,
+    /// New values, which are put first.
+    pub values: NewValues,
+    /// What the latest command changes in a way of its own.
+    pub last: Option<LastStep>,
 }
 
 impl Drop for Plan {
@@ -63,7 +63,7 @@ impl Plan {
     }
 
     /// Puts bytes behind the string at the key. No other step is planned.
-    pub(crate) fn append(&mut self, key: ByteString, bytes: ByteString)
+    pub fn append(&mut self, key: ByteString, bytes: ByteString)
         requires { self.old.last ≡ None }
         ensures { EndsWith self.old self.new (Append key bytes) }
     {
@@ -71,7 +71,7 @@ impl Plan {
     }
 
     /// Changes fields of the hash at the key. No other step is planned.
-    pub(crate) fn change_fields(
+    pub fn change_fields(
         &mut self,
         key: &ByteString,
         changes: PlannedFields,
@@ -84,7 +84,7 @@ impl Plan {
     }
 
     /// Puts values at keys, from left to right. No other step is planned.
-    pub(crate) fn put_pairs(&mut self, pairs: ValuePairs)
+    pub fn put_pairs(&mut self, pairs: ValuePairs)
         requires { self.old.last ≡ None }
         ensures { EndsWith self.old self.new (Pairs pairs) }
     {
@@ -100,7 +100,7 @@ impl Plan {
 
     /// Makes new values of what the last step changes, so that a later command can read them.
     #[tactic(auto, using(crate::proofs::Committed::committed_values, crate::proofs::Committed::committed_step))]
-    pub(crate) fn settle<S: Store>(&mut self, alloc: Global, store: &S) -> Result<(), AllocError>
+    pub fn settle<S: Store>(&mut self, alloc: Global, store: &S) -> Result<(), AllocError>
         ensures last { OnOk result (self.new.last ≡ None) }
         ensures values { OnOk result (Settles (S.contents store.now) self.old self.new) }
     {

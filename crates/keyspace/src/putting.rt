@@ -13,13 +13,13 @@ use command_table::{PairList, split_pair};
 use std::alloc::{AllocError, Global};
 
 /// Keys, each with the value that it gets. Of a repeated key the last value stays.
-pub(crate) type ValuePairs = Vec<(ByteString, Value)>;
+pub type ValuePairs = Vec<(ByteString, Value)>;
 
 // What keys had before values were put there, in the order in which these were put.
 type Former = Vec<(ByteString, Option<Value>)>;
 
 /// Copies of the pairs, which stay when their request is gone.
-pub(crate) fn copied_pairs(alloc: Global, pairs: &PairList) -> Result<ValuePairs, AllocError>
+pub fn copied_pairs(alloc: Global, pairs: &PairList) -> Result<ValuePairs, AllocError>
     ensures { IfOk result (λ copied. copied.items ≡ string_pairs pairs.now) }
 {
     let mut rest = pairs.words();

@@ -7,7 +7,8 @@ ghost use Rattle.stream_values.specs.Reading.{BeginsWithRequest};
 
 use crate::lengths::spelled_len;
 use command::{Command, parse};
-use keyspace::{Plan, Store, plan_command};
+use key_commands::plan_command;
+use keyspace::{Plan, Store};
 use resp_values::Words;
 use resp2::{Fault, Reader, no_spelling_begins_another, no_unfinished_is_whole};
 use std::alloc::{AllocError, Global};

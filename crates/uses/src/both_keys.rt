@@ -5,7 +5,8 @@ ghost use Rattle.keyspace.specs.declared.value.Value.TheVariants.{Str};
 
 use byte_string::ByteString;
 use command_table::{Condition, DataCommand, Word};
-use keyspace::{Store, commit, plan};
+use key_commands::plan;
+use keyspace::{Store, commit};
 use std::alloc::{AllocError, Global};
 
 /// Sets both keys, or changes nothing where memory is refused.

@@ -1,7 +1,8 @@
 //! What the commands of a journal leave where one after the other is executed on a map, with no node round it.
 
 use command::{Command, parse};
-use keyspace::{TreeStore, exec};
+use key_commands::exec;
+use keyspace::TreeStore;
 use node_cell::Entry;
 use node_core::{Event, Outputs, Response, Why};
 use resp2::{Reply, Words};

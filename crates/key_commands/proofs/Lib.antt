@@ -1,0 +1,4 @@
+pub mod Left
+pub mod Counting
+pub mod Deleting
+pub mod Sums

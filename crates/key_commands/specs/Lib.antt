@@ -1,0 +1,3 @@
+pub mod CommandGroups
+pub mod HashChanges
+pub mod Planning

@@ -1,5 +1,0 @@
-use Rattle.keyspace.proofs.RemovedFields.{sets_planned}
-use Rattle.keyspace.proofs.hash_changes.HashChange.setting_each.Goals as goal
-
-pub new-requires : goal.new-requires
-new-requires c = sets_planned _ _ c.in_ok-changes.ensures
