@@ -23,11 +23,20 @@ use std::marker::Model;
 /// has its entry, in order.
 ///
 /// The entries stay where they are, in the journals of the nodes.
-#[derive(Drop)]
 pub struct WorldRun {
     config: Config,
     journals: Vec<NodeJournal>,
     tickets: u64,
+}
+
+impl Drop for WorldRun {
+    fn drop(self) {
+        let WorldRun {
+            config: _,
+            journals: _,
+            tickets: _,
+        } = self;
+    }
 }
 
 impl Model for WorldRun {

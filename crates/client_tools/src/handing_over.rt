@@ -20,11 +20,20 @@ use tool_io::{
 };
 
 /// The replica that is to take the place of its master, the node that the run begins with, and for how long it waits.
-#[derive(Drop)]
 pub struct Handover {
     start: Address,
     replica: NodeId,
     seconds: u64,
+}
+
+impl Drop for Handover {
+    fn drop(self) {
+        let Handover {
+            start: _,
+            replica: _,
+            seconds: _,
+        } = self;
+    }
 }
 
 impl Handover {
@@ -83,13 +92,22 @@ pub fn hand_over<R: ToolRuntime>(
 }
 
 // What was done.
-#[derive(Drop)]
 struct Done {
     // How many slots the replica has now.
     slots: u64,
     // The id of the master that had them, where that is known.
     from: Option<ByteString>,
     took: Duration,
+}
+
+impl Drop for Done {
+    fn drop(self) {
+        let Done {
+            slots: _,
+            from: _,
+            took: _,
+        } = self;
+    }
 }
 
 // Does it over sockets.

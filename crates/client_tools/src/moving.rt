@@ -32,11 +32,20 @@ pub(crate) fn look_for_moves<N: Network + Drop>(
 }
 
 // A slot that is on the move, and the ids of its two masters.
-#[derive(Drop)]
 struct MovingSlot {
     slot: u16,
     from: ByteString,
     to: ByteString,
+}
+
+impl Drop for MovingSlot {
+    fn drop(self) {
+        let MovingSlot {
+            slot: _,
+            from: _,
+            to: _,
+        } = self;
+    }
 }
 
 impl MovingSlot {
@@ -60,19 +69,29 @@ impl MovingSlot {
 }
 
 // A slot that isn't on the move and has keys, and the id of its master.
-#[derive(Drop)]
 struct KeptSlot {
     slot: u16,
     master: ByteString,
 }
 
+impl Drop for KeptSlot {
+    fn drop(self) {
+        let KeptSlot { slot: _, master: _ } = self;
+    }
+}
+
 // What masters report of their slots.
-#[derive(Drop)]
 struct Reports {
     // One slot for each two masters between which some are on the move.
     moving: Vec<MovingSlot>,
     // One slot for each master that has such a slot.
     kept: Vec<KeptSlot>,
+}
+
+impl Drop for Reports {
+    fn drop(self) {
+        let Reports { moving: _, kept: _ } = self;
+    }
 }
 
 impl Reports {

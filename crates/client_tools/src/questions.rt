@@ -12,10 +12,18 @@ use std::alloc::Global;
 use tool_io::{HandoverFault, ToolFailure, ToolFault};
 
 /// Questions to nodes, over a way to them.
-#[derive(Drop)]
 pub(crate) struct Questions<N: Network + Drop> {
     alloc: Global,
     network: N,
+}
+
+impl<N: Network + Drop> Drop for Questions<N> {
+    fn drop(self) {
+        let Questions {
+            alloc: _,
+            network: _,
+        } = self;
+    }
 }
 
 /// What a node says that is asked to take the place of its master.

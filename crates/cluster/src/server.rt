@@ -70,12 +70,20 @@ pub struct Course<'a> {
 }
 
 /// What whoever runs a cluster sees of it, and orders.
-#[derive(Drop)]
 pub struct Overseer {
     /// It sees which clients can't be served, which thread can't be started, and what else happens.
     pub witness: Arc<Witness, Global>,
     /// What is ordered meanwhile.
     pub orders: Arc<Orders, Global>,
+}
+
+impl Drop for Overseer {
+    fn drop(self) {
+        let Overseer {
+            witness: _,
+            orders: _,
+        } = self;
+    }
 }
 
 /// Serves the nodes of the cluster, each at its place, with an `L` as its journal and the links `W` between them, as long as the course
@@ -226,7 +234,7 @@ where
         Ok(()) => cluster.stop.wait(&rt),
         Err(_) => cluster.stop.end(),
     }
-    end_all(&rt, cluster, starting.started);
+    end_all(&rt, cluster, starting.into_started());
     outcome
 }
 

@@ -11,7 +11,6 @@ use std::thread;
 use std::thread::JoinHandle;
 
 /// What the threads of a cluster are started with, and those that were started.
-#[derive(Drop)]
 pub(crate) struct Starting<'a, C: HasLinks<R>, R: Runtime> {
     pub(crate) rt: R,
     pub(crate) alloc: Global,
@@ -21,6 +20,36 @@ pub(crate) struct Starting<'a, C: HasLinks<R>, R: Runtime> {
     pub(crate) times: Times<'a>,
     /// They are to be joined.
     pub(crate) started: Vec<JoinHandle<()>>,
+}
+
+impl<C: HasLinks<R> + Drop, R: Runtime + Drop> Drop for Starting<'_, C, R> {
+    fn drop(self) {
+        let Starting {
+            rt: _,
+            alloc: _,
+            cluster: _,
+            orders: _,
+            admission: _,
+            times: _,
+            started: _,
+        } = self;
+    }
+}
+
+impl<C: HasLinks<R> + Drop, R: Runtime + Drop> Starting<'_, C, R> {
+    /// The threads that were started.
+    pub(crate) fn into_started(self) -> Vec<JoinHandle<()>> {
+        let Starting {
+            rt: _,
+            alloc: _,
+            cluster: _,
+            orders: _,
+            admission: _,
+            times: _,
+            started,
+        } = self;
+        started
+    }
 }
 
 impl<'a, C: HasLinks<R> + Drop + Send + 'static, R: Runtime> Starting<'a, C, R>

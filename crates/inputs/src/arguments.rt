@@ -43,7 +43,6 @@ pub enum Call<'a> {
 }
 
 /// A cluster that is to be served, as the words say it.
-#[derive(Drop)]
 pub struct Service<'a> {
     /// Where its nodes are told, or None where the words don't say it.
     pub source: Option<Source<'a>>,
@@ -70,6 +69,25 @@ pub struct Service<'a> {
     pub status_ticks: Option<u64>,
     /// Whether orders are read from standard input.
     pub takes_orders: bool,
+}
+
+impl Drop for Service<'_> {
+    fn drop(self) {
+        let Service {
+            source: _,
+            only_checks: _,
+            ticks: _,
+            stops: _,
+            loops: _,
+            network: _,
+            host: _,
+            records_journal: _,
+            record: _,
+            is_logged: _,
+            status_ticks: _,
+            takes_orders: _,
+        } = self;
+    }
 }
 
 /// Slots that are to be moved, as the words say it.

@@ -17,12 +17,20 @@ pub enum InputFault {
 }
 
 /// Why an input can't be taken: the fault, and a sentence that says what is wrong and where.
-#[derive(Drop)]
 pub struct InputFailure {
     /// The fault.
     pub fault: InputFault,
     /// What is wrong and where, or None where the fault says enough, or where there was no memory for more.
     pub detail: Option<String>,
+}
+
+impl Drop for InputFailure {
+    fn drop(self) {
+        let InputFailure {
+            fault: _,
+            detail: _,
+        } = self;
+    }
 }
 
 impl InputFailure {
@@ -32,6 +40,12 @@ impl InputFailure {
             fault,
             detail: detail.ok(),
         }
+    }
+
+    /// What is wrong and where, if that is known.
+    pub fn into_detail(self) -> Option<String> {
+        let InputFailure { fault: _, detail } = self;
+        detail
     }
 }
 

@@ -47,7 +47,6 @@ where
 }
 
 // Where the clients of a node come in.
-#[derive(Drop)]
 struct Entrance<'a, C: HasLinks<R>, R: Runtime> {
     rt: R,
     alloc: Global,
@@ -58,6 +57,21 @@ struct Entrance<'a, C: HasLinks<R>, R: Runtime> {
     inboxes: &'a [Arc<Inbox<Asks<C::Cluster>>, Global>],
     // The inbox in which the next client waits, if there are inboxes.
     turn: usize,
+}
+
+impl<C: HasLinks<R> + Drop, R: Runtime + Drop> Drop for Entrance<'_, C, R> {
+    fn drop(self) {
+        let Entrance {
+            rt: _,
+            alloc: _,
+            cluster: _,
+            admission: _,
+            node: _,
+            number: _,
+            inboxes: _,
+            turn: _,
+        } = self;
+    }
 }
 
 impl<'a, C: HasLinks<R> + Drop + Send + 'static, R: Runtime> Entrance<'a, C, R>

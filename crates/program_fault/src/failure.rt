@@ -8,12 +8,20 @@ use std::fmt;
 use tool_io::ToolFailure;
 
 /// Why the program stops: the fault, and a sentence that says what is wrong and where.
-#[derive(Drop)]
 pub struct Failure {
     /// The fault.
     pub fault: ProgramFault,
     // What is wrong and where, or None where the fault says enough, or where there was no memory for more.
     detail: Option<String>,
+}
+
+impl Drop for Failure {
+    fn drop(self) {
+        let Failure {
+            fault: _,
+            detail: _,
+        } = self;
+    }
 }
 
 impl Failure {
@@ -62,7 +70,7 @@ impl From<InputFailure> for Failure {
     fn from(failure: InputFailure) -> Failure {
         Failure {
             fault: ProgramFault::from(failure.fault),
-            detail: failure.detail,
+            detail: failure.into_detail(),
         }
     }
 }
@@ -71,7 +79,7 @@ impl From<ToolFailure> for Failure {
     fn from(failure: ToolFailure) -> Failure {
         Failure {
             fault: ProgramFault::from(failure.fault),
-            detail: failure.detail,
+            detail: failure.into_detail(),
         }
     }
 }

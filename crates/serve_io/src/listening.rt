@@ -12,12 +12,25 @@ use std::net::{Net, SocketAddr, TcpListener, TcpStream, ToSocketAddrs};
 const HOST: &str = "127.0.0.1";
 
 /// Where the nodes listen, apart from their addresses.
-#[derive(Drop)]
 pub struct Doors<'a> {
     /// Listeners that are open already: the first node's, the second one's, and so on. The other nodes have none yet.
     pub open: Vec<TcpListener>,
     /// The host at which all other nodes listen, or None where each listens at its own.
     pub host: Option<&'a str>,
+}
+
+impl Drop for Doors<'_> {
+    fn drop(self) {
+        let Doors { open: _, host: _ } = self;
+    }
+}
+
+impl Doors<'_> {
+    /// The listeners that are open already.
+    pub fn into_open(self) -> Vec<TcpListener> {
+        let Doors { open, host: _ } = self;
+        open
+    }
 }
 
 /// Listens at so many free ports of that host, or of this machine alone where none is named.

@@ -14,11 +14,19 @@ use std::{fmt, thread};
 
 /// The log of a cluster that is served, or none where none is wanted. A thread of its own writes it, so that nobody else waits for
 /// whoever reads it.
-#[derive(Drop)]
 pub struct Logging {
     /// What happens is seen by it.
     pub witness: Arc<Witness, Global>,
     thread: Option<JoinHandle<()>>,
+}
+
+impl Drop for Logging {
+    fn drop(self) {
+        let Logging {
+            witness: _,
+            thread: _,
+        } = self;
+    }
 }
 
 impl Logging {

@@ -35,7 +35,6 @@ impl<R: Runtime + AllocGlobal + Input<Reader: Send> + Print + Eprint> Server for
 pub type Network = Vec<Vec<Act>>;
 
 /// What may be wanted of a cluster that is served.
-#[derive(Drop)]
 pub struct Wishes<'a> {
     /// Which nodes are stopped meanwhile.
     pub stops: &'a [NodeStop],
@@ -51,6 +50,36 @@ pub struct Wishes<'a> {
     pub status_ticks: Option<u64>,
     /// Whether orders are read from standard input.
     pub takes_orders: bool,
+}
+
+impl Drop for Wishes<'_> {
+    fn drop(self) {
+        let Wishes {
+            stops: _,
+            loops: _,
+            doors: _,
+            record: _,
+            is_logged: _,
+            status_ticks: _,
+            takes_orders: _,
+        } = self;
+    }
+}
+
+impl<'a> Wishes<'a> {
+    // Where the nodes listen.
+    fn into_doors(self) -> Doors<'a> {
+        let Wishes {
+            stops: _,
+            loops: _,
+            doors,
+            record: _,
+            is_logged: _,
+            status_ticks: _,
+            takes_orders: _,
+        } = self;
+        doors
+    }
 }
 
 // How the nodes are watched.
@@ -324,7 +353,7 @@ where
     };
     let watching = wishes.watching();
     let host = wishes.doors.host;
-    let places = listen::<K, E>(&rt, config, seats, ends, wishes.doors)?;
+    let places = listen::<K, E>(&rt, config, seats, ends, wishes.into_doors())?;
     let watch = match begin_watch(rt, config, host, watching) {
         Ok(watch) => watch,
         Err(failure) => {
@@ -424,7 +453,7 @@ where
 {
     let host = doors.host;
     let mut all_ends = VecDeque::from(ends);
-    let mut open = VecDeque::from(doors.open);
+    let mut open = VecDeque::from(doors.into_open());
     let mut places = Vec::with_capacity(rt.alloc(), seats.len())?;
     for (number, node) in config.nodes().iter().enumerate() {
         let listener = listen_at(rt, number, node, open.pop_front(), host)?;

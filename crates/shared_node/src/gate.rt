@@ -14,7 +14,6 @@ use std::sync::{MutexGuard, Wait};
 /// One conversation's way to a node whose cell is in a `C`. The handle `rt` is the leave to wait for the node's lock.
 ///
 /// It is released before it is dropped: else the thread that takes the node's messages isn't told of those that steps left.
-#[derive(Drop)]
 pub struct Gate<'n, C: HoldsCell, R: Wait> {
     rt: R,
     node: &'n SharedNode<C>,
@@ -23,6 +22,18 @@ pub struct Gate<'n, C: HoldsCell, R: Wait> {
     // Steps left messages, and the thread that takes them wasn't told.
     has_left: bool,
     asks: Asks<C::Cluster>,
+}
+
+impl<C: HoldsCell + Drop, R: Wait + Drop> Drop for Gate<'_, C, R> {
+    fn drop(self) {
+        let Gate {
+            rt: _,
+            node: _,
+            held: _,
+            has_left: _,
+            asks: _,
+        } = self;
+    }
 }
 
 impl<'n, C: HoldsCell + Drop, R: Wait> Gate<'n, C, R> {

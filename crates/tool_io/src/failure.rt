@@ -39,12 +39,20 @@ pub enum HandoverFault {
 }
 
 /// Why a tool stops: the fault, and a sentence that says what is wrong and where.
-#[derive(Drop)]
 pub struct ToolFailure {
     /// The fault.
     pub fault: ToolFault,
     /// What is wrong and where, or None where the fault says enough, or where there was no memory for more.
     pub detail: Option<String>,
+}
+
+impl Drop for ToolFailure {
+    fn drop(self) {
+        let ToolFailure {
+            fault: _,
+            detail: _,
+        } = self;
+    }
 }
 
 impl ToolFailure {
@@ -54,6 +62,12 @@ impl ToolFailure {
             fault,
             detail: detail.ok(),
         }
+    }
+
+    /// What is wrong and where, if that is known.
+    pub fn into_detail(self) -> Option<String> {
+        let ToolFailure { fault: _, detail } = self;
+        detail
     }
 
     /// Whether a handover asked a node that can't be reached, or the connection to which failed.

@@ -8,11 +8,20 @@ use std::fmt::Display;
 use std::rt::Clock;
 
 /// For how long a run still waits. What it asks meanwhile doesn't count. Waits that are long are told.
-#[derive(Drop)]
 pub struct Patience<'a, R: Drop> {
     rt: R,
     seen: &'a RefCell<Seen>,
     milliseconds: u64,
+}
+
+impl<R: Drop> Drop for Patience<'_, R> {
+    fn drop(self) {
+        let Patience {
+            rt: _,
+            seen: _,
+            milliseconds: _,
+        } = self;
+    }
 }
 
 impl<'a, R: Eprint + Clock + Drop> Patience<'a, R> {

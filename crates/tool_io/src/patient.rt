@@ -11,11 +11,20 @@ use std::time::Duration;
 
 /// A way to the nodes for who asks the same again where a node refuses it: before each repetition others may run, and from the
 /// tenth on it waits. Waits that are long are told. Each request begins with a connection.
-#[derive(Drop)]
 pub struct Patient<'a, R: Drop, N: Network + Drop> {
     rt: R,
     network: N,
     seen: &'a RefCell<Seen>,
+}
+
+impl<R: Drop, N: Network + Drop> Drop for Patient<'_, R, N> {
+    fn drop(self) {
+        let Patient {
+            rt: _,
+            network: _,
+            seen: _,
+        } = self;
+    }
 }
 
 impl<'a, R: Drop, N: Network + Drop> Patient<'a, R, N> {

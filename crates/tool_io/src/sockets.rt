@@ -32,12 +32,22 @@ pub fn no_address(alloc: Global, text: &str) -> Result<String, AllocError> {
 ///
 /// No contract says which node a socket reaches. So the address stands here, for proofs alone: it is the one that the socket
 /// was connected to.
-#[derive(Drop)]
 pub struct End<'a, R: Drop> {
     stream: TcpStream,
     address: Snapshot<Address>,
     rt: R,
     seen: &'a RefCell<Seen>,
+}
+
+impl<R: Drop> Drop for End<'_, R> {
+    fn drop(self) {
+        let End {
+            stream: _,
+            address: _,
+            rt: _,
+            seen: _,
+        } = self;
+    }
 }
 
 impl<'a, R: ToolRuntime> End<'a, R> {
@@ -100,12 +110,21 @@ impl<R: ToolRuntime> Write for End<'_, R> {
 }
 
 /// Makes connections to nodes, on sockets. Why one isn't made is seen.
-#[derive(Drop)]
 pub struct Sockets<'a, R: Drop> {
     rt: R,
     seen: &'a RefCell<Seen>,
     // How often no node was reached.
     failures: u64,
+}
+
+impl<R: Drop> Drop for Sockets<'_, R> {
+    fn drop(self) {
+        let Sockets {
+            rt: _,
+            seen: _,
+            failures: _,
+        } = self;
+    }
 }
 
 impl<'a, R: Drop> Sockets<'a, R> {

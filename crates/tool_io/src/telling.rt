@@ -125,16 +125,13 @@ fn unlisted_text(alloc: Global, seen: &Seen, id: &str) -> Result<String, AllocEr
 
 /// The failure of a handover, with what was seen where it says nothing itself.
 pub fn handover_failure(alloc: Global, failure: ToolFailure, seen: &RefCell<Seen>) -> ToolFailure {
-    let ToolFailure { fault, detail } = failure;
-    match detail {
-        Some(text) => ToolFailure {
-            fault,
-            detail: Some(text),
-        },
-        None => ToolFailure {
-            fault,
-            detail: handover_text(alloc, fault, seen),
-        },
+    if failure.detail.is_some() {
+        return failure;
+    }
+    let fault = failure.fault;
+    ToolFailure {
+        fault,
+        detail: handover_text(alloc, fault, seen),
     }
 }
 

@@ -234,10 +234,18 @@ fn note<D: Display + Drop>(noted: &mut String, text: D) {
 }
 
 /// A way to the nodes of which all is seen.
-#[derive(Drop)]
 pub struct Watched<'a, N: Network + Drop> {
     network: N,
     seen: &'a RefCell<Seen>,
+}
+
+impl<N: Network + Drop> Drop for Watched<'_, N> {
+    fn drop(self) {
+        let Watched {
+            network: _,
+            seen: _,
+        } = self;
+    }
 }
 
 impl<'a, N: Network + Drop> Watched<'a, N> {
