@@ -3,7 +3,7 @@ ghost use Rattle.std.specs.Prelude.{◌≡◌, ◌+◌, ◌++◌, ◌∷◌, ◌
 ghost use Rattle.std.specs.VecDeque.{deque_capacity, deque_len};
 ghost use Rattle.link_ends.specs.Giving.{HasReceived};
 ghost use Rattle.link_ends.specs.Halves.{WasFull};
-ghost use Rattle.link_ends.specs.Shims.{IsDone, at_once, fresh, given_by};
+ghost use Rattle.link_ends.specs.Shims.{GivesNothing, GivesOne, IsDone, at_once, fresh, given_by};
 
 use crate::acts::{Act, Acts};
 use crate::end::LinkEnd;
