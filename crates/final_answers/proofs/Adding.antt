@@ -21,12 +21,13 @@ use Rattle.smart_client.specs.declared.action.Action.TheVariants as wanted
 use Rattle.world_run.specs.Executed.{Answered, answered, answered_with, decision_in, executed, if_served, is_served}
 use Rattle.world_run.specs.Run.{Deed, Entry}
 use Rattle.world_run.specs.Run.Deed.{Made, Skipped}
-use Rattle.world.specs.Calls.{Acts, IsConnected, IsOpened, IsServed, IsShut, IsUsed, Serves, Uses, reply_in}
+use Rattle.world_nodes.specs.NodeSteps.{Closes, Enters, released_conns}
+use Rattle.world_nodes.specs.Nodes.{RunView, is_up}
+use Rattle.world_nodes.specs.Serving.{IsOpened, IsServed, Serves, reply_in}
+use Rattle.world_nodes.specs.declared.link.Link.{Link}
+use Rattle.world_nodes.specs.declared.output.Output.{Output}
+use Rattle.world.specs.Calls.{Acts, IsConnected, IsShut, IsUsed, Uses}
 use Rattle.world.specs.Clients.{ClientView}
-use Rattle.world.specs.NodeSteps.{Closes, Enters, released_conns}
-use Rattle.world.specs.View.{RunView, is_up}
-use Rattle.world.specs.declared.client.Link.{Link}
-use Rattle.world.specs.declared.output.Output.{Output}
 
 -- these commands are executed
 abbrev pub Adds : RunView → RunView → List Answered → Type 0

@@ -10,11 +10,11 @@ use Rattle.smart_client.specs.Words.{is_refused}
 use Rattle.smart_client.specs.declared.call.Call.{Call}
 use Rattle.smart_client.specs.declared.fault.ClientFault.TheVariants.{Lost, TooManyRedirects, StillTryAgain, Memory, NotConnected, BadReply, NotData}
 use Rattle.world_run.specs.Executed.{Answered}
+use Rattle.world_nodes.specs.declared.output.Output.{Output}
+use Rattle.world_nodes.specs.declared.output.Output.TheVariants as output
 use Rattle.world.specs.Clients.{ClientView}
 use Rattle.world.specs.declared.client.Late.{Late}
 use Rattle.world.specs.declared.client.Traffic.{Traffic}
-use Rattle.world.specs.declared.output.Output.{Output}
-use Rattle.world.specs.declared.output.Output.TheVariants as output
 use Rattle.world.specs.declared.step.Step.{Step}
 use Rattle.final_answers.specs.Book.{Answers, Book, IsRight, Line, Writes, new_line}
 use Rattle.final_answers.proofs.Doing.{executed_by}

@@ -9,15 +9,17 @@ use Rattle.smart_client.specs.declared.call.Call.{Call}
 use Rattle.smart_client.specs.declared.call.Stage.{Stage}
 use Rattle.smart_client.specs.declared.call.Stage.TheVariants as stage
 use Rattle.world_run.specs.Executed.{Answered as Execution}
-use Rattle.world.specs.Asking.{AsksWell, IsSent, asking_at}
-use Rattle.world.specs.Calls.{Arrives, Carries, ComesLate, IsCarried, IsLate, Lingers, Rests, Serves}
+use Rattle.world_nodes.specs.Allowed.{asking_at}
+use Rattle.world_nodes.specs.Nodes.{RunView, is_up}
+use Rattle.world_nodes.specs.Serving.{Serves}
+use Rattle.world_nodes.specs.declared.link.Link.{Link}
+use Rattle.world_nodes.specs.declared.output.Output.{Output}
+use Rattle.world.specs.Asking.{AsksWell, IsSent}
+use Rattle.world.specs.Calls.{Arrives, Carries, ComesLate, IsCarried, IsLate, Lingers, Rests}
 use Rattle.world.specs.Clients.{ClientView}
-use Rattle.world.specs.View.{RunView, is_up}
 use Rattle.world.specs.declared.client.Late.{Late}
-use Rattle.world.specs.declared.client.Link.{Link}
 use Rattle.world.specs.declared.client.Traffic.{Traffic}
 use Rattle.world.specs.declared.client.Traffic.TheVariants.{Quiet, Asked, Answered}
-use Rattle.world.specs.declared.output.Output.{Output}
 use Rattle.world.specs.declared.step.Step.TheVariants as step
 use Rattle.final_answers.specs.Book.{Answers, Book, IsRightSo}
 use Rattle.final_answers.proofs.Adding.{Adds, IsDone, IsSo, adds_first, adds_nothing, closes_adds, serves_so}

@@ -4,9 +4,9 @@ use Rattle.std.proofs.lemmas.Bool.{eqb-true}
 use Rattle.std.specs.Prelude.{slice_get}
 use Rattle.cluster_config.specs.declared.config.NodeConfig.{NodeConfig}
 use Rattle.single_keyspace.proofs.Seen.{no_some, same_some}
+use Rattle.world_nodes.specs.Nodes.{RunView}
 use Rattle.world.specs.Asking.{AllAskWell, AsksWell}
 use Rattle.world.specs.Clients.{ClientView, client_at, if_numbered, place_of}
-use Rattle.world.specs.View.{RunView}
 
 pub asks_at : (nodes : List NodeConfig) (run : RunView) (clients : List ClientView) (place : ℕ) (client : ClientView) → slice_get clients place ≡ Some client → AllAskWell nodes run clients → AsksWell nodes run client
 asks_at nodes run [] place client is all = absurd (no_some refl is)

@@ -9,15 +9,15 @@ use Rattle.smart_client.specs.declared.action.Action.{Action}
 use Rattle.smart_client.specs.declared.action.Action.TheVariants as wanted
 use Rattle.smart_client.specs.declared.call.Call.{Call}
 use Rattle.smart_client.specs.declared.call.Stage.{Stage}
+use Rattle.world_nodes.specs.Nodes.{RunView}
+use Rattle.world_nodes.specs.declared.link.Link.{Link}
+use Rattle.world_nodes.specs.declared.output.Output.{Output}
+use Rattle.world_nodes.specs.declared.output.Output.TheVariants as output
 use Rattle.world.specs.Calls.{Acts, Connects, GivesUp, Tells, Uses, link_to, told_of}
 use Rattle.world.specs.Clients.{ClientView, node_at, with_connection}
-use Rattle.world.specs.View.{RunView}
 use Rattle.world.specs.declared.client.Late.{Late}
-use Rattle.world.specs.declared.client.Link.{Link}
 use Rattle.world.specs.declared.client.Traffic.{Traffic}
 use Rattle.world.specs.declared.client.Traffic.TheVariants.{Quiet, Asked, Answered}
-use Rattle.world.specs.declared.output.Output.{Output}
-use Rattle.world.specs.declared.output.Output.TheVariants as output
 use Rattle.final_answers.specs.Book as book
 use Rattle.final_answers.proofs.Wanted.{IsCalling, MayWant, connects_so, execution_at, fails_so}
 

@@ -5,15 +5,15 @@ use Rattle.std.specs.Prelude.{MatchBool, filter, slice_get, slice_set}
 use Rattle.cluster_config.specs.declared.config.NodeConfig.{NodeConfig}
 use Rattle.smart_client.specs.declared.call.Call.{Call}
 use Rattle.world_run.specs.Executed.{Answered as Execution}
+use Rattle.world_nodes.specs.Nodes.{RunView, is_up}
+use Rattle.world_nodes.specs.declared.output.Output.{Output}
+use Rattle.world_nodes.specs.declared.output.Output.TheVariants as output
 use Rattle.world.specs.Asking.{AsksWell, IsOfCall}
 use Rattle.world.specs.Calls.{Carries, Cuts, Lingers}
 use Rattle.world.specs.Clients.{ClientView, broken_off, fault_of, is_elsewhere, leads_to, lost_at, lost_by, stopped_at, used_by, without_late}
-use Rattle.world.specs.View.{RunView, is_up}
 use Rattle.world.specs.declared.client.Late.{Late}
 use Rattle.world.specs.declared.client.Traffic.{Traffic}
 use Rattle.world.specs.declared.client.Traffic.TheVariants.{Quiet, Asked, Answered}
-use Rattle.world.specs.declared.output.Output.{Output}
-use Rattle.world.specs.declared.output.Output.TheVariants as output
 use Rattle.world.specs.declared.step.Step.{Step}
 use Rattle.world.specs.declared.step.Step.TheVariants as step
 use Rattle.final_answers.specs.Book.{Answers, Book, IsRight}

@@ -17,16 +17,16 @@ use Rattle.smart_client.specs.declared.call.Call.{Call}
 use Rattle.smart_client.specs.declared.call.Stage.{Stage}
 use Rattle.smart_client.specs.declared.call.Stage.TheVariants as stage
 use Rattle.smart_client.specs.declared.fault.ClientFault.TheVariants.{NotConnected}
+use Rattle.world_nodes.specs.Nodes.{RunView, is_up}
+use Rattle.world_nodes.specs.declared.link.Link.{Link}
+use Rattle.world_nodes.specs.declared.output.Output.{Output}
 use Rattle.world.proofs.Playing.{of_call_so}
 use Rattle.world.specs.Asking.{AsksWell, IsInPool, IsOfCall}
 use Rattle.world.specs.Calls.{Acts, Begins, ComesLate, Connects, Cuts, IsBegun, IsConnected, IsCut, IsLate, IsReturned, IsUsed, Lingers, Rests, Returns, Takes, Tells, Uses, link_to, told_of}
 use Rattle.world.specs.Clients.{ClientView, broken_off, fault_of, leads_to, node_at, stopped_at, used_by, with_connection, without_late}
-use Rattle.world.specs.View.{RunView, is_up}
 use Rattle.world.specs.declared.client.Late.{Late}
-use Rattle.world.specs.declared.client.Link.{Link}
 use Rattle.world.specs.declared.client.Traffic.{Traffic}
 use Rattle.world.specs.declared.client.Traffic.TheVariants.{Quiet, Asked, Answered}
-use Rattle.world.specs.declared.output.Output.{Output}
 use Rattle.final_answers.proofs.Greeting.{IsGreeted, MayWant, answers_greeted, begins_greeted, connects_greeted}
 use Rattle.final_answers.proofs.Kept.{IsIntroduced, Keeps, closes_keeps, connected_keeps, keeps_further, keeps_same, serves_keeps, shut_keeps}
 use Rattle.final_answers.proofs.Leading.{CanFollow}

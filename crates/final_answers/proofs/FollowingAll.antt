@@ -8,14 +8,15 @@ use Rattle.cluster_config.specs.Config.{ClusterConfig, IsCluster}
 use Rattle.cluster_config.specs.declared.config.NodeConfig.{NodeConfig}
 use Rattle.node_step.specs.State.{first_state}
 use Rattle.single_keyspace.proofs.Seen.{no_some, same_some}
+use Rattle.world_nodes.specs.Nodes.{RunView, is_up}
+use Rattle.world_nodes.specs.declared.output.Output.{Output}
 use Rattle.world.proofs.Playing.{of_call_so}
 use Rattle.world.specs.Asking.{AllAskWell, AsksWell, KeepsRule}
 use Rattle.world.specs.Calls.{Begins}
 use Rattle.world.specs.Clients.{ClientView, begun_at, client_at, new_client, place_of, stopped_at, with_client}
 use Rattle.world.specs.Plays.{ClientStep, IsNothing, IsOfClient, IsOfNodes, IsOfSome, IsStopping, Plays}
-use Rattle.world.specs.View.{RunView, SceneView, first_scene, is_up}
+use Rattle.world.specs.View.{SceneView, first_scene}
 use Rattle.world.specs.declared.client.Traffic.TheVariants.{Quiet}
-use Rattle.world.specs.declared.output.Output.{Output}
 use Rattle.world.specs.declared.step.Step.{Step}
 use Rattle.world.specs.declared.step.Step.TheVariants as step
 use Rattle.final_answers.proofs.Following.{FollowsWell, Goes, begins_well, cuts_well, follows_still, lingers_well, returns_well, stops_well}

@@ -27,9 +27,9 @@ use Rattle.smart_client.specs.declared.call.Stage.TheVariants as stage
 use Rattle.smart_client.specs.declared.client_core.TheConstants.{MOST_REDIRECTIONS}
 use Rattle.smart_client.specs.declared.fault.ClientFault.TheVariants.{Lost, TooManyRedirects, StillTryAgain, Memory, NotConnected, BadReply, NotData}
 use Rattle.smart_client.specs.declared.peers.Peer.{Peer}
+use Rattle.world_nodes.specs.Nodes.{RunView}
+use Rattle.world_nodes.specs.declared.link.Link.{Link}
 use Rattle.world.specs.Asking.{IsInPool}
-use Rattle.world.specs.View.{RunView}
-use Rattle.world.specs.declared.client.Link.{Link}
 use Rattle.final_answers.proofs.Kept.{IsIntroduced}
 use Rattle.final_answers.proofs.Leading.{CanFollow, names_node}
 use Rattle.final_answers.proofs.Linked.{AreKept, in_use_is, kept_added, kept_closed, kept_greeted, kept_lost, node_of}

@@ -20,18 +20,20 @@ use Rattle.smart_client.specs.declared.call.Call.{Call}
 use Rattle.smart_client.specs.declared.call.Stage.{Stage}
 use Rattle.smart_client.specs.declared.call.Stage.TheVariants as stage
 use Rattle.world_run.specs.Run.Deed.{Made}
-use Rattle.world.proofs.Leaving.{after_is, enters_leaves}
+use Rattle.world_nodes.specs.Allowed.{IsKnown, asking_at}
+use Rattle.world_nodes.specs.NodeSteps.{released_conns}
+use Rattle.world_nodes.specs.Nodes.{HaveConfig, RunView, is_up}
+use Rattle.world_nodes.specs.Serving.{IsServed, IsSkipped, Serves, reply_in}
+use Rattle.world_nodes.specs.declared.link.Link.{Link}
+use Rattle.world_nodes.specs.declared.output.Output.{Output}
+use Rattle.world_nodes.proofs.Leaving.{after_is, enters_leaves}
 use Rattle.world.proofs.Playing.{of_call_so}
 use Rattle.world.proofs.Requests.{words_of_client}
-use Rattle.world.specs.Asking.{AsksWell, HaveConfig, IsKnown, IsOfCall, IsSent, asking_at}
-use Rattle.world.specs.Calls.{Arrives, Carries, IsCarried, IsServed, IsSkipped, Rests, Serves, reply_in}
+use Rattle.world.specs.Asking.{AsksWell, IsOfCall, IsSent}
+use Rattle.world.specs.Calls.{Arrives, Carries, IsCarried, Rests}
 use Rattle.world.specs.Clients.{ClientView}
-use Rattle.world.specs.NodeSteps.{released_conns}
-use Rattle.world.specs.View.{RunView, is_up}
-use Rattle.world.specs.declared.client.Link.{Link}
 use Rattle.world.specs.declared.client.Traffic.{Traffic}
 use Rattle.world.specs.declared.client.Traffic.TheVariants.{Quiet, Asked, Answered}
-use Rattle.world.specs.declared.output.Output.{Output}
 use Rattle.final_answers.proofs.Following.{FollowsWell, Goes, IsLed, led_so, rests_well}
 use Rattle.final_answers.proofs.Greeting.{IsGreeted}
 use Rattle.final_answers.proofs.Kept.{AllNameable, IsIntroduced, closes_keeps, introduced_in, serves_keeps}

@@ -11,13 +11,14 @@ use Rattle.resp_values.specs.declared.reply.Reply.{Reply}
 use Rattle.single_keyspace.proofs.Seen.{same_some}
 use Rattle.world_run.specs.Run.{Deed, Entry, Leads}
 use Rattle.world_run.specs.Run.Deed.{Made, Skipped}
-use Rattle.world.proofs.Leaving.{after_is, apart_is, before_is, enters_leaves}
-use Rattle.world.specs.Asking.{IsKnown, opens_in, past_of}
-use Rattle.world.specs.Calls.{IsConnected, IsOpened, IsShut, IsUsed, Serves}
-use Rattle.world.specs.NodeSteps.{Administers, Closes, Delivers, Enters, IsAdministered, IsDelivered, IsHeard, IsIdle, Reaches, Ticks, Turns, is_admin, message_at, released_conns, served_conns}
-use Rattle.world.specs.View.{RunView, is_up}
-use Rattle.world.specs.declared.client.Link.{Link}
-use Rattle.world.specs.declared.output.Output.{Output}
+use Rattle.world_nodes.specs.Allowed.{IsKnown, opens_in, past_of}
+use Rattle.world_nodes.specs.NodeSteps.{Administers, Closes, Delivers, Enters, IsAdministered, IsDelivered, IsHeard, IsIdle, Reaches, Ticks, Turns, is_admin, message_at, released_conns, served_conns}
+use Rattle.world_nodes.specs.Nodes.{RunView, is_up}
+use Rattle.world_nodes.specs.Serving.{IsOpened, Serves}
+use Rattle.world_nodes.specs.declared.link.Link.{Link}
+use Rattle.world_nodes.specs.declared.output.Output.{Output}
+use Rattle.world_nodes.proofs.Leaving.{after_is, apart_is, before_is, enters_leaves}
+use Rattle.world.specs.Calls.{IsConnected, IsShut, IsUsed}
 use Rattle.final_answers.proofs.MoveNumbers.{HasNameable, step_nameable}
 use Rattle.final_answers.proofs.NumberedConns.{introduced_at, step_keeps}
 

@@ -11,12 +11,12 @@ use Rattle.single_keyspace.proofs.Lists.{contains_nothing, contains_one}
 use Rattle.single_keyspace.proofs.Seen.{no_some, same_some}
 use Rattle.smart_client.specs.Step.{nobody, peer_at, place_of, with_address, with_connected}
 use Rattle.smart_client.specs.declared.peers.Peer.{Peer}
+use Rattle.world_nodes.specs.Nodes.{RunView, is_up}
+use Rattle.world_nodes.specs.declared.link.Link.{Link}
 use Rattle.world.proofs.Pool.{put_again}
 use Rattle.world.specs.Asking.{IsInPool}
 use Rattle.world.specs.Calls.{IsConnected, IsUsed}
 use Rattle.world.specs.Clients.{node_at, place_at}
-use Rattle.world.specs.View.{RunView, is_up}
-use Rattle.world.specs.declared.client.Link.{Link}
 use Rattle.final_answers.proofs.Kept.{IsIntroduced, Keeps, connected_keeps}
 use Rattle.final_answers.proofs.Peers.{AreKnown, added_known, connected_known, is_among, same_peer, within_if_connected}
 use Rattle.final_answers.proofs.Placed.{IsPlaced, is_somewhere, same_place}

@@ -11,15 +11,16 @@ use Rattle.smart_client.specs.declared.call.Call.{Call}
 use Rattle.smart_client.specs.declared.call.Stage.{Stage}
 use Rattle.smart_client.specs.declared.call.Stage.TheVariants as stage
 use Rattle.smart_client.specs.declared.fault.ClientFault.{ClientFault}
-use Rattle.world.specs.Asking.{AsksWell, IsAsking, IsSent, asking_at}
+use Rattle.world_nodes.specs.Allowed.{asking_at}
+use Rattle.world_nodes.specs.Nodes.{RunView}
+use Rattle.world_nodes.specs.declared.link.Link.{Link}
+use Rattle.world_nodes.specs.declared.output.Output.{Output}
+use Rattle.world.specs.Asking.{AsksWell, IsAsking, IsSent}
 use Rattle.world.specs.Calls.{Cuts, IsCut}
 use Rattle.world.specs.Clients.{ClientView, broken_off, fault_of, lost_by}
-use Rattle.world.specs.View.{RunView}
 use Rattle.world.specs.declared.client.Late.{Late}
-use Rattle.world.specs.declared.client.Link.{Link}
 use Rattle.world.specs.declared.client.Traffic.{Traffic}
 use Rattle.world.specs.declared.client.Traffic.TheVariants.{Quiet, Asked, Answered}
-use Rattle.world.specs.declared.output.Output.{Output}
 use Rattle.world.specs.declared.step.Step.TheVariants as step
 use Rattle.final_answers.specs.Book.{Answers, Book, Tells}
 use Rattle.final_answers.proofs.Adding.{Adds, adds_nothing, shut_adds}

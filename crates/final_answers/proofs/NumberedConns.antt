@@ -58,7 +58,7 @@ use Rattle.slot_state.specs.declared.copy_id.CopyId.{CopyId}
 use Rattle.slot_table.specs.Claims.{merged}
 use Rattle.slot_table.specs.declared.entry.SlotEntry.{SlotEntry}
 use Rattle.smart_client.specs.Words.{numbered_words}
-use Rattle.world.proofs.Connected.{cases_conn, changed, changed_here, is_not_with, unchanged_there}
+use Rattle.world_nodes.proofs.Connected.{cases_conn, changed, changed_here, is_not_with, unchanged_there}
 use Rattle.node_step.specs.Handovers.{failover, handing_over, is_at_end, may_pause, noting}
 use Rattle.bus.specs.declared.bodies.Handing.{Handing}
 use Rattle.stream_values.specs.Stream.{is_same}

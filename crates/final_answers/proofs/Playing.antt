@@ -6,11 +6,13 @@ use Rattle.std.specs.Prelude.{MatchBool, slice_get}
 use Rattle.connections.specs.declared.conn.Conn.{Conn}
 use Rattle.smart_client.specs.Words.{is_refused}
 use Rattle.world_run.specs.Executed.{Answered as Execution}
+use Rattle.world_nodes.specs.NodeSteps.{Makes, Administers, Delivers, IsAdministered, IsDelivered, IsHeard, IsIdle, Reaches, Ticks, Turns, is_admin, message_at, served_conns}
+use Rattle.world_nodes.specs.Nodes.{RunView, is_up}
+use Rattle.world_nodes.specs.Outputs.{own_reply}
+use Rattle.world_nodes.specs.declared.output.Output.{Output}
+use Rattle.world_nodes.specs.declared.output.Output.TheVariants as output
 use Rattle.world.specs.Asking.{AsksWell}
 use Rattle.world.specs.Clients.{ClientView}
-use Rattle.world.specs.View.{RunView, is_up}
-use Rattle.world.specs.declared.output.Output.{Output}
-use Rattle.world.specs.declared.output.Output.TheVariants as output
 use Rattle.world.specs.declared.step.Step.{Step}
 use Rattle.final_answers.specs.Book.{Book, IsRight, Writes, begun}
 use Rattle.final_answers.proofs.Adding.{Adds, adds_first, adds_nothing, closes_adds}
@@ -39,8 +41,6 @@ use Rattle.single_keyspace.proofs.Seen.{no_some, same_some}
 use Rattle.world_run.specs.Executed.{answered_with, if_served}
 use Rattle.world_run.specs.Run.Deed.{Made, Skipped}
 use Rattle.world.specs.Clients.{client_at, place_of}
-use Rattle.world.specs.NodeSteps.{Makes, Administers, Delivers, IsAdministered, IsDelivered, IsHeard, IsIdle, Reaches, Ticks, Turns, is_admin, message_at, served_conns}
-use Rattle.world.specs.Outputs.{own_reply}
 use Rattle.world.specs.Plays.{ClientStep, IsNothing, IsOfClient, IsOfNodes, IsOfSome}
 use Rattle.world.specs.View.{SceneView}
 use Rattle.final_answers.proofs.Adding.{done_by, enters_adds}

@@ -22,17 +22,19 @@ use Rattle.smart_client.specs.declared.call.Call.{Call}
 use Rattle.smart_client.specs.declared.call.Stage.{Stage}
 use Rattle.smart_client.specs.declared.call.Stage.TheVariants as stage
 use Rattle.smart_client.specs.declared.fault.ClientFault.TheVariants.{Memory}
-use Rattle.world.specs.Asking.{AsksWell, ComesFrom, HadNoOffset, HaveConfig, IsKnown, IsOfCall, KeepsRule, WasAnswered, WasRefused, opens_in, past_of}
+use Rattle.world_nodes.specs.Allowed.{IsKnown, opens_in, past_of}
+use Rattle.world_nodes.specs.Nodes.{HaveConfig, RunView, is_up}
+use Rattle.world_nodes.specs.declared.link.Link.{Link}
+use Rattle.world_nodes.specs.declared.output.Output.{Output}
+use Rattle.world_nodes.specs.declared.output.Output.TheVariants as output
+use Rattle.world.specs.Asking.{AsksWell, ComesFrom, HadNoOffset, IsOfCall, KeepsRule, WasAnswered, WasRefused}
 use Rattle.world.specs.Calls.{Acts, Arrives, Begins, Carries, ComesLate, Connects, Cuts, IsBegun, IsCarried, IsConnected, IsCut, IsLate, IsReturned, IsUsed, Lingers, Rests, Returns, Takes, Tells, Uses, link_to, told_of}
 use Rattle.world.specs.Clients.{ClientView, begun_at, client_at, connection_to, fault_of, leads_to, lost_at, lost_by, new_client, node_at, place_of, used_by, with_client, with_connection}
 use Rattle.world.specs.Plays.{ClientStep, IsNothing, IsOfClient, IsOfSome, IsStopping, Plays}
-use Rattle.world.specs.View.{RunView, SceneView, is_up}
+use Rattle.world.specs.View.{SceneView}
 use Rattle.world.specs.declared.client.Late.{Late}
-use Rattle.world.specs.declared.client.Link.{Link}
 use Rattle.world.specs.declared.client.Traffic.{Traffic}
 use Rattle.world.specs.declared.client.Traffic.TheVariants.{Quiet, Asked, Answered}
-use Rattle.world.specs.declared.output.Output.{Output}
-use Rattle.world.specs.declared.output.Output.TheVariants as output
 use Rattle.world.specs.declared.step.Step.{Step}
 use Rattle.world.specs.declared.step.Step.TheVariants as step
 use Rattle.final_answers.specs.Reasons.{Breaks, Happens, HasNoConnection, HasReason, HaveReasons, IsExhausted, IsHandedOver, IsRefused, IsReturn, IsThere}

@@ -11,17 +11,18 @@ use Rattle.resp_values.specs.declared.reply.Reply.{Reply}
 use Rattle.smart_client.specs.declared.action.Event.TheVariants as happened
 use Rattle.smart_client.specs.declared.call.Call.{Call}
 use Rattle.world_run.specs.Executed.{Answered as Execution}
+use Rattle.world_nodes.specs.Nodes.{RunView}
+use Rattle.world_nodes.specs.Outputs.{beside_from, numbered, promotion_of, released_reply}
+use Rattle.world_nodes.specs.Serving.{Serves}
+use Rattle.world_nodes.specs.declared.link.Link.{Link}
+use Rattle.world_nodes.specs.declared.output.Output.{Output}
+use Rattle.world_nodes.specs.declared.output.Output.TheVariants as output
 use Rattle.world.specs.Asking.{AsksWell, IsOfCall}
-use Rattle.world.specs.Calls.{Begins, IsBegun, IsReturned, Rests, Returns, Serves, Takes}
+use Rattle.world.specs.Calls.{Begins, IsBegun, IsReturned, Rests, Returns, Takes}
 use Rattle.world.specs.Clients.{ClientView}
-use Rattle.world.specs.Outputs.{beside_from, numbered, promotion_of, released_reply}
-use Rattle.world.specs.View.{RunView}
 use Rattle.world.specs.declared.client.Late.{Late}
-use Rattle.world.specs.declared.client.Link.{Link}
 use Rattle.world.specs.declared.client.Traffic.{Traffic}
 use Rattle.world.specs.declared.client.Traffic.TheVariants.{Quiet, Asked, Answered}
-use Rattle.world.specs.declared.output.Output.{Output}
-use Rattle.world.specs.declared.output.Output.TheVariants as output
 use Rattle.world.specs.declared.step.Step.{Step}
 use Rattle.world.specs.declared.step.Step.TheVariants as step
 use Rattle.final_answers.specs.Book.{Answers, Book, Executes, IsRight, Writes, begun, is_idle, new_line}

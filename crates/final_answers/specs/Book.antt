@@ -5,8 +5,8 @@ use Rattle.reply_meaning.specs.Refusal.{is_refusal}
 use Rattle.smart_client.specs.Step.{Answer}
 use Rattle.smart_client.specs.declared.fault.ClientFault.TheVariants.{Lost}
 use Rattle.world_run.specs.Executed.{Answered}
-use Rattle.world.specs.declared.output.Output.{Output}
-use Rattle.world.specs.declared.output.Output.TheVariants as output
+use Rattle.world_nodes.specs.declared.output.Output.{Output}
+use Rattle.world_nodes.specs.declared.output.Output.TheVariants as output
 use Rattle.world.specs.declared.step.Step.{Step}
 use Rattle.world.specs.declared.step.Step.TheVariants as step
 use Rattle.final_answers.specs.Moments.{Moment}

@@ -3,9 +3,9 @@
 use Rattle.std.specs.Prelude.{◌≡◌, false, List, [], map}
 use Rattle.std.specs.List.{AllByRecursion, flat_map}
 use Rattle.cluster_config.specs.Config.{ClusterConfig, IsCluster}
+use Rattle.world_nodes.specs.declared.output.Output.{Output}
 use Rattle.world.specs.Plays.{Plays, PlaysAll}
 use Rattle.world.specs.View.{SceneView, WorldView, first_scene}
-use Rattle.world.specs.declared.output.Output.{Output}
 use Rattle.world.specs.declared.step.Step.{Step}
 use Rattle.final_answers.specs.Book.{Book, IsBook, IsRight}
 use Rattle.final_answers.specs.Moments.{Moment, PlaysSo}

@@ -1,9 +1,9 @@
 -- What a world plays, step by step (ours).
 use Rattle.std.specs.Prelude.{◌≡◌, ◌++◌, ◌∷◌, List, []}
 use Rattle.world_run.specs.Executed.{Answered, executed}
+use Rattle.world_nodes.specs.declared.output.Output.{Output}
 use Rattle.world.specs.Plays.{Plays}
 use Rattle.world.specs.View.{SceneView}
-use Rattle.world.specs.declared.output.Output.{Output}
 use Rattle.world.specs.declared.step.Step.{Step}
 use Rattle.final_answers.specs.Reasons.{HaveReasons}
 

@@ -20,13 +20,15 @@ use Rattle.smart_client.specs.declared.call.Call.{Call}
 use Rattle.smart_client.specs.declared.call.Stage.TheVariants.{Sent}
 use Rattle.smart_client.specs.Limits.{most_redirections}
 use Rattle.smart_client.specs.declared.fault.ClientFault.TheVariants.{Lost, TooManyRedirects, StillTryAgain, Memory, NotConnected, BadReply, NotData}
-use Rattle.world.specs.Asking.{HadNoOffset, WasAnswered, past_of}
+use Rattle.world_nodes.specs.Allowed.{past_of}
+use Rattle.world_nodes.specs.Nodes.{RunView, is_up}
+use Rattle.world_nodes.specs.declared.link.Link.{Link}
+use Rattle.world_nodes.specs.declared.output.Output.{Output}
+use Rattle.world_nodes.specs.declared.output.Output.TheVariants as output
+use Rattle.world.specs.Asking.{HadNoOffset, WasAnswered}
 use Rattle.world.specs.Clients.{ClientView, leads_to, new_client, node_at, used_by}
-use Rattle.world.specs.View.{RunView, SceneView, is_up}
-use Rattle.world.specs.declared.client.Link.{Link}
+use Rattle.world.specs.View.{SceneView}
 use Rattle.world.specs.declared.client.Traffic.TheVariants.{Quiet, Answered}
-use Rattle.world.specs.declared.output.Output.{Output}
-use Rattle.world.specs.declared.output.Output.TheVariants as output
 use Rattle.world.specs.declared.step.Step.{Step}
 use Rattle.world.specs.declared.step.Step.TheVariants as step
 

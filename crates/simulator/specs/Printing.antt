@@ -11,8 +11,8 @@ use Rattle.bus.specs.declared.bodies.StreamBody.TheVariants.{Sync, Piece, Snapsh
 use Rattle.bus.specs.declared.message.Body.TheVariants.{Slots, Stream, Election, Report}
 use Rattle.resp_values.specs.Reply.{reply_spelling}
 use Rattle.smart_client.specs.Faults.{code_of}
-use Rattle.world.specs.declared.output.Output.{Output}
-use Rattle.world.specs.declared.output.Output.TheVariants.{Answer, Admin, Sent, Promoted, Nothing}
+use Rattle.world_nodes.specs.declared.output.Output.{Output}
+use Rattle.world_nodes.specs.declared.output.Output.TheVariants.{Answer, Admin, Sent, Promoted, Nothing}
 use Rattle.cli_text.specs.Escaping.{escaped}
 
 -- ---- outputs

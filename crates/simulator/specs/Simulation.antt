@@ -6,9 +6,9 @@ use Rattle.promoted_prefix.specs.Law.{PromotionsGoOn}
 use Rattle.world_run.specs.Executed.{AreOfOneKeyspace, executed}
 use Rattle.world_run.specs.Law.{HasOneMasterAnEpoch}
 use Rattle.world_run.specs.Promotions.{until_promotion}
+use Rattle.world_nodes.specs.declared.output.Output.{Output}
 use Rattle.world.specs.Plays.{PlaysAll}
 use Rattle.world.specs.View.{SceneView, first_scene}
-use Rattle.world.specs.declared.output.Output.{Output}
 use Rattle.world.specs.declared.step.Step.{Step}
 use Rattle.final_answers.specs.Law.{AreAnswered}
 use Rattle.simulator.specs.Printing.{printed}

@@ -2,7 +2,7 @@
 ghost use Rattle.std.specs.Prelude.{◌≡◌, ◌++◌, decimal, OnOk};
 ghost use Rattle.std.specs.List.{flat_map};
 ghost use Rattle.simulator.specs.Printing.{kind, kind_of_election, kind_of_slots, kind_of_stream, mark, printed, shown};
-ghost use Rattle.world.specs.declared.output.Output.TheVariants as output;
+ghost use Rattle.world_nodes.specs.declared.output.Output.TheVariants as output;
 
 use bus::{Body, ElectionBody, Message, SlotsBody, StreamBody};
 use cli_text::print_reply;

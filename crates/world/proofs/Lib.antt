@@ -1,14 +1,8 @@
-pub mod Going
-pub mod Numbering
 pub mod Scenes
 pub mod Stopping
 pub mod Wanted
 pub mod Worlds
-pub mod Allowing
-pub mod Connected
 pub mod Pool
-pub mod Runs
-pub mod Leaving
 pub mod Parts
 pub mod Playing
 pub mod Requests

@@ -12,17 +12,19 @@ use Rattle.redirection.specs.Address.{Place}
 use Rattle.redirect.specs.declared.asked.Asking.TheVariants.{No}
 use Rattle.smart_client.specs.declared.action.Action.{Action}
 use Rattle.smart_client.specs.declared.action.Action.TheVariants as wanted
-use Rattle.world.specs.Asking.{AreConnected, AsksWell, Holds, IsCutOff, IsInPool, IsKnown, IsOfCall, asking_at, past_of}
-use Rattle.world.specs.Calls.{Acts, Connects, GivesUp, IsConnected, IsOpened, IsShut, IsUsed, Tells, Uses, link_to, told_of}
+use Rattle.world_nodes.specs.Allowed.{IsKnown, asking_at, past_of}
+use Rattle.world_nodes.specs.NodeSteps.{Closes, Makes}
+use Rattle.world_nodes.specs.Nodes.{RunView, is_up}
+use Rattle.world_nodes.specs.Serving.{IsOpened}
+use Rattle.world_nodes.specs.declared.link.Link.{Link}
+use Rattle.world_nodes.specs.declared.output.Output.{Output}
+use Rattle.world_nodes.proofs.Leaving.{IsFresh, Leaves, closes_leaves, leaves_all, leaves_further, none_changed, opened_is_fresh, opens_leaves, skips_leaves}
+use Rattle.world.specs.Asking.{AreConnected, AsksWell, Holds, IsCutOff, IsInPool, IsOfCall}
+use Rattle.world.specs.Calls.{Acts, Connects, GivesUp, IsConnected, IsShut, IsUsed, Tells, Uses, link_to, told_of}
 use Rattle.world.specs.Clients.{ClientView, node_at, used_by, with_connection}
-use Rattle.world.specs.NodeSteps.{Closes, Makes}
-use Rattle.world.specs.View.{RunView, is_up}
 use Rattle.world.specs.declared.client.Late.{Late}
-use Rattle.world.specs.declared.client.Link.{Link}
 use Rattle.world.specs.declared.client.Traffic.{Traffic}
 use Rattle.world.specs.declared.client.Traffic.TheVariants.{Quiet, Asked}
-use Rattle.world.specs.declared.output.Output.{Output}
-use Rattle.world.proofs.Leaving.{IsFresh, Leaves, closes_leaves, leaves_all, leaves_further, none_changed, opened_is_fresh, opens_leaves, skips_leaves}
 use Rattle.world.proofs.Pool.{put_again, put_is}
 use Rattle.world.proofs.Stays.{at_rest, called_stays, connected_stays, in_pool_before, in_use, leads_elsewhere, with_new, without}
 use Rattle.world.proofs.Told.{IsGoing, IsSending, MayDo, MayRest, connects_well, fails_well}

@@ -12,16 +12,18 @@ use Rattle.smart_client.specs.State.{ClientState}
 use Rattle.smart_client.specs.Step.{Answer, without_call}
 use Rattle.smart_client.specs.declared.action.Event.TheVariants as happened
 use Rattle.smart_client.specs.declared.call.Call.{Call}
-use Rattle.world.specs.Asking.{AreConnected, AreReady, AsksWell, HaveConfig, Holds, IsAllowed, IsCutOff, IsInPool, IsOfCall, IsRunOf, IsTold, MayBeCarried, MayComeLate, MayLinger, asking_at, past_of}
-use Rattle.world.specs.Calls.{Arrives, Begins, Carries, ComesLate, Cuts, IsBegun, IsCarried, IsCut, IsLate, IsReturned, IsShut, Lingers, Rests, Returns, Serves, Takes}
+use Rattle.world_nodes.specs.Allowed.{IsAllowed, IsTold, asking_at, past_of}
+use Rattle.world_nodes.specs.Nodes.{HaveConfig, IsRunOf, RunView, is_up}
+use Rattle.world_nodes.specs.Serving.{Serves}
+use Rattle.world_nodes.specs.declared.link.Link.{Link}
+use Rattle.world_nodes.specs.declared.output.Output.{Output}
+use Rattle.world_nodes.proofs.Leaving.{Leaves, closed_is_calm, closes_leaves, leaves_all, leaves_further, leaves_more, leaves_none, none_changed}
+use Rattle.world.specs.Asking.{AreConnected, AreReady, AsksWell, Holds, IsCutOff, IsInPool, IsOfCall, MayBeCarried, MayComeLate, MayLinger}
+use Rattle.world.specs.Calls.{Arrives, Begins, Carries, ComesLate, Cuts, IsBegun, IsCarried, IsCut, IsLate, IsReturned, IsShut, Lingers, Rests, Returns, Takes}
 use Rattle.world.specs.Clients.{ClientView, broken_off, fault_of, is_elsewhere, leads_to, stopped_at, used_by, without_late}
-use Rattle.world.specs.View.{RunView, is_up}
 use Rattle.world.specs.declared.client.Late.{Late}
-use Rattle.world.specs.declared.client.Link.{Link}
 use Rattle.world.specs.declared.client.Traffic.{Traffic}
 use Rattle.world.specs.declared.client.Traffic.TheVariants.{Quiet, Asked, Answered}
-use Rattle.world.specs.declared.output.Output.{Output}
-use Rattle.world.proofs.Leaving.{Leaves, closed_is_calm, closes_leaves, leaves_all, leaves_further, leaves_more, leaves_none, none_changed}
 use Rattle.world.proofs.Parts.{Part, IsAmong, acts_none, acts_some, given_up, quiet_asks, still_held}
 use Rattle.world.proofs.Requests.{AskedOn, comes_so, replied_so, sent_is_allowed, serves_leaves, words_of_client}
 use Rattle.world.proofs.Stays.{allowed_stays, connected_stays, in_pool_before, leads_elsewhere, no_stays, of_call_stays, under_way_stays, with_fewer, without}

@@ -61,7 +61,7 @@ use Rattle.node_step.specs.declared.response.Response.TheVariants.{Nothing, Open
 use Rattle.resp_values.specs.declared.reply.Reply.{Reply}
 use Rattle.single_keyspace.proofs.Lists.{contains_nothing, from_map}
 use Rattle.slot_table.specs.declared.entry.SlotEntry.{SlotEntry}
-use Rattle.world.proofs.Connected.{cases_conn, changed, changed_here, found_with, is_not_with, is_with, same_conn, unchanged_there}
+use Rattle.world_nodes.proofs.Connected.{cases_conn, changed, changed_here, found_with, is_not_with, is_with, same_conn, unchanged_there}
 use Rattle.node_step.specs.Handovers.{failover, handing_over, is_at_end, may_pause, noting}
 use Rattle.bus.specs.declared.bodies.Handing.{Handing}
 use Rattle.stream_values.specs.Stream.{is_same}

@@ -14,17 +14,19 @@ use Rattle.single_keyspace.proofs.Lists.{contains_first, contains_one}
 use Rattle.smart_client.specs.declared.action.Action.{Action}
 use Rattle.smart_client.specs.declared.action.Action.TheVariants as wanted
 use Rattle.smart_client.specs.declared.call.Call.{Call}
-use Rattle.world.specs.Asking.{AreReady, AsksWell, IsInPool, IsOfCall, IsReady}
-use Rattle.world.specs.Calls.{Acts, Arrives, Begins, Carries, ComesLate, Connects, Cuts, IsBegun, IsCarried, IsConnected, IsCut, IsLate, IsOpened, IsReturned, IsShut, IsUsed, Lingers, Rests, Returns, Tells, Uses, link_to, told_of}
+use Rattle.world_nodes.specs.Allowed.{IsReady}
+use Rattle.world_nodes.specs.NodeSteps.{Makes}
+use Rattle.world_nodes.specs.Nodes.{RunView, is_up}
+use Rattle.world_nodes.specs.Serving.{IsOpened}
+use Rattle.world_nodes.specs.declared.link.Link.{Link}
+use Rattle.world_nodes.specs.declared.output.Output.{Output}
+use Rattle.world_nodes.proofs.Leaving.{none_changed, opened_is_fresh}
+use Rattle.world.specs.Asking.{AreReady, AsksWell, IsInPool, IsOfCall}
+use Rattle.world.specs.Calls.{Acts, Arrives, Begins, Carries, ComesLate, Connects, Cuts, IsBegun, IsCarried, IsConnected, IsCut, IsLate, IsReturned, IsShut, IsUsed, Lingers, Rests, Returns, Tells, Uses, link_to, told_of}
 use Rattle.world.specs.Clients.{ClientView, leads_to, node_at, stopped_at, used_by, with_connection, without_late, broken_off}
-use Rattle.world.specs.NodeSteps.{Makes}
-use Rattle.world.specs.View.{RunView, is_up}
 use Rattle.world.specs.declared.client.Late.{Late}
-use Rattle.world.specs.declared.client.Link.{Link}
 use Rattle.world.specs.declared.client.Traffic.{Traffic}
 use Rattle.world.specs.declared.client.Traffic.TheVariants.{Quiet, Asked, Answered}
-use Rattle.world.specs.declared.output.Output.{Output}
-use Rattle.world.proofs.Leaving.{none_changed, opened_is_fresh}
 use Rattle.world.proofs.Parts.{IsAmong}
 use Rattle.world.proofs.Playing.{of_call_so}
 use Rattle.world.proofs.Pool.{put_again, put_is}

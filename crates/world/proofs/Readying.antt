@@ -19,15 +19,17 @@ use Rattle.resp_values.specs.declared.reply.Reply.{Reply}
 use Rattle.single_keyspace.proofs.Lists.{contains_first, contains_more, contains_nothing, contains_one, from_map}
 use Rattle.world_run.specs.Run.{Deed, Entry, Leads}
 use Rattle.world_run.specs.Run.Deed.{Made, Skipped}
-use Rattle.world.specs.Asking.{IsKnown, IsReady, MayArrive, MayTake, may_ask_in, past_of}
-use Rattle.world.specs.Calls.{IsShut, Serves, reply_in}
-use Rattle.world.specs.NodeSteps.{Administers, Closes, Delivers, Enters, IsAdministered, IsAsked, IsDelivered, IsHeard, IsIdle, IsUnasked, Makes, Reaches, Ticks, Turns, answered_conn, message_at, released_conns, served_conns}
-use Rattle.world.specs.View.{RunView, is_up}
-use Rattle.world.specs.declared.client.Link.{Link}
-use Rattle.world.specs.declared.output.Output.{Output}
+use Rattle.world_nodes.specs.Allowed.{IsKnown, IsReady, MayTake, may_ask_in, past_of}
+use Rattle.world_nodes.specs.NodeSteps.{Administers, Closes, Delivers, Enters, IsAdministered, IsAsked, IsDelivered, IsHeard, IsIdle, IsUnasked, Makes, Reaches, Ticks, Turns, answered_conn, message_at, released_conns, served_conns}
+use Rattle.world_nodes.specs.Nodes.{RunView, is_up}
+use Rattle.world_nodes.specs.Serving.{Serves, reply_in}
+use Rattle.world_nodes.specs.declared.link.Link.{Link}
+use Rattle.world_nodes.specs.declared.output.Output.{Output}
+use Rattle.world_nodes.proofs.Connected.{cases_conn}
+use Rattle.world_nodes.proofs.Leaving.{after_is, apart_is, before_is, none_changed, opened_is_fresh}
+use Rattle.world.specs.Asking.{MayArrive}
+use Rattle.world.specs.Calls.{IsShut}
 use Rattle.bus.specs.declared.message.Message.{Message}
-use Rattle.world.proofs.Connected.{cases_conn}
-use Rattle.world.proofs.Leaving.{after_is, apart_is, before_is, none_changed, opened_is_fresh}
 use Rattle.world.proofs.Ready.{HasReply, IsSpared, may_at, newly_may, step_ready}
 
 -- all connections that are ready stay so, but for those that are lost

@@ -47,15 +47,16 @@ use Rattle.smart_client.specs.declared.call.Stage.TheVariants as stage
 use Rattle.world_run.specs.Executed.{Redirection, answered, answered_with, decision_in, redirected, redirection_in}
 use Rattle.world_run.specs.Run.{Entry, Goes, first_nodes}
 use Rattle.world_run.specs.Run.Deed.{Made, Skipped}
-use Rattle.world.specs.Asking.{ComesFrom, Follows, HadNoOffset, HaveConfig, IsAllowed, IsAsking, IsReplied, IsRunOf, IsSent, IsTold, TellsTruth, WasAnswered, WasRefused, asking_at, asking_in, past_of}
-use Rattle.world.specs.Calls.{IsServed, IsSkipped, Serves, reply_in}
+use Rattle.world_nodes.specs.Allowed.{IsAllowed, IsTold, asking_at, asking_in, past_of}
+use Rattle.world_nodes.specs.NodeSteps.{released_conns}
+use Rattle.world_nodes.specs.Nodes.{HaveConfig, IsRunOf, RunView}
+use Rattle.world_nodes.specs.Serving.{IsServed, IsSkipped, Serves, reply_in}
+use Rattle.world_nodes.specs.declared.link.Link.{Link}
+use Rattle.world_nodes.specs.declared.output.Output.{Output}
+use Rattle.world_nodes.proofs.Connected.{IsAskingWords, IsCalm, asking_on, request_uses_up}
+use Rattle.world_nodes.proofs.Leaving.{ChangedBy, Leaves, closes_leaves, entered_now, enters_leaves, entry_now, leaves_further, leaves_more, leaves_none, none_changed, past_is, skips_leaves, tells_now}
+use Rattle.world.specs.Asking.{ComesFrom, Follows, HadNoOffset, IsAsking, IsReplied, IsSent, TellsTruth, WasAnswered, WasRefused}
 use Rattle.world.specs.Clients.{is_at, node_at}
-use Rattle.world.specs.NodeSteps.{released_conns}
-use Rattle.world.specs.View.{RunView}
-use Rattle.world.specs.declared.client.Link.{Link}
-use Rattle.world.specs.declared.output.Output.{Output}
-use Rattle.world.proofs.Connected.{IsAskingWords, IsCalm, asking_on, request_uses_up}
-use Rattle.world.proofs.Leaving.{ChangedBy, Leaves, closes_leaves, entered_now, enters_leaves, entry_now, leaves_further, leaves_more, leaves_none, none_changed, past_is, skips_leaves, tells_now}
 use Rattle.world.proofs.Stays.{no_stays, still_calm}
 
 -- ---- addresses

@@ -14,16 +14,18 @@ use Rattle.node_step.specs.declared.outputs.Outputs.{Outputs}
 use Rattle.single_keyspace.proofs.Lists.{contains_nothing}
 use Rattle.single_keyspace.proofs.Seen.{no_some, same_some}
 use Rattle.world_run.specs.Run.Deed.{Made}
-use Rattle.world.specs.Asking.{AllReady, AreReady, AllAskWell, AreApart, AsksWell, HaveConfig, Holds, IsKnown, KeepsRule, MayBeCarried, MayLinger}
+use Rattle.world_nodes.specs.Allowed.{IsKnown}
+use Rattle.world_nodes.specs.NodeSteps.{Administers, Delivers, IsAdministered, IsAsked, IsDelivered, IsHeard, IsIdle, Reaches, Ticks, Turns, is_admin, message_at, served_conns}
+use Rattle.world_nodes.specs.Nodes.{HaveConfig, RunView, is_up}
+use Rattle.world_nodes.specs.declared.link.Link.{Link}
+use Rattle.world_nodes.specs.declared.output.Output.{Output}
+use Rattle.world_nodes.proofs.Leaving.{ChangedBy, Leaves, closes_leaves, enters_leaves, leaves_all, leaves_further, leaves_more, leaves_none, none_changed, opened_is_fresh, opens_leaves, skips_leaves}
+use Rattle.world.specs.Asking.{AllReady, AreReady, AllAskWell, AreApart, AsksWell, Holds, KeepsRule, MayBeCarried, MayLinger}
 use Rattle.world.specs.Clients.{ClientView, begun_at, client_at, new_client, place_of, stopped_at, with_client}
-use Rattle.world.specs.NodeSteps.{Administers, Delivers, IsAdministered, IsAsked, IsDelivered, IsHeard, IsIdle, Reaches, Ticks, Turns, is_admin, message_at, served_conns}
 use Rattle.world.specs.Plays.{ClientStep, IsNothing, IsOfClient, IsOfNodes, IsOfSome, IsStopping, Plays}
-use Rattle.world.specs.View.{RunView, SceneView, first_scene, is_up}
-use Rattle.world.specs.declared.client.Link.{Link}
-use Rattle.world.specs.declared.output.Output.{Output}
+use Rattle.world.specs.View.{SceneView, first_scene}
 use Rattle.world.specs.declared.step.Step.{Step}
 use Rattle.world.specs.declared.step.Step.TheVariants as step
-use Rattle.world.proofs.Leaving.{ChangedBy, Leaves, closes_leaves, enters_leaves, leaves_all, leaves_further, leaves_more, leaves_none, none_changed, opened_is_fresh, opens_leaves, skips_leaves}
 use Rattle.world.proofs.Playing.{PartOf, begins_well_so, carried_if_asked, carries_well, cuts_well, lingers_if_left, lingers_well, returns_well, stops_held, stops_well}
 use Rattle.world.proofs.Readying.{Readies, Unknown, administers_readies, delivers_readies, ticks_readies}
 use Rattle.world.proofs.ReadyParts.{ReadyPartOf, begins_ready, carries_ready, cuts_ready, lingers_ready, returns_ready, stopped_ready}

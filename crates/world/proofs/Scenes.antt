@@ -2,11 +2,12 @@
 use Rattle.std.proofs.Common.{◌≡◌, ◌∙◌, ℕ, List, [], ◌∷◌, All, Option, Some, None, Result, Ok, Err, ap, sym, subst, arith, insert}
 use Rattle.std.specs.Prelude.{IfOk, OnOk, slice_get, slice_set, zero, suc}
 use Rattle.std.proofs.lemmas.List.Elements.{All-cons}
+use Rattle.world_nodes.specs.Nodes.{RunView}
+use Rattle.world_nodes.specs.declared.output.Output.{Output}
 use Rattle.world.specs.Calls.{Begins}
 use Rattle.world.specs.Clients.{ClientView, client_at, place_of, with_client}
 use Rattle.world.specs.Plays.{ClientStep, IsOf, IsOfClient, IsOfSome}
-use Rattle.world.specs.View.{RunView, SceneView}
-use Rattle.world.specs.declared.output.Output.{Output}
+use Rattle.world.specs.View.{SceneView}
 
 -- ---- lists
 

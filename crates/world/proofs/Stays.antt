@@ -15,15 +15,16 @@ use Rattle.smart_client.specs.declared.call.Call.{Call}
 use Rattle.smart_client.specs.declared.call.Stage.{Stage}
 use Rattle.smart_client.specs.declared.call.Stage.TheVariants as stage
 use Rattle.world_run.specs.Run.{Entry}
-use Rattle.world.specs.Asking.{AreConnected, AsksWell, ComesFrom, Follows, HadNoOffset, Holds, IsAllowed, IsCalled, IsCutOff, IsIdle, IsInPool, IsKnown, IsOfCall, IsReplied, IsSent, IsTold, IsUnderWay, MayComeLate, TellsTruth, asking_at, past_of}
+use Rattle.world_nodes.specs.Allowed.{IsAllowed, IsKnown, IsTold, asking_at, past_of}
+use Rattle.world_nodes.specs.Nodes.{RunView}
+use Rattle.world_nodes.specs.declared.link.Link.{Link}
+use Rattle.world_nodes.proofs.Connected.{IsCalm}
+use Rattle.world_nodes.proofs.Leaving.{Leaves}
+use Rattle.world.specs.Asking.{AreConnected, AsksWell, ComesFrom, Follows, HadNoOffset, Holds, IsCalled, IsCutOff, IsIdle, IsInPool, IsOfCall, IsReplied, IsSent, IsUnderWay, MayComeLate, TellsTruth}
 use Rattle.world.specs.Clients.{ClientView, leads_to, used_by}
-use Rattle.world.specs.View.{RunView}
 use Rattle.world.specs.declared.client.Late.{Late}
-use Rattle.world.specs.declared.client.Link.{Link}
 use Rattle.world.specs.declared.client.Traffic.{Traffic}
 use Rattle.world.specs.declared.client.Traffic.TheVariants.{Quiet, Asked, Answered}
-use Rattle.world.proofs.Connected.{IsCalm}
-use Rattle.world.proofs.Leaving.{Leaves}
 use Rattle.world.proofs.Pool.{none_here, put_is}
 
 -- ---- what a connection allows

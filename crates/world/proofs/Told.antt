@@ -35,7 +35,8 @@ use Rattle.smart_client.specs.declared.peers.Peer.{Peer}
 use Rattle.cluster_config.proofs.PlaceLemmas.{position-le}
 use Rattle.smart_client.proofs.TurnCases.{failed_so}
 use Rattle.world_run.specs.Run.{Entry}
-use Rattle.world.specs.Asking.{Follows, IsAsking, IsCalled, IsReplied, IsSent, IsTold, TellsTruth, target}
+use Rattle.world_nodes.specs.Allowed.{IsTold}
+use Rattle.world.specs.Asking.{Follows, IsAsking, IsCalled, IsReplied, IsSent, TellsTruth, target}
 use Rattle.world.specs.Clients.{node_at}
 
 -- ---- what a client may want

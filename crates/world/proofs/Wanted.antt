@@ -15,9 +15,9 @@ use Rattle.smart_client.specs.declared.call.Call.{Call}
 use Rattle.smart_client.specs.declared.call.Stage.{Stage}
 use Rattle.smart_client.specs.declared.call.Stage.TheVariants.{Connecting, Introducing, Asking, Sent}
 use Rattle.smart_client.specs.declared.fault.ClientFault.TheVariants.{Memory}
+use Rattle.world_nodes.specs.declared.link.Link.{Link}
 use Rattle.world.specs.Calls.{CanDo, MayUse, told_of}
 use Rattle.world.specs.Clients.{AwaitsConnection, AwaitsReply, fault_of}
-use Rattle.world.specs.declared.client.Link.{Link}
 
 -- ---- turns
 

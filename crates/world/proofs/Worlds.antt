@@ -5,14 +5,15 @@ use Rattle.cluster_config.specs.Config.{ClusterConfig, IsCluster}
 use Rattle.world_run.specs.Executed.{KeepsAsking, MayAsk, answered}
 use Rattle.world_run.specs.Promotions.{ends_one_keyspace, promoted_in, until_promotion}
 use Rattle.world_run.specs.Run.{Entry, Goes, first_nodes}
+use Rattle.world_nodes.specs.Nodes.{GoesOn}
+use Rattle.world_nodes.specs.declared.output.Output.{Output}
+use Rattle.world_nodes.proofs.Going.{keeps-append}
+use Rattle.world_nodes.proofs.Runs.{goes-append}
 use Rattle.world.specs.Plays.{Plays, PlaysAll}
 use Rattle.world.specs.Asking.{KeepsRule}
 use Rattle.world.specs.Reached.{IsPlayed, IsReached}
-use Rattle.world.specs.View.{GoesOn, IsWhole, SceneView, WorldView, first_scene, first_world}
-use Rattle.world.specs.declared.output.Output.{Output}
+use Rattle.world.specs.View.{IsWhole, SceneView, WorldView, first_scene, first_world}
 use Rattle.world.specs.declared.step.Step.{Step}
-use Rattle.world.proofs.Going.{keeps-append}
-use Rattle.world.proofs.Runs.{goes-append}
 use Rattle.world.proofs.Rule.{first_rule, plays_well}
 
 -- ---- steps one after another

@@ -1,20 +1,16 @@
 -- Which clients keep to the asking rule (Redis Cluster specification, "ASK redirection": the next request alone is to be sent to
 -- the node that ASK names, behind ASKING).
-use Rattle.std.specs.Prelude.{◌≡◌, ◌<◌, ◌⊎◌, ◌++◌, ◌∷◌, ℕ, Bool, true, false, List, [], length, reverse, slice_index_or, Contains, Option, Some, None, IfSome, slice_get, ⊤}
+use Rattle.std.specs.Prelude.{◌≡◌, ◌⊎◌, ◌++◌, ◌∷◌, ℕ, false, List, [], length, reverse, slice_index_or, Contains, Option, Some, None, IfSome, slice_get, ⊤}
 use Rattle.std.specs.List.{AllByRecursion}
 use Rattle.cluster_config.specs.Config.{ClusterConfig}
 use Rattle.cluster_config.specs.declared.config.NodeConfig.{NodeConfig}
 use Rattle.command_table.specs.declared.error_line.ErrorLine.TheVariants.{Exhausted}
-use Rattle.connections.specs.Connections.{connection_at, may_ask, opens_at}
 use Rattle.connections.specs.declared.conn.Conn.{Conn}
 use Rattle.node_step.specs.Numbers.{has_offset}
 use Rattle.node_step.specs.Orders.{done}
 use Rattle.node_step.specs.Outcome.{error}
-use Rattle.node_step.specs.Requests.{asking_of}
 use Rattle.node_step.specs.State.{NodeState}
 use Rattle.node_step.specs.Step.{written}
-use Rattle.node_step.specs.declared.event.Event.{Event}
-use Rattle.node_step.specs.declared.event.Event.TheVariants.{Open, Close, Request, Deliver, Tick}
 use Rattle.node_step.specs.declared.response.Answer.{Answer}
 use Rattle.redirection.specs.Address.{Place}
 use Rattle.redirection.specs.Redirection.{IsMove, IsRedirection}
@@ -31,59 +27,19 @@ use Rattle.smart_client.specs.Words.{asking_words, is_refused, numbered_words}
 use Rattle.smart_client.specs.declared.call.Call.{Call}
 use Rattle.smart_client.specs.declared.call.Stage.{Stage}
 use Rattle.smart_client.specs.declared.call.Stage.TheVariants as stage
-use Rattle.world_run.specs.Executed.{answered, redirections}
+use Rattle.world_run.specs.Executed.{answered}
 use Rattle.world_run.specs.Run.{Entry, Goes, first_nodes}
 use Rattle.world_run.specs.Run.Deed.{Skipped}
+use Rattle.world_nodes.specs.Allowed.{IsAllowed, IsKnown, IsReady, IsTold, asking_at, past_of}
+use Rattle.world_nodes.specs.Nodes.{HaveConfig, IsRunOf, RunView}
+use Rattle.world_nodes.specs.declared.link.Link.{Link}
 use Rattle.world.specs.Clients.{ClientView, leads_to, node_at, used_by}
-use Rattle.world.specs.View.{RunView, SceneView}
+use Rattle.world.specs.View.{SceneView}
 use Rattle.world.specs.declared.client.Late.{Late}
-use Rattle.world.specs.declared.client.Link.{Link}
 use Rattle.world.specs.declared.client.Traffic.{Traffic}
 use Rattle.world.specs.declared.client.Traffic.TheVariants.{Quiet, Asked, Answered}
 
--- what the nodes did, the newest first
-abbrev pub past_of : RunView → List Entry
-past_of run = reverse run.entries
-
--- ---- connections
-
--- what a connection allows its next request
-abbrev pub asking_in : Option NodeState → Conn → Asking
-asking_in None conn = No
-asking_in (Some node) conn = asking_of (connection_at node.connections conn)
-
-abbrev pub asking_at : RunView → Link → Asking
-asking_at run link = asking_in (slice_get run.nodes link.node) link.conn
-
--- how often the key was opened
-abbrev pub opens_in : Option NodeState → ℕ → ℕ
-opens_in None key = 0
-opens_in (Some node) key = opens_at node.connections key
-
--- the connection was opened at its node
-abbrev pub IsKnown : RunView → Link → Type 0
-IsKnown run link = link.conn.generation < opens_in (slice_get run.nodes link.node) link.conn.key
-
--- whether the node takes a request of the connection
-abbrev pub may_ask_in : Option NodeState → Conn → Bool
-may_ask_in None conn = false
-may_ask_in (Some node) conn = may_ask (connection_at node.connections conn)
-
--- the connection is open at its node, and waits for no reply
-abbrev pub IsReady : RunView → Link → Type 0
-IsReady run link = may_ask_in (slice_get run.nodes link.node) link.conn ≡ true
-
 -- ---- what was told
-
--- a request with these words was answered ASK, with this node and the move of this number
-abbrev pub IsTold : List Entry → List (List ℕ) → ℕ → ℕ → Type 0
-IsTold past words node number = Contains (redirections past) (record { words = words; to = node; number = number })
-
--- such a request may come to the node on a connection that allows this
-abbrev pub IsAllowed : List Entry → List (List ℕ) → ℕ → Asking → Type 0
-IsAllowed past words node No = ⊤
-IsAllowed past words node Any = ⊥
-IsAllowed past words node (Of number) = IsTold past words node number
 
 -- an ASK that names a move was decided so
 abbrev pub TellsTruth : List NodeConfig → List Entry → List (List ℕ) → Reply → Type 0
@@ -149,10 +105,6 @@ pub record HadNoOffset (config : ClusterConfig) (past : List Entry) (link : Link
   pub state : NodeState
   pub was : slice_get nodes link.node ≡ Some state
   pub none : has_offset state (written state link.conn words) ≡ false
-
--- the nodes have the configuration of the cluster
-abbrev pub HaveConfig : ClusterConfig → List NodeState → Type 0
-HaveConfig config nodes = (number : ℕ) (node : NodeState) → slice_get nodes number ≡ Some node → node.config ≡ config
 
 -- EXHAUSTED answers such a request
 pub record WasRefused (run : RunView) (link : Link) (words : List (List ℕ)) (reply : Reply) : Type 0 where
@@ -240,10 +192,6 @@ abbrev pub AllReady : RunView → List ClientView → Type 0
 AllReady run [] = ⊤
 AllReady run (client ∷ clients) = AreReady run client.pool × AllReady run clients
 
--- what the nodes did leads from the cluster's start to them
-abbrev pub IsRunOf : ClusterConfig → RunView → Type 0
-IsRunOf config run = Goes [] (first_nodes config) run.entries run.nodes
-
 pub record KeepsRule (scene : SceneView) : Type 0 where
   pub nodes : length scene.run.nodes ≡ length scene.config.nodes
   pub goes : IsRunOf scene.config scene.run
@@ -268,11 +216,3 @@ MayBeCarried run (Answered link reply) = ⊤
 abbrev pub MayLinger : RunView → List Late → Type 0
 MayLinger run [] = ⊤
 MayLinger run (request ∷ others) = IsAllowed (past_of run) request.words request.link.node (asking_at run request.link)
-
--- a request that a node takes is one that may come there
-abbrev pub MayTake : RunView → ℕ → Event → Type 0
-MayTake run node (Request conn words) = IsAllowed (past_of run) words node (asking_at run (record { node = node; conn = conn }))
-MayTake run node Open = ⊤
-MayTake run node (Close conn) = ⊤
-MayTake run node (Deliver message) = ⊤
-MayTake run node Tick = ⊤

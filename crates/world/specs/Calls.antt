@@ -1,13 +1,7 @@
 -- What comes of the steps of a client (ours).
-use Rattle.std.specs.Prelude.{◌≡◌, ◌⊎◌, ◌++◌, ◌∷◌, ℕ, Bool, true, false, List, [], Option, Some, None, IsSome, MatchBool, ⊤}
+use Rattle.std.specs.Prelude.{◌≡◌, ◌++◌, ◌∷◌, ℕ, Bool, true, false, List, [], Option, Some, None, IsSome, MatchBool, ⊤}
 use Rattle.cluster_config.specs.declared.config.NodeConfig.{NodeConfig}
-use Rattle.command_table.specs.declared.error_line.ErrorLine.TheVariants.{Exhausted}
 use Rattle.connections.specs.declared.conn.Conn.{Conn}
-use Rattle.node_step.specs.Outcome.{error}
-use Rattle.node_step.specs.declared.event.Event.TheVariants.{Open, Request}
-use Rattle.node_step.specs.declared.outputs.Outputs.{Outputs}
-use Rattle.node_step.specs.declared.response.Response.{Response}
-use Rattle.node_step.specs.declared.response.Response.TheVariants.{Nothing, Opened, Replied, Parked}
 use Rattle.redirection.specs.Address.{Place}
 use Rattle.resp_values.specs.declared.reply.Reply.{Reply}
 use Rattle.smart_client.specs.State.{ClientState}
@@ -16,23 +10,18 @@ use Rattle.smart_client.specs.declared.action.Action.{Action}
 use Rattle.smart_client.specs.declared.action.Action.TheVariants as wanted
 use Rattle.smart_client.specs.declared.action.Event.{Event}
 use Rattle.smart_client.specs.declared.action.Event.TheVariants as happened
+use Rattle.world_nodes.specs.NodeSteps.{Closes}
+use Rattle.world_nodes.specs.Nodes.{RunView, is_up}
+use Rattle.world_nodes.specs.Serving.{IsOpened, Serves, ServesLast}
+use Rattle.world_nodes.specs.declared.link.Link.{Link}
+use Rattle.world_nodes.specs.declared.output.Output.{Output}
+use Rattle.world_nodes.specs.declared.output.Output.TheVariants as output
 use Rattle.world.specs.Clients.{ClientView, broken_off, connection_to, lost_by, node_at, with_connection}
-use Rattle.world.specs.NodeSteps.{Closes, Makes, Skips, released_conns}
-use Rattle.world.specs.Outputs.{beside}
-use Rattle.world.specs.View.{RunView, is_up}
 use Rattle.world.specs.declared.client.Late.{Late}
-use Rattle.world.specs.declared.client.Link.{Link}
 use Rattle.world.specs.declared.client.Traffic.{Traffic}
 use Rattle.world.specs.declared.client.Traffic.TheVariants.{Quiet, Asked, Answered}
-use Rattle.world.specs.declared.output.Output.{Output}
-use Rattle.world.specs.declared.output.Output.TheVariants as output
 
 -- ---- connections
-
--- a new connection, or none where a number has no next one
-abbrev pub IsOpened : RunView → ℕ → Option Conn → RunView → Type 0
-IsOpened old node None new = Skips old node Open new
-IsOpened old node (Some conn) new = (outputs : Outputs) × Makes old node Open outputs new × (outputs.response ≡ Opened conn)
 
 -- the one that is kept, or else a new one
 abbrev pub IsUsed : RunView → ℕ → Option Conn → Option Conn → RunView → Type 0
@@ -132,31 +121,6 @@ IsBegun nodes old client (Answered link reply) words outputs new after = Rests o
 abbrev pub Begins : List NodeConfig → List (List ℕ) → RunView → ClientView → List Output → RunView → ClientView → Type 0
 Begins nodes words old client outputs new after = IsBegun nodes old client client.traffic words outputs new after
 
--- the reply that comes on the connection of the request
-abbrev pub reply_in : Response → Option Reply
-reply_in (Replied answer) = Some answer.reply
-reply_in Nothing = None
-reply_in (Opened conn) = None
-reply_in Parked = None
-
--- the node makes a step for the request
-pub record IsServed (old : RunView) (node : ℕ) (conn : Conn) (words : List (List ℕ)) (reply : Option Reply) (outputs : List Output) (new : RunView) : Type 0 where
-  pub made : Outputs
-  pub after : RunView
-  pub makes : Makes old node (Request conn words) made after
-  pub closes : Closes after node (released_conns made.released) new
-  pub replies : reply ≡ reply_in made.response
-  pub shows : outputs ≡ beside node old.sent made
-
--- or says that a number has no next one
-pub record IsSkipped (old : RunView) (node : ℕ) (conn : Conn) (words : List (List ℕ)) (reply : Option Reply) (outputs : List Output) (new : RunView) : Type 0 where
-  pub skips : Skips old node (Request conn words) new
-  pub replies : reply ≡ Some (error Exhausted)
-  pub shows : outputs ≡ []
-
-abbrev pub Serves : RunView → ℕ → Conn → List (List ℕ) → Option Reply → List Output → RunView → Type 0
-Serves old node conn words reply outputs new = IsServed old node conn words reply outputs new ⊎ IsSkipped old node conn words reply outputs new
-
 -- the request reaches its node, and the reply is on its way
 pub record Arrives (old : RunView) (client : ClientView) (link : Link) (words : List (List ℕ)) (outputs : List Output) (new : RunView) (after : ClientView) : Type 0 where
   pub reply : Reply
@@ -194,13 +158,7 @@ IsCut old client (Answered link reply) outputs new after =
 abbrev pub Cuts : RunView → ClientView → List Output → RunView → ClientView → Type 0
 Cuts old client outputs new after = IsCut old client client.traffic outputs new after
 
--- a request on a connection that was cut reaches its node, which then finds the connection closed
-pub record ServesLast (old : RunView) (node : ℕ) (conn : Conn) (words : List (List ℕ)) (outputs : List Output) (new : RunView) : Type 0 where
-  pub reply : Option Reply
-  pub run : RunView
-  pub serves : Serves old node conn words reply outputs run
-  pub closes : Closes run node (conn ∷ []) new
-
+-- a request on a connection that was cut reaches its node
 pub record ComesLate (old : RunView) (client : ClientView) (late : Late) (others : List Late) (outputs : List Output) (new : RunView) (after : ClientView) : Type 0 where
   pub serves : ServesLast old late.link.node late.link.conn late.words outputs new
   pub left : after ≡ record client { late = others }

@@ -12,12 +12,12 @@ use Rattle.smart_client.specs.declared.call.Call.{Call}
 use Rattle.smart_client.specs.declared.call.Stage.TheVariants.{Connecting}
 use Rattle.smart_client.specs.declared.fault.ClientFault.{ClientFault}
 use Rattle.smart_client.specs.declared.fault.ClientFault.TheVariants.{NotConnected}
+use Rattle.world_nodes.specs.declared.link.Link.{Link}
+use Rattle.world_nodes.specs.declared.output.Output.{Output}
+use Rattle.world_nodes.specs.declared.output.Output.TheVariants as output
 use Rattle.world.specs.declared.client.Late.{Late}
-use Rattle.world.specs.declared.client.Link.{Link}
 use Rattle.world.specs.declared.client.Traffic.{Traffic}
 use Rattle.world.specs.declared.client.Traffic.TheVariants.{Quiet, Asked, Answered}
-use Rattle.world.specs.declared.output.Output.{Output}
-use Rattle.world.specs.declared.output.Output.TheVariants as output
 
 -- a client: what it knows, the connection that it keeps to each node, what is under way between it and a node, and the requests on
 -- its connections that were cut, the oldest first

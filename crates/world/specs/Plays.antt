@@ -1,12 +1,13 @@
 -- What comes of a step of a world (ours).
 use Rattle.std.specs.Prelude.{◌≡◌, ◌++◌, ◌∷◌, ℕ, true, List, [], map, Option, Some, None, MatchBool, slice_get, slice_set}
 use Rattle.std.specs.List.{flat_map}
+use Rattle.world_nodes.specs.NodeSteps.{Administers, Delivers, Ticks}
+use Rattle.world_nodes.specs.Nodes.{RunView, is_up}
+use Rattle.world_nodes.specs.declared.output.Output.{Output}
+use Rattle.world_nodes.specs.declared.output.Output.TheVariants as output
 use Rattle.world.specs.Calls.{Begins, Carries, Cuts, Lingers, Returns}
 use Rattle.world.specs.Clients.{ClientView, client_at, lost_at, place_of, stopped_at, with_client}
-use Rattle.world.specs.NodeSteps.{Administers, Delivers, Ticks}
-use Rattle.world.specs.View.{RunView, SceneView, is_up}
-use Rattle.world.specs.declared.output.Output.{Output}
-use Rattle.world.specs.declared.output.Output.TheVariants as output
+use Rattle.world.specs.View.{SceneView}
 use Rattle.world.specs.declared.step.Step.{Step}
 use Rattle.world.specs.declared.step.Step.TheVariants as step
 

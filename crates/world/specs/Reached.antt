@@ -3,10 +3,10 @@ use Rattle.std.specs.Prelude.{◌≡◌, false, List, []}
 use Rattle.cluster_config.specs.Config.{IsCluster}
 use Rattle.world_run.specs.Executed.{KeepsAsking}
 use Rattle.world_run.specs.Run.{Goes, first_nodes}
+use Rattle.world_nodes.specs.declared.output.Output.{Output}
 use Rattle.world.specs.Asking.{KeepsRule}
 use Rattle.world.specs.Plays.{PlaysAll}
 use Rattle.world.specs.View.{IsWhole, SceneView, WorldView, first_scene}
-use Rattle.world.specs.declared.output.Output.{Output}
 use Rattle.world.specs.declared.step.Step.{Step}
 
 -- some steps lead from the cluster's start to the scene, and show this

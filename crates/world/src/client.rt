@@ -1,16 +1,13 @@
 //! A client of a world: what it knows, and what is under way between it and the nodes.
 ghost use Rattle.std.specs.Prelude.{◌≡◌, ◌∷◌, ◌++◌, [], true, slice_get, replicate, None, IfOk, OnOk};
 ghost use Rattle.smart_client.specs.Calls.{IsWaiting};
+ghost use Rattle.world_nodes.specs.Nodes.{GoesOn, RemembersSent, is_up};
+ghost use Rattle.world_nodes.specs.declared.output.Output.TheVariants.{Answer};
 ghost use Rattle.world.specs.Asking.{MayArrive, MayBeCarried, MayLinger};
 ghost use Rattle.world.specs.Calls.{Acts, Arrives, Begins, CanDo, Carries, Connects, Cuts, GivesUp, IsConnected, IsShut, Lingers, MayUse, Returns, Tells, Uses, told_of};
 ghost use Rattle.world.specs.Clients.{AwaitsConnection, AwaitsReply, IsSettled, broken_off, connection_to, is_at, leads_to, left_late, lost_at, lost_by, new_client, node_at, place_at, stopped_at, used_by, with_connection, without_late};
-ghost use Rattle.world.specs.View.{GoesOn, RemembersSent, is_up};
 ghost use Rattle.world.specs.declared.client.Traffic.TheVariants.{Quiet};
-ghost use Rattle.world.specs.declared.output.Output.TheVariants.{Answer};
 
-use crate::output::{Output, nothing, one};
-use crate::run::Run;
-use crate::serving::Served;
 use cluster_config::{Config, NodeConfig};
 use connections::Conn;
 use redirection::Address;
@@ -19,18 +16,10 @@ use smart_client::{Action, ClientCore, ClientFault, Event};
 use std::alloc::{AllocError, Global};
 use std::marker::Model;
 use std::mem;
+use world_nodes::{Link, Output, Run, Served, nothing, one};
 
 /// How often a client's call begins again for TRYAGAIN.
 pub(crate) const MOST_REPEATS: u64 = 16;
-
-/// A connection of a client to a node.
-#[derive(Clone, Copy)]
-pub(crate) struct Link {
-    /// The node.
-    pub node: u64,
-    /// The connection there.
-    pub conn: Conn,
-}
 
 /// What is under way between a client and a node.
 #[derive(Drop)]

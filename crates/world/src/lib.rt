@@ -3,14 +3,10 @@
 #![tactic(auto)]
 
 mod client;
-mod entries;
-mod output;
-mod run;
 mod scene;
-mod serving;
 mod step;
 mod world;
 
-pub use output::Output;
 pub use step::Step;
 pub use world::World;
+pub use world_nodes::Output;

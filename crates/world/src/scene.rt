@@ -1,20 +1,20 @@
 //! The nodes of a world and its clients, and what is done to them.
 ghost use Rattle.std.specs.Prelude.{◌≡◌, ◌≤◌, ◌++◌, map, length, insert, IfOk, IfSome, IfNone, OnOk, None, Some, All};
 ghost use Rattle.std.specs.List.{flat_map};
+ghost use Rattle.world_nodes.specs.Nodes.{GoesOn, is_up};
 ghost use Rattle.world.specs.Asking.{KeepsRule};
 ghost use Rattle.world.specs.Clients.{IsPlaceFor, IsSettled, StandsAt, client_at, lost_at, place_of, stopped_at, with_client};
 ghost use Rattle.world.specs.Plays.{Plays};
-ghost use Rattle.world.specs.View.{GoesOn, IsWhole, first_scene, is_up};
+ghost use Rattle.world.specs.View.{IsWhole, first_scene};
 ghost use Rattle.world.specs.declared.step.Step.TheVariants as step;
 
 use crate::client::Client;
-use crate::output::{Output, nothing};
-use crate::run::Run;
 use crate::step::Step;
 use cluster_config::Config;
 use resp_values::Words;
 use std::alloc::{AllocError, Global};
 use std::marker::Model;
+use world_nodes::{Output, Run, nothing};
 
 /// The nodes of a cluster, and its clients by rising number.
 #[derive(Drop)]

@@ -4,11 +4,11 @@ ghost use Rattle.promoted_prefix.specs.Law.{PromotionsGoOn};
 ghost use Rattle.world_run.specs.Executed.{AreOfOneKeyspace, executed};
 ghost use Rattle.world_run.specs.Law.{HasOneMasterAnEpoch};
 ghost use Rattle.world_run.specs.Promotions.{until_promotion};
+ghost use Rattle.world_nodes.specs.Nodes.{GoesOn};
 ghost use Rattle.world.specs.Plays.{Plays, PlaysAll};
 ghost use Rattle.world.specs.Reached.{IsReached};
-ghost use Rattle.world.specs.View.{GoesOn, first_world};
+ghost use Rattle.world.specs.View.{first_world};
 
-use crate::output::Output;
 use crate::scene::Scene;
 use crate::step::Step;
 use cluster_config::Config;
@@ -17,6 +17,7 @@ use promoted_prefix::promoted_nodes_go_on;
 use single_keyspace::replies_are_those_of_one_keyspace;
 use std::alloc::{AllocError, Global};
 use std::marker::Model;
+use world_nodes::Output;
 
 /// The nodes of a cluster in one process with its clients, each message that nodes ever sent, and, for proofs alone, all that
 /// they did.

@@ -3,8 +3,8 @@ use Rattle.std.specs.List.{flat_map}
 use Rattle.std.proofs.lemmas.Grind.{flat_map-append}
 use Rattle.std.proofs.lemmas.List.{length-set, take_more}
 use Rattle.std.proofs.lemmas.List.Elements.{All-set}
+use Rattle.world_nodes.specs.declared.output.Output.{Output}
 use Rattle.world.specs.Clients.{ClientView, IsSettled, lost_at, stopped_at}
-use Rattle.world.specs.declared.output.Output.{Output}
 use Rattle.world.proofs.Stopping.{one_more, untouched}
 use Rattle.world.proofs.scene.stop_all.Goals as goal
 

@@ -1,4 +1,4 @@
-use Rattle.world.proofs.Going.{goes_further}
+use Rattle.world_nodes.proofs.Going.{goes_further}
 use Rattle.world.proofs.client.Client.connect.Goals as goal
 
 pub returns-in-Some-clause-goes_on : goal.returns-in-Some-clause-goes_on

@@ -1,8 +1,9 @@
 use Rattle.std.proofs.Common.{◌∷◌, ◌++◌, [], ap, sym, ◌∙◌, subst, take}
 use Rattle.std.proofs.lemmas.List.{take_more}
-use Rattle.world.specs.View.{GoesOn, WorldView}
+use Rattle.world_nodes.specs.Nodes.{GoesOn}
+use Rattle.world_nodes.proofs.Going.{goes_further}
+use Rattle.world.specs.View.{WorldView}
 use Rattle.world.specs.declared.step.Step.{Step}
-use Rattle.world.proofs.Going.{goes_further}
 use Rattle.world.proofs.Worlds.{plays_one_more}
 use Rattle.world.proofs.world.World.play_all.Goals as goal
 

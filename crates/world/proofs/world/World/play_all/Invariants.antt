@@ -1,6 +1,6 @@
 use Rattle.std.proofs.Common.{◌≡◌, false, take}
+use Rattle.world_nodes.specs.Nodes.{GoesOn}
 use Rattle.world.specs.Plays.{PlaysAll}
-use Rattle.world.specs.View.{GoesOn}
 use Rattle.world.proofs.world.World.play_all.Given as goal
 
 abbrev pub invariant-loop-step : goal.invariant-loop-step

@@ -1,0 +1,6 @@
+pub mod Going
+pub mod Numbering
+pub mod Allowing
+pub mod Connected
+pub mod Runs
+pub mod Leaving
