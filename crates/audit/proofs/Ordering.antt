@@ -9,8 +9,8 @@ use Rattle.std.specs.List.Sorted.{IsPermutation}
 use Rattle.cluster_config.specs.Config.{ClusterConfig}
 use Rattle.links.specs.Stations.{StationView}
 use Rattle.tickets.specs.Tickets.{once_below, times}
-use Rattle.audit.specs.declared.gathering.AuditFault.{AuditFault}
-use Rattle.audit.specs.declared.gathering.AuditFault.TheVariants.{Memory, Stranger}
+use Rattle.audit_fault.specs.declared.fault.AuditFault.{AuditFault}
+use Rattle.audit_fault.specs.declared.fault.AuditFault.TheVariants.{Memory, Stranger}
 use Rattle.audit.specs.Gathered.{IsGathered, part_of, parts_of}
 use Rattle.audit.specs.Law.{RunView}
 use Rattle.audit.specs.Merge.{AreEachOnce, PartView, nodes_of}

@@ -9,7 +9,7 @@ use Rattle.cell_parts.specs.declared.entry.Entry.{Entry as JournalEntry}
 use Rattle.single_keyspace.proofs.Lists.{contains_nothing}
 use Rattle.tickets.specs.Tickets.{drawn, once_below, seats_of, times, total}
 use Rattle.tickets.specs.declared.seat.Seat.{Seat}
-use Rattle.audit.specs.declared.gathering.AuditFault.{AuditFault}
+use Rattle.audit_fault.specs.declared.fault.AuditFault.{AuditFault}
 use Rattle.audit.specs.declared.order.Taken.{Taken}
 use Rattle.audit.specs.Gathered.{HasStranger, IsAllOf, IsGathered, parts_of}
 use Rattle.audit.specs.Law.{RunView}

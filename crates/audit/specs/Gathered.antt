@@ -9,8 +9,8 @@ use Rattle.std.specs.List.{range_with_len}
 use Rattle.world_run.specs.Run.{Entry, IsRun}
 use Rattle.audit.specs.Law.{RunView}
 use Rattle.audit.specs.Merge.{AllAreSound, AreEachOnce, AreTaken, PartView, journal_of, nodes_of, placed}
-use Rattle.audit.specs.declared.gathering.AuditFault.{AuditFault}
-use Rattle.audit.specs.declared.gathering.AuditFault.TheVariants.{Stranger}
+use Rattle.audit_fault.specs.declared.fault.AuditFault.{AuditFault}
+use Rattle.audit_fault.specs.declared.fault.AuditFault.TheVariants.{Stranger}
 use Rattle.audit.specs.declared.order.Taken.{Taken}
 
 abbrev pub part_of : CellView → PartView

@@ -8,29 +8,11 @@ use crate::order::{Taken, take_apart};
 use crate::part::Part;
 use crate::sound::are_sound;
 use crate::whole_run::WorldRun;
+use audit_fault::AuditFault;
 use cluster_config::Config;
 use node_cell::{Deployment, Journal, NodeCell};
 use std::alloc::{AllocError, Global};
 use tickets::{Table, close};
-
-/// Why the journals of nodes aren't told to be a run.
-#[derive(Clone, Copy, PartialEq, Eq, Debug)]
-pub enum AuditFault {
-    /// The cells aren't those of each node once, or a node took a message that nobody sent.
-    Stranger,
-    /// Memory was refused.
-    Memory,
-}
-
-impl From<AllocError> for AuditFault {
-    ghost use Rattle.audit.specs.declared.gathering.AuditFault.TheVariants.{Memory};
-
-    ghost from_gives = { λ _ fault. fault ≡ Memory };
-
-    fn from(_refused: AllocError) -> AuditFault {
-        AuditFault::Memory
-    }
-}
 
 /// The run that the nodes of the cluster `K` made, by the journals of their cells, which may come in any order. Nobody serves the
 /// nodes any more, and there were as many seats as there are nodes.

@@ -11,7 +11,8 @@ mod sound;
 mod stations;
 mod whole_run;
 
-pub use gathering::{AuditFault, gather};
+pub use audit_fault::AuditFault;
+pub use gathering::gather;
 pub use law::journals_are_a_run;
 pub use stations::gather_stations;
 pub use whole_run::WorldRun;

@@ -3,15 +3,15 @@ ghost use Rattle.std.specs.Prelude.{◌≡◌, [], All, IfErr, IfOk, OnOk, List,
 ghost use Rattle.audit.specs.Gathered.{AreNotOfEach, IfStranger, IsAllOf, IsGathered, IsGatheredFrom, parts_of};
 ghost use Rattle.audit.specs.Merge.{AllAreSound, PartView};
 ghost use Rattle.audit.specs.Stations.{AreInOrder, cells_of, ends_of};
-ghost use Rattle.audit.specs.declared.gathering.AuditFault.TheVariants.{Memory};
+ghost use Rattle.audit_fault.specs.declared.fault.AuditFault.TheVariants.{Memory};
 ghost use Rattle.links.specs.Stations.{IsStation};
 ghost use Rattle.tickets.specs.Tickets.{id_of};
 
 use crate::each_node::{OfNode, put_in_order};
-use crate::gathering::AuditFault;
 use crate::order::{Taken, take_apart};
 use crate::part::Part;
 use crate::whole_run::WorldRun;
+use audit_fault::AuditFault;
 use cluster_config::Config;
 use link_ends::{NodeEnds, PortEnd, compare_all};
 use links::{Station, Web};

@@ -1,13 +1,18 @@
 //! The nodes of a cluster behind locks, and their clients on sockets.
 #![tactic(auto)]
 
+mod accepting;
+mod clock;
+mod crowd;
+mod in_turn;
 mod loops;
+mod one_client;
 mod server;
+mod telling;
 mod threads;
 
-pub use node_places::Place;
-pub use node_threads::Telling;
-pub use server::{Course, Overseer, ServeFault, serve_nodes};
-pub use shared_cluster::{
+pub use cluster_controls::{
     Heard, Hearing, Incident, NodeStatus, NodeStop, Orders, Runtime, Shortage, Witness,
 };
+pub use server::{Course, Overseer, RunFault, Times, run_all};
+pub use telling::Telling;

@@ -1,11 +1,12 @@
 //! The threads of a node that serve its clients in turn.
 
+use crate::in_turn::serve_in_turn;
 use crate::threads::Starting;
 use client_loops::{Inbox, Poller, PollerFault};
+use cluster_controls::{Runtime, Shortage};
 use mio::Waker;
-use node_cell::{Admission, Asks, HoldsCell};
-use node_threads::serve_in_turn;
-use shared_cluster::{HasLinks, Node, Runtime, SharedCluster, Shortage};
+use node_cell::{Admission, Asks, HasLinks, HoldsCell};
+use shared_node::{Node, SharedCluster};
 use std::alloc::{AllocError, Global};
 use std::sync::Arc;
 use std::thread;

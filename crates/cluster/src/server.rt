@@ -1,58 +1,39 @@
-//! All nodes of a cluster, served at once.
-ghost use Rattle.std.specs.Prelude.{◌≡◌, All, IfOk, length, map, vec_len};
-ghost use Rattle.std.specs.List.{range_with_len};
-ghost use Rattle.link_ends.specs.Ends.{AreLinkedFrom};
-ghost use Rattle.tickets.specs.Tickets.{IsFresh};
+//! All nodes of a cluster, run at once.
+ghost use Rattle.std.specs.Prelude.{◌≡◌, IfOk, vec_len};
 
+use crate::clock::Timing;
+use crate::telling::Telling;
 use crate::threads::Starting;
-use cluster_config::Config;
-use link_ends::PortEnd;
-use links::{Station, Web};
-use node_cell::{Admission, Deployment, HoldsCell, Log, Posted};
-use node_places::{Place, StationFault, nodes_at, stations_of};
-use node_threads::{Telling, Timing};
-use shared_cluster::{
-    Clients, HasLinks, Node, NodeStop, Orders, Runtime, SharedCluster, Shortage, Stop, Witness,
-    most_ticks,
-};
+use cluster_controls::{Clients, NodeStop, Orders, Runtime, Shortage, Stop, Witness, most_ticks};
+use node_cell::{Admission, HasLinks, HoldsCell};
+use shared_node::{Node, SharedCluster};
 use std::alloc::{AllocError, Global};
 use std::sync::Arc;
 use std::thread::JoinHandle;
 use std::time::Duration;
 
-/// Why the nodes of a cluster can't be served.
+/// Why the nodes of a cluster can't be run, or aren't given back.
 #[derive(Clone, Copy, PartialEq, Eq, Debug)]
-pub enum ServeFault {
+pub enum RunFault {
     /// Memory was refused.
     Memory,
     /// A thread of a node can't be started, or hasn't ended.
     Thread,
-    /// A node isn't the one that was served at its place.
-    Mixed,
 }
 
 // Of what there was none as a thread was to be started.
-impl From<Shortage> for ServeFault {
-    fn from(shortage: Shortage) -> ServeFault {
+impl From<Shortage> for RunFault {
+    fn from(shortage: Shortage) -> RunFault {
         match shortage {
-            Shortage::Memory => ServeFault::Memory,
-            Shortage::Thread | Shortage::Descriptor => ServeFault::Thread,
+            Shortage::Memory => RunFault::Memory,
+            Shortage::Thread | Shortage::Descriptor => RunFault::Thread,
         }
     }
 }
 
-impl From<StationFault> for ServeFault {
-    fn from(fault: StationFault) -> ServeFault {
-        match fault {
-            StationFault::Memory => ServeFault::Memory,
-            StationFault::Mixed => ServeFault::Mixed,
-        }
-    }
-}
-
-impl From<AllocError> for ServeFault {
-    fn from(_refused: AllocError) -> ServeFault {
-        ServeFault::Memory
+impl From<AllocError> for RunFault {
+    fn from(_refused: AllocError) -> RunFault {
+        RunFault::Memory
     }
 }
 
@@ -86,57 +67,13 @@ impl Drop for Overseer {
     }
 }
 
-/// Serves the nodes of the cluster, each at its place, with an `L` as its journal and the links `W` between them, as long as the course
-/// says. It returns the stations, in the order of the nodes' numbers, once all threads are
-/// done with them. The overseer sees which clients can't be served, and which thread can't be started.
-///
-/// A node that has a stop, by the course or by an order, is stopped meanwhile: from then on it makes no tick, takes no message and sends none, its
-/// connections are shut down, and whoever connects to it is refused. Steps that its clients asked for before, and those that close their
-/// connections, may come behind that.
-///
-/// Each node has a thread that accepts clients, one that lets its time pass and one that carries its messages, and those that serve
-/// its clients. One more thread tells how the nodes are, where that is wanted.
-pub fn serve_nodes<
-    K: Deployment + Send + Sync + 'static,
-    W: Web + Send + 'static,
-    L: Log + Drop + Send + 'static,
-    E: PortEnd<Carried = Posted<K>> + Send + 'static,
->(
-    rt: E::Handle,
-    alloc: Global,
-    config: &Config,
-    places: Vec<Place<E>>,
-    course: Course,
-    overseer: &Overseer,
-) -> Result<Vec<Station<K, W, L, E>>, ServeFault>
-where
-    L::Record: Send + 'static,
-    E::Handle: Runtime,
-    requires cluster { config.now ≡ K.config }
-    requires places { length places.items ≡ length config.now.nodes }
-    requires seats { All (λ place. IsFresh K.table K.seats place.seat) places.items }
-    requires links { AreLinkedFrom W.links (length config.now.nodes) 0
-        (map (λ place. place.ends) places.items) }
-    ensures count { IfOk result (λ stations. vec_len stations ≡ length places.items) }
-    ensures nodes { IfOk result (λ stations. map (λ station. station.cell.node) stations.items
-        ≡ range_with_len 0 (length config.now.nodes)) }
-{
-    let admission = Arc::new(alloc, Admission::<K>::new(config)).map_err(AllocError::from)?;
-    let nodes = nodes_at::<K, W, L, E>(alloc, config, places)?;
-    let times = Times {
-        interval: Duration::from_millis(u64::from(config.tick_ms())),
-        course,
-    };
-    let nodes = run_all(rt, alloc, nodes, &admission, times, overseer)?;
-    Ok(stations_of(alloc, nodes)?)
-}
-
 /// The ticks of the nodes, and how their clients are served.
 #[derive(Clone, Copy)]
-pub(crate) struct Times<'a> {
-    // How long a tick takes.
-    interval: Duration,
-    course: Course<'a>,
+pub struct Times<'a> {
+    /// How long a tick takes.
+    pub interval: Duration,
+    /// How long the cluster is served, and how.
+    pub course: Course<'a>,
 }
 
 impl Times<'_> {
@@ -170,15 +107,23 @@ impl Times<'_> {
     }
 }
 
-// Runs the nodes until the end, and gives them back.
-fn run_all<C: HasLinks<R> + Drop + Send + 'static, R: Runtime>(
+/// Runs the nodes until the end, and gives them back once all threads are done with them. By the admission their conversations and their clocks
+/// begin to ask them. The overseer sees which clients can't be served, and which thread can't be started.
+///
+/// A node that has a stop, by the course or by an order, is stopped meanwhile: from then on it makes no tick, takes no message and sends none, its
+/// connections are shut down, and whoever connects to it is refused. Steps that its clients asked for before, and those that close their
+/// connections, may come behind that.
+///
+/// Each node has a thread that accepts clients, one that lets its time pass and one that carries its messages, and those that serve
+/// its clients. One more thread tells how the nodes are, where that is wanted.
+pub fn run_all<C: HasLinks<R> + Drop + Send + 'static, R: Runtime>(
     rt: R,
     alloc: Global,
     nodes: Vec<Node<C>>,
     admission: &Arc<Admission<C::Cluster>, Global>,
     times: Times,
     overseer: &Overseer,
-) -> Result<Vec<Node<C>>, ServeFault>
+) -> Result<Vec<Node<C>>, RunFault>
 where
     C::Cluster: Send + Sync + 'static,
     ensures { IfOk result (λ after. vec_len after ≡ vec_len nodes) }
@@ -188,7 +133,7 @@ where
     run(rt, alloc, &cluster, &overseer.orders, admission, times)?;
     match Arc::into_inner(cluster) {
         Some(cluster) if cluster.nodes.len() == count => Ok(cluster.into_nodes()),
-        _ => Err(ServeFault::Thread),
+        _ => Err(RunFault::Thread),
     }
 }
 
@@ -215,7 +160,7 @@ fn run<C: HasLinks<R> + Drop + Send + 'static, R: Runtime>(
     orders: &Arc<Orders, Global>,
     admission: &Arc<Admission<C::Cluster>, Global>,
     times: Times,
-) -> Result<(), ServeFault>
+) -> Result<(), RunFault>
 where
     C::Cluster: Send + Sync + 'static,
 {

@@ -1,10 +1,13 @@
 //! The threads of the nodes of a cluster.
 
-use crate::server::{ServeFault, Times};
+use crate::accepting::accept_clients;
+use crate::clock::pass_time;
+use crate::server::{RunFault, Times};
+use crate::telling::{Telling, tell_status};
 use client_loops::Inbox;
-use node_cell::{Admission, Asks};
-use node_threads::{Telling, accept_clients, pass_time, tell_status};
-use shared_cluster::{HasLinks, Incident, Orders, Runtime, SharedCluster, Shortage, carry};
+use cluster_controls::{Incident, Orders, Runtime, Shortage};
+use node_cell::{Admission, Asks, HasLinks};
+use shared_node::{SharedCluster, carry};
 use std::alloc::{AllocError, Global};
 use std::sync::Arc;
 use std::thread;
@@ -57,7 +60,7 @@ where
     C::Cluster: Send + Sync + 'static,
 {
     /// Starts the threads of all nodes, and the one that tells how the nodes are, if somebody wants to know.
-    pub(crate) fn start_all(&mut self) -> Result<(), ServeFault> {
+    pub(crate) fn start_all(&mut self) -> Result<(), RunFault> {
         for number in 0..self.cluster.nodes.len() {
             self.start_node(number)?;
         }
@@ -68,7 +71,7 @@ where
     }
 
     // Starts the threads of the node of that number. The witness sees it if one isn't started.
-    fn start_node(&mut self, number: usize) -> Result<(), ServeFault> {
+    fn start_node(&mut self, number: usize) -> Result<(), RunFault> {
         match self.start_each(number) {
             Ok(()) => Ok(()),
             Err(shortage) => {
@@ -77,7 +80,7 @@ where
                     shortage,
                 };
                 self.cluster.witness().see(&self.rt, unstarted);
-                Err(ServeFault::from(shortage))
+                Err(RunFault::from(shortage))
             }
         }
     }

@@ -1,7 +1,7 @@
 -- The codes of the faults that the program prints.
 use Rattle.std.specs.Prelude.{ℕ, List, Option, Some, None, codes}
-use Rattle.audit.specs.declared.gathering.AuditFault.{AuditFault}
-use Rattle.audit.specs.declared.gathering.AuditFault.TheVariants as audit
+use Rattle.audit_fault.specs.declared.fault.AuditFault.{AuditFault}
+use Rattle.audit_fault.specs.declared.fault.AuditFault.TheVariants as audit
 use Rattle.tool_io.specs.declared.failure.HandoverFault.{HandoverFault}
 use Rattle.tool_io.specs.declared.failure.HandoverFault.TheVariants as handover
 use Rattle.config_text.specs.declared.fault.ConfigFault.{ConfigFault}

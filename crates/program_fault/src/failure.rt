@@ -1,7 +1,7 @@
 //! What the program tells of why it stops.
 
 use crate::fault::ProgramFault;
-use audit::AuditFault;
+use audit_fault::AuditFault;
 use inputs::InputFailure;
 use std::alloc::AllocError;
 use std::fmt;

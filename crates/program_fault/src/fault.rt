@@ -2,7 +2,7 @@
 ghost use Rattle.std.specs.Prelude.{◌≡◌};
 ghost use Rattle.program_fault.specs.Codes.{audit_code, code_of, config_code, handover_code, number_of};
 
-use audit::AuditFault;
+use audit_fault::AuditFault;
 use config_text::ConfigFault;
 use inputs::InputFault;
 use resharder::ReshardFault;

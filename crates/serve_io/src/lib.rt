@@ -1,5 +1,5 @@
-//! What a cluster that is served reads and writes beside its clients: where its nodes listen, what standard error is told, the orders that
-//! are read meanwhile, and the record at the end.
+//! What a cluster that is served reads and writes beside its clients: where its nodes listen, what standard error is told, and the orders
+//! that are read meanwhile.
 #![tactic(auto)]
 
 mod followers;
@@ -8,7 +8,6 @@ mod logging;
 mod orders;
 mod pace;
 mod reach;
-mod recording;
 
 pub use followers::tell_followers;
 pub use listening::{Doors, listen_anywhere, listen_at, ports_of};
@@ -16,4 +15,3 @@ pub use logging::Logging;
 pub use orders::start_reading;
 pub use pace::warn_of_pace;
 pub use reach::{host_of, warn_of_reach};
-pub use recording::{begin_record, record};

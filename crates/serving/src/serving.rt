@@ -3,18 +3,18 @@ ghost use Rattle.std.specs.Prelude.{◌≡◌, All, IfOk, length, map, vec_len};
 ghost use Rattle.link_ends.specs.Ends.{AreLinkedFrom};
 ghost use Rattle.tickets.specs.Tickets.{IsFresh, id_of};
 
+use crate::recording::record;
+use crate::stations::{ServeFault, serve_nodes};
 use audit::{WorldRun, gather_stations};
-use cluster::{
-    Course, Hearing, NodeStop, Orders, Overseer, Place, Runtime, ServeFault, Telling, serve_nodes,
-};
+use cluster::{Course, Hearing, NodeStop, Orders, Overseer, Runtime, Telling};
 use cluster_config::Config;
 use link_ends::{Act, LinkEnd, PortEnd, PortEnds, Shim, link_ports, link_shims};
 use links::{Station, Web};
 use node_cell::{Deployment, Journal, Log, Posted};
+use node_places::Place;
 use program_fault::{Failure, ProgramFault};
 use serve_io::{
-    Doors, Logging, host_of, listen_at, record, start_reading, tell_followers, warn_of_pace,
-    warn_of_reach,
+    Doors, Logging, host_of, listen_at, start_reading, tell_followers, warn_of_pace, warn_of_reach,
 };
 use std::alloc::AllocError;
 use std::collections::VecDeque;

@@ -3,14 +3,15 @@ ghost use Rattle.std.specs.Prelude.{◌≡◌, IfSome};
 
 use crate::arrivals::Arrival;
 use crate::carrying::{Replies, carry_at_once, send};
-use crate::shared::SharedCluster;
+use crate::gate::Gate;
+use crate::node::Node;
+use crate::served::SharedCluster;
 use connections::Conn;
 use listener::SharedGate;
 use node_cell::{Asks, Entered, HasLinks, HoldsCell, NodeGate};
 use node_gate::Answered;
 use node_step::{Event, Response, StepFault};
 use resp_values::Reply;
-use shared_node::{Gate, Node};
 use std::alloc::Global;
 use std::rt::Clock;
 use std::sync::Wait;

@@ -1,10 +1,10 @@
 //! The time of a node, which passes in ticks, and its end where it is stopped alone.
 
 use crate::crowd::Crowd;
+use cluster_controls::{Incident, Orders, Stop};
 use node_cell::{Asks, HoldsCell, NodeGate};
 use node_step::Event;
-use shared_cluster::{Incident, Node, Orders, SharedCluster, Stop};
-use shared_node::Gate;
+use shared_node::{Gate, Node, SharedCluster};
 use std::net::Shutdown;
 use std::rt::Clock;
 use std::sync::Wait;
@@ -15,20 +15,20 @@ const PAUSE: u64 = 10;
 
 /// The ticks of a node.
 #[derive(Clone, Copy)]
-pub struct Timing {
+pub(crate) struct Timing {
     /// How long one takes.
-    pub interval: Duration,
+    pub(crate) interval: Duration,
     /// How many are counted at most.
-    pub most: u64,
+    pub(crate) most: u64,
     /// How many of them the node makes. Then it is stopped, and the others are counted alone.
-    pub own: u64,
+    pub(crate) own: u64,
     /// Whether each client of the node has a thread of its own.
-    pub has_threads: bool,
+    pub(crate) has_threads: bool,
 }
 
 /// Lets the time of the node of that number pass until the end, or until all of its ticks are counted. `asks` is what was asked of the node for
 /// this: nothing yet.
-pub fn pass_time<C: HoldsCell + Drop, R: Clock + Wait + Copy + Drop>(
+pub(crate) fn pass_time<C: HoldsCell + Drop, R: Clock + Wait + Copy + Drop>(
     rt: R,
     cluster: &SharedCluster<C>,
     orders: &Orders,

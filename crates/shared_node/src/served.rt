@@ -2,9 +2,9 @@
 
 ghost use Rattle.std.specs.Prelude.{◌≡◌};
 
+use crate::node::Node;
 use cluster_controls::{Clients, Stop, Witness};
 use node_cell::HoldsCell;
-use shared_node::Node;
 use std::alloc::Global;
 use std::sync::Arc;
 

@@ -2,8 +2,9 @@
 
 use crate::one_client::serve_client;
 use client_loops::{Inbox, InboxFault, NewClient};
-use node_cell::{Admission, Asks};
-use shared_cluster::{HasLinks, Incident, Node, Refused, Runtime, SharedCluster, Shortage};
+use cluster_controls::{Incident, Refused, Runtime, Shortage};
+use node_cell::{Admission, Asks, HasLinks};
+use shared_node::{Node, SharedCluster};
 use std::alloc::{AllocError, Global};
 use std::net::TcpStream;
 use std::sync::Arc;
@@ -19,7 +20,7 @@ const STACK_SIZE: usize = 262_144;
 
 /// Accepts the clients of the node of that number until it is closed. Each waits in one of the inboxes, in turn, or where there are none
 /// is served by a thread of its own. By the admission each begins what it asks.
-pub fn accept_clients<C: HasLinks<R> + Drop + Send + 'static, R: Runtime>(
+pub(crate) fn accept_clients<C: HasLinks<R> + Drop + Send + 'static, R: Runtime>(
     rt: R,
     alloc: Global,
     cluster: &Arc<SharedCluster<C>, Global>,

@@ -1,13 +1,14 @@
 //! Clients of a node that one thread serves in turn.
 
 use client_loops::{Inbox, Poller, Register, serve_clients};
-use node_cell::{Asks, HoldsCell};
-use shared_cluster::{HasLinks, Incident, Mail, Runtime, SeeingGate, SharedCluster, Shortage};
+use cluster_controls::{Incident, Runtime, Shortage};
+use node_cell::{Asks, HasLinks, HoldsCell};
+use shared_node::{Mail, SeeingGate, SharedCluster};
 use std::alloc::Global;
 
 /// Serves clients of the node of that number, those that come to its inbox, until the node is closed and all of them have left. `asks` is what
 /// was asked of the node for this: nothing yet.
-pub fn serve_in_turn<C: HasLinks<R> + Drop, R: Runtime>(
+pub(crate) fn serve_in_turn<C: HasLinks<R> + Drop, R: Runtime>(
     rt: R,
     alloc: Global,
     cluster: &SharedCluster<C>,

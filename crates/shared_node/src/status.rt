@@ -1,6 +1,6 @@
 //! How the nodes of a cluster are, for whoever runs it.
 
-use crate::shared::SharedCluster;
+use crate::served::SharedCluster;
 use cluster_controls::NodeStatus;
 use key_slot::Slot;
 use node_cell::HoldsCell;

@@ -1,7 +1,8 @@
 //! How the nodes are, as it is told from time to time and to whoever asks.
 
+use cluster_controls::{Incident, Orders};
 use node_cell::HoldsCell;
-use shared_cluster::{ClusterStatus, Incident, Orders, SharedCluster};
+use shared_node::{ClusterStatus, SharedCluster};
 use std::rt::Clock;
 use std::sync::Wait;
 use std::time::Duration;
@@ -29,7 +30,7 @@ impl Telling {
 
 /// Has the witness see how each node is, each time that this is to be told, until the end. A tick takes that long, and a question waits for
 /// the end of the next one.
-pub fn tell_status<C: HoldsCell + Drop, R: Clock + Wait>(
+pub(crate) fn tell_status<C: HoldsCell + Drop, R: Clock + Wait>(
     rt: &R,
     cluster: &SharedCluster<C>,
     orders: &Orders,

@@ -26,7 +26,11 @@ pub fn begin_record<R: Files + AllocGlobal>(rt: &R, path: &str) -> Result<(), Fa
 }
 
 /// Writes the run to the file at the path, a line an entry, by rising ticket.
-pub fn record<R: Files + AllocGlobal>(rt: &R, path: &str, run: &WorldRun) -> Result<(), Failure> {
+pub(crate) fn record<R: Files + AllocGlobal>(
+    rt: &R,
+    path: &str,
+    run: &WorldRun,
+) -> Result<(), Failure> {
     let alloc = rt.alloc();
     let written = fs::create(rt, path).and_then(|file| write_run(alloc, file, run));
     written.map_err(|error| unwritten(alloc, path, &error))

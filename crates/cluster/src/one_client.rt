@@ -1,10 +1,11 @@
 //! A client that is served by a thread of its own.
 
 use client_loops::{Lingering, is_told};
+use cluster_controls::Runtime;
 use listener::{Came, ConnFault, Rest, read_once, serve_conn};
-use node_cell::Asks;
+use node_cell::{Asks, HasLinks};
 use resp2::Counting;
-use shared_cluster::{HasLinks, Mail, Runtime, SeeingGate, SharedCluster};
+use shared_node::{Mail, SeeingGate, SharedCluster};
 use std::alloc::Global;
 use std::net::TcpStream;
 use std::rt::Clock;

@@ -1,9 +1,9 @@
 //! The messages between the nodes.
 
 use crate::changes::Changes;
-use crate::shared::SharedCluster;
+use crate::node::Node;
+use crate::served::SharedCluster;
 use node_cell::{HasLinks, HoldsCell, Taken};
-use shared_node::Node;
 use slot_table::NodeNo;
 use std::alloc::Global;
 use std::mem;

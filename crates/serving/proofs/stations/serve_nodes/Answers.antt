@@ -1,6 +1,6 @@
 use Rattle.std.proofs.Common.{◌≡◌, ap, length, vec_len, ◌∙◌}
 use Rattle.std.specs.List.{range_with_len}
-use Rattle.cluster.proofs.server.serve_nodes.Goals as goal
+use Rattle.serving.proofs.stations.serve_nodes.Goals as goal
 
 pub returns-clause-count : goal.returns-clause-count
 returns-clause-count g c =
