@@ -1,8 +1,8 @@
 //! The steps of a script, as the help lists them, and what is wrong with a line that is none.
 
+use crate::form::{FORMS, StepForm};
 use inputs::AFTER_SIMULATE;
 use redirection::first_word;
-use simulator::{FORMS, StepForm};
 use std::alloc::{AllocError, Global};
 use std::fmt;
 use std::fmt::Write;

@@ -1,16 +1,17 @@
-//! `rcluster simulate`: a script, played in the cluster of a file without a socket.
+//! Scripts in files, played in the cluster of another file.
 
-use crate::lines::no_step;
+use crate::bad_lines::no_step;
+use crate::fault::SimulationFault;
+use crate::simulation::simulate;
 use inputs::{InputFailure, read_cluster, unreadable};
 use program_fault::{Failure, ProgramFault};
 use resp2::Counting;
-use simulator::SimulationFault;
 use std::alloc::{AllocError, Global};
 use std::rt::Files;
 use std::{fs, io};
 
 /// Plays the script in the cluster that the file describes, and prints what comes out of each step.
-pub fn simulate<R: Files + AllocGlobal + Print>(
+pub fn simulate_file<R: Files + AllocGlobal + Print>(
     rt: &R,
     config: &str,
     script: &str,
@@ -18,7 +19,7 @@ pub fn simulate<R: Files + AllocGlobal + Print>(
     let config = read_cluster(rt, config)?;
     let mut file = Counting::new(open_script(rt, script)?);
     let mut out = Counting::new(io::writer(rt));
-    match simulator::simulate(rt.alloc(), &config, &mut file, &mut out) {
+    match simulate(rt.alloc(), &config, &mut file, &mut out) {
         Ok(()) => Ok(()),
         Err(fault) => Err(failure_of(rt.alloc(), script, fault)),
     }
