@@ -1,12 +1,15 @@
 //! What messages say: of slots, of a stream and of elections.
 ghost use Rattle.std.specs.Prelude.{◌≡◌};
 
+use crate::piece::Piece;
+use crate::snapshot::Snapshot;
+use crate::stream_id::StreamId;
+use crate::sync::Sync;
 use key_slot::Slot;
 use keyspace::Pairs;
 use slot_state::{CopyId, MoveNo};
 use slot_table::{Claim, Epoch, NodeNo};
 use std::alloc::AllocError;
-use stream_values::{Piece, Snapshot, StreamId, Sync};
 
 /// Whose place a node took as it was promoted, and where its own stream begins.
 #[derive(Clone, Copy, PartialEq, Eq, Debug)]

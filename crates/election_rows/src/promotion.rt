@@ -6,14 +6,13 @@ ghost use Rattle.node_parts.specs.Telling.{claims_by};
 ghost use Rattle.node_step.specs.Promotion.{entry_after, promotion, table_handed, table_of_master};
 ghost use Rattle.slot_table.specs.Claims.{is_above};
 
-use bus::{Body, Replaced, SlotsBody};
+use bus::{Body, Replaced, SlotsBody, StreamId};
 use key_slot::Slot;
 use node_parts::{Draft, NodeParts, Succession};
 use repl_stream::Stream;
 use slot_store::SlotParts;
 use slot_table::{Claim, Epoch, NodeNo, SlotEntry, SlotTable};
 use std::alloc::AllocError;
-use stream_values::StreamId;
 
 /// Promotes the node in the place of its master, by an election of that epoch: all slots that it knows for the master's are its own.
 pub fn promote<S: SlotParts, T: Stream>(

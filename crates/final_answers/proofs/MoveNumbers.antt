@@ -4,12 +4,14 @@ use Rattle.std.proofs.lemmas.Bool.{cases_eq, ltb-true}
 use Rattle.std.specs.FinMap as map
 use Rattle.std.specs.Ordering.{nat_cmp}
 use Rattle.std.specs.Prelude.{◌-◌, MatchBool, Result, Ok, Err, nat_lt, ⊤}
+use Rattle.bus.specs.Stream.{is_same}
 use Rattle.bus.specs.declared.message.Body.{Body}
 use Rattle.bus.specs.declared.bodies.ElectionBody.TheVariants.{Candidacy as Requested, Grant, Pause, Paused}
 use Rattle.bus.specs.declared.bodies.SlotsBody.TheVariants.{Copy, Ack, Drained, Claim}
 use Rattle.bus.specs.declared.bodies.StreamBody.TheVariants.{Sync, Piece, Snapshot}
 use Rattle.bus.specs.declared.message.Body.TheVariants.{Slots, Stream, Election, Report}
 use Rattle.bus.specs.declared.message.Message.{Message}
+use Rattle.bus.specs.declared.bodies.Handing.{Handing}
 use Rattle.cluster_config.specs.Config.{ClusterConfig}
 use Rattle.command_table.specs.Table.{command_of}
 use Rattle.command_table.specs.declared.command.ClusterCommand.{ClusterCommand}
@@ -74,8 +76,6 @@ use Rattle.slot_state.specs.declared.copy_id.CopyId.{CopyId}
 use Rattle.slot_table.specs.Claims.{merged}
 use Rattle.final_answers.proofs.OrderWords.{AsksWithin, words_within}
 use Rattle.node_step.specs.Handovers.{failover, handing_over, is_at_end, may_pause, noting}
-use Rattle.bus.specs.declared.bodies.Handing.{Handing}
-use Rattle.stream_values.specs.Stream.{is_same}
 use Rattle.slot_table.specs.declared.entry.SlotEntry.{SlotEntry}
 
 abbrev number_of : Move → ℕ

@@ -2,13 +2,13 @@
 use Rattle.std.proofs.Common.{◌≡◌, ℕ, Bool, true, false, List, [], Some, sym, subst, ◌∙◌}
 use Rattle.std.proofs.lemmas.Bool.{cond-false, cond-true}
 use Rattle.bus.specs.declared.message.Body.{Body}
+use Rattle.bus.specs.declared.stream_id.StreamId.{StreamId}
 use Rattle.node_parts.specs.Drafts.{Drafts}
 use Rattle.node_parts.specs.declared.draft.Draft.{Draft}
 use Rattle.node_step.specs.Handovers.{asked_to_pause, handed_to, handing_over, may_pause}
 use Rattle.node_step.specs.Outcome.{Outcome, silent}
 use Rattle.node_step.specs.State.{NodeState}
 use Rattle.node_step.specs.declared.outputs.Release.{Release}
-use Rattle.stream_values.specs.declared.stream_id.StreamId.{StreamId}
 
 module _ (node : NodeState) (from : ℕ) (stream : StreamId) (draft : Draft) where
   -- it goes on

@@ -1,6 +1,7 @@
 -- What a master hands over, as a node drafts that it notes it.
 use Rattle.std.proofs.Common.{◌≡◌, ◌&&◌, Bool, true, false, cond, Some, sym, ap, subst, ◌∙◌}
 use Rattle.std.proofs.lemmas.Bool.{cond-false, cond-true}
+use Rattle.bus.specs.Stream.{is_same}
 use Rattle.bus.specs.declared.bodies.Handing.{Handing}
 use Rattle.node_parts.specs.Becomes.{learning}
 use Rattle.node_parts.specs.Drafts.{Drafts}
@@ -8,7 +9,6 @@ use Rattle.node_parts.specs.declared.draft.Draft.{Draft}
 use Rattle.node_step.specs.Handovers.{noting, told_of_handing}
 use Rattle.node_step.specs.Outcome.{silent}
 use Rattle.node_step.specs.State.{NodeState, is_replica}
-use Rattle.stream_values.specs.Stream.{is_same}
 
 module _ (node : NodeState) (handing : Handing) (draft : Draft) where
   abbrev concerns : Bool

@@ -4,14 +4,13 @@ ghost use Rattle.node_parts.specs.Drafts.{Drafts, HasNothing, bodies_of};
 ghost use Rattle.node_parts.specs.Telling.{paused_again};
 ghost use Rattle.node_step.specs.Handovers.{asked_to_pause, handed_to, handing_of, is_free_for, may_pause};
 
-use bus::{Body, ElectionBody, Handing};
+use bus::{Body, ElectionBody, Handing, StreamId};
 use node_parts::{Change, Draft, NodeParts, listed};
 use node_step::Releases;
 use repl_stream::Stream;
 use slot_store::SlotParts;
 use slot_table::NodeNo;
 use std::alloc::AllocError;
-use stream_values::StreamId;
 
 /// A node that has a part of that stream asks this one to hand over. A master does, if the node is its replica and has its stream, no
 /// slot is on the move, and it hands over to no other node.

@@ -1,9 +1,9 @@
 //! A replica notes what its master hands over.
 ghost use Rattle.std.specs.Prelude.{◌≡◌, ◌&&◌, OnOk};
+ghost use Rattle.bus.specs.Stream.{is_same};
 ghost use Rattle.node_parts.specs.Drafts.{Drafts, HasNothing};
 ghost use Rattle.node_step.specs.Handovers.{told_of_handing};
 ghost use Rattle.node_step.specs.State.{is_replica};
-ghost use Rattle.stream_values.specs.Stream.{is_same};
 
 use bus::Handing;
 use node_parts::{Change, Draft, NodeParts};

@@ -1,6 +1,6 @@
 //! Which syncs of a replica its master has to answer.
 
-use stream_values::Sync;
+use bus::Sync;
 
 /// How far the messages have come that a node has for another one.
 #[derive(Clone, Copy, PartialEq, Eq, Debug)]

@@ -5,6 +5,7 @@ use Rattle.std.proofs.lemmas.List.Elements.{All-head, All-tail}
 use Rattle.std.specs.FinMap as map
 use Rattle.std.specs.Ordering.{nat_cmp}
 use Rattle.std.specs.Prelude.{MatchBool, Result, Ok, Err, is_some, slice_get, slice_set}
+use Rattle.bus.specs.Stream.{is_same}
 use Rattle.bus.specs.declared.message.Body.{Body}
 use Rattle.bus.specs.declared.bodies.ElectionBody.TheVariants.{Candidacy as Requested, Grant, Pause, Paused}
 use Rattle.bus.specs.declared.bodies.SlotsBody.TheVariants.{Copy, Ack, Drained, Claim}
@@ -12,6 +13,7 @@ use Rattle.bus.specs.declared.bodies.StreamBody.TheVariants.{Sync, Piece, Snapsh
 use Rattle.bus.specs.declared.message.Body.TheVariants.{Slots, Stream, Election, Report}
 use Rattle.bus.specs.declared.bodies.Handing.{Handing}
 use Rattle.bus.specs.declared.message.Message.{Message}
+use Rattle.bus.specs.declared.stream_id.StreamId.{StreamId}
 use Rattle.cluster_config.specs.Config.{ClusterConfig}
 use Rattle.command_table.specs.Table.{command_of}
 use Rattle.command_table.specs.declared.command.ClusterCommand.{ClusterCommand}
@@ -71,8 +73,6 @@ use Rattle.node_step.specs.Requests.{asking_of, by_command, cluster_outcome, is_
 use Rattle.node_step.specs.Handovers.{asked_to_pause, failover, handing_over, is_at_end, may_pause, noting, told_of_handing}
 use Rattle.node_step.specs.Promotion.{handed_promotion, promotion, promotion_to, table_handed}
 use Rattle.node_step.specs.State.{NodeState, is_replica, own_master}
-use Rattle.stream_values.specs.Stream.{is_same}
-use Rattle.stream_values.specs.declared.stream_id.StreamId.{StreamId}
 use Rattle.node_step.specs.Step.{IsAnswering, IsClosing, NodeStep, written}
 use Rattle.node_step.specs.Streams.{Requests, with_written}
 use Rattle.node_step.specs.Ticks.{older, tick}

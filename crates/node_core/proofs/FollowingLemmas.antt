@@ -1,7 +1,9 @@
 -- Messages by which a replica follows its master's stream.
 use Rattle.std.proofs.Common.{◌≡◌, ℕ, refl, ap, arith}
+use Rattle.bus.specs.Piece.{PieceView}
 use Rattle.bus.specs.declared.bodies.StreamBody.TheVariants.{Piece, Snapshot}
 use Rattle.bus.specs.declared.message.Body.TheVariants.{Stream}
+use Rattle.bus.specs.declared.snapshot.Snapshot.{Snapshot as Whole}
 use Rattle.node_core.specs.Comes.{MayBeTaken}
 use Rattle.node_parts.specs.Drafts.{Comes}
 use Rattle.node_step.specs.Outcome.{no_outputs, silent}
@@ -9,8 +11,6 @@ use Rattle.node_step.specs.Replicas.{follower_of, restored_by}
 use Rattle.node_step.specs.State.{NodeState}
 use Rattle.node_step.specs.declared.outputs.Outputs.{Outputs}
 use Rattle.replica_rows.specs.Following.{Follows}
-use Rattle.stream_values.specs.Piece.{PieceView}
-use Rattle.stream_values.specs.declared.snapshot.Snapshot.{Snapshot as Whole}
 
 module _ (ticket : ℕ) (node : NodeState) (from : ℕ) (outputs : Outputs) (new : NodeState) (none : outputs ≡ no_outputs ticket) where
   -- a piece may make what it made, and nothing comes out

@@ -8,6 +8,8 @@ use Rattle.bus.specs.declared.bodies.StreamBody.TheVariants.{Sync}
 use Rattle.bus.specs.declared.message.Body.{Body}
 use Rattle.bus.specs.declared.message.Body.TheVariants.{Slots, Stream, Election, Report}
 use Rattle.bus.specs.declared.message.Message.{Message}
+use Rattle.bus.specs.declared.stream_id.StreamId.{StreamId}
+use Rattle.bus.specs.declared.sync.Sync.{Sync as Asked}
 use Rattle.node_core.specs.Comes.{MayBeTaken, choosing}
 use Rattle.node_core.proofs.VoteLemmas.{just_drafted}
 use Rattle.node_parts.proofs.ChangeLemmas.{made_comes}
@@ -22,8 +24,6 @@ use Rattle.node_step.specs.State.{NodeState}
 use Rattle.node_step.specs.Step.{NodeStep}
 use Rattle.node_step.specs.declared.event.Event.TheVariants.{Deliver}
 use Rattle.node_step.specs.declared.outputs.Outputs.{Outputs}
-use Rattle.stream_values.specs.declared.stream_id.StreamId.{StreamId}
-use Rattle.stream_values.specs.declared.sync.Sync.{Sync as Asked}
 
 -- ---- a message by its kind
 

@@ -1,6 +1,7 @@
 -- What was drafted is a step once it is made.
 use Rattle.std.proofs.Common.{◌≡◌, ℕ, List, [], ◌∷◌, refl, ap}
 use Rattle.std.specs.Prelude.{IfOk, OnErr, Result, Ok, Err, length, nat_lt, ◌+◌, ◌^◌}
+use Rattle.bus.specs.Stream.{StreamView, end_of}
 use Rattle.connections.specs.declared.conn.Conn.{Conn}
 use Rattle.node_parts.proofs.ChangeLemmas.{made_comes}
 use Rattle.node_parts.specs.Drafts.{IsDraftOf, stamped_draft}
@@ -13,7 +14,6 @@ use Rattle.node_step.specs.Streams.{Requests}
 use Rattle.node_step.specs.declared.event.Event.TheVariants.{Request}
 use Rattle.node_step.specs.declared.outputs.Outputs.{Outputs}
 use Rattle.resp2.specs.Stream.{stream_spelling}
-use Rattle.stream_values.specs.Stream.{StreamView, end_of}
 
 -- an answer
 pub answer_is_step : (ticket : ℕ) (old : NodeState) (conn : Conn) (words : List (List ℕ)) (draft : Draft) (outputs : Outputs) (new : NodeState) → IsDraftOf old (MayCome old (Request conn words)) draft

@@ -5,7 +5,7 @@ ghost use Rattle.bus.specs.declared.message.Body.TheVariants.{Stream as OfStream
 ghost use Rattle.node_core.specs.Comes.{Takes};
 ghost use Rattle.step_fault.specs.declared.fault.StepFault.TheVariants.{Exhausted};
 
-use bus::StreamBody;
+use bus::{Piece, Snapshot, StreamBody, Sync};
 use node_parts::NodeParts;
 use node_step::{Outputs, Recorder, Response, StepFault};
 use repl_stream::{Replaces, Stream};
@@ -13,7 +13,6 @@ use replica_rows::{answer_sync, take_piece, take_snapshot};
 use slot_store::SlotParts;
 use slot_table::NodeNo;
 use step_making::{make, plain};
-use stream_values::{Piece, Snapshot, Sync};
 
 /// Takes what that node says.
 pub(crate) fn take_of_stream<S: SlotParts + Replaces, T: Stream, K: Recorder>(

@@ -11,7 +11,7 @@ ghost use Rattle.node_step.specs.State.{first_state, own_master};
 ghost use Rattle.node_step.specs.Step.{NodeStep};
 ghost use Rattle.slot_store.specs.InSlot.{in_slot};
 ghost use Rattle.step_fault.specs.declared.fault.StepFault.TheVariants.{Exhausted};
-ghost use Rattle.stream_values.specs.Stream.{received};
+ghost use Rattle.bus.specs.Stream.{received};
 ghost use Rattle.node_core.specs.Comes.{Steps};
 
 use crate::messages::take;

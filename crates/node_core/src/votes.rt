@@ -7,7 +7,7 @@ ghost use Rattle.node_parts.specs.Electing.{KeepsRest};
 ghost use Rattle.node_step.specs.Promotion.{promotion};
 ghost use Rattle.step_fault.specs.declared.fault.StepFault.TheVariants.{Exhausted};
 
-use bus::{Candidacy, ElectionBody, Handing};
+use bus::{Candidacy, ElectionBody, Handing, StreamId};
 use election::VoteRequest;
 use election_rows::{promote, promote_by_plan, write_vote};
 use handover_rows::{hand_over, note_handing};
@@ -17,7 +17,6 @@ use repl_stream::Stream;
 use slot_store::SlotParts;
 use slot_table::{Epoch, NodeNo};
 use step_making::{make, plain};
-use stream_values::StreamId;
 
 /// Takes what that node says.
 pub(crate) fn take_of_election<S: SlotParts, T: Stream, K: Recorder>(

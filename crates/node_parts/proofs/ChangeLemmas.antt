@@ -1,5 +1,6 @@
 -- Changes of a node, and a draft that is made.
 use Rattle.std.proofs.Common.{◌≡◌, ◌≤◌, ◌+◌, ◌-◌, ℕ, List, [], ◌∷◌, length, Option, Some, None, true≢false, refl, sym, ap, ◌∙◌, subst, arith}
+use Rattle.bus.specs.Stream.{StreamView, written}
 use Rattle.bus.specs.declared.message.Body.{Body}
 use Rattle.migrate.specs.Acknowledging.{frozen_keys}
 use Rattle.slot_state.specs.Moves.{move_of}
@@ -24,7 +25,6 @@ use Rattle.node_step.specs.State.{NodeState, kept_in}
 use Rattle.node_step.specs.Streams.{MayGiveUp, Requests, with_written}
 use Rattle.repl_stream.specs.Written.{WrittenView, no_writes}
 use Rattle.resp2.specs.Stream.{stream_spelling}
-use Rattle.stream_values.specs.Stream.{StreamView, written}
 use Rattle.node_step.specs.declared.outputs.Outputs.{Outputs}
 
 -- a change that leads somewhere can be made

@@ -1,8 +1,10 @@
 -- What elections are about, and the rest of a node.
 use Rattle.std.proofs.Common.{◌≡◌, ◌==◌, ℕ, List, Bool, true, false, Option, Some, None, cond, refl, sym, ap, ◌∙◌}
+use Rattle.bus.specs.Stream.{StreamView, promoted}
 use Rattle.bus.specs.declared.bodies.Handing.{Handing}
-use Rattle.bus.specs.declared.message.Message.{Message}
 use Rattle.bus.specs.declared.bodies.Replaced.{Replaced}
+use Rattle.bus.specs.declared.message.Message.{Message}
+use Rattle.bus.specs.declared.stream_id.StreamId.{StreamId}
 use Rattle.election.specs.Health.{Candidate, no_candidate}
 use Rattle.node_parts.specs.Electing.{KeepsRest, election_of, with_election}
 use Rattle.node_parts.specs.Noting.{note_dropped, note_of_former, with_note, without_master}
@@ -16,8 +18,6 @@ use Rattle.node_step.specs.Roles.{following, is_just, replaced_in, succeeded, wi
 use Rattle.node_step.specs.State.{NodeState, no_handover, own_master}
 use Rattle.node_step.specs.Voting.{begun_so, in_election, noted_begun}
 use Rattle.slot_table.specs.declared.entry.SlotEntry.{SlotEntry}
-use Rattle.stream_values.specs.Stream.{StreamView, promoted}
-use Rattle.stream_values.specs.declared.stream_id.StreamId.{StreamId}
 
 -- ---- what is put back
 

@@ -1,5 +1,6 @@
 -- A step that is made: a change of the node, and what is written behind its stream.
 use Rattle.std.specs.Prelude.{◌≡◌, ℕ, List, [], ◌∷◌}
+use Rattle.bus.specs.Stream.{StreamView, Writes}
 use Rattle.keyspace.specs.declared.plans.Plan.{Plan}
 use Rattle.node_parts.specs.Becomes.{Becomes, CanBeMade}
 use Rattle.node_parts.specs.Drafts.{MayCount, at_epoch}
@@ -7,7 +8,6 @@ use Rattle.node_parts.specs.Succession.{succeeded_by}
 use Rattle.node_parts.specs.declared.draft.Draft.{Draft}
 use Rattle.node_parts.specs.declared.change.Change.{Change}
 use Rattle.node_step.specs.State.{NodeState, kept_in}
-use Rattle.stream_values.specs.Stream.{StreamView, Writes}
 
 -- the bytes are put behind the stream, of which so many of the last ones are kept; where there are none it stays
 abbrev pub GoesOn : ℕ → List ℕ → StreamView → StreamView → Type 0

@@ -6,7 +6,7 @@ ghost use Rattle.node_step.specs.State.{first_id, first_masters, first_state, ke
 
 use crate::electing::ElectionState;
 use crate::masters::{first_at, first_masters};
-use bus::Handing;
+use bus::{Handing, StreamId};
 use cluster_config::{Config, NodeConfig, Role};
 use connections::Connections;
 use repl_stream::{NodeStream, Stream};
@@ -15,7 +15,6 @@ use slot_store::SlotParts;
 use slot_table::{Epoch, NodeNo, SlotTable};
 use std::alloc::{AllocError, Global};
 use std::marker::Model;
-use stream_values::StreamId;
 
 /// What a node holds. The crates of a step's rows read it; only a draft that is made changes it.
 pub struct NodeParts<S: SlotParts, T: Stream> {

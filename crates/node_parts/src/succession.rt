@@ -4,13 +4,12 @@ ghost use Rattle.node_parts.specs.Succession.{promoted_by, replacement, succeedi
 
 use crate::masters::succeed;
 use crate::parts::NodeParts;
-use bus::Replaced;
+use bus::{Replaced, StreamId};
 use node_step::{Promoted, Promotion};
 use repl_stream::Stream;
 use slot_store::SlotParts;
 use slot_table::{Epoch, NodeNo, SlotTable};
 use std::alloc::AllocError;
-use stream_values::StreamId;
 
 /// That a node takes the place of its master, decided and not done yet.
 #[derive(Drop)]

@@ -1,14 +1,14 @@
 -- What holds of a node whatever its stream is, and whatever keys it copies from its master, is kept by what it is told of streams.
 use Rattle.std.proofs.Common.{ℕ, Bool, true, false, cond, [], ◌∷◌}
 use Rattle.keyspace.specs.Keyspace.{Keyspace}
-use Rattle.stream_values.specs.Follower.{Follower}
-use Rattle.stream_values.specs.Piece.{PieceVerdict, PieceView, verdict_on}
-use Rattle.stream_values.specs.Piece.PieceVerdict.{Gap, OtherStream, Takes}
-use Rattle.stream_values.specs.Snapshot.{restored}
-use Rattle.stream_values.specs.Stream.{StreamView}
-use Rattle.stream_values.specs.Syncing.{answer_to}
-use Rattle.stream_values.specs.declared.snapshot.Snapshot.{Snapshot}
-use Rattle.stream_values.specs.declared.sync.Sync.{Sync}
+use Rattle.bus.specs.Follower.{Follower}
+use Rattle.bus.specs.Piece.{PieceVerdict, PieceView, verdict_on}
+use Rattle.bus.specs.Piece.PieceVerdict.{Gap, OtherStream, Takes}
+use Rattle.bus.specs.Snapshot.{restored}
+use Rattle.bus.specs.Stream.{StreamView}
+use Rattle.bus.specs.Syncing.{answer_to}
+use Rattle.bus.specs.declared.snapshot.Snapshot.{Snapshot}
+use Rattle.bus.specs.declared.sync.Sync.{Sync}
 use Rattle.node_step.specs.Outcome.{Outcome, silent}
 use Rattle.node_step.specs.Replicas.{follower_of, pieced, restored_by, sync_answer, synced, with_follower, with_piece}
 use Rattle.node_step.specs.Roles.{is_just}

@@ -9,11 +9,11 @@ use Rattle.bus.specs.declared.bodies.SlotsBody.TheVariants.{Claim}
 use Rattle.bus.specs.declared.bodies.StreamBody.TheVariants.{Sync}
 use Rattle.bus.specs.declared.message.Body.TheVariants.{Slots, Stream, Election, Report}
 use Rattle.bus.specs.declared.bodies.Handing.{Handing}
+use Rattle.bus.specs.declared.stream_id.StreamId.{StreamId}
 use Rattle.cluster_config.specs.Config.{ClusterConfig}
 use Rattle.cluster_config.specs.declared.config.Role.TheVariants.{Master, Replica}
 use Rattle.election.specs.Health.{first_health, first_voter, no_candidate}
 use Rattle.slot_state.specs.Moves.{no_moves}
-use Rattle.stream_values.specs.declared.stream_id.StreamId.{StreamId}
 use Rattle.node_step.specs.Handovers.{failover, handing_of, handing_over}
 use Rattle.node_step.specs.Messages.{delivered}
 use Rattle.node_step.specs.Orders.{claim_of}

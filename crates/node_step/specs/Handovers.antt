@@ -4,12 +4,12 @@ use Rattle.std.specs.Prelude.{ℕ, ◌==◌, ◌&&◌, not, Bool, true, false, L
 use Rattle.std.specs.FinMap as fin_map
 use Rattle.command_table.specs.declared.error_line.ErrorLine.TheVariants as line
 use Rattle.slot_table.specs.declared.runs.Run.{Run}
+use Rattle.bus.specs.Stream.{StreamView, is_same, is_whole}
 use Rattle.bus.specs.declared.message.Body.{Body}
 use Rattle.bus.specs.declared.bodies.ElectionBody.TheVariants.{Pause, Paused}
 use Rattle.bus.specs.declared.message.Body.TheVariants.{Election}
 use Rattle.bus.specs.declared.bodies.Handing.{Handing}
-use Rattle.stream_values.specs.Stream.{StreamView, is_same, is_whole}
-use Rattle.stream_values.specs.declared.stream_id.StreamId.{StreamId}
+use Rattle.bus.specs.declared.stream_id.StreamId.{StreamId}
 use Rattle.node_step.specs.Orders.{claim_of, done}
 use Rattle.node_step.specs.Outcome.{Outcome, error, replied, replied_sending, silent}
 use Rattle.node_step.specs.Roles.{is_just}

@@ -1,5 +1,6 @@
 -- A message of another node arrives (Redis Cluster specification, "Cluster current epoch": a node takes a greater epoch over).
 use Rattle.std.specs.Prelude.{◌≡◌, ℕ, ◌==◌, ⊤, true, [], max, if◌then◌else◌}
+use Rattle.bus.specs.Follower.{Follower}
 use Rattle.bus.specs.declared.bodies.ElectionBody.{ElectionBody}
 use Rattle.bus.specs.declared.bodies.SlotsBody.{SlotsBody}
 use Rattle.bus.specs.declared.bodies.StreamBody.{StreamBody}
@@ -12,7 +13,6 @@ use Rattle.bus.specs.declared.message.Message.{Message}
 use Rattle.migrate.specs.Acknowledging.{acknowledged_keys}
 use Rattle.migrate.specs.Arriving.{arrival_verdict}
 use Rattle.slot_state.specs.Moves.{move_of}
-use Rattle.stream_values.specs.Follower.{Follower}
 use Rattle.node_step.specs.Claiming.{claim}
 use Rattle.node_step.specs.Copies.{arrival, acknowledgement, keep_limits, noted}
 use Rattle.node_step.specs.Failing.{hearing, judging}

@@ -3,7 +3,7 @@ use Rattle.std.specs.Prelude.{◌≡◌, ◌+◌, ◌^◌, ◌&&◌, nat_lt, len
 use Rattle.resp2.specs.Stream.{stream_spelling}
 use Rattle.command_table.specs.Table.{command_of}
 use Rattle.connections.specs.Connections.{IsUsedUp}
-use Rattle.stream_values.specs.Stream.{end_of}
+use Rattle.bus.specs.Stream.{end_of}
 use Rattle.node_step.specs.Failing.{a_tick_older}
 use Rattle.node_step.specs.Messages.{ready, written_by_message}
 use Rattle.node_step.specs.Requests.{has_number, using_up}

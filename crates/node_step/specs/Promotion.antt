@@ -5,12 +5,12 @@ use Rattle.slot_table.specs.Claims.{greater, in_epoch, merged}
 use Rattle.slot_table.specs.Table.{owner_in}
 use Rattle.slot_table.specs.declared.entry.SlotEntry.{SlotEntry}
 use Rattle.slot_table.specs.declared.runs.Run.{Run}
+use Rattle.bus.specs.Stream.{promoted as going_on}
 use Rattle.bus.specs.declared.bodies.SlotsBody.TheVariants.{Claim}
 use Rattle.bus.specs.declared.message.Body.TheVariants.{Slots}
 use Rattle.bus.specs.declared.bodies.Handing.{Handing}
+use Rattle.bus.specs.declared.stream_id.StreamId.{StreamId}
 use Rattle.election.specs.Health.{no_candidate}
-use Rattle.stream_values.specs.Stream.{promoted as going_on}
-use Rattle.stream_values.specs.declared.stream_id.StreamId.{StreamId}
 use Rattle.node_step.specs.Handovers.{is_at_end}
 use Rattle.node_step.specs.Orders.{claim_of, others, to_all}
 use Rattle.node_step.specs.Outcome.{Outcome, silent}

@@ -2,19 +2,19 @@
 -- ours).
 use Rattle.std.specs.Prelude.{◌≡◌, ℕ, List, [], ◌∷◌, Option, Some, None, if◌then◌else◌}
 use Rattle.std.specs.FinMap as fin_map
-use Rattle.stream_values.specs.Follower.{Follower}
-use Rattle.stream_values.specs.Piece.{PieceVerdict, PieceView, TakesBehind, verdict_on}
-use Rattle.stream_values.specs.Piece.PieceVerdict.{Gap, OtherStream, Takes}
-use Rattle.stream_values.specs.Snapshot.{restored}
-use Rattle.stream_values.specs.Stream.{StreamView, received}
-use Rattle.stream_values.specs.Syncing.{answer_to}
-use Rattle.stream_values.specs.declared.answer.SyncAnswer.{SyncAnswer}
-use Rattle.stream_values.specs.declared.answer.SyncAnswer.TheVariants as answers
-use Rattle.stream_values.specs.declared.snapshot.Snapshot.{Snapshot as Whole}
-use Rattle.stream_values.specs.declared.sync.Sync.{Sync as Asked}
+use Rattle.bus.specs.Follower.{Follower}
+use Rattle.bus.specs.Piece.{PieceVerdict, PieceView, TakesBehind, verdict_on}
+use Rattle.bus.specs.Piece.PieceVerdict.{Gap, OtherStream, Takes}
+use Rattle.bus.specs.Snapshot.{restored}
+use Rattle.bus.specs.Stream.{StreamView, received}
+use Rattle.bus.specs.Syncing.{answer_to}
 use Rattle.bus.specs.declared.message.Body.{Body}
 use Rattle.bus.specs.declared.bodies.StreamBody.TheVariants.{Piece, Snapshot, Sync}
 use Rattle.bus.specs.declared.message.Body.TheVariants.{Stream}
+use Rattle.bus.specs.declared.answer.SyncAnswer.{SyncAnswer}
+use Rattle.bus.specs.declared.answer.SyncAnswer.TheVariants as answers
+use Rattle.bus.specs.declared.snapshot.Snapshot.{Snapshot as Whole}
+use Rattle.bus.specs.declared.sync.Sync.{Sync as Asked}
 use Rattle.node_step.specs.Outcome.{Outcome, silent}
 use Rattle.node_step.specs.Roles.{is_just}
 use Rattle.node_step.specs.State.{NodeState, is_replica, own_master}

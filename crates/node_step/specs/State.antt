@@ -13,10 +13,10 @@ use Rattle.cluster_config.specs.declared.config.NodeConfig.{NodeConfig}
 use Rattle.cluster_config.specs.declared.config.Role.{Role}
 use Rattle.cluster_config.specs.declared.config.Role.TheVariants.{Master, Replica}
 use Rattle.election.specs.Health.{Candidate, Health, Voter, first_health, first_voter, no_candidate}
-use Rattle.stream_values.specs.Stream.{StreamView, first_stream}
-use Rattle.stream_values.specs.declared.stream_id.StreamId.{StreamId}
+use Rattle.bus.specs.Stream.{StreamView, first_stream}
 use Rattle.bus.specs.declared.bodies.Handing.{Handing}
 use Rattle.bus.specs.declared.bodies.Replaced.{Replaced}
+use Rattle.bus.specs.declared.stream_id.StreamId.{StreamId}
 use Rattle.connections.specs.Connections.{ConnectionTable}
 
 -- ---- the node

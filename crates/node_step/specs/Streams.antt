@@ -18,9 +18,9 @@ use Rattle.slot_table.specs.declared.entry.SlotEntry.{SlotEntry}
 use Rattle.slot_table.specs.declared.runs.Run.{Run}
 use Rattle.migrate.specs.declared.arriving.ArrivalVerdict.{ArrivalVerdict}
 use Rattle.migrate.specs.declared.arriving.ArrivalVerdict.TheVariants.{Installs}
+use Rattle.bus.specs.Stream.{end_of, written}
 use Rattle.bus.specs.declared.bodies.StreamBody.TheVariants.{Piece}
 use Rattle.bus.specs.declared.message.Body.TheVariants.{Stream}
-use Rattle.stream_values.specs.Stream.{end_of, written}
 use Rattle.node_step.specs.Claiming.{is_lost}
 use Rattle.node_step.specs.Orders.{to_all}
 use Rattle.node_step.specs.Outcome.{Outcome}

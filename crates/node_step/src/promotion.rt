@@ -1,10 +1,10 @@
 //! That a node became a master.
 ghost use Rattle.std.specs.Prelude.{◌≡◌, None, Some, IfOk, IsOk};
 
+use bus::StreamId;
 use slot_table::Epoch;
 use std::alloc::{AllocError, Global};
 use std::marker::Model;
-use stream_values::StreamId;
 
 /// That a replica took the place of its master, by an election.
 #[derive(Clone, Copy, PartialEq, Eq, Debug)]

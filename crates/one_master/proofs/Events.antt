@@ -2,6 +2,8 @@
 use Rattle.std.proofs.Common.{◌≡◌, ◌<◌, ◌≤◌, ◌==◌, ℕ, List, [], ◌∷◌, Bool, true, false, cond, Option, Some, None, Contains, refl, sym, ap, subst, ◌∙◌, inl, inr, arith}
 use Rattle.std.proofs.lemmas.Bool.{and_parts, eqb-true, ltb-true}
 use Rattle.std.specs.Prelude.{◌&&◌, ◌||◌, MatchBool, is_some, nat_le, nat_lt}
+use Rattle.bus.specs.Stream.{is_same}
+use Rattle.bus.specs.Syncing.{answer_to}
 use Rattle.bus.specs.declared.message.Body.{Body}
 use Rattle.bus.specs.declared.bodies.ElectionBody.TheVariants as of_election
 use Rattle.bus.specs.declared.bodies.SlotsBody.TheVariants as of_slots
@@ -9,6 +11,9 @@ use Rattle.bus.specs.declared.bodies.StreamBody.TheVariants as of_stream
 use Rattle.bus.specs.declared.message.Body.TheVariants as body
 use Rattle.bus.specs.declared.bodies.Handing.{Handing}
 use Rattle.bus.specs.declared.message.Message.{Message}
+use Rattle.bus.specs.declared.answer.SyncAnswer.{SyncAnswer}
+use Rattle.bus.specs.declared.answer.SyncAnswer.TheVariants as answers
+use Rattle.bus.specs.declared.stream_id.StreamId.{StreamId}
 use Rattle.command_table.specs.Table.{command_of}
 use Rattle.connections.specs.Connections.{connection_at, may_ask}
 use Rattle.connections.specs.declared.conn.Conn.{Conn}
@@ -39,11 +44,6 @@ use Rattle.node_step.specs.declared.event.Event.TheVariants.{Open, Close, Reques
 use Rattle.node_step.specs.declared.promotion.Promotion.{Promotion}
 use Rattle.slot_table.specs.declared.entry.SlotEntry.{SlotEntry}
 use Rattle.slot_table.specs.declared.runs.Run.{Run}
-use Rattle.stream_values.specs.Stream.{is_same}
-use Rattle.stream_values.specs.Syncing.{answer_to}
-use Rattle.stream_values.specs.declared.answer.SyncAnswer.{SyncAnswer}
-use Rattle.stream_values.specs.declared.answer.SyncAnswer.TheVariants as answers
-use Rattle.stream_values.specs.declared.stream_id.StreamId.{StreamId}
 use Rattle.world_run.proofs.Lists.{contains_one}
 use Rattle.world_run.specs.Ballots.{is_elected, was_cast}
 use Rattle.world_run.specs.Run.{Entry, MayHappen, sent_by}

@@ -2,6 +2,12 @@
 use Rattle.std.proofs.Common.{◌≡◌, ◌≢◌, ◌⊎◌, ◌==◌, ◌&&◌, ◌≤◌, ◌+◌, arith, length, ℕ, Bool, true, false, cond, List, [], ◌∷◌, Option, Some, None, refl, sym, ap, subst, ◌∙◌, inl, inr, append-nil}
 use Rattle.std.proofs.lemmas.Bool.{both_ways}
 use Rattle.std.specs.Prelude.{All, is_some, ⊤}
+use Rattle.bus.specs.Follower.{Follower}
+use Rattle.bus.specs.Piece.{PieceVerdict, PieceView, TakesBy, verdict_on}
+use Rattle.bus.specs.Piece.PieceVerdict.{Gap, OtherStream, Takes}
+use Rattle.bus.specs.Snapshot.{restored}
+use Rattle.bus.specs.Stream.{StreamView, end_of, is_same, promoted as going_on, written}
+use Rattle.bus.specs.Syncing.{answer_to}
 use Rattle.bus.specs.declared.message.Body.{Body}
 use Rattle.bus.specs.declared.bodies.ElectionBody.TheVariants as of_election
 use Rattle.bus.specs.declared.bodies.SlotsBody.TheVariants as of_slots
@@ -9,6 +15,9 @@ use Rattle.bus.specs.declared.bodies.StreamBody.TheVariants as of_stream
 use Rattle.bus.specs.declared.message.Body.TheVariants as body
 use Rattle.bus.specs.declared.bodies.Handing.{Handing}
 use Rattle.bus.specs.declared.message.Message.{Message}
+use Rattle.bus.specs.declared.snapshot.Snapshot.{Snapshot as Whole}
+use Rattle.bus.specs.declared.stream_id.StreamId.{StreamId}
+use Rattle.bus.specs.declared.sync.Sync.{Sync}
 use Rattle.command_table.specs.Table.{command_of}
 use Rattle.connections.specs.Connections.{connection_at}
 use Rattle.connections.specs.declared.conn.Conn.{Conn}
@@ -20,17 +29,8 @@ use Rattle.election.specs.declared.running.Elected.{Elected}
 use Rattle.election.specs.declared.voter.VoteRequest.{VoteRequest}
 use Rattle.resp2.specs.Stream.{stream_spelling}
 use Rattle.resp_values.specs.Request.{IsRequest}
-use Rattle.stream_values.specs.Follower.{Follower}
-use Rattle.stream_values.specs.Piece.{PieceVerdict, PieceView, TakesBy, verdict_on}
-use Rattle.stream_values.specs.Piece.PieceVerdict.{Gap, OtherStream, Takes}
-use Rattle.stream_values.specs.Snapshot.{restored}
 use Rattle.slot_table.specs.declared.entry.SlotEntry.{SlotEntry}
 use Rattle.slot_table.specs.declared.runs.Run.{Run}
-use Rattle.stream_values.specs.Stream.{StreamView, end_of, is_same, promoted as going_on, written}
-use Rattle.stream_values.specs.Syncing.{answer_to}
-use Rattle.stream_values.specs.declared.snapshot.Snapshot.{Snapshot as Whole}
-use Rattle.stream_values.specs.declared.stream_id.StreamId.{StreamId}
-use Rattle.stream_values.specs.declared.sync.Sync.{Sync}
 use Rattle.true_streams.proofs.Following.{IsOn, follows, is_on}
 use Rattle.true_streams.proofs.Laws.{stay_on}
 use Rattle.true_streams.specs.Full.{FullStreams, IsTruePiece, IsTrueSnapshot}

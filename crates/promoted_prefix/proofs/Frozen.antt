@@ -5,6 +5,7 @@ use Rattle.std.specs.FinMap as fin_map
 use Rattle.std.specs.FinMap.{FinMap, nat_cmp-IsAntisymmetric}
 use Rattle.std.specs.Ordering.{eq_by_cmp, nat_cmp}
 use Rattle.std.specs.Prelude.{MatchBool, Result, Ok, Err, ⊤}
+use Rattle.bus.specs.Stream.{is_same}
 use Rattle.bus.specs.declared.message.Body.{Body}
 use Rattle.bus.specs.declared.bodies.ElectionBody.TheVariants as of_election
 use Rattle.bus.specs.declared.bodies.SlotsBody.TheVariants as of_slots
@@ -12,6 +13,7 @@ use Rattle.bus.specs.declared.bodies.StreamBody.TheVariants as of_stream
 use Rattle.bus.specs.declared.message.Body.TheVariants as body
 use Rattle.bus.specs.declared.bodies.Handing.{Handing}
 use Rattle.bus.specs.declared.message.Message.{Message}
+use Rattle.bus.specs.declared.stream_id.StreamId.{StreamId}
 use Rattle.command_table.specs.Table.{command_of}
 use Rattle.command_table.specs.declared.command.ClusterCommand.{ClusterCommand}
 use Rattle.command_table.specs.declared.command.ClusterCommand.TheVariants as cluster
@@ -59,8 +61,6 @@ use Rattle.node_step.specs.Failing.{a_tick_older, members_of}
 use Rattle.node_step.specs.Messages.{Choice, delivered, ready, taken, taken_so, written_by_message}
 use Rattle.node_step.specs.Orders.{ending_outcome, ending_verdict, import_outcome, migrate_outcome}
 use Rattle.node_step.specs.Outcome.{Outcome, silent}
-use Rattle.stream_values.specs.Stream.{is_same}
-use Rattle.stream_values.specs.declared.stream_id.StreamId.{StreamId}
 use Rattle.node_step.specs.Handovers.{asked_to_pause, failover, handing_over, is_at_end, may_pause, noting, told_of_handing}
 use Rattle.node_step.specs.Promotion.{handed_promotion, promotion, promotion_to, table_handed}
 use Rattle.node_step.specs.Requests.{asking_of, by_command, cluster_outcome, is_numbered, node_with_id, order_outcome, request_outcome, using_up}

@@ -3,6 +3,9 @@ use Rattle.std.proofs.Common.{◌≡◌, ◌≢◌, ◌==◌, ◌+◌, ◌<◌, 
 use Rattle.std.proofs.lemmas.Bool.{and_from, and_parts, eq-eqb, eqb-true, cases_Bool}
 use Rattle.std.proofs.lemmas.List.{same_lists, length-append, length-take, length-drop, get_or_append_left, get_or-take, get_or-drop, take-append-le}
 use Rattle.std.specs.Prelude.{⊤}
+use Rattle.bus.specs.Follower.{Follower}
+use Rattle.bus.specs.Piece.{PieceView}
+use Rattle.bus.specs.Stream.{is_same}
 use Rattle.bus.specs.declared.message.Body.{Body}
 use Rattle.bus.specs.declared.bodies.ElectionBody.TheVariants as of_election
 use Rattle.bus.specs.declared.bodies.SlotsBody.TheVariants as of_slots
@@ -10,15 +13,12 @@ use Rattle.bus.specs.declared.bodies.StreamBody.TheVariants as of_stream
 use Rattle.bus.specs.declared.bodies.StreamBody.TheVariants.{Piece, Snapshot}
 use Rattle.bus.specs.declared.message.Body.TheVariants as bodies
 use Rattle.bus.specs.declared.message.Body.TheVariants.{Slots, Stream, Election}
+use Rattle.bus.specs.declared.stream_id.Base.{Base}
+use Rattle.bus.specs.declared.stream_id.StreamId.{StreamId}
 use Rattle.keyspace.specs.Keyspace.{Keyspace, keyspace_of}
 use Rattle.keyspace.specs.Replay.{HasRequest}
 use Rattle.keyspace.specs.declared.value.Value.{Value}
 use Rattle.resp2.specs.Stream.{stream_spelling}
-use Rattle.stream_values.specs.Follower.{Follower}
-use Rattle.stream_values.specs.Piece.{PieceView}
-use Rattle.stream_values.specs.Stream.{is_same}
-use Rattle.stream_values.specs.declared.stream_id.Base.{Base}
-use Rattle.stream_values.specs.declared.stream_id.StreamId.{StreamId}
 use Rattle.true_streams.proofs.Following.{IsOn}
 use Rattle.true_streams.proofs.Places.{At, of_part}
 use Rattle.true_streams.specs.Full.{FullStreams, IsStateAt, IsTrueBase, IsTruePiece, IsTrueSnapshot, Shares}

@@ -5,6 +5,7 @@ use Rattle.std.proofs.lemmas.List.Elements.{All-append, All-cons, All-nil}
 use Rattle.std.specs.FinMap as fin_map
 use Rattle.std.specs.List.{AllByRecursion, list_any}
 use Rattle.std.specs.Prelude.{All, Result, filter}
+use Rattle.bus.specs.Follower.{Follower}
 use Rattle.bus.specs.declared.message.Body.{Body}
 use Rattle.bus.specs.declared.bodies.ElectionBody.TheVariants as of_election
 use Rattle.bus.specs.declared.bodies.SlotsBody.TheVariants as of_slots
@@ -28,7 +29,6 @@ use Rattle.slot_state.specs.Moves.{move_of}
 use Rattle.slot_state.specs.declared.running.Move.{Move}
 use Rattle.slot_table.specs.Claims.{merged}
 use Rattle.slot_table.specs.declared.runs.Run.{Run}
-use Rattle.stream_values.specs.Follower.{Follower}
 use Rattle.true_streams.proofs.Following.{IsOn}
 use Rattle.true_streams.specs.Full.{FullStreams}
 use Rattle.node_step.proofs.Lists.{contains_first, contains_more}

@@ -6,22 +6,22 @@ use Rattle.std.proofs.lemmas.List.{length-append, length-take, length-drop, get_
 use Rattle.std.proofs.lemmas.List.Elements.{All-append}
 use Rattle.std.specs.FinMap as fin_map
 use Rattle.std.specs.Prelude.{All, nat_le}
+use Rattle.bus.specs.Follower.{Follower}
+use Rattle.bus.specs.Reading.{BeginsWithRequest}
+use Rattle.bus.specs.Stream.{StreamView, cut, end_of, is_same, promoted, received, written}
+use Rattle.bus.specs.Syncing.{answer_to, has_from, is_own, piece_from}
 use Rattle.bus.specs.declared.bodies.StreamBody.TheVariants as of_stream
 use Rattle.bus.specs.declared.message.Body.TheVariants as body
+use Rattle.bus.specs.declared.answer.SyncAnswer.TheVariants as answers
+use Rattle.bus.specs.declared.answer.TheConstants.{MOST_PIECE_BYTES}
+use Rattle.bus.specs.declared.stream_id.StreamId.{StreamId}
+use Rattle.bus.specs.declared.sync.Sync.{Sync}
 use Rattle.keyspace.proofs.Applied.{same}
 use Rattle.keyspace.specs.Commands.{replay_from}
 use Rattle.keyspace.specs.Keyspace.{Keyspace, keyspace_of}
 use Rattle.resp2.proofs.Callers.{stream_spelling-append}
 use Rattle.resp2.specs.Stream.{stream_spelling}
 use Rattle.resp_values.specs.Request.{IsRequest}
-use Rattle.stream_values.specs.Follower.{Follower}
-use Rattle.stream_values.specs.Reading.{BeginsWithRequest}
-use Rattle.stream_values.specs.Stream.{StreamView, cut, end_of, is_same, promoted, received, written}
-use Rattle.stream_values.specs.Syncing.{answer_to, has_from, is_own, piece_from}
-use Rattle.stream_values.specs.declared.answer.SyncAnswer.TheVariants as answers
-use Rattle.stream_values.specs.declared.answer.TheConstants.{MOST_PIECE_BYTES}
-use Rattle.stream_values.specs.declared.stream_id.StreamId.{StreamId}
-use Rattle.stream_values.specs.declared.sync.Sync.{Sync}
 use Rattle.true_streams.proofs.Following.{IsOn}
 use Rattle.true_streams.proofs.Places.{At, Same, all_of, cut_at, is_back, is_front, joined, nothing, without}
 use Rattle.true_streams.specs.Full.{FullStreams, IsStateAt, IsTrueBase, IsTruePiece, Shares}

@@ -6,11 +6,11 @@ use Rattle.std.specs.FinMap as fin_map
 use Rattle.std.specs.Ordering.{nat_cmp}
 use Rattle.std.specs.Prelude.{MatchBool, is_some, slice_get, slice_set}
 use Rattle.bus.specs.declared.message.Message.{Message}
+use Rattle.bus.specs.declared.stream_id.StreamId.{StreamId}
 use Rattle.cluster_config.specs.Config.{ClusterConfig, first_owners}
 use Rattle.command_table.specs.Table.{command_of}
 use Rattle.connections.specs.Connections.{connection_at, may_ask}
 use Rattle.connections.specs.declared.conn.Conn.{Conn}
-use Rattle.stream_values.specs.declared.stream_id.StreamId.{StreamId}
 use Rattle.true_streams.proofs.Following.{follows, is_on}
 use Rattle.true_streams.proofs.Laws.{follow}
 use Rattle.true_streams.specs.Full.{FullStreams}

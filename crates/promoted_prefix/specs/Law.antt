@@ -1,12 +1,12 @@
 -- A promoted node goes on from the stream of its master (Redis documentation, "Replication ID explained"; Redis Cluster specification,
 -- "Replica election and promotion").
 use Rattle.std.specs.Prelude.{◌≡◌, ◌≤◌, ⊤, ℕ, false, List, [], ◌∷◌, Contains, length, take, drop, slice_get, Option, Some, None}
+use Rattle.bus.specs.Stream.{received}
 use Rattle.bus.specs.declared.message.Body.{Body}
 use Rattle.bus.specs.declared.bodies.StreamBody.TheVariants.{Piece, Snapshot}
 use Rattle.bus.specs.declared.message.Body.TheVariants.{Stream}
 use Rattle.bus.specs.declared.message.Message.{Message}
 use Rattle.cluster_config.specs.Config.{ClusterConfig}
-use Rattle.stream_values.specs.Stream.{received}
 use Rattle.true_streams.specs.Full.{Follows, FullStreams, IsStateAt, IsTruePiece, IsTrueSnapshot}
 use Rattle.node_step.specs.Replicas.{follower_of}
 use Rattle.node_step.specs.State.{NodeState, is_replica}

@@ -2,8 +2,8 @@
 use Rattle.std.specs.Prelude.{ℕ, ◌==◌, List, [], ◌++◌, take, Option, Some, None, if◌then◌else◌}
 use Rattle.command_table.specs.Table.{command_of}
 use Rattle.resp2.specs.Stream.{stream_spelling}
-use Rattle.stream_values.specs.Stream.{is_same}
-use Rattle.stream_values.specs.declared.stream_id.StreamId.{StreamId}
+use Rattle.bus.specs.Stream.{is_same}
+use Rattle.bus.specs.declared.stream_id.StreamId.{StreamId}
 use Rattle.true_streams.specs.Full.{FullStreams}
 use Rattle.node_step.specs.Messages.{ready, written_by_message}
 use Rattle.node_step.specs.State.{NodeState}

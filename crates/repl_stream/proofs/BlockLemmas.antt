@@ -2,10 +2,10 @@
 use Rattle.std.proofs.Common.{◌≡◌, ℕ, ◌+◌, ◌-◌, ◌<◌, ◌≤◌, ◌^◌, List, ◌++◌, length, take, drop, get_or, refl, ap, ◌∙◌, arith}
 use Rattle.std.proofs.lemmas.List.{length-drop, length-take, take_more}
 use Rattle.std.specs.Prelude.{IsSome, None, Option, Some, SomeIff}
+use Rattle.bus.specs.Stream.{Held, end_of}
 use Rattle.resp2.proofs.Callers.{stream_spelling-push}
 use Rattle.resp2.specs.Stream.{stream_spelling}
 use Rattle.resp_values.specs.Request.{request_spelling}
-use Rattle.stream_values.specs.Stream.{Held, end_of}
 
 -- with one request more
 pub one_more_spelled : (requests : List (List (List ℕ))) (i : ℕ) (d : List (List ℕ)) → i < length requests

@@ -20,7 +20,7 @@ use Rattle.resp_header.specs.declared.fault.Fault.TheVariants.{Memory, Protocol,
 use Rattle.resp_values.specs.Request.{IsRequest, KeepsLimits, request_spelling}
 use Rattle.resp_values.specs.declared.words.TheConstants.{MOST_WORD_BYTES}
 use Rattle.repl_stream.specs.Reading.{HandsOut, IsPlanned}
-use Rattle.stream_values.specs.Reading.{BeginsWithRequest}
+use Rattle.bus.specs.Reading.{BeginsWithRequest}
 
 -- ---- requests without words
 

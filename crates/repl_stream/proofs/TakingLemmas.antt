@@ -4,10 +4,10 @@ use Rattle.std.proofs.lemmas.List.{length-append, length-drop, length-take}
 use Rattle.keyspace.specs.Keyspace.{Keyspace}
 use Rattle.resp2.specs.Stream.{stream_spelling}
 use Rattle.repl_stream.specs.Reading.{IsPlanned}
-use Rattle.stream_values.specs.Piece.{PieceView, TakesBehind, news_in}
-use Rattle.stream_values.specs.Reading.{IsReadAs}
-use Rattle.stream_values.specs.Stream.{Held, StreamView, cut, end_of, received, with_appended}
-use Rattle.stream_values.specs.declared.stream_id.StreamId.{StreamId}
+use Rattle.bus.specs.Piece.{PieceView, TakesBehind, news_in}
+use Rattle.bus.specs.Reading.{IsReadAs}
+use Rattle.bus.specs.Stream.{Held, StreamView, cut, end_of, received, with_appended}
+use Rattle.bus.specs.declared.stream_id.StreamId.{StreamId}
 
 -- bytes put behind a place end as far behind it
 pub end_of-taken : (held : Held) (place : ℕ) (id : StreamId) (dropped : ℕ) (news : List ℕ)

@@ -1,8 +1,8 @@
 -- What is put behind a stream that keeps none of it.
 use Rattle.std.proofs.Common.{◌≡◌, ◌≤◌, ◌+◌, ◌-◌, ℕ, List, [], ◌++◌, length, drop, length-append, refl, sym, ap, ap₂, ◌∙◌, arith}
 use Rattle.std.proofs.lemmas.List.{drop_all}
-use Rattle.stream_values.specs.Stream.{Held, StreamView, Writes, begun, end_of, with_appended}
-use Rattle.stream_values.specs.declared.stream_id.StreamId.{StreamId}
+use Rattle.bus.specs.Stream.{Held, StreamView, Writes, begun, end_of, with_appended}
+use Rattle.bus.specs.declared.stream_id.StreamId.{StreamId}
 
 -- all bytes are given up, and the end moves
 all_given_up : (bytes : List ℕ) (held : Held) → begun held.id (end_of held + length bytes) ≡ with_appended (length held.bytes + length bytes) bytes held

@@ -1,6 +1,6 @@
 -- What the two bodies of a stream keep (Redis documentation, "Redis replication": the replication backlog, of a fixed size).
 use Rattle.std.specs.Prelude.{◌+◌, ◌-◌, ℕ, length, vec_len, vec_capacity}
-use Rattle.stream_values.specs.Stream.{Held}
+use Rattle.bus.specs.Stream.{Held}
 use Rattle.repl_stream.specs.declared.backlog.Backlog.{Backlog}
 use Rattle.repl_stream.specs.declared.whole_stream.WholeStream.{WholeStream}
 

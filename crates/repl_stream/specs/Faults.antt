@@ -1,13 +1,13 @@
 -- When a stream refuses, and when a replica does (the refusals are ours).
 use Rattle.std.specs.Prelude.{◌≡◌, ◌<◌, ◌≤◌, ◌^◌, ℕ}
+use Rattle.bus.specs.Piece.{PieceVerdict}
+use Rattle.bus.specs.Piece.PieceVerdict.{Gap, OtherStream, Takes}
 use Rattle.repl_stream.specs.declared.fault.AppendFault.{AppendFault}
 use Rattle.repl_stream.specs.declared.fault.AppendFault.TheVariants as append
 use Rattle.repl_stream.specs.declared.fault.OfferFault.{OfferFault}
 use Rattle.repl_stream.specs.declared.fault.OfferFault.TheVariants as offer
 use Rattle.repl_stream.specs.declared.fault.StreamFault.{StreamFault}
 use Rattle.repl_stream.specs.declared.fault.StreamFault.TheVariants.{Memory, TooOld}
-use Rattle.stream_values.specs.Piece.{PieceVerdict}
-use Rattle.stream_values.specs.Piece.PieceVerdict.{Gap, OtherStream, Takes}
 
 -- memory may always be refused; and bytes that are not kept any longer are
 abbrev pub MayRefuse : StreamFault → Type 0 → Type 0

@@ -1,7 +1,7 @@
 -- Which bytes are kept, and which are taken out.
 use Rattle.std.specs.Prelude.{ℕ, ◌-◌, ◌++◌, List, take, drop}
+use Rattle.bus.specs.Stream.{Held}
 use Rattle.circular_buffer.specs.Buffer.{Buffer, buffer, keep_last}
-use Rattle.stream_values.specs.Stream.{Held}
 
 -- the last bytes, once more came: as many as there is room for
 abbrev pub extended : Buffer ℕ → List ℕ → Buffer ℕ

@@ -1,6 +1,6 @@
 -- What a contract sees of a replica.
 use Rattle.std.specs.Prelude.{ℕ}
-use Rattle.stream_values.specs.Stream.{StreamView}
+use Rattle.bus.specs.Stream.{StreamView}
 
 -- what the node has of the stream; for how many bytes there is room, which only who appends has to know; and how many of the last bytes
 -- are kept, whatever comes

@@ -6,7 +6,7 @@ use Rattle.keyspace.specs.Plan.{committed}
 use Rattle.keyspace.specs.declared.plans.Plan.{Plan}
 use Rattle.resp2.specs.Reader.{ReaderState}
 use Rattle.resp_values.specs.Request.{IsRequest, request_spelling}
-use Rattle.stream_values.specs.Reading.{IsReadAs}
+use Rattle.bus.specs.Reading.{IsReadAs}
 use Rattle.repl_stream.specs.declared.received.Received.{Received}
 
 -- a request stood in front of the bytes, and the reader holds those behind it

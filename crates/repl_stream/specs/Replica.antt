@@ -1,12 +1,12 @@
 -- A replica: a node's stream with the keyspace of its store. In front of the stores stands what a store contains.
 use Rattle.std.specs.Prelude.{◌≡◌, ◌≤◌, ℕ, [], List, length}
 use Rattle.keyspace.specs.Keyspace.{Keyspace}
-use Rattle.stream_values.specs.Follower.{Follower}
-use Rattle.stream_values.specs.Piece.{PieceView, TakesBehind, TakesPiece}
-use Rattle.stream_values.specs.Snapshot.{restored}
-use Rattle.stream_values.specs.Stream.{StreamView, begun, received, Writes}
-use Rattle.stream_values.specs.declared.snapshot.Snapshot.{Snapshot}
-use Rattle.stream_values.specs.declared.stream_id.StreamId.{StreamId}
+use Rattle.bus.specs.Follower.{Follower}
+use Rattle.bus.specs.Piece.{PieceView, TakesBehind, TakesPiece}
+use Rattle.bus.specs.Snapshot.{restored}
+use Rattle.bus.specs.Stream.{StreamView, begun, received, Writes}
+use Rattle.bus.specs.declared.snapshot.Snapshot.{Snapshot}
+use Rattle.bus.specs.declared.stream_id.StreamId.{StreamId}
 use Rattle.repl_stream.specs.NodeStream.{NodeStreamView}
 
 -- the two together

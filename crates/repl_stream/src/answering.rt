@@ -1,13 +1,13 @@
 //! What a master answers to a replica that tells how far it is.
 ghost use Rattle.std.specs.Prelude.{◌≡◌, ◌≤◌, IfOk};
-ghost use Rattle.stream_values.specs.Stream.{end_of};
-ghost use Rattle.stream_values.specs.Syncing.{answer_to, is_of_former, piece_from};
+ghost use Rattle.bus.specs.Stream.{end_of};
+ghost use Rattle.bus.specs.Syncing.{answer_to, is_of_former, piece_from};
 
 use crate::fault::StreamFault;
 use crate::node_stream::NodeStream;
 use crate::stream::Stream;
+use bus::{MOST_PIECE_BYTES, Piece, Sync, SyncAnswer};
 use std::alloc::{AllocError, Global};
-use stream_values::{MOST_PIECE_BYTES, Piece, Sync, SyncAnswer};
 
 impl<T: Stream> NodeStream<T> {
     /// What comes next for a replica. Where it says that this is a snapshot, the pairs are still to be read from the store.

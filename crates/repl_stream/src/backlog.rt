@@ -4,9 +4,9 @@ ghost use Rattle.std.specs.Prelude.{◌≤◌, length};
 use crate::fault::StreamFault;
 use crate::page_ring::PageRing;
 use crate::stream::Stream;
+use bus::StreamId;
 use byte_string::ByteString;
 use std::alloc::{AllocError, Global};
-use stream_values::StreamId;
 
 /// A stream of which the last bytes are kept, as many as find room in a ring of a fixed size. Only to make it takes memory.
 #[derive(Drop)]

@@ -1,11 +1,11 @@
 //! What a node has of a stream.
 ghost use Rattle.std.specs.Prelude.{◌≡◌, ◌==◌, ◌≤◌, IfOk};
-ghost use Rattle.stream_values.specs.Stream.{first_stream, is_whole, promoted, received};
+ghost use Rattle.bus.specs.Stream.{first_stream, is_whole, promoted, received};
 
 use crate::stream::Stream;
+use bus::{Base, StreamId};
 use std::alloc::{AllocError, Global};
 use std::marker::Model;
-use stream_values::{Base, StreamId};
 
 /// What a node has of a stream: the bytes that it received or wrote, and how far they are whole writes.
 pub struct NodeStream<T: Stream> {
@@ -32,8 +32,8 @@ impl<T: Stream + Drop> Drop for NodeStream<T> {
 
 impl<T: Stream> Model for NodeStream<T> {
     ghost use Rattle.std.specs.Prelude.{◌≡◌, ◌+◌, length};
+    ghost use Rattle.bus.specs.Stream.{end_of};
     ghost use Rattle.repl_stream.specs.NodeStream.{NodeStreamView};
-    ghost use Rattle.stream_values.specs.Stream.{end_of};
 
     ghost Value = { NodeStreamView };
 

@@ -1,7 +1,7 @@
 //! What a replica takes of its master's stream.
 ghost use Rattle.std.specs.Prelude.{◌≡◌, ◌+◌, ◌<◌, ◌≤◌, ◌^◌, length, IfOk, IfErr, IfSome, OnOk, OnErr};
-ghost use Rattle.stream_values.specs.Piece.{common_end, end_by_base, news_in, verdict_on};
-ghost use Rattle.stream_values.specs.Piece.PieceVerdict.{Takes};
+ghost use Rattle.bus.specs.Piece.{common_end, end_by_base, news_in, verdict_on};
+ghost use Rattle.bus.specs.Piece.PieceVerdict.{Takes};
 ghost use Rattle.repl_stream.specs.Faults.{IsRefusedFor};
 ghost use Rattle.repl_stream.specs.Replica.{IsWithin, IsWithinBoth, StaysIn, TakesFrom, TakesIn};
 
@@ -10,9 +10,9 @@ use crate::node_stream::NodeStream;
 use crate::parts::front;
 use crate::received::read;
 use crate::stream::Stream;
+use bus::{Base, Piece};
 use keyspace::{Store, commit};
 use std::alloc::{AllocError, Global};
-use stream_values::{Base, Piece};
 
 impl<T: Stream> NodeStream<T> {
     /// Takes what is new of the piece, and executes the requests that are whole now, or changes nothing.

@@ -1,9 +1,9 @@
 //! The whole requests in bytes, one after another, and what they change.
 ghost use Rattle.std.specs.Prelude.{◌≡◌, ◌≢◌, ◌≤◌, None, length, drop, IfOk, IfSome, IfNone, OnOk};
+ghost use Rattle.bus.specs.Reading.{BeginsWithRequest};
 ghost use Rattle.repl_stream.specs.Reading.{HandsOut, Plans, PlansWords};
 ghost use Rattle.resp_header.specs.declared.fault.Fault.TheVariants.{Memory};
 ghost use Rattle.resp_values.specs.Request.{request_spelling};
-ghost use Rattle.stream_values.specs.Reading.{BeginsWithRequest};
 
 use crate::lengths::spelled_len;
 use command::{Command, parse};

@@ -1,15 +1,15 @@
 //! A whole keyspace, taken from a snapshot.
 ghost use Rattle.std.specs.Prelude.{◌≡◌, IfOk, OnOk, OnErr};
 ghost use Rattle.keyspace.specs.Keyspace.{keyspace_of};
-ghost use Rattle.stream_values.specs.Snapshot.{is_known};
+ghost use Rattle.bus.specs.Snapshot.{is_known};
 ghost use Rattle.repl_stream.specs.Replica.{Restores, StaysIn, begun_again};
 
 use crate::node_stream::NodeStream;
 use crate::replaces::Replaces;
 use crate::stream::Stream;
+use bus::{Snapshot, StreamId};
 use keyspace::Pair;
 use std::alloc::{AllocError, Global};
-use stream_values::{Snapshot, StreamId};
 
 impl<T: Stream> NodeStream<T> {
     /// Takes all pairs of the snapshot in place of what is in the store, and its place in the stream, or changes nothing.

@@ -1,13 +1,13 @@
 //! Where the bytes of a stream stand: the trait of all streams.
 ghost use Rattle.std.specs.Prelude.{◌≡◌, ◌+◌, ◌-◌, ◌<◌, ◌≤◌, ◌^◌, length, IfOk, IfErr, OnOk};
-ghost use Rattle.stream_values.specs.Stream.{begun, cut, end_of, with_appended};
+ghost use Rattle.bus.specs.Stream.{begun, cut, end_of, with_appended};
 ghost use Rattle.repl_stream.specs.Faults.{MayRefuse};
 ghost use Rattle.repl_stream.specs.Kept.{part_from};
 
 use crate::fault::StreamFault;
+use bus::StreamId;
 use byte_string::ByteString;
 use std::alloc::{AllocError, Global};
-use stream_values::StreamId;
 
 /// Bytes of a stream, from the first offset of which they are kept to the last that came.
 ///
@@ -15,7 +15,7 @@ use stream_values::StreamId;
 /// All offsets are below 2 ^ 64.
 pub trait Stream {
     ghost use Rattle.std.specs.Prelude.{ℕ};
-    ghost use Rattle.stream_values.specs.Stream.{Held};
+    ghost use Rattle.bus.specs.Stream.{Held};
 
     /// What it keeps.
     ghost held: { Self → Held };

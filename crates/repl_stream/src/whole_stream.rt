@@ -4,9 +4,9 @@ ghost use Rattle.std.specs.Prelude.{◌+◌, ◌<◌, ◌^◌, length};
 use crate::fault::StreamFault;
 use crate::parts::part;
 use crate::stream::Stream;
+use bus::StreamId;
 use byte_string::ByteString;
 use std::alloc::{AllocError, Global};
-use stream_values::StreamId;
 
 /// A stream of which all bytes are kept, from where it began.
 #[derive(Drop)]

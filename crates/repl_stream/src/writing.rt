@@ -1,6 +1,6 @@
 //! What a master puts behind its stream.
 ghost use Rattle.std.specs.Prelude.{◌≡◌, ◌+◌, ◌<◌, ◌≤◌, ◌^◌, true, length, IfErr, OnOk};
-ghost use Rattle.stream_values.specs.Stream.{Writes, received};
+ghost use Rattle.bus.specs.Stream.{Writes, received};
 ghost use Rattle.repl_stream.specs.Faults.{IsRefusedAt};
 ghost use Rattle.repl_stream.specs.Replica.{WritesAny};
 

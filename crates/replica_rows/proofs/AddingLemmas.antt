@@ -2,6 +2,7 @@
 use Rattle.std.proofs.Common.{◌≡◌, ◌++◌, ◌==◌, ◌+◌, ◌^◌, ◌&&◌, ℕ, Bool, true, false, List, [], ◌∷◌, Option, length, eq-eqb, true≢false, refl, sym, ap, subst, ◌∙◌, arith}
 use Rattle.std.proofs.lemmas.Bool.{eqb-true}
 use Rattle.std.specs.Prelude.{nat_lt, Result}
+use Rattle.bus.specs.Stream.{StreamView, end_of}
 use Rattle.bus.specs.declared.message.Body.{Body}
 use Rattle.bus.specs.declared.bodies.StreamBody.TheVariants.{Piece}
 use Rattle.bus.specs.declared.message.Body.TheVariants.{Stream}
@@ -22,7 +23,6 @@ use Rattle.resp2.specs.Stream.{stream_spelling}
 use Rattle.resp_values.specs.Request.{request_spelling}
 use Rattle.replica_rows.proofs.WriteLemmas.{one_request, written_so}
 use Rattle.replica_rows.specs.Adding.{Adds, is_done, pieces_of, written_if}
-use Rattle.stream_values.specs.Stream.{StreamView, end_of}
 
 -- no bytes are no requests
 some_bytes : {A : Type 0} (request : List (List ℕ)) (requests : Requests) (bytes : List ℕ) → (length bytes == 0) ≡ true → bytes ≡ stream_spelling (request ∷ requests) → A

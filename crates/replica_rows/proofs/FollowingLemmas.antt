@@ -1,15 +1,15 @@
 -- A replica that follows its master.
 use Rattle.std.proofs.Common.{◌≡◌, ℕ, true, false, not, true≢false, refl, sym, ap, subst, ◌∙◌}
 use Rattle.std.proofs.lemmas.Bool.{cond-false, cond-true, not-false, not-true}
+use Rattle.bus.specs.Follower.{Follower}
+use Rattle.bus.specs.Piece.{PieceVerdict, PieceView, TakesBy, TakesPiece, verdict_on}
+use Rattle.bus.specs.Piece.PieceVerdict.{Gap, OtherStream, Takes}
+use Rattle.bus.specs.Snapshot.{restored}
+use Rattle.bus.specs.declared.snapshot.Snapshot.{Snapshot as Whole}
 use Rattle.node_step.specs.Replicas.{follower_of, restored_by, with_follower, with_piece}
 use Rattle.node_step.specs.Roles.{is_just}
 use Rattle.node_step.specs.State.{NodeState, own_master}
 use Rattle.replica_rows.specs.Following.{Follows, TakesOrNot}
-use Rattle.stream_values.specs.Follower.{Follower}
-use Rattle.stream_values.specs.Piece.{PieceVerdict, PieceView, TakesBy, TakesPiece, verdict_on}
-use Rattle.stream_values.specs.Piece.PieceVerdict.{Gap, OtherStream, Takes}
-use Rattle.stream_values.specs.Snapshot.{restored}
-use Rattle.stream_values.specs.declared.snapshot.Snapshot.{Snapshot as Whole}
 
 -- a piece that is taken
 module _ (old new : NodeState) (piece : PieceView) (follower : Follower) (state : new ≡ with_follower old follower) where

@@ -1,15 +1,15 @@
 -- What a node answers to a sync, as it drafts it.
 use Rattle.std.proofs.Common.{◌≡◌, ℕ, true, false, List, [], sym, ap, subst, ◌∙◌}
 use Rattle.std.proofs.lemmas.Bool.{cond-false, cond-true}
+use Rattle.bus.specs.Syncing.{answer_to}
 use Rattle.bus.specs.declared.message.Body.{Body}
+use Rattle.bus.specs.declared.sync.Sync.{Sync}
 use Rattle.node_parts.specs.Drafts.{Drafts}
 use Rattle.node_parts.specs.declared.draft.Draft.{Draft}
 use Rattle.node_step.specs.Outcome.{Outcome, silent}
 use Rattle.node_step.specs.Replicas.{sync_answer, synced}
 use Rattle.node_step.specs.State.{NodeState, is_replica}
 use Rattle.node_step.specs.declared.outputs.Release.{Release}
-use Rattle.stream_values.specs.Syncing.{answer_to}
-use Rattle.stream_values.specs.declared.sync.Sync.{Sync}
 
 module _ (old : NodeState) (from : ℕ) (sync : Sync) (draft : Draft) where
   abbrev answered : Outcome

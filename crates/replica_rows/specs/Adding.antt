@@ -1,6 +1,8 @@
 -- What a step writes, as the parts of a node say it of themselves.
 use Rattle.std.specs.Prelude.{◌≡◌, ◌++◌, ◌∷◌, ◌&&◌, ℕ, Bool, false, not, List, [], None, filter, slice_index_or, if◌then◌else◌, ◌+◌, ◌^◌, nat_lt, length, Result}
 use Rattle.std.specs.List.{range_with_len}
+use Rattle.bus.specs.Stream.{end_of}
+use Rattle.bus.specs.Piece.{PieceView}
 use Rattle.bus.specs.declared.message.Body.{Body}
 use Rattle.bus.specs.declared.bodies.StreamBody.TheVariants.{Piece}
 use Rattle.bus.specs.declared.message.Body.TheVariants.{Stream}
@@ -14,8 +16,6 @@ use Rattle.node_step.specs.declared.response.Response.{Response}
 use Rattle.node_step.specs.declared.response.Response.TheVariants.{Nothing, Opened, Parked, Replied}
 use Rattle.node_step.specs.Numbers.{has_offset}
 use Rattle.node_step.specs.Outcome.{Outcome}
-use Rattle.stream_values.specs.Stream.{end_of}
-use Rattle.stream_values.specs.Piece.{PieceView}
 use Rattle.command_table.specs.declared.command.Command.{Command}
 use Rattle.command_table.specs.declared.fault.CommandFault.{CommandFault}
 use Rattle.resp2.specs.Stream.{stream_spelling}

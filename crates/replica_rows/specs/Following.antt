@@ -4,13 +4,13 @@ use Rattle.std.specs.FinMap as fin_map
 use Rattle.node_step.specs.Replicas.{MayFollow, pieced, with_piece, follower_of, sync_answer, with_follower}
 use Rattle.node_step.specs.Roles.{is_just}
 use Rattle.node_step.specs.State.{NodeState, own_master}
-use Rattle.stream_values.specs.Follower.{Follower}
-use Rattle.stream_values.specs.Piece.{PieceView, verdict_on}
-use Rattle.stream_values.specs.Snapshot.{restored}
-use Rattle.stream_values.specs.Syncing.{answer_to}
-use Rattle.stream_values.specs.declared.snapshot.Snapshot.{Snapshot}
-use Rattle.stream_values.specs.declared.sync.Sync.{Sync}
+use Rattle.bus.specs.Follower.{Follower}
+use Rattle.bus.specs.Piece.{PieceView, verdict_on}
+use Rattle.bus.specs.Snapshot.{restored}
+use Rattle.bus.specs.Syncing.{answer_to}
 use Rattle.bus.specs.declared.message.Body.{Body}
+use Rattle.bus.specs.declared.snapshot.Snapshot.{Snapshot}
+use Rattle.bus.specs.declared.sync.Sync.{Sync}
 
 -- a piece was taken, or is none to be taken
 pub record TakesOrNot (old : NodeState) (piece : PieceView) (new : NodeState) : Type 0 where

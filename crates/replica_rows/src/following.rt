@@ -5,12 +5,12 @@ ghost use Rattle.node_step.specs.Roles.{is_just};
 ghost use Rattle.node_step.specs.State.{own_master};
 ghost use Rattle.replica_rows.specs.Following.{Follows, TakesOrNot, with_snapshot};
 
+use bus::{Piece, Snapshot};
 use node_parts::NodeParts;
 use repl_stream::{OfferFault, Replaces, Stream};
 use slot_store::SlotParts;
 use slot_table::NodeNo;
 use std::alloc::AllocError;
-use stream_values::{Piece, Snapshot};
 
 /// Takes a piece of the own master's stream, which executes the writes there. One that can't be taken changes nothing.
 #[tactic(auto, using(crate::proofs::FollowingLemmas::own_piece, crate::proofs::FollowingLemmas::other_piece))]

@@ -1,18 +1,17 @@
 //! What a step writes, as messages to the node's replicas.
 ghost use Rattle.std.specs.Prelude.{◌≡◌, ◌++◌, ◌+◌, ◌<◌, ◌^◌, [], false, length, IfNone, IfOk, IfSome, OnOk};
+ghost use Rattle.bus.specs.Stream.{end_of};
 ghost use Rattle.bus.specs.declared.bodies.StreamBody.TheVariants.{Piece as SaysPiece};
 ghost use Rattle.bus.specs.declared.message.Body.TheVariants.{Stream as OfStream};
 ghost use Rattle.node_step.specs.Roles.{replicas_of};
 ghost use Rattle.replica_rows.specs.Adding.{piece_of, pieces_of, IsLastReplica, piece_below};
-ghost use Rattle.stream_values.specs.Stream.{end_of};
 
-use bus::{Body, StreamBody};
+use bus::{Body, Piece, StreamBody};
 use node_parts::NodeParts;
 use repl_stream::{Stream, Written};
 use slot_store::SlotParts;
 use slot_table::NodeNo;
 use std::alloc::AllocError;
-use stream_values::Piece;
 
 /// Puts a piece for each replica of the node behind these messages, by rising number. All share the bytes, if they are long.
 #[tactic(auto, using(crate::proofs::PieceLemmas::none_sent, crate::proofs::PieceLemmas::last_sent))]

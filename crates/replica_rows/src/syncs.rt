@@ -5,7 +5,7 @@ ghost use Rattle.node_parts.specs.Telling.{own_sync};
 ghost use Rattle.node_step.specs.Replicas.{synced};
 ghost use Rattle.replica_rows.specs.Following.{answer_on, snapshot_of};
 
-use bus::{Body, StreamBody};
+use bus::{Body, Snapshot, StreamBody, Sync, SyncAnswer};
 use keyspace::Pairs;
 use node_parts::{Change, Draft, NodeParts, listed};
 use node_step::Releases;
@@ -14,7 +14,6 @@ use slot_pairs::pairs;
 use slot_store::SlotParts;
 use slot_table::NodeNo;
 use std::alloc::AllocError;
-use stream_values::{Snapshot, Sync, SyncAnswer};
 
 /// A replica tells its master how much of its stream it received, behind these messages.
 pub fn append_sync<S: SlotParts, T: Stream>(

@@ -1,14 +1,16 @@
 //! What a message says.
 
 use crate::quoted::Quoted;
-use bus::{Body, Candidacy, ElectionBody, Handing, Replaced, SlotsBody, StreamBody, Suspects};
+use bus::{
+    Body, Candidacy, ElectionBody, Handing, Piece, Replaced, SlotsBody, Snapshot, StreamBody,
+    StreamId, Suspects, Sync,
+};
 use keyspace::Pairs;
 use slot_state::CopyId;
 use slot_table::Claim;
 use std::alloc::AllocError;
 use std::fmt;
 use std::fmt::Write;
-use stream_values::{Piece, Snapshot, StreamId, Sync};
 
 /// Puts what a message says behind the text.
 pub(crate) fn write_body(text: &mut String, body: &Body) -> Result<(), AllocError> {

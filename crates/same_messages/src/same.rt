@@ -1,11 +1,10 @@
 //! Whether two messages are the same.
 ghost use Rattle.std.specs.Prelude.{◌≡◌, ◌≢◌, true, false};
 
-use bus::{Body, ElectionBody, Handing, Message, SlotsBody, StreamBody};
+use bus::{Body, ElectionBody, Handing, Message, Piece, SlotsBody, Snapshot, StreamBody};
 use hash::Hash;
 use keyspace::{Pair, Value};
 use slot_table::{Epoch, Run};
-use stream_values::{Piece, Snapshot};
 
 /// Whether both messages say the same, from the same step to the same node.
 pub fn is_same_message(one: &Message, other: &Message) -> bool

@@ -21,6 +21,8 @@ use Rattle.migrate.specs.Arriving.{arrival_verdict, changed_at, one_more}
 use Rattle.migrate.specs.Draining.{note_drained}
 use Rattle.migrate.specs.declared.arriving.ArrivalVerdict.{ArrivalVerdict}
 use Rattle.migrate.specs.declared.arriving.ArrivalVerdict.TheVariants.{Ignored, Installs, Repeats}
+use Rattle.bus.specs.Stream.{is_same}
+use Rattle.bus.specs.Syncing.{answer_to}
 use Rattle.bus.specs.declared.message.Body.{Body}
 use Rattle.bus.specs.declared.bodies.ElectionBody.TheVariants as of_election
 use Rattle.bus.specs.declared.bodies.SlotsBody.TheVariants as of_slots
@@ -28,6 +30,11 @@ use Rattle.bus.specs.declared.bodies.StreamBody.TheVariants as of_stream
 use Rattle.bus.specs.declared.message.Body.TheVariants as body
 use Rattle.bus.specs.declared.bodies.Handing.{Handing}
 use Rattle.bus.specs.declared.message.Message.{Message}
+use Rattle.bus.specs.declared.bodies.Replaced.{Replaced}
+use Rattle.bus.specs.declared.stream_id.StreamId.{StreamId}
+use Rattle.bus.specs.declared.answer.SyncAnswer.{SyncAnswer}
+use Rattle.bus.specs.declared.answer.SyncAnswer.TheVariants as answers
+use Rattle.bus.specs.declared.sync.Sync.{Sync}
 use Rattle.one_slot.specs.View.{View}
 use Rattle.one_slot.specs.Sent.{Sent, IsSent}
 use Rattle.one_slot.specs.Sent.Sent.{Drained, Copy, Ack, Claimed}
@@ -35,13 +42,6 @@ use Rattle.node_step.specs.Claiming.{claim, claimed_by, with_table}
 use Rattle.connections.specs.Connections.{all_freed, waiting}
 use Rattle.connections.specs.Waiting.{is_for}
 use Rattle.node_step.specs.Copies.{acknowledged, arrived, keep_limits, noted, with_copied, without}
-use Rattle.stream_values.specs.Stream.{is_same}
-use Rattle.stream_values.specs.declared.stream_id.StreamId.{StreamId}
-use Rattle.stream_values.specs.Syncing.{answer_to}
-use Rattle.stream_values.specs.declared.answer.SyncAnswer.{SyncAnswer}
-use Rattle.stream_values.specs.declared.answer.SyncAnswer.TheVariants as answers
-use Rattle.stream_values.specs.declared.sync.Sync.{Sync}
-use Rattle.bus.specs.declared.bodies.Replaced.{Replaced}
 use Rattle.election.specs.Electing.{counted, elected}
 use Rattle.election.specs.Failing.{suspected}
 use Rattle.election.specs.Health.{Candidate}

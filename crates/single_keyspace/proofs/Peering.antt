@@ -3,6 +3,7 @@ use Rattle.std.proofs.Common.{◌≡◌, ◌≢◌, ◌≤◌, ◌+◌, ◌==◌
 use Rattle.std.proofs.lemmas.Bool.{and_parts, both_ways, cond-true, cond-false, eqb-false, eqb-true}
 use Rattle.std.specs.Prelude.{MatchBool, is_some, max, not, nat_lt, option_map, slice_index_or, slice_set, ◌^◌, ◌-◌}
 use Rattle.std.specs.FinMap as fin_map
+use Rattle.bus.specs.Stream.{StreamView, is_same}
 use Rattle.bus.specs.declared.message.Body.{Body}
 use Rattle.bus.specs.declared.bodies.ElectionBody.TheVariants as of_election
 use Rattle.bus.specs.declared.bodies.SlotsBody.TheVariants as slots_body
@@ -11,6 +12,7 @@ use Rattle.bus.specs.declared.message.Body.TheVariants as body
 use Rattle.bus.specs.declared.bodies.Handing.{Handing}
 use Rattle.bus.specs.declared.message.Message.{Message}
 use Rattle.bus.specs.declared.bodies.Replaced.{Replaced}
+use Rattle.bus.specs.declared.stream_id.StreamId.{StreamId}
 use Rattle.command_table.specs.Table.{command_of}
 use Rattle.connections.specs.Connections.{connection_at, may_ask}
 use Rattle.connections.specs.declared.conn.Conn.{Conn}
@@ -19,8 +21,6 @@ use Rattle.election.specs.Health.{Candidate, Election, Health, no_candidate}
 use Rattle.election.specs.Members.{Members, own_master as master_of}
 use Rattle.election.specs.declared.running.Elected.{Elected}
 use Rattle.handovers.specs.Events.{Begins, FollowsNext, Notes, Pauses}
-use Rattle.stream_values.specs.Stream.{StreamView, is_same}
-use Rattle.stream_values.specs.declared.stream_id.StreamId.{StreamId}
 use Rattle.node_step.proofs.Kept.{pieced_keeps, with_written_keeps, restored_keeps, synced_is}
 use Rattle.node_step.proofs.OfSlots.{acknowledgement_is_of_slots, arrival_is_of_slots, claim_is_of_slots, noted_is_of_slots, request_is_of_slots}
 use Rattle.node_step.proofs.WithWritten.{with_written_promoted}

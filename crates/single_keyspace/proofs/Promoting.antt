@@ -2,7 +2,9 @@
 use Rattle.std.proofs.Common.{◌≡◌, ◌≢◌, ◌<◌, ◌==◌, ◌&&◌, ℕ, List, Bool, true, false, Option, Some, None, refl, sym, ap, subst, ◌∙◌, inl, inr}
 use Rattle.std.proofs.lemmas.Bool.{and_parts, both_ways, cases_Bool, eqb-true}
 use Rattle.std.specs.Prelude.{is_some, slice_get, slice_set}
+use Rattle.bus.specs.Stream.{is_same, is_whole}
 use Rattle.bus.specs.declared.bodies.Handing.{Handing}
+use Rattle.bus.specs.declared.stream_id.StreamId.{StreamId}
 use Rattle.cluster_config.specs.Config.{ClusterConfig}
 use Rattle.handovers.proofs.Keeping.{IsHandedOver, is_handed_over}
 use Rattle.handovers.specs.Peers.{Peer}
@@ -11,8 +13,6 @@ use Rattle.slot_table.specs.Claims.{in_epoch, merged}
 use Rattle.slot_table.specs.Runs.{runs_of}
 use Rattle.slot_table.specs.Table.{claim_at}
 use Rattle.slot_table.specs.declared.runs.Run.{Run}
-use Rattle.stream_values.specs.Stream.{is_same, is_whole}
-use Rattle.stream_values.specs.declared.stream_id.StreamId.{StreamId}
 use Rattle.true_streams.proofs.Agreeing.{same_keyspace}
 use Rattle.true_streams.specs.Full.{Follows, FullStreams}
 use Rattle.promoted_prefix.specs.Law.{AreOnStreams}

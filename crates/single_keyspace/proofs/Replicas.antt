@@ -54,6 +54,12 @@ use Rattle.migrate.specs.declared.arriving.ArrivalVerdict.{ArrivalVerdict}
 use Rattle.migrate.specs.declared.arriving.ArrivalVerdict.TheVariants.{Ignored, Installs, Repeats}
 use Rattle.migrate.specs.declared.sending.CopyVerdict.{CopyVerdict}
 use Rattle.migrate.specs.declared.sending.CopyVerdict.TheVariants as copies
+use Rattle.bus.specs.Follower.{Follower}
+use Rattle.bus.specs.Piece.{PieceVerdict, verdict_on}
+use Rattle.bus.specs.Piece.PieceVerdict.{Gap, OtherStream, Takes}
+use Rattle.bus.specs.Snapshot.{restored}
+use Rattle.bus.specs.Stream.{is_same}
+use Rattle.bus.specs.Syncing.{answer_to}
 use Rattle.bus.specs.declared.message.Body.{Body}
 use Rattle.bus.specs.declared.bodies.ElectionBody.TheVariants as of_election
 use Rattle.bus.specs.declared.bodies.SlotsBody.TheVariants as of_slots
@@ -61,19 +67,13 @@ use Rattle.bus.specs.declared.bodies.StreamBody.TheVariants as of_stream
 use Rattle.bus.specs.declared.message.Body.TheVariants as body
 use Rattle.bus.specs.declared.bodies.Handing.{Handing}
 use Rattle.bus.specs.declared.message.Message.{Message}
+use Rattle.bus.specs.declared.stream_id.StreamId.{StreamId}
+use Rattle.bus.specs.declared.answer.SyncAnswer.{SyncAnswer}
+use Rattle.bus.specs.declared.answer.SyncAnswer.TheVariants as answers
+use Rattle.bus.specs.declared.sync.Sync.{Sync}
 use Rattle.connections.specs.Connections.{connection_at, may_ask}
 use Rattle.connections.specs.declared.conn.Conn.{Conn}
 use Rattle.connections.specs.declared.conn.Connection.{Connection}
-use Rattle.stream_values.specs.Follower.{Follower}
-use Rattle.stream_values.specs.Piece.{PieceVerdict, verdict_on}
-use Rattle.stream_values.specs.Piece.PieceVerdict.{Gap, OtherStream, Takes}
-use Rattle.stream_values.specs.Snapshot.{restored}
-use Rattle.stream_values.specs.Stream.{is_same}
-use Rattle.stream_values.specs.declared.stream_id.StreamId.{StreamId}
-use Rattle.stream_values.specs.Syncing.{answer_to}
-use Rattle.stream_values.specs.declared.answer.SyncAnswer.{SyncAnswer}
-use Rattle.stream_values.specs.declared.answer.SyncAnswer.TheVariants as answers
-use Rattle.stream_values.specs.declared.sync.Sync.{Sync}
 use Rattle.one_slot.specs.Sent.{Sent}
 use Rattle.one_slot.specs.Sent.Sent.{Claimed}
 use Rattle.node_step.specs.Claiming.{claim, claimed_by}

@@ -4,12 +4,17 @@ use Rattle.std.proofs.lemmas.List.Elements.{Contains-append_cases}
 use Rattle.std.specs.FinMap as fin_map
 use Rattle.std.specs.List.{flat_map}
 use Rattle.std.specs.Prelude.{MatchBool, Result, Ok, Err, is_some, ⊤}
+use Rattle.bus.specs.Stream.{StreamView}
+use Rattle.bus.specs.Syncing.{answer_to}
 use Rattle.bus.specs.declared.message.Body.{Body}
 use Rattle.bus.specs.declared.bodies.ElectionBody.TheVariants as of_election
 use Rattle.bus.specs.declared.bodies.SlotsBody.TheVariants as of_slots
 use Rattle.bus.specs.declared.bodies.StreamBody.TheVariants as of_stream
 use Rattle.bus.specs.declared.message.Body.TheVariants as body
 use Rattle.bus.specs.declared.bodies.Handing.{Handing}
+use Rattle.bus.specs.declared.answer.SyncAnswer.{SyncAnswer}
+use Rattle.bus.specs.declared.answer.SyncAnswer.TheVariants as answers
+use Rattle.bus.specs.declared.stream_id.StreamId.{StreamId}
 use Rattle.command_table.specs.Keys.{data_keys}
 use Rattle.command_table.specs.Table.{command_of}
 use Rattle.command_table.specs.declared.command.ClusterCommand.{ClusterCommand}
@@ -49,11 +54,6 @@ use Rattle.slot_state.specs.declared.running.Move.TheVariants.{Leaves, Comes}
 use Rattle.slot_state.specs.declared.copy_id.CopyId.{CopyId}
 use Rattle.slot_table.specs.Claims.{merged}
 use Rattle.slot_table.specs.declared.runs.Run.{Run}
-use Rattle.stream_values.specs.Stream.{StreamView}
-use Rattle.stream_values.specs.Syncing.{answer_to}
-use Rattle.stream_values.specs.declared.answer.SyncAnswer.{SyncAnswer}
-use Rattle.stream_values.specs.declared.answer.SyncAnswer.TheVariants as answers
-use Rattle.stream_values.specs.declared.stream_id.StreamId.{StreamId}
 use Rattle.node_step.proofs.Kept.{synced_is}
 use Rattle.node_step.proofs.Ready.{in_election_keeps}
 use Rattle.node_step.specs.Claiming.{claimed_by}

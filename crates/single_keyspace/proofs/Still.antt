@@ -3,6 +3,7 @@ use Rattle.std.proofs.Common.{◌≡◌, ◌==◌, ◌&&◌, ℕ, List, [], ◌�
 use Rattle.std.proofs.lemmas.Bool.{both_ways, cases_eq, eq-eqb, ne_eqb}
 use Rattle.std.specs.FinMap as fin_map
 use Rattle.std.specs.Prelude.{MatchBool, Result, Ok, Err, filter, is_some}
+use Rattle.bus.specs.Stream.{StreamView, is_same}
 use Rattle.bus.specs.declared.message.Body.{Body}
 use Rattle.bus.specs.declared.bodies.ElectionBody.TheVariants as of_election
 use Rattle.bus.specs.declared.bodies.SlotsBody.TheVariants as of_slots
@@ -44,7 +45,6 @@ use Rattle.slot_table.specs.Claims.{merged}
 use Rattle.slot_table.specs.Table.{owner_at}
 use Rattle.slot_table.specs.declared.entry.SlotEntry.{SlotEntry}
 use Rattle.slot_table.specs.declared.runs.Run.{Run}
-use Rattle.stream_values.specs.Stream.{StreamView, is_same}
 use Rattle.promoted_prefix.proofs.Keyed.{IsKeyed, words_keyed}
 use Rattle.promoted_prefix.proofs.Writes.{written_if}
 use Rattle.node_step.proofs.Kept.{synced_is}

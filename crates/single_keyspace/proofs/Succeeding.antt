@@ -2,6 +2,7 @@
 use Rattle.std.proofs.Common.{◌≡◌, ◌≤◌, ◌==◌, ◌&&◌, ℕ, Bool, true, false, cond, Option, Some, None, refl, sym, ap, subst, ◌∙◌, inl, inr}
 use Rattle.std.proofs.lemmas.Bool.{and_parts, both_ways, eqb-true}
 use Rattle.std.specs.Prelude.{MatchBool, is_some, option_map}
+use Rattle.bus.specs.Stream.{StreamView}
 use Rattle.bus.specs.declared.message.Body.{Body}
 use Rattle.bus.specs.declared.bodies.ElectionBody.TheVariants as of_election
 use Rattle.bus.specs.declared.bodies.SlotsBody.TheVariants as of_slots
@@ -15,7 +16,6 @@ use Rattle.election.specs.Electing.{counted, counts, elected, elected_in, is_won
 use Rattle.election.specs.Health.{Election}
 use Rattle.election.specs.Members.{Members, is_voter}
 use Rattle.election.specs.declared.running.Elected.{Elected}
-use Rattle.stream_values.specs.Stream.{StreamView}
 use Rattle.node_step.proofs.Kept.{synced_is}
 use Rattle.node_step.proofs.OfSlots.{acknowledgement_is_of_slots, arrival_is_of_slots, claim_is_of_slots, request_is_of_slots}
 use Rattle.node_step.proofs.Ready.{ready_keeps}

@@ -2,6 +2,7 @@
 use Rattle.std.proofs.Common.{◌≡◌, ◌≢◌, ◌==◌, ◌&&◌, ℕ, List, Bool, true, false, cond, Option, Some, None, refl, sym, ap, subst, ◌∙◌}
 use Rattle.std.proofs.lemmas.Bool.{eqb-false}
 use Rattle.std.specs.Prelude.{MatchBool, Result, Ok, Err, is_some, slice_set}
+use Rattle.bus.specs.Stream.{is_same}
 use Rattle.bus.specs.declared.message.Body.{Body}
 use Rattle.bus.specs.declared.bodies.ElectionBody.TheVariants as of_election
 use Rattle.bus.specs.declared.bodies.SlotsBody.TheVariants as of_slots
@@ -36,7 +37,6 @@ use Rattle.slot_state.specs.declared.ending.NodeVerdict.TheVariants as ending
 use Rattle.slot_state.specs.declared.copy_id.CopyId.{CopyId}
 use Rattle.slot_table.specs.Claims.{merged}
 use Rattle.slot_table.specs.declared.runs.Run.{Run}
-use Rattle.stream_values.specs.Stream.{is_same}
 use Rattle.node_step.proofs.Kept.{pieced_keeps, with_written_keeps, restored_keeps, synced_is}
 use Rattle.node_step.proofs.Ready.{in_election_keeps, ready_keeps}
 use Rattle.node_step.proofs.WithWritten.{with_written_promoted}

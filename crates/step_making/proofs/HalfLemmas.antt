@@ -1,6 +1,7 @@
 -- Both halves of a change, and what is written between them.
 use Rattle.std.proofs.Common.{◌≡◌, ◌==◌, ℕ, true, false, List, [], ◌∷◌, length, Option, Some, None, suc, eq-eqb, true≢false, arith, refl, sym, ap, subst, ◌∙◌}
 use Rattle.std.proofs.lemmas.Bool.{eqb-true}
+use Rattle.bus.specs.Stream.{StreamView, Writes}
 use Rattle.connections.specs.declared.conn.Connection.{Connection}
 use Rattle.keyspace.specs.Keyspace.{Keyspace}
 use Rattle.keyspace.specs.Plan.{committed}
@@ -22,7 +23,6 @@ use Rattle.node_step.specs.Ticks.{older}
 use Rattle.slot_state.specs.Moves.{Moves, move_of}
 use Rattle.slot_state.specs.declared.copy_id.CopyId.{CopyId}
 use Rattle.slot_store.specs.InSlot.{IsCommittedInSlot}
-use Rattle.stream_values.specs.Stream.{StreamView, Writes}
 
 -- the stream is none of what a change looks at
 freed_behind : (old : NodeState) (stream : StreamView) (id : CopyId) (keys : Option (List (List ℕ)))

@@ -1,10 +1,10 @@
 //! How a draft is made: its change, and behind the stream what it writes.
 ghost use Rattle.std.specs.Prelude.{◌≡◌, ◌+◌, ◌<◌, ◌≤◌, ◌^◌, true, length, OnOk, OnErr};
+ghost use Rattle.bus.specs.Stream.{received};
 ghost use Rattle.node_parts.specs.Becomes.{CanBeMade};
 ghost use Rattle.node_parts.specs.Drafts.{MayCount};
 ghost use Rattle.node_parts.specs.Making.{CanMake, GoesOn, IsApplied, IsMade};
 ghost use Rattle.node_parts.specs.Succession.{succeeded_by};
-ghost use Rattle.stream_values.specs.Stream.{received};
 
 use crate::beginning::begin;
 use crate::finishing::finish;

@@ -1,10 +1,10 @@
 -- Two that follow one stream up to the same offset have the same keys.
 use Rattle.std.proofs.Common.{◌≡◌, ℕ, List, [], take, append-nil, refl, sym, ap, ◌∙◌}
+use Rattle.bus.specs.Follower.{Follower}
 use Rattle.keyspace.specs.Commands.{replay}
 use Rattle.resp2.proofs.Theorems.{a_stream_is_read_in_one_way}
 use Rattle.resp2.specs.Law.{IsStream}
 use Rattle.resp2.specs.Stream.{HasNoRequest, stream_spelling}
-use Rattle.stream_values.specs.Follower.{Follower}
 use Rattle.true_streams.proofs.Following.{IsOn, is_on}
 use Rattle.true_streams.proofs.Places.{is_front}
 use Rattle.true_streams.specs.Full.{Follows}

@@ -4,16 +4,16 @@ use Rattle.std.proofs.lemmas.List.{length-append, length-drop, length-take}
 use Rattle.std.proofs.lemmas.List.Elements.{All-append}
 use Rattle.std.specs.FinMap as map
 use Rattle.std.specs.Prelude.{All}
+use Rattle.bus.specs.Follower.{Follower}
+use Rattle.bus.specs.Piece.{PieceView, TakesBehind, news_in}
+use Rattle.bus.specs.Reading.{BeginsWithRequest}
+use Rattle.bus.specs.Stream.{StreamView, Held, cut, end_of, received, with_appended}
+use Rattle.bus.specs.declared.stream_id.StreamId.{StreamId}
 use Rattle.keyspace.specs.Commands.{exec_words, replay, replay_from}
 use Rattle.keyspace.specs.Keyspace.{Keyspace}
 use Rattle.resp2.proofs.Callers.{stream_spelling-append}
 use Rattle.resp2.specs.Stream.{stream_spelling}
 use Rattle.resp_values.specs.Request.{IsRequest}
-use Rattle.stream_values.specs.Follower.{Follower}
-use Rattle.stream_values.specs.Piece.{PieceView, TakesBehind, news_in}
-use Rattle.stream_values.specs.Reading.{BeginsWithRequest}
-use Rattle.stream_values.specs.Stream.{StreamView, Held, cut, end_of, received, with_appended}
-use Rattle.stream_values.specs.declared.stream_id.StreamId.{StreamId}
 use Rattle.true_streams.proofs.Places.{At, Same, all_of, back, cut_at, first_of, from_place, front, is_back, is_front, joined, of_back, of_front, without}
 use Rattle.true_streams.specs.Full.{Follows}
 

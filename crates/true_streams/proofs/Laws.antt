@@ -5,17 +5,17 @@ use Rattle.std.proofs.lemmas.List.{length-take}
 use Rattle.std.proofs.lemmas.List.Elements.{All-nil}
 use Rattle.std.specs.List.{AllByRecursion}
 use Rattle.std.specs.Prelude.{None, Option, Some, if◌then◌else◌}
+use Rattle.bus.specs.Follower.{Follower}
+use Rattle.bus.specs.Piece.{PieceView, TakesBy, TakesPiece, end_by_base, judged}
+use Rattle.bus.specs.Piece.PieceVerdict.{Gap, Takes}
+use Rattle.bus.specs.Reading.{BeginsWithRequest}
+use Rattle.bus.specs.Snapshot.{is_known, replaced, restored}
+use Rattle.bus.specs.Stream.{StreamView, is_same, received}
+use Rattle.bus.specs.declared.snapshot.Snapshot.{Snapshot}
+use Rattle.bus.specs.declared.stream_id.Base.{Base}
+use Rattle.bus.specs.declared.stream_id.StreamId.{StreamId}
 use Rattle.resp2.specs.Stream.{stream_spelling}
 use Rattle.resp_values.specs.Request.{IsRequest}
-use Rattle.stream_values.specs.Follower.{Follower}
-use Rattle.stream_values.specs.Piece.{PieceView, TakesBy, TakesPiece, end_by_base, judged}
-use Rattle.stream_values.specs.Piece.PieceVerdict.{Gap, Takes}
-use Rattle.stream_values.specs.Reading.{BeginsWithRequest}
-use Rattle.stream_values.specs.Snapshot.{is_known, replaced, restored}
-use Rattle.stream_values.specs.Stream.{StreamView, is_same, received}
-use Rattle.stream_values.specs.declared.snapshot.Snapshot.{Snapshot}
-use Rattle.stream_values.specs.declared.stream_id.Base.{Base}
-use Rattle.stream_values.specs.declared.stream_id.StreamId.{StreamId}
 use Rattle.true_streams.proofs.Following.{follows, is_on, takes_on}
 use Rattle.true_streams.proofs.Places.{Same, is_back, nothing, of_part, of_shared, same_less, same_self}
 use Rattle.true_streams.specs.Full.{Follows, FullStreams, IsTrueBase, IsTruePiece, IsTrueSnapshot}

@@ -1,17 +1,17 @@
 -- The whole of a stream, what is true of it, and who follows it (Redis documentation, "Redis replication": a replica has the
 -- data set of its master at an offset of the stream; the words are ours).
 use Rattle.std.specs.Prelude.{◌≡◌, ◌≤◌, ℕ, List, length, take, drop, All, Option, None, Some}
+use Rattle.bus.specs.Follower.{Follower}
+use Rattle.bus.specs.Piece.{PieceView, piece_end}
+use Rattle.bus.specs.Reading.{IsReadAs}
+use Rattle.bus.specs.Stream.{received}
+use Rattle.bus.specs.declared.snapshot.Snapshot.{Snapshot}
+use Rattle.bus.specs.declared.stream_id.Base.{Base}
+use Rattle.bus.specs.declared.stream_id.StreamId.{StreamId}
 use Rattle.keyspace.specs.Commands.{replay}
 use Rattle.keyspace.specs.Keyspace.{Keyspace, keyspace_of}
 use Rattle.resp2.specs.Stream.{stream_spelling}
 use Rattle.resp_values.specs.Request.{IsRequest}
-use Rattle.stream_values.specs.Follower.{Follower}
-use Rattle.stream_values.specs.Piece.{PieceView, piece_end}
-use Rattle.stream_values.specs.Reading.{IsReadAs}
-use Rattle.stream_values.specs.Stream.{received}
-use Rattle.stream_values.specs.declared.snapshot.Snapshot.{Snapshot}
-use Rattle.stream_values.specs.declared.stream_id.Base.{Base}
-use Rattle.stream_values.specs.declared.stream_id.StreamId.{StreamId}
 
 -- all bytes that were ever put behind each stream
 abbrev pub FullStreams : Type 0

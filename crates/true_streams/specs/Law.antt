@@ -2,9 +2,9 @@
 use Rattle.std.specs.FinMap as map
 use Rattle.std.specs.List.{AllByRecursion}
 use Rattle.std.specs.Prelude.{List}
-use Rattle.stream_values.specs.Follower.{Follower}
-use Rattle.stream_values.specs.Stream.{first_stream}
-use Rattle.stream_values.specs.declared.stream_id.StreamId.{StreamId}
+use Rattle.bus.specs.Follower.{Follower}
+use Rattle.bus.specs.Stream.{first_stream}
+use Rattle.bus.specs.declared.stream_id.StreamId.{StreamId}
 use Rattle.true_streams.specs.Full.{Follows, FullStreams, IsTruePiece, IsTrueSnapshot}
 use Rattle.true_streams.specs.Meeting.{Arrival, Meets, MeetsAll}
 use Rattle.true_streams.specs.Meeting.Arrival.{Offered, Restoring}

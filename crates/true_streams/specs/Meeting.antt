@@ -1,10 +1,10 @@
 -- What a replica meets, and what comes of it: the step that the contracts of its calls speak of (Redis documentation,
 -- "Redis replication": partial and full resynchronization; the form is ours).
 use Rattle.std.specs.Prelude.{◌≡◌, ◌⊎◌, List, [], ◌∷◌}
-use Rattle.stream_values.specs.Follower.{Follower}
-use Rattle.stream_values.specs.Piece.{PieceView, TakesPiece}
-use Rattle.stream_values.specs.Snapshot.{restored}
-use Rattle.stream_values.specs.declared.snapshot.Snapshot.{Snapshot}
+use Rattle.bus.specs.Follower.{Follower}
+use Rattle.bus.specs.Piece.{PieceView, TakesPiece}
+use Rattle.bus.specs.Snapshot.{restored}
+use Rattle.bus.specs.declared.snapshot.Snapshot.{Snapshot}
 
 pub data Arrival : Type 0 where
   Offered : PieceView → Arrival

@@ -2,10 +2,10 @@
 
 use crate::steps::stream_node::{Node, stream_id};
 use anyhow::Result;
+use bus::{Piece, Sync, SyncAnswer};
 use byte_string::ByteString;
 use repl_stream::{OfferFault, Stream, StreamFault};
 use std::io;
-use stream_values::{Piece, Sync, SyncAnswer};
 
 /// Prints where the node is, and the strings at `a` and `x`.
 pub fn show<T: Stream + Drop, R: Print>(rt: &R, name: &str, node: &Node<T>) -> Result<()> {

@@ -2,6 +2,7 @@
 
 use crate::shared::words_of;
 use anyhow::{Context, Result};
+use bus::{Base, Piece, Snapshot, StreamId};
 use byte_string::ByteString;
 use command::{Command, parse};
 use key_commands::plan_command;
@@ -9,7 +10,6 @@ use keyspace::{Pair, Pairs, Plan, Store, TreeStore, Value, commit};
 use repl_stream::{NodeStream, OfferFault, Stream, Written, block_of};
 use slot_table::{Epoch, NodeNo};
 use std::alloc::{AllocError, Global};
-use stream_values::{Base, Piece, Snapshot, StreamId};
 
 /// A node, as far as its stream goes.
 pub struct Node<T: Stream + Drop> {

@@ -1,10 +1,10 @@
 use Rattle.std.proofs.Common.{ap, subst}
+use Rattle.bus.specs.Follower.{Follower}
+use Rattle.bus.specs.Piece.{TakesPiece}
 use Rattle.node_step.specs.Replicas.{follower_of, with_follower}
 use Rattle.node_step.specs.State.{NodeState}
 use Rattle.replica_rows.proofs.FollowingLemmas.{piece_taken}
 use Rattle.replica_rows.proofs.following.offer.Goals as goal
-use Rattle.stream_values.specs.Follower.{Follower}
-use Rattle.stream_values.specs.Piece.{TakesPiece}
 
 pub returns-clause-ok : goal.returns-clause-ok
 returns-clause-ok g c =

@@ -1,5 +1,5 @@
 use Rattle.std.proofs.Common.{◌≤◌, sym, subst}
-use Rattle.stream_values.specs.Stream.{end_of}
+use Rattle.bus.specs.Stream.{end_of}
 use Rattle.repl_stream.proofs.BlockLemmas.{part_ends, some_where_so}
 use Rattle.repl_stream.proofs.node_stream.NodeStream.piece_from.Goals as goal
 

@@ -1,5 +1,5 @@
 use Rattle.std.proofs.Common.{◌≤◌, ap, sym, subst, arith}
-use Rattle.stream_values.specs.Stream.{StreamView, received}
+use Rattle.bus.specs.Stream.{StreamView, received}
 use Rattle.repl_stream.proofs.TakingLemmas.{ends, planned_of, puts, takes_so}
 use Rattle.repl_stream.proofs.node_stream.NodeStream.take.Goals as goal
 

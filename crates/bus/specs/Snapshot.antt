@@ -1,10 +1,10 @@
 -- What a snapshot leaves (Redis documentation, "Redis replication": full resynchronization, where the replica gets all data of
 -- its master and then the writes behind it).
 use Rattle.std.specs.Prelude.{◌&&◌, nat_le, Bool, [], if◌then◌else◌}
+use Rattle.bus.specs.Follower.{Follower}
+use Rattle.bus.specs.Stream.{StreamView, begun, is_same}
+use Rattle.bus.specs.declared.snapshot.Snapshot.{Snapshot}
 use Rattle.keyspace.specs.Keyspace.{keyspace_of}
-use Rattle.stream_values.specs.Follower.{Follower}
-use Rattle.stream_values.specs.Stream.{StreamView, begun, is_same}
-use Rattle.stream_values.specs.declared.snapshot.Snapshot.{Snapshot}
 
 -- it is of the own stream, and not past the writes that were executed
 abbrev pub is_known : StreamView → Snapshot → Bool

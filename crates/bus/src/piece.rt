@@ -1,6 +1,6 @@
 //! A part of a stream.
 ghost use Rattle.std.specs.Prelude.{◌≡◌, ◌+◌, ◌<◌, ◌^◌, length, SomeIff};
-ghost use Rattle.stream_values.specs.Piece.{PieceView, piece_end};
+ghost use Rattle.bus.specs.Piece.{PieceView, piece_end};
 
 use crate::stream_id::{Base, StreamId};
 use byte_string::ByteString;
@@ -20,7 +20,7 @@ pub struct Piece {
 
 impl Model for Piece {
     ghost use Rattle.std.specs.Prelude.{◌+◌, ◌<◌, ◌^◌, length};
-    ghost use Rattle.stream_values.specs.Piece.{PieceView};
+    ghost use Rattle.bus.specs.Piece.{PieceView};
 
     ghost Value = { PieceView };
 

@@ -1,8 +1,8 @@
 -- The stream of a master's writes, and what a node has of it (Redis documentation, "Redis replication": "How Redis
 -- replication works", "Replication ID explained"; ids of a node and an epoch, and offsets that begin at 0, are ours).
 use Rattle.std.specs.Prelude.{◌≡◌, ◌≤◌, ◌+◌, ◌-◌, ◌==◌, ◌&&◌, ℕ, Bool, List, [], ◌++◌, length, take, drop, min, Option, Some, None}
-use Rattle.stream_values.specs.declared.stream_id.Base.{Base}
-use Rattle.stream_values.specs.declared.stream_id.StreamId.{StreamId}
+use Rattle.bus.specs.declared.stream_id.Base.{Base}
+use Rattle.bus.specs.declared.stream_id.StreamId.{StreamId}
 
 abbrev pub is_same : StreamId → StreamId → Bool
 is_same id other = id.node == other.node && id.epoch == other.epoch

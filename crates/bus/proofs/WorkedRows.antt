@@ -3,16 +3,16 @@ use Rattle.std.proofs.Common.{◌≡◌, ℕ, List, [], ◌∷◌, true, false, 
 use Rattle.std.specs.FinMap as map
 use Rattle.std.specs.List.{range_with_len}
 use Rattle.std.specs.Prelude.{codes}
+use Rattle.bus.specs.Piece.{PieceView, verdict_on, news_in}
+use Rattle.bus.specs.Piece.PieceVerdict.{Gap, OtherStream, Takes}
+use Rattle.bus.specs.Snapshot.{is_known, restored}
+use Rattle.bus.specs.Stream.{Held, StreamView, cut, first_stream, promoted, with_appended, written}
+use Rattle.bus.specs.Syncing.{answer_to}
+use Rattle.bus.specs.declared.answer.SyncAnswer.TheVariants as answer
+use Rattle.bus.specs.declared.snapshot.Snapshot.{Snapshot}
+use Rattle.bus.specs.declared.stream_id.Base.{Base}
+use Rattle.bus.specs.declared.stream_id.StreamId.{StreamId}
 use Rattle.keyspace.specs.declared.value.Value.TheVariants.{Str}
-use Rattle.stream_values.specs.Piece.{PieceView, verdict_on, news_in}
-use Rattle.stream_values.specs.Piece.PieceVerdict.{Gap, OtherStream, Takes}
-use Rattle.stream_values.specs.Snapshot.{is_known, restored}
-use Rattle.stream_values.specs.Stream.{Held, StreamView, cut, first_stream, promoted, with_appended, written}
-use Rattle.stream_values.specs.Syncing.{answer_to}
-use Rattle.stream_values.specs.declared.answer.SyncAnswer.TheVariants as answer
-use Rattle.stream_values.specs.declared.snapshot.Snapshot.{Snapshot}
-use Rattle.stream_values.specs.declared.stream_id.Base.{Base}
-use Rattle.stream_values.specs.declared.stream_id.StreamId.{StreamId}
 
 abbrev id : ℕ → ℕ → StreamId
 id node epoch = record { node = node; epoch = epoch }

@@ -1,12 +1,12 @@
 -- What a master answers to a replica that tells how far it is (Redis documentation, "Redis replication": partial and full
 -- resynchronization; the bound on a piece is ours).
 use Rattle.std.specs.Prelude.{◌-◌, ◌==◌, ◌&&◌, ◌||◌, ℕ, nat_le, Bool, false, take, drop, Option, Some, None, if◌then◌else◌}
-use Rattle.stream_values.specs.Piece.{PieceView}
-use Rattle.stream_values.specs.Stream.{Held, StreamView, end_of, is_same}
-use Rattle.stream_values.specs.declared.answer.SyncAnswer.{SyncAnswer}
-use Rattle.stream_values.specs.declared.answer.SyncAnswer.TheVariants.{UpToDate, Piece, Snapshot}
-use Rattle.stream_values.specs.declared.stream_id.Base.{Base}
-use Rattle.stream_values.specs.declared.sync.Sync.{Sync}
+use Rattle.bus.specs.Piece.{PieceView}
+use Rattle.bus.specs.Stream.{Held, StreamView, end_of, is_same}
+use Rattle.bus.specs.declared.answer.SyncAnswer.{SyncAnswer}
+use Rattle.bus.specs.declared.answer.SyncAnswer.TheVariants.{UpToDate, Piece, Snapshot}
+use Rattle.bus.specs.declared.stream_id.Base.{Base}
+use Rattle.bus.specs.declared.sync.Sync.{Sync}
 
 -- the former stream is this one up to its end
 abbrev pub is_of_former : Option Base → Sync → Bool

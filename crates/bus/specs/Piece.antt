@@ -2,13 +2,13 @@
 -- "Replication ID explained": a promoted replica goes on under an id of its own, and the others follow it from the end of the
 -- former one; pieces and refusals are ours).
 use Rattle.std.specs.Prelude.{◌≡◌, ◌≤◌, ◌+◌, ◌-◌, ◌&&◌, ℕ, nat_lt, nat_le, List, ◌++◌, length, take, drop, min, Option, Some, None, if◌then◌else◌}
+use Rattle.bus.specs.Follower.{Follower}
+use Rattle.bus.specs.Reading.{IsReadAs}
+use Rattle.bus.specs.Stream.{StreamView, cut, is_same, received, with_appended}
+use Rattle.bus.specs.declared.stream_id.Base.{Base}
+use Rattle.bus.specs.declared.stream_id.StreamId.{StreamId}
 use Rattle.keyspace.specs.Commands.{replay_from}
 use Rattle.resp2.specs.Stream.{stream_spelling}
-use Rattle.stream_values.specs.Follower.{Follower}
-use Rattle.stream_values.specs.Reading.{IsReadAs}
-use Rattle.stream_values.specs.Stream.{StreamView, cut, is_same, received, with_appended}
-use Rattle.stream_values.specs.declared.stream_id.Base.{Base}
-use Rattle.stream_values.specs.declared.stream_id.StreamId.{StreamId}
 
 -- bytes of a stream from an offset on; and, if a promotion began the stream, where it goes on from another one
 pub record PieceView : Type 0 where
