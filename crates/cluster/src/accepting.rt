@@ -1,5 +1,6 @@
 //! Clients that are accepted at a node, each for a thread of its own or for one that serves many in turn.
 
+use crate::linked::Linked;
 use crate::one_client::serve_client;
 use client_loops::{Inbox, InboxFault, NewClient};
 use cluster_controls::{Incident, Refused, Runtime, Shortage};
@@ -20,7 +21,7 @@ const STACK_SIZE: usize = 262_144;
 
 /// Accepts the clients of the node of that number until it is closed. Each waits in one of the inboxes, in turn, or where there are none
 /// is served by a thread of its own. By the admission each begins what it asks.
-pub(crate) fn accept_clients<C: HasLinks<R> + Drop + Send + 'static, R: Runtime>(
+pub(crate) fn accept_clients<C: Linked<R>, R: Runtime>(
     rt: R,
     alloc: Global,
     cluster: &Arc<SharedCluster<C>, Global>,
@@ -75,7 +76,7 @@ impl<C: HasLinks<R> + Drop, R: Runtime + Drop> Drop for Entrance<'_, C, R> {
     }
 }
 
-impl<'a, C: HasLinks<R> + Drop + Send + 'static, R: Runtime> Entrance<'a, C, R>
+impl<'a, C: Linked<R>, R: Runtime> Entrance<'a, C, R>
 where
     C::Cluster: Send + Sync + 'static,
 {

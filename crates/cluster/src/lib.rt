@@ -5,6 +5,7 @@ mod accepting;
 mod clock;
 mod crowd;
 mod in_turn;
+mod linked;
 mod loops;
 mod one_client;
 mod server;
@@ -14,5 +15,6 @@ mod threads;
 pub use cluster_controls::{
     Heard, Hearing, Incident, NodeStatus, NodeStop, Orders, Runtime, Shortage, Witness,
 };
+pub use linked::Linked;
 pub use server::{Course, Overseer, RunFault, Times, run_all};
 pub use telling::Telling;

@@ -1,18 +1,19 @@
 //! The threads of a node that serve its clients in turn.
 
 use crate::in_turn::serve_in_turn;
+use crate::linked::Linked;
 use crate::threads::Starting;
 use client_loops::{Inbox, Poller, PollerFault};
 use cluster_controls::{Runtime, Shortage};
 use mio::Waker;
-use node_cell::{Admission, Asks, HasLinks, HoldsCell};
+use node_cell::{Admission, Asks, HoldsCell};
 use shared_node::{Node, SharedCluster};
 use std::alloc::{AllocError, Global};
 use std::sync::Arc;
 use std::thread;
 use std::thread::JoinHandle;
 
-impl<'a, C: HasLinks<R> + Drop + Send + 'static, R: Runtime> Starting<'a, C, R>
+impl<'a, C: Linked<R>, R: Runtime> Starting<'a, C, R>
 where
     C::Cluster: Send + Sync + 'static,
 {
@@ -83,7 +84,7 @@ fn shortage_of(fault: PollerFault) -> Shortage {
 }
 
 // Starts a thread that serves clients of the node of that number in turn.
-fn start_loop<C: HasLinks<R> + Drop + Send + 'static, R: Runtime>(
+fn start_loop<C: Linked<R>, R: Runtime>(
     rt: R,
     alloc: Global,
     cluster: &Arc<SharedCluster<C>, Global>,

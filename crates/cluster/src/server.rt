@@ -2,6 +2,7 @@
 ghost use Rattle.std.specs.Prelude.{◌≡◌, IfOk, vec_len};
 
 use crate::clock::Timing;
+use crate::linked::Linked;
 use crate::telling::Telling;
 use crate::threads::Starting;
 use cluster_controls::{Clients, NodeStop, Orders, Runtime, Shortage, Stop, Witness, most_ticks};
@@ -116,7 +117,7 @@ impl Times<'_> {
 ///
 /// Each node has a thread that accepts clients, one that lets its time pass and one that carries its messages, and those that serve
 /// its clients. One more thread tells how the nodes are, where that is wanted.
-pub fn run_all<C: HasLinks<R> + Drop + Send + 'static, R: Runtime>(
+pub fn run_all<C: Linked<R>, R: Runtime>(
     rt: R,
     alloc: Global,
     nodes: Vec<Node<C>>,
@@ -153,7 +154,7 @@ fn share<C: HoldsCell + Drop>(
     Arc::new(alloc, cluster).map_err(AllocError::from)
 }
 
-fn run<C: HasLinks<R> + Drop + Send + 'static, R: Runtime>(
+fn run<C: Linked<R>, R: Runtime>(
     rt: R,
     alloc: Global,
     cluster: &Arc<SharedCluster<C>, Global>,

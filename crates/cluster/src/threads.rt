@@ -2,6 +2,7 @@
 
 use crate::accepting::accept_clients;
 use crate::clock::pass_time;
+use crate::linked::Linked;
 use crate::server::{RunFault, Times};
 use crate::telling::{Telling, tell_status};
 use client_loops::Inbox;
@@ -55,7 +56,7 @@ impl<C: HasLinks<R> + Drop, R: Runtime + Drop> Starting<'_, C, R> {
     }
 }
 
-impl<'a, C: HasLinks<R> + Drop + Send + 'static, R: Runtime> Starting<'a, C, R>
+impl<'a, C: Linked<R>, R: Runtime> Starting<'a, C, R>
 where
     C::Cluster: Send + Sync + 'static,
 {

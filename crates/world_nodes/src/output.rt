@@ -72,21 +72,24 @@ pub(crate) fn exhausted(alloc: Global, node: u64) -> Result<Vec<Output>, AllocEr
     one(alloc, Output::Admin { node, reply })
 }
 
-/// Adds the reply to the request that the node was asked, if it came.
-pub(crate) fn add_own(
-    outputs: &mut Vec<Output>,
+/// The reply to the request that the step was made for, if it came, and what comes out beside it.
+pub(crate) fn with_own(
+    alloc: Global,
     node: u64,
     response: &Response,
-) -> Result<(), AllocError>
-    ensures { OnOk result (outputs.new.items ≡ outputs.old.items ++ own_reply node response.now) }
+    mut beside: Vec<Output>,
+) -> Result<Vec<Output>, AllocError>
+    ensures { IfOk result (λ out. out.items ≡ own_reply node response.now ++ beside.items) }
 {
+    let mut outputs = Vec::new(alloc);
     if let Response::Replied(answer) = response {
         outputs.push(Output::Admin {
             node,
             reply: answer.reply.clone()?,
         })?;
     }
-    Ok(())
+    outputs.append(&mut beside)?;
+    Ok(outputs)
 }
 
 /// Adds the replies to requests that waited.

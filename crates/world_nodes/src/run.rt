@@ -10,7 +10,7 @@ ghost use Rattle.world_nodes.specs.NodeSteps.{Administers, Closes, Delivers, IsA
 ghost use Rattle.world_nodes.specs.Nodes.{GoesOn, RemembersSent, first_run, is_up};
 
 use crate::entries::Entries;
-use crate::output::{Output, add_own, add_promotion, add_released, add_sent, exhausted, nothing};
+use crate::output::{Output, add_promotion, add_released, add_sent, exhausted, nothing, with_own};
 use bus::Message;
 use cluster_config::Config;
 use connections::Conn;
@@ -162,9 +162,8 @@ impl Run {
             (Closes self.old node (released_conns made.now.released) self.new) }
         ensures shows { IfOk result (λ out. out.items ≡ shown_of_step node first self.old made.now) }
     {
-        let outputs = self.outputs(node, first, made)?;
-        self.close_all(node, made.released.as_slice())?;
-        Ok(outputs)
+        let beside = self.finish_beside(node, first, made)?;
+        with_own(self.alloc, node, &made.response, beside)
     }
 
     // A request on a connection of its own, and what comes out of it.
@@ -301,12 +300,8 @@ impl Run {
         requires { first ≤ length self.now.sent }
         ensures { IfOk result (λ out. out.items ≡ shown_of_step node first self.now made.now) }
     {
-        let mut outputs = Vec::new(self.alloc);
-        add_own(&mut outputs, node, &made.response)?;
-        add_released(&mut outputs, node, made.released.as_slice())?;
-        add_sent(&mut outputs, self.sent.as_slice(), first)?;
-        add_promotion(&mut outputs, node, &made.promoted)?;
-        Ok(outputs)
+        let beside = self.beside(node, first, made)?;
+        with_own(self.alloc, node, &made.response, beside)
     }
 
     /// What comes out of a step of the node beside the reply to its request, where the messages from that place on are those

@@ -64,9 +64,9 @@ impl Run {
         })
     }
 
-    // Closes the connections of requests that waited and got their replies by a step of the node, and shows what came out of it
-    // beside the reply to its own. The messages from that place on are those of the step.
-    fn finish_beside(
+    /// Closes the connections of requests that waited and got their replies by a step of the node, and shows what came out of it
+    /// beside the reply to its own. The messages from that place on are those of the step.
+    pub(crate) fn finish_beside(
         &mut self,
         node: u64,
         first: usize,
