@@ -1,7 +1,7 @@
 //! Lines of a script's file that are no steps.
 ghost use Rattle.std.specs.Prelude.{◌≤◌, length};
 
-use crate::steps::NoStep;
+use crate::step_texts::NoStep;
 use inputs::{InputFailure, InputFault};
 use std::alloc::{AllocError, Global};
 use tool_io::Shown;

@@ -10,7 +10,7 @@ mod lines;
 mod printing;
 mod script;
 mod simulation;
-mod steps;
+mod step_texts;
 
 pub use fault::{ScriptFault, SimulationFault};
 pub use files::simulate_file;
@@ -18,4 +18,4 @@ pub use form::{FORMS, StepForm, StepRow};
 pub use printing::print_outputs;
 pub use script::read_script;
 pub use simulation::simulate;
-pub use steps::script_help;
+pub use step_texts::script_help;
