@@ -11,7 +11,7 @@ use Rattle.tickets.specs.Tickets.{drawn, once_below, seats_of, times, total}
 use Rattle.tickets.specs.declared.seat.Seat.{Seat}
 use Rattle.audit_fault.specs.declared.fault.AuditFault.{AuditFault}
 use Rattle.audit.specs.declared.order.Taken.{Taken}
-use Rattle.audit.specs.Gathered.{HasStranger, IsAllOf, IsGathered, parts_of}
+use Rattle.audit.specs.Gathered.{HasStranger, HasStrangerIn, IfStranger, IsAllOf, IsGathered, parts_of}
 use Rattle.audit.specs.Law.{RunView}
 use Rattle.audit.specs.Merge.{AllAreSound, AreEachOnce, AreJournals, AreTaken, PartView, journal_of, merged, nodes_of, placed}
 use Rattle.audit.proofs.Counts.{as_many}
@@ -84,3 +84,8 @@ pub of_all : (config : ClusterConfig) (table : TableId) (seats : ℕ) (taken : T
     → IfOk result (λ run. (parts : List PartView) → IsAllOf config table seats taken parts → IsGathered config parts run) → IfOk result (IsGathered config parts)
 of_all config table seats taken (Ok run) parts all each = each parts all
 of_all config table seats taken (Err fault) parts all each = tt
+
+pub stranger_of_all : {T : Type 0} (config : ClusterConfig) (table : TableId) (seats : ℕ) (taken : Taken) (result : Result T AuditFault) (parts : List PartView) → IsAllOf config table seats taken parts
+    → IfStranger result (HasStrangerIn config table seats taken) → IfStranger result (HasStranger config parts)
+stranger_of_all config table seats taken (Ok run) parts all each = tt
+stranger_of_all config table seats taken (Err fault) parts all each = λ is. each is parts all
